@@ -1,0 +1,2 @@
+test:
+	rt ci

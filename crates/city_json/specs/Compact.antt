@@ -1,0 +1,49 @@
+-- The compact text of a value: the one spelling that is written.
+use Rattle.std.specs.Prelude.{◌++◌, ◌/◌, ◌%◌, ◌==◌, ℕ, List, [], ◌∷◌, true, false, codes, nat_lt, if◌then◌else◌}
+use Rattle.std.specs.Char.{digit_char}
+use Rattle.std.specs.List.{flat_map}
+use Rattle.city_json.specs.Bytes.{quotation_mark, backslash, small_b, small_f, small_n, small_r, small_t, small_u, digit_zero, backspace, tab, newline, form_feed, carriage_return, space, open_bracket, close_bracket, open_brace, close_brace, comma, colon}
+use Rattle.city_json.specs.Tree.{Tree, null, boolean, number, string, array, object, ItemTrees, no_items, item, MemberTrees, no_members, member}
+
+-- how a byte of a text is written: by two characters, by `\u00` and two hexadecimal digits in lower case, or as itself
+abbrev pub written : ℕ → List ℕ
+written b =
+    if b == quotation_mark then backslash ∷ quotation_mark ∷ []
+    else (if b == backslash then backslash ∷ backslash ∷ []
+    else (if b == backspace then backslash ∷ small_b ∷ []
+    else (if b == form_feed then backslash ∷ small_f ∷ []
+    else (if b == newline then backslash ∷ small_n ∷ []
+    else (if b == carriage_return then backslash ∷ small_r ∷ []
+    else (if b == tab then backslash ∷ small_t ∷ []
+    else (if nat_lt b space then backslash ∷ small_u ∷ digit_zero ∷ digit_zero ∷ digit_char (b / 16) ∷ digit_char (b % 16) ∷ []
+    else b ∷ [])))))))
+
+abbrev pub quoted : List ℕ → List ℕ
+quoted text = quotation_mark ∷ flat_map written text ++ quotation_mark ∷ []
+
+abbrev mutual
+  pub plain : Tree → List ℕ
+  plain null = codes "null"
+  plain (boolean true) = codes "true"
+  plain (boolean false) = codes "false"
+  plain (number text) = text
+  plain (string text) = quoted text
+  plain (array items) = open_bracket ∷ plain_items items ++ close_bracket ∷ []
+  plain (object members) = open_brace ∷ plain_members members ++ close_brace ∷ []
+
+  pub plain_items : ItemTrees → List ℕ
+  plain_items no_items = []
+  plain_items (item value others) = plain value ++ plain_more_items others
+
+  -- with a comma before each
+  pub plain_more_items : ItemTrees → List ℕ
+  plain_more_items no_items = []
+  plain_more_items (item value others) = comma ∷ plain value ++ plain_more_items others
+
+  pub plain_members : MemberTrees → List ℕ
+  plain_members no_members = []
+  plain_members (member name value others) = quoted name ++ colon ∷ plain value ++ plain_more_members others
+
+  pub plain_more_members : MemberTrees → List ℕ
+  plain_more_members no_members = []
+  plain_more_members (member name value others) = comma ∷ quoted name ++ colon ∷ plain value ++ plain_more_members others

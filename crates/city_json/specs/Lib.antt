@@ -1,0 +1,9 @@
+pub mod Bytes
+pub mod Compact
+pub mod Depth
+pub mod Faults
+pub mod Fits
+pub mod Grammar
+pub mod Number
+pub mod Strings
+pub mod Tree
