@@ -3,6 +3,7 @@ pub mod Compact
 pub mod Depth
 pub mod Faults
 pub mod Fits
+pub mod Gives
 pub mod Grammar
 pub mod Number
 pub mod Strings
