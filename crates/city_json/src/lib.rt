@@ -1,12 +1,48 @@
-//! JSON texts and trees, the fault list, and the traits of readers and writers.
+//! JSON texts (RFC 8259) and their values: [`read`] takes exactly the texts that fit, [`print`] gives the
+//! one compact text of a value. Beside them the list of faults, and the traits of readers and writers.
 #![tactic(auto)]
 
+mod bin;
+mod comparing;
+mod depth;
+mod device;
+mod distinct;
 mod fault;
+mod intake;
 mod json;
+mod laws;
 mod line;
+mod memory;
+mod names;
+mod number;
+mod output;
+mod plain;
+mod printing;
+mod reading;
+#[cfg(test)]
+mod sample;
+mod short;
+mod sink;
+mod source;
+mod string;
+mod tape;
 mod text;
 
+pub use bin::Bin;
+pub use comparing::same;
+pub use device::Device;
 pub use fault::Fault;
+pub use intake::{Intake, Stop, read_all};
 pub use json::{Items, Json, Member, Members};
+pub use laws::{
+    a_text_has_one_meaning, compact_text_is_one_line, compact_text_spells_its_value,
+    compact_text_tells_its_value, texts_nest_as_their_values,
+};
 pub use line::Line;
+pub use output::write_all;
+pub use printing::print;
+pub use reading::read;
+pub use sink::Sink;
+pub use source::Source;
+pub use tape::Tape;
 pub use text::{NumText, Str};

@@ -1,5 +1,6 @@
-ghost use Rattle.std.specs.Prelude.{◌≡◌, []};
+ghost use Rattle.std.specs.Prelude.{◌≡◌, ◌++◌, [], take, OnOk, OnErr, IfErr};
 
+use crate::fault::Fault;
 use std::alloc::Global;
 use std::marker::Model;
 
@@ -43,5 +44,22 @@ impl Line {
         ensures { result.now ≡ self.now }
     {
         &self.bytes
+    }
+
+    /// Adds the bytes at the end. Where memory is wanting the line is as before.
+    pub(crate) fn append(&mut self, bytes: &[u8]) -> Result<(), Fault>
+        ensures ok { OnOk result (self.new ≡ self.old ++ bytes.now) }
+        ensures err { OnErr result (self.new ≡ self.old) }
+        ensures fault { IfErr result (λ fault. fault ≡ Fault.Memory) }
+    {
+        self.bytes
+            .extend_from_slice(bytes)
+            .map_err(|_| Fault::Memory)
+    }
+
+    pub(crate) fn truncate(&mut self, len: usize)
+        ensures { self.new ≡ take len self.old }
+    {
+        self.bytes.truncate(len);
     }
 }

@@ -1,6 +1,12 @@
-ghost use Rattle.std.specs.Prelude.{◌≡◌};
+ghost use Rattle.std.specs.Prelude.{◌≡◌, IfOk, IfErr, MatchResult};
+ghost use Rattle.city_json.specs.Gives.{Gives, RefusesNumber};
 ghost use Rattle.city_json.specs.Number.{IsNumber};
+ghost use Rattle.city_json.specs.NumberAt.{number_at};
 
+use crate::fault::Fault;
+use crate::number::{is_number, number};
+use crate::short::ShortBytes;
+use std::alloc::Global;
 use std::marker::Model;
 
 /// A text in UTF-8.
@@ -18,6 +24,24 @@ impl Model for Str {
 }
 
 impl Str {
+    /// A text of its own with the same bytes. The only fault is [`Fault::Memory`].
+    pub fn read(alloc: Global, text: &str) -> Result<Str, Fault>
+        ensures ok { IfOk result (λ read. read ≡ text.now) }
+        ensures fault { IfErr result (λ fault. fault ≡ Fault.Memory) }
+    {
+        match String::from_str(alloc, text) {
+            Ok(text) => Ok(Str { text }),
+            Err(_) => Err(Fault::Memory),
+        }
+    }
+
+    pub(crate) fn copy(&self, alloc: Global) -> Result<Str, Fault>
+        ensures ok { IfOk result (λ copy. copy ≡ self.now) }
+        ensures fault { IfErr result (λ fault. fault ≡ Fault.Memory) }
+    {
+        Str::read(alloc, self.as_str())
+    }
+
     pub fn as_str(&self) -> &str
         ensures { result.now ≡ self.now }
     {
@@ -28,7 +52,7 @@ impl Str {
 /// A number as it was written (RFC 8259, section 6).
 #[derive(Debug, Drop)]
 pub struct NumText {
-    text: Vec<u8>,
+    text: ShortBytes,
 }
 
 impl Model for NumText {
@@ -37,16 +61,125 @@ impl Model for NumText {
 
     ghost Value = { List ℕ };
 
-    ghost view = { λ number. number.text.items };
+    ghost view = { λ number. number.text };
 
-    ghost invariant = { λ number. IsNumber number.text.items };
+    ghost invariant = { λ number. IsNumber number.text };
 }
 
 impl NumText {
+    /// The number that the bytes are.
+    ///
+    /// # Errors
+    ///
+    /// [`Fault::Syntax`] where they are no number (RFC 8259, section 6), before any memory is asked for, and else
+    /// [`Fault::Memory`] where it is wanting.
+    pub fn read(alloc: Global, bytes: &[u8]) -> Result<NumText, Fault>
+        ensures ok { IfOk result (λ number. (number ≡ bytes.now) × IsNumber bytes.now) }
+        ensures fault { IfErr result (λ fault. RefusesNumber fault bytes.now) }
+    {
+        if is_number(bytes) {
+            NumText::of(alloc, bytes)
+        } else {
+            Err(Fault::Syntax)
+        }
+    }
+
+    /// From the bytes of a number.
+    pub(crate) fn of(alloc: Global, bytes: &[u8]) -> Result<NumText, Fault>
+        requires { IsNumber bytes.now }
+        ensures { MatchResult result (λ number. number ≡ bytes.now) (λ fault. fault ≡ Fault.Memory) }
+    {
+        let text = ShortBytes::copy_of(alloc, bytes)?;
+        Ok(NumText { text })
+    }
+
+    /// The number at the front of the bytes, and what follows it.
+    #[tactic(auto, using(crate::proofs::NumberLaws::number_is_in_front))]
+    pub(crate) fn front(alloc: Global, bytes: &[u8]) -> Result<(NumText, &[u8]), Fault>
+        ensures { Gives (λ read. (read.0, read.1.now)) result (number_at bytes.now) }
+    {
+        let Some((text, rest)) = number(bytes) else {
+            return Err(Fault::Syntax);
+        };
+        let text = ShortBytes::front_of(alloc, bytes, text.len())?;
+        Ok((NumText { text }, rest))
+    }
+
+    pub(crate) fn copy(&self, alloc: Global) -> Result<NumText, Fault>
+        ensures ok { IfOk result (λ copy. copy ≡ self.now) }
+        ensures fault { IfErr result (λ fault. fault ≡ Fault.Memory) }
+    {
+        let text = ShortBytes::copy_of(alloc, self.text.items())?;
+        Ok(NumText { text })
+    }
+
     pub fn as_bytes(&self) -> &[u8]
         ensures bytes { result.now ≡ self.now }
         ensures number { IsNumber self.now }
     {
-        &self.text
+        self.text.items()
+    }
+}
+
+#[cfg(test)]
+mod tests {
+    use super::*;
+    use std::test::Fail;
+
+    #[test]
+    fn numbers_are_kept_as_written(rt: HostRuntime) -> Result<(), Fail> {
+        let texts: [&[u8]; 15] = [
+            b"0.001",
+            b"1e-3",
+            b"1.0E-3",
+            b"0.00100",
+            b"0.0010000000474974513",
+            b"1.5",
+            b"-0.0",
+            b"0e99999999999999999999",
+            b"1e-24",
+            b"0.0000000000000000000000001",
+            b"999999999999.5",
+            b"1000000000000",
+            b"-1e12",
+            b"1234567890123456789012",
+            b"12345678901234567890123",
+        ];
+        for text in texts {
+            let number = NumText::read(rt.alloc(), text)?;
+            assert_eq!(rt; number.as_bytes(), text);
+            assert_eq!(rt; number.copy(rt.alloc())?.as_bytes(), text);
+        }
+        Ok(())
+    }
+
+    #[test]
+    fn a_long_number_is_kept(rt: HostRuntime) -> Result<(), Fail> {
+        let digits = vec![in rt.alloc(); b'7'; 10000]?;
+        assert_eq!(rt;
+            NumText::read(rt.alloc(), &digits)?.as_bytes(),
+            digits.as_slice()
+        );
+        Ok(())
+    }
+
+    #[test]
+    fn other_texts_are_no_numbers(rt: HostRuntime) {
+        let texts: [&[u8]; 10] = [
+            b"", b"01", b"1.", b".5", b"+1", b"-", b"1e", b"1 ", b"1 2", b"0x10",
+        ];
+        for text in texts {
+            assert_eq!(rt; NumText::read(rt.alloc(), text).err(), Some(Fault::Syntax));
+        }
+    }
+
+    #[test]
+    fn a_number_shows_its_bytes(rt: HostRuntime) -> Result<(), Fail> {
+        let number = NumText::read(rt.alloc(), b"-3")?;
+        assert_eq!(rt;
+            format!(in rt.alloc(); "{number:?}")?.as_str(),
+            "NumText { text: [45, 51] }"
+        );
+        Ok(())
     }
 }

@@ -1,0 +1,12 @@
+-- What a run of bytes that stand for themselves ends at.
+use Rattle.std.specs.Prelude.{◌≡◌, ◌<◌, ℕ, List, ◌∷◌, Some, None, length}
+use Rattle.city_json.specs.declared.string.End.{End}
+use Rattle.city_json.specs.declared.string.End.TheVariants.{Closing, Escape, Broken}
+use Rattle.city_json.specs.Bytes.{backslash}
+use Rattle.city_json.specs.ReadString.{decoded, prepend}
+
+-- the bytes begin with the run, and go on with the end and the rest
+abbrev pub IsRun : List ℕ → List ℕ → End → List ℕ → Type 0
+IsRun bytes run Closing rest = decoded bytes ≡ Some (run, rest)
+IsRun bytes run Escape rest = (decoded bytes ≡ prepend run (decoded (backslash ∷ rest))) × (length rest < length bytes)
+IsRun bytes run Broken rest = decoded bytes ≡ None

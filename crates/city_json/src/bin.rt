@@ -1,0 +1,136 @@
+ghost use Rattle.std.specs.Prelude.{◌≡◌, ◌≤◌, ◌↔◌, Some, [], length, IfOk, IfErr, IsErr, IsTrue};
+ghost use Rattle.std.specs.Io.KnownBytes.{Keeps, WriteAppends};
+ghost use Rattle.city_json.specs.Failures.{after_call, after_write};
+ghost use Rattle.city_json.specs.Bin.{BinState, bin_answer};
+
+use crate::fault::Fault;
+use crate::sink::Sink;
+use std::alloc::Global;
+use std::marker::Model;
+
+/// A sink in memory, for tests: it holds at most `room` bytes, and a write takes at most `step`.
+#[derive(Debug, Drop)]
+pub struct Bin {
+    bytes: Vec<u8>,
+    room: usize,
+    step: usize,
+    flush_fails: bool,
+    failures: u64,
+}
+
+impl Model for Bin {
+    ghost use Rattle.std.specs.Prelude.{◌≤◌, vec_len, vec_capacity};
+    ghost use Rattle.city_json.specs.Bin.{BinState};
+
+    ghost Value = { BinState };
+
+    ghost view = { λ bin. record { bytes = bin.bytes.items; room = bin.room; step = bin.step; flush_fails = bin.flush_fails; failures = bin.failures } };
+
+    ghost invariant = { λ bin. (vec_len bin.bytes ≤ bin.room) × (bin.room ≤ vec_capacity bin.bytes) };
+}
+
+impl Bin {
+    /// An empty bin, which has the memory for its room from the start.
+    ///
+    /// # Errors
+    ///
+    /// `Fault::Memory` where there is not enough memory for `room` bytes.
+    pub fn new(alloc: Global, room: usize, step: usize, flush_fails: bool) -> Result<Bin, Fault>
+        ensures made { IfOk result (λ bin. bin ≡ record { bytes = []; room = room; step = step; flush_fails = flush_fails; failures = 0 }) }
+        ensures fault { IfErr result (λ fault. fault ≡ Fault.Memory) }
+    {
+        match Vec::with_capacity(alloc, room) {
+            Ok(bytes) => Ok(Bin {
+                bytes,
+                room,
+                step,
+                flush_fails,
+                failures: 0,
+            }),
+            Err(_) => Err(Fault::Memory),
+        }
+    }
+
+    /// The bytes that were taken.
+    pub fn bytes(&self) -> &[u8]
+        ensures { result.now ≡ self.now.bytes }
+    {
+        &self.bytes
+    }
+}
+
+impl Sink for Bin {
+    ghost taken = { λ bin. Some bin.bytes };
+
+    ghost failures = { λ bin. bin.failures };
+
+    fn write(&mut self, from: &[u8]) -> Result<usize, Fault>
+        ensures bound { IfOk result (λ count. count ≤ length from.now) }
+        ensures bytes { WriteAppends (Some self.old.bytes) (Some self.new.bytes) result from.now }
+        ensures failures { self.new.failures ≡ after_write result from.now self.old.failures }
+        ensures fault { IfErr result (λ fault. fault ≡ Fault.Write) }
+
+        // The whole answer; all but the bytes and the count of failures stays.
+        ensures answer { result ≡ bin_answer self.old from.now }
+        ensures same { self.new ≡ record self.old { bytes = self.new.bytes; failures = self.new.failures } }
+    {
+        if from.is_empty() {
+            return Ok(0);
+        }
+        if self.bytes.len() >= self.room {
+            self.failures = self.failures.saturating_add(1);
+            return Err(Fault::Write);
+        }
+        let count = from.len().min(self.room - self.bytes.len()).min(self.step);
+        if self.bytes.extend_from_slice(&from[..count]).is_err() {
+            unreachable!();
+        }
+        if count == 0 {
+            self.failures = self.failures.saturating_add(1);
+        }
+        Ok(count)
+    }
+
+    fn flush(&mut self) -> Result<(), Fault>
+        ensures bytes { Keeps (Some self.old.bytes) (Some self.new.bytes) }
+        ensures failures { self.new.failures ≡ after_call result self.old.failures }
+        ensures fault { IfErr result (λ fault. fault ≡ Fault.Write) }
+
+        // The whole answer; all but the count of failures stays.
+        ensures answer { IsErr result ↔ IsTrue self.old.flush_fails }
+        ensures same { self.new ≡ record self.old { failures = self.new.failures } }
+    {
+        if self.flush_fails {
+            self.failures = self.failures.saturating_add(1);
+            return Err(Fault::Write);
+        }
+        Ok(())
+    }
+}
+
+#[cfg(test)]
+mod tests {
+    use super::*;
+    use std::test::Fail;
+
+    #[test]
+    fn a_bin_takes_what_it_has_room_for(rt: HostRuntime) -> Result<(), Fail> {
+        let mut bin = Bin::new(rt.alloc(), 5, 3, false)?;
+        assert_eq!(rt; bin.write(b"abcdef"), Ok(3));
+        assert_eq!(rt; bin.write(b"def"), Ok(2));
+        assert_eq!(rt; bin.write(b"f"), Err(Fault::Write));
+        assert_eq!(rt; bin.write(b""), Ok(0));
+        assert_eq!(rt; bin.flush(), Ok(()));
+        assert_eq!(rt; bin.bytes(), b"abcde".as_slice());
+        Ok(())
+    }
+
+    #[test]
+    fn a_bin_may_take_nothing_and_fail_to_flush(rt: HostRuntime) -> Result<(), Fail> {
+        let mut bin = Bin::new(rt.alloc(), 5, 0, true)?;
+        assert_eq!(rt; bin.write(b"abc"), Ok(0));
+        assert_eq!(rt; bin.flush(), Err(Fault::Write));
+        assert_eq!(rt; bin.bytes(), b"".as_slice());
+        Ok(())
+    }
+}

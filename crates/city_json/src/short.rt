@@ -1,0 +1,101 @@
+//! Bytes that lie in the value itself where they are few.
+ghost use Rattle.std.specs.Prelude.{◌≡◌, ◌≤◌, MatchResult, length, take};
+
+use crate::fault::Fault;
+use std::alloc::Global;
+use std::fmt;
+use std::marker::Model;
+use std::mem::size_of;
+
+/// The most bytes that lie in the value itself: with their number and the mark of the form, a value has the size
+/// of a `Vec`.
+const MOST_INLINE: usize = 22;
+
+const _: () = prove!(size_of::<ShortBytes>() == 24);
+
+#[derive(Drop)]
+enum Form {
+    Inline { size: u8, bytes: [u8; MOST_INLINE] },
+    Heap(Box<Vec<u8>>),
+}
+
+/// A list of bytes that never changes.
+#[derive(Drop)]
+pub(crate) struct ShortBytes {
+    form: Form,
+}
+
+impl Model for ShortBytes {
+    ghost use Rattle.std.specs.Prelude.{List, ℕ};
+    ghost use Rattle.city_json.specs.ShortBytes.{form_bytes, IsWithinPlace};
+
+    ghost Value = { List ℕ };
+
+    ghost view = { λ short. form_bytes short.form };
+
+    ghost invariant = { λ short. IsWithinPlace short.form };
+}
+
+impl ShortBytes {
+    /// A copy of the bytes. The only fault is [`Fault::Memory`].
+    pub(crate) fn copy_of(alloc: Global, bytes: &[u8]) -> Result<ShortBytes, Fault>
+        ensures { MatchResult result (λ copy. copy ≡ bytes.now) (λ fault. fault ≡ Fault.Memory) }
+    {
+        ShortBytes::front_of(alloc, bytes, bytes.len())
+    }
+
+    /// A copy of the first `size` bytes. The only fault is [`Fault::Memory`].
+    pub(crate) fn front_of(alloc: Global, bytes: &[u8], size: usize) -> Result<ShortBytes, Fault>
+        requires { size ≤ length bytes.now }
+        ensures { MatchResult result (λ copy. copy ≡ take size bytes.now) (λ fault. fault ≡ Fault.Memory) }
+    {
+        if size > MOST_INLINE {
+            return ShortBytes::on_heap(alloc, &bytes[..size]);
+        }
+        let form = Form::Inline {
+            size: size as u8,
+            bytes: first_bytes(bytes, size),
+        };
+        Ok(ShortBytes { form })
+    }
+
+    fn on_heap(alloc: Global, bytes: &[u8]) -> Result<ShortBytes, Fault>
+        ensures { MatchResult result (λ copy. copy ≡ bytes.now) (λ fault. fault ≡ Fault.Memory) }
+    {
+        let items = bytes.to_vec(alloc).map_err(|_| Fault::Memory)?;
+        let boxed = Box::new(alloc, items).map_err(|_| Fault::Memory)?;
+        Ok(ShortBytes {
+            form: Form::Heap(boxed),
+        })
+    }
+
+    pub(crate) fn items(&self) -> &[u8]
+        ensures { result.now ≡ self.now }
+    {
+        match &self.form {
+            Form::Inline { size, bytes } => &bytes[..*size as usize],
+            Form::Heap(bytes) => bytes.as_slice(),
+        }
+    }
+}
+
+/// The first `size` bytes and then any others: where there are enough, a copy of fixed length is the cheapest.
+fn first_bytes(bytes: &[u8], size: usize) -> [u8; MOST_INLINE]
+    requires inline { size ≤ 22 }
+    requires there { size ≤ length bytes.now }
+    ensures { take size result ≡ take size bytes.now }
+{
+    let mut first = [0; MOST_INLINE];
+    if bytes.len() < MOST_INLINE {
+        first[..size].copy_from_slice(&bytes[..size]);
+        return first;
+    }
+    first.copy_from_slice(&bytes[..MOST_INLINE]);
+    first
+}
+
+impl fmt::Debug for ShortBytes {
+    fn fmt<W: fmt::Write>(&self, f: &mut fmt::Formatter<W>) -> fmt::Result {
+        f.debug_list().entries(self.items()).finish()
+    }
+}
