@@ -1,0 +1,38 @@
+-- Three of a kind, one for each axis.
+use Rattle.std.specs.Prelude.{◌≤◌, ℕ, ℤ, ◌+ℤ◌, List, unsigned_abs}
+use Rattle.city_json.specs.Tree.{Tree, number, array, no_items, item}
+
+-- three whole numbers
+pub record Triple : Type 0 where
+  pub x : ℤ
+  pub y : ℤ
+  pub z : ℤ
+
+abbrev pub triple : ℤ → ℤ → ℤ → Triple
+triple x y z = record { x = x; y = y; z = z }
+
+-- three numbers as they are written
+pub record Texts : Type 0 where
+  pub x : List ℕ
+  pub y : List ℕ
+  pub z : List ℕ
+
+-- the array of three numbers
+abbrev pub three : Texts → Tree
+three texts = array (item (number texts.x) (item (number texts.y) (item (number texts.z) no_items)))
+
+-- each number is what is written on its axis
+abbrev pub Each : (List ℕ → ℤ → Type 0) → Texts → Triple → Type 0
+Each Reads texts numbers =
+    Reads texts.x numbers.x × Reads texts.y numbers.y × Reads texts.z numbers.z
+
+abbrev pub sum : Triple → Triple → Triple
+sum p q = record { x = p.x +ℤ q.x; y = p.y +ℤ q.y; z = p.z +ℤ q.z }
+
+-- 2^53 - 1, up to which a number in floating point is exact
+abbrev pub most_steps : ℕ
+most_steps = 9007199254740991
+
+abbrev pub IsInRange : Triple → Type 0
+IsInRange p =
+    (unsigned_abs p.x ≤ most_steps) × (unsigned_abs p.y ≤ most_steps) × (unsigned_abs p.z ≤ most_steps)

@@ -1,0 +1,6 @@
+pub mod Axes
+pub mod Decimal
+pub mod Shift
+pub mod Transform
+pub mod Vertex
+pub mod Written

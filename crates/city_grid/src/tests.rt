@@ -1,0 +1,328 @@
+use crate::{
+    Decimal, Shift, Transform, Vertex, decimal, moved, shift_of, transform, vertex, vertex_json,
+};
+use city_json::{Fault, Json, Line, Member, NumText, Str, print};
+use std::alloc::Global;
+use std::test::Fail;
+
+fn number(alloc: Global, text: &[u8]) -> Result<Json, Fail> {
+    Ok(Json::Num(NumText::read(alloc, text)?))
+}
+
+fn array(alloc: Global, texts: &[&str]) -> Result<Json, Fail> {
+    let mut items = Vec::new(alloc);
+    for text in texts {
+        items.push(number(alloc, text.as_bytes())?)?;
+    }
+    Ok(Json::List(items))
+}
+
+fn object(alloc: Global, scale: Json, translate: Json) -> Result<Json, Fail> {
+    let scale = Member {
+        name: Str::read(alloc, "scale")?,
+        value: scale,
+    };
+    let translate = Member {
+        name: Str::read(alloc, "translate")?,
+        value: translate,
+    };
+    Ok(Json::Map(vec![in alloc; translate, scale]?))
+}
+
+fn transform_of(
+    alloc: Global,
+    scale: &[&str],
+    translate: &[&str],
+) -> Result<Result<Transform, Fault>, Fail> {
+    let value = object(alloc, array(alloc, scale)?, array(alloc, translate)?)?;
+    Ok(transform(&value))
+}
+
+fn units(alloc: Global, text: &[u8]) -> Result<Result<i128, Fault>, Fail> {
+    let number = NumText::read(alloc, text)?;
+    Ok(decimal(&number).map(|decimal| decimal.units()))
+}
+
+#[test]
+fn decimals_are_exact(rt: HostRuntime) -> Result<(), Fail> {
+    let one = 1_000_000_000_000_000_000_000_000;
+    let rows: [(&str, i128); 15] = [
+        ("0.001", 1_000_000_000_000_000_000_000),
+        ("1e-3", 1_000_000_000_000_000_000_000),
+        ("1.0E-3", 1_000_000_000_000_000_000_000),
+        ("0.00100", 1_000_000_000_000_000_000_000),
+        ("0.0010000000474974513", 1_000_000_047_497_451_300_000),
+        ("1.5", 1_500_000_000_000_000_000_000_000),
+        ("-1.5e+0", -1_500_000_000_000_000_000_000_000),
+        ("-0.0", 0),
+        ("0e99999999999999999999", 0),
+        ("-0.000e-99999999999999999999", 0),
+        ("1e-24", 1),
+        (
+            "999999999999.5",
+            999_999_999_999_500_000_000_000_000_000_000_000,
+        ),
+        ("10000000000000000000000000000000000000000e-40", one),
+        ("0.0000000000000000000000000000001e31", one),
+        (
+            "12e0000000000000000000000000000000000000000000000000000",
+            12 * one,
+        ),
+    ];
+    for (text, want) in rows {
+        assert_eq!(rt; units(rt.alloc(), text.as_bytes())?, Ok(want), "{text}");
+    }
+    Ok(())
+}
+
+#[test]
+fn other_numbers_are_no_decimals(rt: HostRuntime) -> Result<(), Fail> {
+    for text in [
+        "1e-25",
+        "0.0000000000000000000000001",
+        "1000000000000",
+        "1e12",
+        "-1e12",
+        "1e-99999999999999999999",
+        "1e99999999999999999999",
+        "1e340282366920938463463374607431768211456",
+        "1e-340282366920938463463374607431768211456",
+        "1e18446744073709551616",
+    ] {
+        assert_eq!(rt;
+            units(rt.alloc(), text.as_bytes())?,
+            Err(Fault::Decimal),
+            "{text}"
+        );
+    }
+    Ok(())
+}
+
+#[test]
+fn long_numbers_are_read(rt: HostRuntime) -> Result<(), Fail> {
+    let mut sevens = vec![in rt.alloc(); b'7'; 10000]?;
+    assert_eq!(rt; units(rt.alloc(), &sevens)?, Err(Fault::Decimal));
+    sevens.extend_from_slice(b"e-9999")?;
+    assert_eq!(rt; units(rt.alloc(), &sevens)?, Err(Fault::Decimal));
+    let mut zeros = vec![in rt.alloc(); b'0'; 10000]?;
+    if let Some(first) = zeros.first_mut() {
+        *first = b'3';
+    }
+    zeros.extend_from_slice(b"e-9999")?;
+    assert_eq!(rt;
+        units(rt.alloc(), &zeros)?,
+        Ok(3_000_000_000_000_000_000_000_000)
+    );
+    Ok(())
+}
+
+#[test]
+fn transforms_are_read(rt: HostRuntime) -> Result<(), Fail> {
+    let alloc = rt.alloc();
+    let read = transform_of(
+        alloc,
+        &["0.001", "1e-3", "1"],
+        &["84710.1", "446846.0", "-5.3"],
+    )??;
+    assert_eq!(rt; read.scale().x(), read.scale().y());
+    assert_eq!(rt; read.scale().z().units(), 1_000_000_000_000_000_000_000_000);
+    assert_eq!(rt;
+        read.translate().x().units(),
+        84_710_100_000_000_000_000_000_000_000
+    );
+    assert_eq!(rt;
+        read.translate().y().units(),
+        446_846_000_000_000_000_000_000_000_000
+    );
+    assert_eq!(rt;
+        read.translate().z().units(),
+        -5_300_000_000_000_000_000_000_000
+    );
+    Ok(())
+}
+
+#[test]
+fn transforms_are_refused(rt: HostRuntime) -> Result<(), Fail> {
+    let zero: &[&str] = &["0", "0", "0"];
+    let rows: [(&[&str], &[&str], Fault); 8] = [
+        (&["1", "1", "1", "1"], zero, Fault::NoTransform),
+        (&["1", "1"], zero, Fault::NoTransform),
+        (&["1", "1", "1"], &["0", "0"], Fault::NoTransform),
+        (&["0", "1", "1"], &["1e12", "0", "0"], Fault::Decimal),
+        (&["1", "1", "1e-25"], zero, Fault::Decimal),
+        (&["-0.001", "1", "1"], zero, Fault::ScaleNotPositive),
+        (&["1", "0.0", "1"], zero, Fault::ScaleNotPositive),
+        (&["1", "1", "-0"], zero, Fault::ScaleNotPositive),
+    ];
+    for (scale, translate, want) in rows {
+        assert_eq!(rt;
+            transform_of(rt.alloc(), scale, translate)?,
+            Err(want),
+            "{scale:?} {translate:?}"
+        );
+    }
+    assert_eq!(rt; transform(&Json::Null), Err(Fault::NoTransform));
+    assert_eq!(rt;
+        transform(&Json::Map(Vec::new(rt.alloc()))),
+        Err(Fault::NoTransform)
+    );
+    let text = Json::Text(Str::read(rt.alloc(), "0.001")?);
+    let value = object(rt.alloc(), text, array(rt.alloc(), zero)?)?;
+    assert_eq!(rt; transform(&value), Err(Fault::NoTransform));
+    Ok(())
+}
+
+#[test]
+fn shifts_are_whole_steps(rt: HostRuntime) -> Result<(), Fail> {
+    let alloc = rt.alloc();
+    let millimetre: &[&str] = &["0.001", "0.001", "0.001"];
+    let written: &[&str] = &["1e-3", "0.0010", "1.0E-3"];
+    let micrometre: &[&str] = &["0.000001", "0.000001", "0.000001"];
+    let other: &[&str] = &["0.001", "0.001", "0.01"];
+    let zero: &[&str] = &["0", "0", "0"];
+    let rows: [(
+        &[&str],
+        &[&str],
+        &[&str],
+        &[&str],
+        Result<Option<Shift>, Fault>,
+    ); 8] = [
+        (
+            millimetre,
+            &["84800.35", "0", "0"],
+            written,
+            &["84710.1", "0", "0"],
+            Ok(Shift::new(90250, 0, 0)),
+        ),
+        (
+            millimetre,
+            &["0", "-1.5", "0"],
+            millimetre,
+            zero,
+            Ok(Shift::new(0, -1500, 0)),
+        ),
+        (
+            micrometre,
+            &["9007199254.740991", "0", "0"],
+            micrometre,
+            zero,
+            Ok(Shift::new(9_007_199_254_740_991, 0, 0)),
+        ),
+        (
+            micrometre,
+            &["-9007199254.740991", "0", "0"],
+            micrometre,
+            zero,
+            Ok(Shift::new(-9_007_199_254_740_991, 0, 0)),
+        ),
+        (
+            micrometre,
+            &["9007199254.740992", "0", "0"],
+            micrometre,
+            zero,
+            Err(Fault::ShiftRange),
+        ),
+        (
+            micrometre,
+            &["9007199254.740992", "0", "0.0000005"],
+            micrometre,
+            zero,
+            Err(Fault::OffGrid),
+        ),
+        (
+            millimetre,
+            &["0.0005", "0", "0"],
+            millimetre,
+            zero,
+            Err(Fault::OffGrid),
+        ),
+        (
+            millimetre,
+            &["0.0005", "0", "0"],
+            other,
+            zero,
+            Err(Fault::ScaleDiffers),
+        ),
+    ];
+    for (scale, translate, base_scale, base_translate, want) in rows {
+        let tile = transform_of(alloc, scale, translate)??;
+        let base = transform_of(alloc, base_scale, base_translate)??;
+        assert_eq!(rt;
+            shift_of(&tile, &base).map(Some),
+            want,
+            "{translate:?} {base_translate:?}"
+        );
+    }
+    Ok(())
+}
+
+#[test]
+fn vertices_are_read(rt: HostRuntime) -> Result<(), Fail> {
+    let most = 9_007_199_254_740_991;
+    let rows: [(&[&str], Result<Option<Vertex>, Fault>); 10] = [
+        (&["1", "20", "-300"], Ok(Vertex::new(1, 20, -300))),
+        (&["-0", "0", "0"], Ok(Vertex::new(0, 0, 0))),
+        (
+            &["9007199254740991", "-9007199254740991", "0"],
+            Ok(Vertex::new(most, -most, 0)),
+        ),
+        (&["1.0", "0", "0"], Err(Fault::VertexNotInteger)),
+        (&["1e2", "0", "0"], Err(Fault::VertexNotInteger)),
+        (
+            &["9007199254740992", "0", "0E0"],
+            Err(Fault::VertexNotInteger),
+        ),
+        (&["9007199254740992", "0", "0"], Err(Fault::VertexRange)),
+        (&["0", "0", "-9007199254740992"], Err(Fault::VertexRange)),
+        (&["1", "2"], Err(Fault::VertexShape)),
+        (&["1", "2", "3", "4e1"], Err(Fault::VertexShape)),
+    ];
+    for (texts, want) in rows {
+        let value = array(rt.alloc(), texts)?;
+        assert_eq!(rt; vertex(&value).map(Some), want, "{texts:?}");
+    }
+    let huge = vec![in rt.alloc(); b'9'; 10000]?;
+    let value = Json::List(vec![in rt.alloc();
+        number(rt.alloc(), &huge)?,
+        number(rt.alloc(), b"0")?,
+        number(rt.alloc(), b"0")?,
+    ]?);
+    assert_eq!(rt; vertex(&value), Err(Fault::VertexRange));
+    let text = Json::Text(Str::read(rt.alloc(), "1")?);
+    let value = Json::List(vec![in rt.alloc();
+        text,
+        number(rt.alloc(), b"2")?,
+        number(rt.alloc(), b"3")?,
+    ]?);
+    assert_eq!(rt; vertex(&value), Err(Fault::VertexShape));
+    assert_eq!(rt; vertex(&Json::Null), Err(Fault::VertexShape));
+    Ok(())
+}
+
+#[test]
+fn vertices_are_moved(rt: HostRuntime) -> Result<(), Fail> {
+    let most = 9_007_199_254_740_991;
+    let far = Vertex::new(most, 0, 0).ok_or(Fault::VertexRange)?;
+    let up = Shift::new(1, 0, 0).ok_or(Fault::ShiftRange)?;
+    let down = Shift::new(-1, 0, 0).ok_or(Fault::ShiftRange)?;
+    let deep = Shift::new(0, 7, -most).ok_or(Fault::ShiftRange)?;
+    assert_eq!(rt; moved(far, Shift::zero()), Ok(far));
+    assert_eq!(rt; moved(far, up), Err(Fault::VertexRange));
+    assert_eq!(rt; moved(far, down).map(Some), Ok(Vertex::new(most - 1, 0, 0)));
+    assert_eq!(rt; moved(far, deep).map(Some), Ok(Vertex::new(most, 7, -most)));
+    Ok(())
+}
+
+#[test]
+fn vertices_are_written(rt: HostRuntime) -> Result<(), Fail> {
+    let vertex = Vertex::new(9_007_199_254_740_990, 0, -9_007_199_254_740_991).ok_or(
+        Fault::VertexRange,
+    )?;
+    let mut line = Line::new(rt.alloc());
+    print(&vertex_json(rt.alloc(), &vertex)?, &mut line)?;
+    assert_eq!(rt;
+        line.items(),
+        b"[9007199254740990,0,-9007199254740991]".as_slice()
+    );
+    Ok(())
+}
