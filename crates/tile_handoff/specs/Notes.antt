@@ -1,0 +1,14 @@
+-- The notes of a tile.
+use Rattle.std.specs.Prelude.{Bool, true, false, List}
+use Rattle.std.specs.List.{list_any}
+use Rattle.tile_handoff.specs.declared.note.Note.{Note}
+use Rattle.tile_handoff.specs.declared.note.Note.TheVariants.{Line, End}
+
+-- whether a note is an end note
+abbrev pub is_end : Note → Bool
+is_end (Line line) = false
+is_end (End end) = true
+
+-- whether there is an end note among some notes
+abbrev pub has_end : List Note → Bool
+has_end notes = list_any is_end notes

@@ -1,0 +1,20 @@
+//! The row: a queue of bounded capacity for each tile, for one thread. For every list of puts, takes and
+//! closes, what was taken from each tile is a prefix of what it put, all of it after close and drain, and
+//! nothing is accepted after close ([`run`]).
+#![tactic(auto)]
+
+mod event;
+mod history;
+mod mark;
+mod note;
+mod row;
+mod runs;
+#[cfg(test)]
+mod tests;
+
+pub use event::{Event, Events, Replies, Reply};
+pub use history::{Run, order_and_close};
+pub use mark::{Kind, Mark, Marks};
+pub use note::{End, Note};
+pub use row::{NoClose, NoPut, Row, Took};
+pub use runs::run;

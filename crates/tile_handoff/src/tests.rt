@@ -1,0 +1,203 @@
+ghost use Rattle.std.specs.Prelude.{◌<◌, IfOk};
+ghost use Rattle.std.specs.List.{All};
+ghost use Rattle.tile_handoff.specs.History.{tile_of};
+
+use crate::{
+    End, Event, Events, Kind, Mark, Marks, NoClose, NoPut, Replies, Reply, Row, Run, Took,
+    order_and_close, run,
+};
+use city_json::Line;
+use std::alloc::{AllocError, Global};
+use std::process::Abort;
+use std::str;
+use std::test::Fail;
+
+const END: End = End {
+    count: 2,
+    line: 0,
+    number: 0,
+};
+
+fn line(alloc: Global, text: &str) -> Result<Line, AllocError> {
+    let bytes = Vec::from_slice(alloc, text.as_bytes())?;
+    Ok(Line::from_vec(bytes))
+}
+
+fn mark(tile: u32, kind: Kind, number: u64) -> Mark {
+    Mark { tile, kind, number }
+}
+
+fn is_line(line: &Line, text: &str) -> bool {
+    line.items() == text.as_bytes()
+}
+
+// What a reply shows, with a line's bytes as a text and an end by its count.
+fn shown(alloc: Global, reply: &Reply) -> Result<String, Fail> {
+    Ok(match reply {
+        Reply::Line(line) => format!(in alloc; "Line {}", str::from_utf8(line.items())?)?,
+        Reply::End(end) => format!(in alloc; "End {}", end.count)?,
+        other => format!(in alloc; "{other:?}")?,
+    })
+}
+
+fn expect_replies(rt: &impl Abort, alloc: Global, run: &Run, texts: &[&str]) -> Result<(), Fail> {
+    let replies = run.replies.items();
+    assert_eq!(rt; replies.len(), texts.len());
+    for (reply, text) in replies.iter().zip(texts) {
+        assert_eq!(rt; shown(alloc, reply)?.as_str(), *text);
+    }
+    Ok(())
+}
+
+fn one_tile(alloc: Global) -> Result<Events, AllocError>
+    ensures { IfOk result (All (λ event. tile_of event < 1)) }
+{
+    let events = vec![in alloc;
+        Event::Put(0, line(alloc, "x")?),
+        Event::Put(0, line(alloc, "y")?),
+        Event::Put(0, line(alloc, "z")?),
+        Event::Take(0),
+        Event::Close(0, END),
+        Event::Put(0, line(alloc, "w")?),
+        Event::Take(0),
+        Event::Take(0),
+        Event::Take(0),
+        Event::Close(0, END),
+    ]?;
+    Ok(Events::from_vec(events))
+}
+
+#[test]
+fn a_tile_is_put_taken_and_closed(rt: HostRuntime) -> Result<(), Fail> {
+    let alloc = rt.alloc();
+    let answer = run(alloc, 1, 2, one_tile(alloc)?)?;
+    let texts = [
+        "Accepted", "Accepted", "Full", "Line x", "Accepted", "Closed", "Line y", "End 2",
+        "Drained", "Closed",
+    ];
+    expect_replies(&rt, alloc, &answer, &texts)?;
+    let marks = [
+        mark(0, Kind::Put, 0),
+        mark(0, Kind::Put, 1),
+        mark(0, Kind::Take, 0),
+        mark(0, Kind::Close, 2),
+        mark(0, Kind::Take, 1),
+        mark(0, Kind::Take, 2),
+    ];
+    assert_eq!(rt; answer.row.marks().items(), marks.as_slice());
+    Ok(())
+}
+
+fn two_tiles(alloc: Global) -> Result<Events, AllocError>
+    ensures { IfOk result (All (λ event. tile_of event < 2)) }
+{
+    let events = vec![in alloc;
+        Event::Put(0, line(alloc, "x")?),
+        Event::Put(1, line(alloc, "y")?),
+        Event::Put(0, line(alloc, "z")?),
+        Event::Take(1),
+        Event::Take(1),
+        Event::Close(0, END),
+        Event::Take(0),
+        Event::Close(0, END),
+        Event::Take(0),
+        Event::Take(0),
+    ]?;
+    Ok(Events::from_vec(events))
+}
+
+#[test]
+fn two_tiles_share_a_row(rt: HostRuntime) -> Result<(), Fail> {
+    let alloc = rt.alloc();
+    let answer = run(alloc, 2, 1, two_tiles(alloc)?)?;
+    let texts = [
+        "Accepted", "Accepted", "Full", "Line y", "Empty", "Full", "Line x", "Accepted", "End 2",
+        "Drained",
+    ];
+    expect_replies(&rt, alloc, &answer, &texts)?;
+    let marks = [
+        mark(0, Kind::Put, 0),
+        mark(1, Kind::Put, 0),
+        mark(1, Kind::Take, 0),
+        mark(0, Kind::Take, 0),
+        mark(0, Kind::Close, 1),
+        mark(0, Kind::Take, 1),
+    ];
+    assert_eq!(rt; answer.row.marks().items(), marks.as_slice());
+    Ok(())
+}
+
+#[test]
+fn no_events_leave_nothing(rt: HostRuntime) -> Result<(), Fail> {
+    let alloc = rt.alloc();
+    let answer = run(alloc, 64, 1024, Events::from_vec(Vec::new(alloc)))?;
+    assert!(rt; answer.replies.items().is_empty());
+    assert!(rt; answer.row.marks().items().is_empty());
+    Ok(())
+}
+
+#[test]
+fn a_tile_is_put_taken_and_closed_by_calls(rt: HostRuntime) -> Result<(), Fail> {
+    let alloc = rt.alloc();
+    let mut row = Row::new(alloc, 1, 2)?;
+    assert!(rt; row.put(0, line(alloc, "x")?).is_ok());
+    assert!(rt; row.put(0, line(alloc, "y")?).is_ok());
+    let full = row.put(0, line(alloc, "z")?);
+    assert!(rt; matches!(&full, Err(NoPut::Full(back)) if is_line(back, "z")));
+    assert!(rt; matches!(&row.take(0)?, Took::Line(x) if is_line(x, "x")));
+    assert!(rt; row.close(0, END).is_ok());
+    let closed = row.put(0, line(alloc, "w")?);
+    assert!(rt; matches!(&closed, Err(NoPut::Closed(back)) if is_line(back, "w")));
+    assert!(rt; matches!(&row.take(0)?, Took::Line(y) if is_line(y, "y")));
+    assert!(rt; matches!(&row.take(0)?, Took::End(end) if *end == END));
+    assert!(rt; matches!(row.take(0)?, Took::Drained));
+    assert_eq!(rt; row.close(0, END), Err(NoClose::Closed));
+    assert_eq!(rt; row.marks().items().len(), 6);
+    Ok(())
+}
+
+fn one_place(alloc: Global) -> Result<Events, AllocError>
+    ensures { IfOk result (All (λ event. tile_of event < 1)) }
+{
+    let events = vec![in alloc;
+        Event::Take(0),
+        Event::Put(0, line(alloc, "x")?),
+        Event::Close(0, END),
+    ]?;
+    Ok(Events::from_vec(events))
+}
+
+#[test]
+fn an_end_note_takes_a_place(rt: HostRuntime) -> Result<(), Fail> {
+    let alloc = rt.alloc();
+    let answer = run(alloc, 1, 1, one_place(alloc)?)?;
+    expect_replies(&rt, alloc, &answer, &["Empty", "Accepted", "Full"])?;
+    Ok(())
+}
+
+#[test]
+fn an_end_note_takes_a_place_by_calls(rt: HostRuntime) -> Result<(), Fail> {
+    let alloc = rt.alloc();
+    let mut row = Row::new(alloc, 1, 1)?;
+    assert!(rt; matches!(row.take(0)?, Took::Empty));
+    assert!(rt; row.put(0, line(alloc, "x")?).is_ok());
+    assert_eq!(rt; row.close(0, END), Err(NoClose::Full));
+    Ok(())
+}
+
+#[test]
+fn lists_keep_their_items(rt: HostRuntime) -> Result<(), Fail> {
+    let alloc = rt.alloc();
+    let marks = Marks::from_vec(vec![in alloc; mark(3, Kind::Take, 7)]?);
+    assert_eq!(rt;
+        marks.into_vec().as_slice(),
+        [mark(3, Kind::Take, 7)].as_slice()
+    );
+    let replies = Replies::from_vec(vec![in alloc; Reply::Empty]?);
+    assert!(rt; matches!(replies.into_vec().pop(), Some(Reply::Empty)));
+    let events = two_tiles(alloc)?;
+    assert_eq!(rt; events.items().len(), 10);
+    assert_eq!(rt; events.into_vec().len(), 10);
+    order_and_close();
+    Ok(())
+}
