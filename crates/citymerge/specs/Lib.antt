@@ -1,0 +1,5 @@
+pub mod NextLine
+pub mod Outcome
+pub mod Progress
+pub mod Stream
+pub mod Tile

@@ -1,0 +1,9 @@
+-- A stream: the header's line and the lines of the features, each followed by one newline.
+use Rattle.std.specs.Prelude.{◌++◌, ℕ, List, [], ◌∷◌, flat_map}
+use Rattle.city_json.specs.Bytes.{newline}
+
+abbrev pub ended : List ℕ → List ℕ
+ended line = line ++ newline ∷ []
+
+abbrev pub stream : List ℕ → List (List ℕ) → List ℕ
+stream header lines = flat_map ended (header ∷ lines)

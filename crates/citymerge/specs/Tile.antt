@@ -1,0 +1,90 @@
+-- The lines of a tile: the parts between newlines, numbered from 1, blank ones left out, up to the first fault.
+use Rattle.std.specs.Prelude.{◌+◌, ◌-◌, ◌^◌, ◌==◌, ◌&&◌, ◌||◌, ℕ, Bool, not, List, [], ◌∷◌, Option, Some, None, length, filter, filter_map, take_while, option_map, is_none, nat_le, nat_lt, if◌then◌else◌}
+use Rattle.std.specs.List.{slice_split, list_all}
+use Rattle.city_json.specs.Bytes.{space, tab, newline, carriage_return}
+use Rattle.city_json.specs.declared.fault.Fault.{Fault}
+use Rattle.city_json.specs.declared.fault.Fault.TheVariants.{LineTooLong, TileTooLong, Read}
+use Rattle.citymerge.specs.declared.limits.Limits.{Limits}
+
+-- what a reader gave: its bytes up to its first end or its first Err, and whether an Err came
+pub record Tile : Type 0 where
+  pub bytes : List ℕ
+  pub fails : Bool
+
+abbrev pub tile_of : List ℕ → Bool → Tile
+tile_of bytes fails = record { bytes = bytes; fails = fails }
+
+-- what stands between two newlines: its number from 1, the byte at which it begins from 0, and its bytes
+pub record Part : Type 0 where
+  pub number : ℕ
+  pub start : ℕ
+  pub bytes : List ℕ
+
+abbrev pub is_newline : ℕ → Bool
+is_newline b = b == newline
+
+-- each part begins behind the newline that ends the one before it
+abbrev pub numbered : ℕ → ℕ → List (List ℕ) → List Part
+numbered number start [] = []
+numbered number start (bytes ∷ others) =
+    record { number = number; start = start; bytes = bytes } ∷ numbered (number + 1) (start + length bytes + 1) others
+
+-- the limits of the streams that the program reads
+abbrev pub stream_limits : Limits
+stream_limits = record { line = 2 ^ 28; tile = 2 ^ 40 }
+
+-- More bytes than a line may have stand in a row without a newline, all of them within the tile's limit.
+abbrev pub is_long_line : Limits → ℕ → ℕ → Bool
+is_long_line limits start end = nat_lt limits.line (end - start) && nat_le (start + limits.line + 1) limits.tile
+
+-- No newline ends the line within the tile's limit, and the tile goes on behind that limit.
+abbrev pub is_past_limit : Limits → ℕ → ℕ → Bool
+is_past_limit limits size end = nat_le limits.tile end && nat_lt limits.tile size
+
+-- The line ends where the reader failed.
+abbrev pub is_cut_off : ℕ → Bool → ℕ → Bool
+is_cut_off size fails end = fails && (end == size)
+
+-- why a line from byte `start` to byte `end` is refused, in a tile of `size` bytes
+abbrev pub fault_between : Limits → ℕ → Bool → ℕ → ℕ → Option Fault
+fault_between limits size fails start end =
+    if is_long_line limits start end then Some LineTooLong
+    else (if is_past_limit limits size end then Some TileTooLong
+    else (if is_cut_off size fails end then Some Read
+    else None))
+
+abbrev pub fault_at : Limits → Tile → Part → Option Fault
+fault_at limits tile part = fault_between limits (length tile.bytes) tile.fails part.start (part.start + length part.bytes)
+
+-- spaces, tabs and carriage returns, or nothing
+abbrev pub is_blank : List ℕ → Bool
+is_blank line = list_all (λ b. (b == space) || (b == tab) || (b == carriage_return)) line
+
+-- the number of a line, and why it is refused
+pub record FaultyLine : Type 0 where
+  pub number : ℕ
+  pub fault : Fault
+
+abbrev pub faulty_line : Limits → Tile → Part → Option FaultyLine
+faulty_line limits tile part = option_map (λ fault. record { number = part.number; fault = fault }) (fault_at limits tile part)
+
+abbrev pub first_of : {X : Type 0} → List X → Option X
+first_of [] = None
+first_of (x ∷ xs) = Some x
+
+-- What a tile gives: the lines before the first part at fault, blank ones left out, and that fault, if there is one.
+pub record Given : Type 0 where
+  pub lines : List Part
+  pub fault : Option FaultyLine
+
+abbrev pub given_by : Limits → Tile → List Part → Given
+given_by limits tile some_parts = record {
+  lines = filter (λ part. not (is_blank part.bytes)) (take_while (λ part. is_none (fault_at limits tile part)) some_parts);
+  fault = first_of (filter_map (faulty_line limits tile) some_parts);
+}
+
+abbrev pub parts : Tile → List Part
+parts tile = numbered 1 0 (slice_split is_newline tile.bytes)
+
+abbrev pub given : Limits → Tile → Given
+given limits tile = given_by limits tile (parts tile)
