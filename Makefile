@@ -1,2 +1,43 @@
-test:
-	rt ci
+# The short commands. `make` alone prints them.
+
+.PHONY: help build demo test program-test docs-test bench clean
+
+help:
+	@echo 'citymerge: compacts streams of 3D city features (CityJSONSeq)'
+	@echo
+	@echo '  make build   prove the program and build it: build/citymerge'
+	@echo '  make demo    build it, run it on the tiles in examples/ and show what came out'
+	@echo '  make test    all that has to hold: the documents, the built program at its edges, then the gate'
+	@echo '               (every proof from nothing, the edits that must fail, the tests); takes long'
+	@echo '  make bench   how fast it is, beside jq (BENCH="--help" lists the options)'
+	@echo '  make clean   remove what was built and what the proofs kept'
+	@echo
+	@echo 'Needed: the Rattle kit, its command rt on PATH, which itself needs python3. For make bench also jq and valgrind.'
+
+# Flags for rt, as in: make build RTFLAGS='--jobs 1'
+RTFLAGS =
+
+build:
+	@tools/build.sh $(RTFLAGS)
+
+demo: build
+	@tools/demo.sh
+
+program-test: build
+	@tools/program_test.sh build/citymerge
+
+docs-test:
+	@tools/need.sh python3
+	@python3 tools/docs_test.py
+
+# The gate comes last, and so does its closing line.
+test: docs-test program-test
+	@echo 'The gate: every proof from nothing, the edits that must fail, the tests.'
+	@tools/at_work.sh 'the gate' rt ci
+
+bench: build
+	@tools/need.sh python3
+	@python3 bench/bench.py --program build/citymerge $(BENCH)
+
+clean:
+	@rm -rf build crates/*/out
