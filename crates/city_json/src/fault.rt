@@ -123,3 +123,84 @@ impl Fault {
         })
     }
 }
+
+#[cfg(test)]
+mod tests {
+    use super::*;
+    use std::test::Fail;
+
+    #[test]
+    fn each_fault_has_its_number_and_its_text(rt: HostRuntime) -> Result<(), Fail> {
+        let table: [(u8, Fault, &str); 32] = [
+            (1, Fault::NoHeader, "the stream has no header line"),
+            (2, Fault::NotUtf8, "the line is not UTF-8"),
+            (3, Fault::Syntax, "the line is not a JSON text"),
+            (4, Fault::TooDeep, "the JSON text is nested too deeply"),
+            (5, Fault::DuplicateName, "a name is repeated in an object"),
+            (6, Fault::NotCityJson, "the object is not a CityJSON object"),
+            (7, Fault::Version, "the version is not 2.0"),
+            (
+                8,
+                Fault::NoTransform,
+                "the transform is missing or malformed",
+            ),
+            (
+                9,
+                Fault::Decimal,
+                "a transform number is outside the profile",
+            ),
+            (10, Fault::ScaleNotPositive, "a scale is not above zero"),
+            (
+                11,
+                Fault::HeaderNotEmpty,
+                "the header holds city objects or vertices",
+            ),
+            (12, Fault::ScaleDiffers, "the scale differs from tile 1"),
+            (
+                13,
+                Fault::CrsDiffers,
+                "the reference system differs from tile 1",
+            ),
+            (14, Fault::OffGrid, "the translation is off the grid"),
+            (15, Fault::ShiftRange, "the shift is out of range"),
+            (
+                16,
+                Fault::ExtensionClash,
+                "an extension differs between tiles",
+            ),
+            (
+                17,
+                Fault::TemplatesDiffer,
+                "geometry templates differ between tiles",
+            ),
+            (18, Fault::NotAFeature, "the line is not a CityJSONFeature"),
+            (19, Fault::VertexShape, "a vertex is not three numbers"),
+            (
+                20,
+                Fault::VertexNotInteger,
+                "a vertex number is not written as a whole number",
+            ),
+            (21, Fault::VertexRange, "a vertex number is out of range"),
+            (22, Fault::LineTooLong, "the line is too long"),
+            (23, Fault::TileTooLong, "the tile is too long"),
+            (24, Fault::Read, "the tile could not be read"),
+            (25, Fault::Write, "the output could not be written"),
+            (26, Fault::Memory, "there is not enough memory"),
+            (27, Fault::NoThread, "a thread could not be started"),
+            (28, Fault::Handoff, "the hand-off could not be confirmed"),
+            (29, Fault::TooManyTiles, "there are more than 64 tiles"),
+            (30, Fault::ChildMissing, "a child is missing"),
+            (31, Fault::Orphan, "a city object belongs to no feature"),
+            (32, Fault::BoundaryIndex, "a boundary index is wrong"),
+        ];
+        for (number, fault, text) in table {
+            assert_eq!(rt; fault.number(), number);
+            assert_eq!(rt; Fault::of(number), Some(fault));
+            assert_eq!(rt; format!(in rt.alloc(); "{fault}")?.as_str(), text);
+        }
+        for number in [0, 33, 255] {
+            assert_eq!(rt; Fault::of(number), None);
+        }
+        Ok(())
+    }
+}
