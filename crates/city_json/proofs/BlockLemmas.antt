@@ -60,7 +60,7 @@ double_mod n x m small =
     let split_next : (x + 2 * m) % 2 ^ suc n ≡ (m % 2 ^ n) * 2 + x = rw next at split in
     omega (arith, split_next)
 
-mask_l-take : (n : ℕ) (marks : List Bool) → mask_l marks % 2 ^ n ≡ mask_l (take n marks)
+pub mask_l-take : (n : ℕ) (marks : List Bool) → mask_l marks % 2 ^ n ≡ mask_l (take n marks)
 mask_l-take zero marks = omega arith
 mask_l-take (suc n) [] = zero-mod (2 ^ suc n)
 mask_l-take (suc n) (mark ∷ marks) =
@@ -193,7 +193,7 @@ get_or-both (x ∷ xs) [] i = omega arith
 get_or-both (x ∷ xs) (y ∷ ys) zero = both_bits x y
 get_or-both (x ∷ xs) (y ∷ ys) (suc i) = get_or-both xs ys i
 
-and_masks : (xs ys : List Bool) → bit_and (mask_l xs) (mask_l ys) ≡ mask_l (zip2 (λ x y. x && y) xs ys)
+pub and_masks : (xs ys : List Bool) → bit_and (mask_l xs) (mask_l ys) ≡ mask_l (zip2 (λ x y. x && y) xs ys)
 and_masks xs ys = same_from_bits _ _ (λ i.
     bit_at_and (mask_l xs) (mask_l ys) i ∙ rw (bit_mask_l xs i, bit_mask_l ys i, bit_mask_l (zip2 (λ x y. x && y) xs ys) i) (sym (get_or-both xs ys i)))
 
@@ -272,7 +272,7 @@ is_zero_bit true = refl
 is_zero_bit false = refl
 
 -- whether the last byte leads outside
-last_mark : (marks : List Bool) (n : ℕ) → (bit_and (mask_l marks / 2 ^ n) 1 == 0) ≡ not (get_or marks n false)
+pub last_mark : (marks : List Bool) (n : ℕ) → (bit_and (mask_l marks / 2 ^ n) 1 == 0) ≡ not (get_or marks n false)
 last_mark marks n = rw (shr_and_one (mask_l marks) n, bit_mask_l marks n) (is_zero_bit (get_or marks n false))
 
 pub IsRun-block : (block back : List ℕ) (n openings closings outside_marks : ℕ) (in_string : Bool) → length block ≡ 64 → 0 < n → n ≤ 64 → HasNoBackslash (take n block)

@@ -27,7 +27,7 @@ mutual
   spelled (array items) w = (plain_items items, refl, spelled-items items w)
   spelled (object members) w = (plain_members members, refl, spelled-members members w)
 
-  spelled-items : (items : ItemTrees) → AreWritableItems items → SpellsItems items (plain_items items)
+  pub spelled-items : (items : ItemTrees) → AreWritableItems items → SpellsItems items (plain_items items)
   spelled-items no_items w = tt
   spelled-items (item value others) w = (plain value, plain_more_items others, refl, spaced (SpellsValue value) (plain value) (spelled value w.0), spelled-more_items others w.1)
 

@@ -14,7 +14,7 @@ use Rattle.city_json.specs.Number.{AreDigits, IsMinus, IsWhole, IsFraction, IsSi
 use Rattle.city_json.specs.NumberAt.{past_digits, past_some_digits, past_whole, past_minus, past_sign, past_fraction, past_exponent, past_number, split_before, number_at, EndsNumber, StartsNumber, is_number_byte}
 
 -- the bytes are a front with the property, and the rest
-abbrev Splits : (List ℕ → Type 0) → List ℕ → List ℕ → Type 0
+abbrev pub Splits : (List ℕ → Type 0) → List ℕ → List ℕ → Type 0
 Splits P b rest = (front : List ℕ) × (b ≡ front ++ rest) × P front
 
 value_from_digit : (c : ℕ) → is_ascii_digit c ≡ true → digit_value c < 10
@@ -29,7 +29,7 @@ digits-step : (c : ℕ) (cs : List ℕ) → Splits (AllDigits 10) cs (past_digit
 digits-step c cs (front, e, digits) true is = (c ∷ front, ap (λ l. c ∷ l) e, (value_from_digit c is, digits))
 digits-step c cs s false is = ([], refl, tt)
 
-digits-split : (b : List ℕ) → Splits (AllDigits 10) b (past_digits b)
+pub digits-split : (b : List ℕ) → Splits (AllDigits 10) b (past_digits b)
 digits-split [] = ([], refl, tt)
 digits-split (c ∷ cs) = digits-step c cs (digits-split cs) (is_ascii_digit c) refl
 

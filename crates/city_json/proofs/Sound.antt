@@ -5,6 +5,7 @@ use Rattle.std.proofs.lemmas.Bool.{eqb-true}
 use Rattle.std.proofs.lemmas.Option.{none-some, same_Some, cond_some}
 use Rattle.std.specs.List.{starts_with}
 use Rattle.city_json.specs.Bytes.{comma, colon, open_bracket, open_brace, close_bracket, close_brace, quotation_mark}
+use Rattle.city_json.specs.Compacting.{FoundItems}
 use Rattle.city_json.specs.Fits.{most_depth, depth, items_depth, members_depth}
 use Rattle.city_json.specs.Grammar.{IsBlank, Spaced, SpellsValue, SpellsItems, SpellsMoreItems, SpellsMembers, SpellsMoreMembers, SpellsMember}
 use Rattle.city_json.specs.Reading.{after_white, mark_at, after_byte, start_of, word_at, scalar_at, items_at, items_after, array_from, member_at, members_at, members_after, object_from, value_at, value_from, text_at}
@@ -24,11 +25,11 @@ abbrev Reader : Type 0
 Reader = List ℕ → Option (Tree × List ℕ)
 
 -- The bytes up to the rest spell the value, which is no deeper than this.
-record Found (levels : ℕ) (value : Tree) (b rest : List ℕ) : Type 0 where
-  text : List ℕ
-  splits : b ≡ text ++ rest
-  spells : SpellsValue value text
-  within : depth value ≤ levels
+pub record Found (levels : ℕ) (value : Tree) (b rest : List ℕ) : Type 0 where
+  pub text : List ℕ
+  pub splits : b ≡ text ++ rest
+  pub spells : SpellsValue value text
+  pub within : depth value ≤ levels
 
 abbrev IsSound : ℕ → Reader → Type 0
 IsSound levels read = (b rest : List ℕ) (value : Tree) → read b ≡ Some (value, rest) → Found levels value b rest
@@ -47,30 +48,21 @@ member_wider name P v w b p q s =
     let back : Spaced P ([] ++ (s.1 ++ w)) = spaced_wider P [] w s.1 tt q s.4 in
     (v ++ (s.0 ++ []), s.1 ++ w, rw (s.2, append-nil) (simp append_assoc), front, back)
 
--- What stands between the brackets, behind them the rest: `inner` spells the items, also where white space, or a comma
--- and white space, stand before it.
-record FoundItems (levels : ℕ) (items : ItemTrees) (b rest : List ℕ) : Type 0 where
-  inner : List ℕ
-  splits : b ≡ inner ++ close_bracket ∷ rest
-  spells : (w : List ℕ) → IsBlank w → SpellsItems items (w ++ inner)
-  more : (w : List ℕ) → IsBlank w → SpellsMoreItems items (comma ∷ (w ++ inner))
-  within : items_depth items ≤ levels
+pub record FoundMembers (levels : ℕ) (members : MemberTrees) (b rest : List ℕ) : Type 0 where
+  pub inner : List ℕ
+  pub splits : b ≡ inner ++ close_brace ∷ rest
+  pub spells : (w : List ℕ) → IsBlank w → SpellsMembers members (w ++ inner)
+  pub more : (w : List ℕ) → IsBlank w → SpellsMoreMembers members (comma ∷ (w ++ inner))
+  pub within : members_depth members ≤ levels
 
-record FoundMembers (levels : ℕ) (members : MemberTrees) (b rest : List ℕ) : Type 0 where
-  inner : List ℕ
-  splits : b ≡ inner ++ close_brace ∷ rest
-  spells : (w : List ℕ) → IsBlank w → SpellsMembers members (w ++ inner)
-  more : (w : List ℕ) → IsBlank w → SpellsMoreMembers members (comma ∷ (w ++ inner))
-  within : members_depth members ≤ levels
-
-record FoundMember (levels : ℕ) (name : List ℕ) (value : Tree) (b rest : List ℕ) : Type 0 where
-  text : List ℕ
-  splits : b ≡ text ++ rest
-  spells : SpellsMember name (SpellsValue value) text
-  within : depth value ≤ levels
+pub record FoundMember (levels : ℕ) (name : List ℕ) (value : Tree) (b rest : List ℕ) : Type 0 where
+  pub text : List ℕ
+  pub splits : b ≡ text ++ rest
+  pub spells : SpellsMember name (SpellsValue value) text
+  pub within : depth value ≤ levels
 
 -- the last item, white space, and the bracket
-items-last : (levels : ℕ) (value : Tree) (b behind rest : List ℕ) → Found levels value b behind → after_white behind ≡ close_bracket ∷ rest → FoundItems levels (item value no_items) b rest
+pub items-last : (levels : ℕ) (value : Tree) (b behind rest : List ℕ) → Found levels value b behind → after_white behind ≡ close_bracket ∷ rest → FoundItems levels (item value no_items) b rest
 items-last levels value b behind rest found closes =
     let white = after_white-splits behind in
     let text = found.text ++ white.white in
@@ -84,7 +76,7 @@ items-last levels value b behind rest found closes =
     }
 
 -- an item, white space, a comma, white space, and further items
-items-next : (levels : ℕ) (value : Tree) (others : ItemTrees) (b behind after rest : List ℕ) → Found levels value b behind → after_white behind ≡ comma ∷ after → FoundItems levels others (after_white after) rest → FoundItems levels (item value others) b rest
+pub items-next : (levels : ℕ) (value : Tree) (others : ItemTrees) (b behind after rest : List ℕ) → Found levels value b behind → after_white behind ≡ comma ∷ after → FoundItems levels others (after_white after) rest → FoundItems levels (item value others) b rest
 items-next levels value others b behind after rest found goes next =
     let white = after_white-splits behind in
     let then = after_white-splits after in
@@ -100,7 +92,7 @@ items-next levels value others b behind after rest found goes next =
       within = omega (arith, found.within, next.within);
     }
 
-members-last : (levels : ℕ) (name : List ℕ) (value : Tree) (b behind rest : List ℕ) → FoundMember levels name value b behind → after_white behind ≡ close_brace ∷ rest → FoundMembers levels (member name value no_members) b rest
+pub members-last : (levels : ℕ) (name : List ℕ) (value : Tree) (b behind rest : List ℕ) → FoundMember levels name value b behind → after_white behind ≡ close_brace ∷ rest → FoundMembers levels (member name value no_members) b rest
 members-last levels name value b behind rest found closes =
     let white = after_white-splits behind in
     let spaced : (w : List ℕ) → IsBlank w → SpellsMember name (SpellsValue value) (w ++ (found.text ++ white.white)) = λ w blank. member_wider name (SpellsValue value) w white.white found.text blank white.blank found.spells in
@@ -112,7 +104,7 @@ members-last levels name value b behind rest found closes =
       within = omega (arith, found.within);
     }
 
-members-next : (levels : ℕ) (name : List ℕ) (value : Tree) (others : MemberTrees) (b behind after rest : List ℕ) → FoundMember levels name value b behind → after_white behind ≡ comma ∷ after → FoundMembers levels others (after_white after) rest → FoundMembers levels (member name value others) b rest
+pub members-next : (levels : ℕ) (name : List ℕ) (value : Tree) (others : MemberTrees) (b behind after rest : List ℕ) → FoundMember levels name value b behind → after_white behind ≡ comma ∷ after → FoundMembers levels others (after_white after) rest → FoundMembers levels (member name value others) b rest
 members-next levels name value others b behind after rest found goes next =
     let white = after_white-splits behind in
     let then = after_white-splits after in
@@ -157,7 +149,7 @@ no_bytes [] is = refl
 no_bytes (c ∷ b) is = absurd (omega (arith, eqb-true (length (c ∷ b)) 0 is))
 
 -- a name, white space, a colon, white space, and a value
-member-found : (levels : ℕ) (name : List ℕ) (value : Tree) (b text consumed behind after rest : List ℕ) → b ≡ quotation_mark ∷ text → text ≡ consumed ++ behind → SpellsString name (quotation_mark ∷ consumed)
+pub member-found : (levels : ℕ) (name : List ℕ) (value : Tree) (b text consumed behind after rest : List ℕ) → b ≡ quotation_mark ∷ text → text ≡ consumed ++ behind → SpellsString name (quotation_mark ∷ consumed)
     → after_white behind ≡ colon ∷ after → Found levels value (after_white after) rest → FoundMember levels name value b rest
 member-found levels name value b text consumed behind after rest opens named spells goes found =
     let white = after_white-splits behind in

@@ -1,6 +1,7 @@
 pub mod Bin
 pub mod Bytes
 pub mod Compact
+pub mod Compacting
 pub mod Depth
 pub mod Device
 pub mod Failures
@@ -9,7 +10,9 @@ pub mod Fits
 pub mod Gives
 pub mod Grammar
 pub mod Intake
+pub mod MemberName
 pub mod Members
+pub mod NamePrint
 pub mod Nested
 pub mod Number
 pub mod NumberAt
@@ -19,8 +22,10 @@ pub mod Refusals
 pub mod Run
 pub mod ShortBytes
 pub mod Source
+pub mod Parts
 pub mod Runs
 pub mod Strings
 pub mod Tape
 pub mod Tree
 pub mod Writable
+pub mod Whole

@@ -1,12 +1,14 @@
 //! Laws of the definitions alone: each is the contract of a function that does nothing.
-ghost use Rattle.std.specs.Prelude.{◌≡◌, ◌≢◌, ◌↔◌, ◌≤◌, ℕ, List, All};
+ghost use Rattle.std.specs.Prelude.{◌≡◌, ◌≢◌, ◌↔◌, ◌≤◌, ◌<◌, ℕ, List, All, length, slice_index_or};
 ghost use Rattle.city_json.specs.Bytes.{newline};
 ghost use Rattle.city_json.specs.Compact.{plain};
 ghost use Rattle.city_json.specs.Depth.{IsDeep};
 ghost use Rattle.city_json.specs.Fits.{depth, most_depth};
 ghost use Rattle.city_json.specs.Grammar.{Spells};
-ghost use Rattle.city_json.specs.Tree.{Tree};
+ghost use Rattle.city_json.specs.Parts.{AreParts, with_value, replaced};
+ghost use Rattle.city_json.specs.Tree.{Tree, MemberTrees, object};
 ghost use Rattle.city_json.specs.Writable.{IsWritable};
+ghost use Rattle.city_json.specs.declared.compacting.parts.Part.{Part};
 
 /// A text spells at most one value.
 pub fn a_text_has_one_meaning()
@@ -31,4 +33,23 @@ pub fn texts_nest_as_their_values()
 /// Different values have different compact texts.
 pub fn compact_text_tells_its_value()
     ensures { (a b : Tree) → IsWritable a → IsWritable b → plain a ≡ plain b → a ≡ b }
+{}
+
+/// What a text spells can be written: its numbers are numbers, its texts and names UTF-8.
+pub fn spelled_value_is_writable()
+    ensures { (text : List ℕ) (value : Tree) → Spells text value → IsWritable value }
+{}
+
+/// A compact text spells no value but its own.
+pub fn compact_text_is_read_as_its_value()
+    ensures { (value found : Tree) → IsWritable value → Spells (plain value) found → value ≡ found }
+{}
+
+/// To exchange the text of one member's value, where it lies in the compact text of an object, is to exchange the
+/// value.
+pub fn exchanged_text_is_exchanged_value()
+    ensures { (members : MemberTrees) (parts : List Part) (k : ℕ) (part : Part) (value : Tree)
+        → AreParts 1 parts members → k < length parts
+        → with_value (plain (object members)) (slice_index_or parts k part) (plain value)
+        ≡ plain (object (replaced k value members)) }
 {}

@@ -3,6 +3,7 @@
 #![tactic(auto)]
 
 mod bin;
+mod compacting;
 mod comparing;
 mod depth;
 mod device;
@@ -26,17 +27,21 @@ mod sink;
 mod source;
 mod string;
 mod tape;
+#[cfg(test)]
+mod test_texts;
 mod text;
 
 pub use bin::Bin;
+pub use compacting::{Compacted, Part, compact, compact_parts};
 pub use comparing::same;
 pub use device::Device;
 pub use fault::Fault;
 pub use intake::{Intake, Stop, read_all};
 pub use json::{Items, Json, Member, Members};
 pub use laws::{
-    a_text_has_one_meaning, compact_text_is_one_line, compact_text_spells_its_value,
-    compact_text_tells_its_value, texts_nest_as_their_values,
+    a_text_has_one_meaning, compact_text_is_one_line, compact_text_is_read_as_its_value,
+    compact_text_spells_its_value, compact_text_tells_its_value, exchanged_text_is_exchanged_value,
+    spelled_value_is_writable, texts_nest_as_their_values,
 };
 pub use line::Line;
 pub use output::write_all;

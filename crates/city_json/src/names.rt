@@ -2,14 +2,14 @@
 ghost use Rattle.std.specs.Prelude.{◌≡◌, ◌↔◌, IsTrue, MatchResult, map};
 ghost use Rattle.city_json.specs.Fits.{IsNewName, HasDistinctNames};
 ghost use Rattle.city_json.specs.Members.{names};
-ghost use Rattle.city_json.specs.Tree.{named_tree, members_tree};
+ghost use Rattle.city_json.specs.Tree.{MemberTrees, named_tree, members_tree};
 
 use crate::fault::Fault;
 use crate::json::Member;
 use std::alloc::Global;
 
 /// The most members whose names are compared with one another. Past it sorting the names is faster.
-const MOST_COMPARED: usize = 16;
+pub(crate) const MOST_COMPARED: usize = 16;
 
 /// Whether no two members have the same name. The time is near linear in the names' bytes, whatever they are.
 /// Memory is taken for more than [`MOST_COMPARED`] members only. The only fault is [`Fault::Memory`].
@@ -50,19 +50,28 @@ fn is_new_name(name: &str, members: &[Member]) -> bool
 fn many_names_differ(alloc: Global, members: &[Member]) -> Result<bool, Fault>
     ensures { MatchResult result (λ differ. IsTrue differ ↔ HasDistinctNames (members_tree members.now)) (λ fault. fault ≡ Fault.Memory) }
 {
-    let mut names = names_of(alloc, members)?;
-    names.sort_unstable();
-    Ok(names.is_sorted_by(|first, second| first < second))
+    let names = names_of(alloc, members)?;
+    Ok(are_apart_when_sorted(names))
 }
 
-fn names_of(alloc: Global, members: &[Member]) -> Result<Vec<&str>, Fault>
+/// Whether the names are pairwise different: they are sorted, and neighbours compared.
+pub(crate) fn are_apart_when_sorted(listed: Vec<&[u8]>) -> bool
+    ensures { (members : MemberTrees) → names members ≡ map (λ name. name.now) listed.entry.items
+        → (IsTrue result ↔ HasDistinctNames members) }
+{
+    let mut listed = listed;
+    listed.sort_unstable();
+    listed.is_sorted_by(|first, second| first.cmp(second).is_lt())
+}
+
+fn names_of(alloc: Global, members: &[Member]) -> Result<Vec<&[u8]>, Fault>
     ensures { MatchResult result
         (λ listed. map (λ name. name.now) listed.items ≡ names (members_tree members.now))
         (λ fault. fault ≡ Fault.Memory) }
 {
     let mut listed = Vec::with_capacity(alloc, members.len()).map_err(|_| Fault::Memory)?;
     for member in members {
-        listed.push_reserved(name_of(member));
+        listed.push_reserved(name_of(member).as_bytes());
     }
     Ok(listed)
 }

@@ -122,7 +122,7 @@ fn put_member(line: &mut Line, member: &Member) -> Result<(), Fault>
     put_value(line, &member.value)
 }
 
-fn put_string(line: &mut Line, text: &str) -> Result<(), Fault>
+pub(crate) fn put_string(line: &mut Line, text: &str) -> Result<(), Fault>
     ensures ok { OnOk result (line.new ≡ line.old ++ quoted text.now) }
     ensures front { take (length line.old) line.new ≡ line.old }
     ensures fault { IfErr result (λ fault. fault ≡ Fault.Memory) }

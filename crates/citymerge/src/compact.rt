@@ -1,11 +1,16 @@
-ghost use Rattle.std.specs.Prelude.{IfOk, IfErr};
+ghost use Rattle.std.specs.Prelude.{◌≡◌, IfOk, IfErr};
+ghost use Rattle.city_json.specs.Compact.{plain};
+ghost use Rattle.city_json.specs.Depth.{IsDeep};
+ghost use Rattle.city_json.specs.Fits.{Fits};
+ghost use Rattle.city_json.specs.Grammar.{Spells};
 ghost use Rattle.city_json.specs.Refusals.{RefusesText};
+ghost use Rattle.city_json.specs.Tree.{Tree};
 ghost use Rattle.citymerge.specs.Outcome.{IsCompactLine};
 
-use city_json::{Fault, Line, print, read};
+use city_json::{Fault, Line, compact, print, read};
 use std::alloc::Global;
 
-/// The compact text of the value that the line spells, and a newline behind it. What `text` held is
+/// The compact text of the value that the line spells, and a newline after it. What `text` held is
 /// dropped; it is taken for its memory.
 ///
 /// # Errors
@@ -15,14 +20,24 @@ pub fn compact_line(alloc: Global, line: &[u8], text: Vec<u8>) -> Result<Vec<u8>
     ensures ok { IfOk result (λ text. IsCompactLine line.now text.items) }
     ensures refused { IfErr result (λ fault. RefusesText fault line.now) }
 {
-    let value = read(alloc, line)?;
-    let mut text = text;
-    text.clear();
-    let mut printed = Line::from_vec(text);
-    print(&value, &mut printed)?;
-    let mut text = printed.into_vec();
+    let mut text = text_of(alloc, line, Line::from_vec(text))?.into_vec();
     match text.push(b'\n') {
         Ok(()) => Ok(text),
         Err(_) => Err(Fault::Memory),
     }
+}
+
+/// The compact text of the value that the line spells: in one pass, or where that says nothing by way of the value.
+fn text_of(alloc: Global, line: &[u8], text: Line) -> Result<Line, Fault>
+    ensures ok { IfOk result (λ text. (value : Tree)
+        × Spells line.now value × Fits value × (¬ IsDeep line.now) × (text ≡ plain value)) }
+    ensures refused { IfErr result (λ fault. RefusesText fault line.now) }
+{
+    if let Some(text) = compact(alloc, line, text) {
+        return Ok(text);
+    }
+    let value = read(alloc, line)?;
+    let mut printed = Line::new(alloc);
+    print(&value, &mut printed)?;
+    Ok(printed)
 }

@@ -1,6 +1,7 @@
 use super::*;
 use crate::line::Line;
 use crate::printing::print;
+use crate::test_texts::{COMPACTED, NO_JSON, REFUSED, SPELLINGS, repeated};
 use std::test::Fail;
 
 /// The compact text of the value that the bytes spell.
@@ -10,35 +11,9 @@ fn compacted(alloc: Global, bytes: &[u8]) -> Result<Line, Fault> {
     Ok(line)
 }
 
-fn repeated(alloc: Global, piece: &[u8], count: usize) -> Result<Vec<u8>, Fail> {
-    let mut bytes = Vec::new(alloc);
-    for _ in 0..count {
-        bytes.extend_from_slice(piece)?;
-    }
-    Ok(bytes)
-}
-
 #[test]
 fn texts_are_compacted(rt: HostRuntime) -> Result<(), Fail> {
-    let texts: [(&[u8], &[u8]); 10] = [
-        (b"null", b"null"),
-        (b" \t\r\ntrue\n", b"true"),
-        (b"false", b"false"),
-        (b" [ ] ", b"[]"),
-        (b" { } ", b"{}"),
-        (b"[ 1 , -0.50e+3,[ 2 ] ]", b"[1,-0.50e+3,[2]]"),
-        (b"{ \"b\" : 1 , \"a\" : [ { } ] }", b"{\"b\":1,\"a\":[{}]}"),
-        (
-            b"{\"a\":{\"a\":1},\"b\":{\"a\":2}}",
-            b"{\"a\":{\"a\":1},\"b\":{\"a\":2}}",
-        ),
-        (b"\"\\u0041\\/\"", b"\"A/\""),
-        (
-            b"{\"k\":\"caf\\u00e9 \\/ \\ud83d\\ude00\",\"n\":1.50e+3}",
-            b"{\"k\":\"caf\xc3\xa9 / \xf0\x9f\x98\x80\",\"n\":1.50e+3}",
-        ),
-    ];
-    for (text, compact) in texts {
+    for (text, compact) in COMPACTED {
         let line = compacted(rt.alloc(), text)?;
         assert_eq!(rt; line.items(), compact);
     }
@@ -47,15 +22,7 @@ fn texts_are_compacted(rt: HostRuntime) -> Result<(), Fail> {
 
 #[test]
 fn strings_have_one_spelling(rt: HostRuntime) -> Result<(), Fail> {
-    let spellings: [(&[u8], &[u8]); 6] = [
-        (b"\"\\u0041\\/\"", b"\"A/\""),
-        (b"\"\\u0022\\u005c\"", b"\"\\\"\\\\\""),
-        (b"\"\\u000a\\u0008\"", b"\"\\n\\b\""),
-        (b"\"\\u001F\"", b"\"\\u001f\""),
-        (b"\"\\u007f\"", b"\"\x7f\""),
-        (b"\"\\uD83D\\uDE00\"", b"\"\xf0\x9f\x98\x80\""),
-    ];
-    for (spelling, written) in spellings {
+    for (spelling, written) in SPELLINGS {
         let line = compacted(rt.alloc(), spelling)?;
         assert_eq!(rt; line.items(), written);
     }
@@ -64,36 +31,7 @@ fn strings_have_one_spelling(rt: HostRuntime) -> Result<(), Fail> {
 
 #[test]
 fn what_is_no_json_text_is_refused(rt: HostRuntime) -> Result<(), Fail> {
-    let texts: [&[u8]; 27] = [
-        b"",
-        b"01",
-        b"1.",
-        b".5",
-        b"+1",
-        b"-",
-        b"1e",
-        b"[1,]",
-        b"{\"a\":1,}",
-        b"{\"a\"}",
-        b"{a:1}",
-        b"'a'",
-        b"nul",
-        b"1 2",
-        b"[",
-        b"]",
-        b"\xef\xbb\xbf{}",
-        b"{\"a\":1,\"a\":2",
-        b"[1 2]",
-        b"[,1]",
-        b"{\"a\":1 \"b\":2}",
-        b"\"\\ud83d\"",
-        b"\"\\ude00\"",
-        b"\"\\ude00\\ud83d\"",
-        b"\"\\x\"",
-        b"\"\\u12\"",
-        b"\"a\tb\"",
-    ];
-    for text in texts {
+    for text in NO_JSON {
         assert_eq!(rt; read(rt.alloc(), text).err(), Some(Fault::Syntax));
     }
     Ok(())
@@ -101,15 +39,7 @@ fn what_is_no_json_text_is_refused(rt: HostRuntime) -> Result<(), Fail> {
 
 #[test]
 fn each_other_refusal_has_its_text(rt: HostRuntime) -> Result<(), Fail> {
-    let texts: [(&[u8], Fault); 6] = [
-        (b"\xff", Fault::NotUtf8),
-        (b"\"\xed\xa0\x80\"", Fault::NotUtf8),
-        (b"[\xc0\xaf", Fault::NotUtf8),
-        (b"{\"a\":1,\"\\u0061\":2}", Fault::DuplicateName),
-        (b"[{\"b\":{\"a\":1,\"c\":2,\"a\":1}}]", Fault::DuplicateName),
-        (b"{\"\":1,\"\":2}", Fault::DuplicateName),
-    ];
-    for (text, fault) in texts {
+    for (text, fault) in REFUSED {
         assert_eq!(rt; read(rt.alloc(), text).err(), Some(fault));
     }
     Ok(())

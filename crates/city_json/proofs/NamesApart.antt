@@ -1,0 +1,116 @@
+-- The names of members that differ, as the pass holds them.
+use Rattle.std.proofs.Common.{◌≡◌, ◌++◌, ◌∙◌, ◌≤◌, ◌<◌, ◌+◌, ◌-◌, ℕ, zero, suc, List, [], ◌∷◌, Some, None, length, take, drop, map, get_or, refl, ap, sym, subst, arith, append_assoc, append-nil, slice_range, IsUtf8, Option, Bool, true, false, nat_eq, codes, length-drop, length-append, IfSome, inl, inr}
+use Rattle.std.specs.Str.{IsCharBoundary}
+use Rattle.std.specs.Str.Parse.{AllDigits}
+use Rattle.std.proofs.lemmas.Str.Parse.{digit_from_value}
+use Rattle.std.specs.List.{starts_with, prefix_len}
+use Rattle.std.proofs.lemmas.Str.{IsUtf8-between, IsCharBoundary-after_ascii, IsCharBoundary-before_ascii}
+use Rattle.std.proofs.lemmas.Grind.{flat_map-append}
+use Rattle.std.proofs.lemmas.Bool.{false≢true}
+use Rattle.std.proofs.lemmas.Bool.Decides.{nat_tests}
+use Rattle.std.proofs.lemmas.Slice.Eq.{bytes_eq-Decides}
+use Rattle.std.specs.Prelude.{bytes_eq}
+use Rattle.std.proofs.lemmas.List.Edits.{between_none}
+use Rattle.city_json.specs.Number.{IsNumber, IsWhole}
+use Rattle.city_json.specs.NumberAt.{number_at, past_digits}
+use Rattle.city_json.specs.ReadString.{is_plain, decoded, string_at}
+use Rattle.city_json.specs.Depth.{IsDeep}
+use Rattle.city_json.proofs.DepthLaws.{nests_as_value}
+use Rattle.city_json.proofs.CompactText.{written_run}
+use Rattle.city_json.proofs.NumberLaws.{number_starts, digits-split}
+use Rattle.city_json.proofs.NumberLaws as number_laws
+use Rattle.city_json.proofs.ReadString.{string_at-some, checked-some}
+use Rattle.city_json.proofs.StringSteps.{run_closes}
+use Rattle.std.proofs.Math.Seq.{take-add}
+use Rattle.std.proofs.lemmas.List.{drop-drop, drop_more, take_rest, take_all, take_at, drop_at, get_or-drop, take-append-drop, append_cancel_right, drop-append-le, take-append-le, map-append, drop_all}
+use Rattle.std.proofs.lemmas.List.Folds.{drop_split}
+use Rattle.std.proofs.Common.{true≢false, ltb}
+use Rattle.std.proofs.lemmas.Bool.{ltb-true}
+use Rattle.std.proofs.lemmas.Cmp.{nat_cmp_total, eq_by_cmp_equiv}
+use Rattle.std.proofs.lemmas.List.Sorted.{IsPermutation-sym}
+use Rattle.std.proofs.lemmas.Map.Keys.{IsDistinct-from_sorted, IsDistinct-IsPermutation, sorted_from_strictly_increasing}
+use Rattle.std.specs.Bool.{IsTrue}
+use Rattle.std.specs.List.{AllByRecursion, IsAllAdjacentAnswer, IsDistinct}
+use Rattle.std.specs.List.Sorted.{IsPermutation, IsStrictlySortedBy}
+use Rattle.std.specs.Ordering.{eq_by_cmp, nat_cmp}
+use Rattle.std.specs.List.{flat_map}
+use Rattle.city_json.specs.Bytes.{digit_zero, comma, colon, open_bracket, open_brace, close_bracket, close_brace, quotation_mark}
+use Rattle.city_json.specs.Compact.{written, quoted, plain, plain_items, plain_more_items, plain_members, plain_more_members}
+use Rattle.city_json.specs.Compacting.{shown, Taken, TakenItems, TakenMembers, TakenString, TakenName, TakenStart, TakenMember, IsScalarText, IsPlainString, ItemsFrom, FoundItems}
+use Rattle.city_json.specs.Fits.{most_depth, Fits, depth, AreDistinctItems, AreDistinctMembers, HasDistinctNames, IsNewName}
+use Rattle.city_json.specs.Grammar.{Spells, SpellsValue, SpellsMember}
+use Rattle.city_json.specs.Members.{names}
+use Rattle.city_json.specs.Reading.{after_white, is_white}
+use Rattle.city_json.specs.Strings.{SpellsString}
+use Rattle.city_json.specs.Tree.{Tree, null, boolean, number, string, array, object, ItemTrees, no_items, item, MemberTrees, no_members, member}
+use Rattle.city_json.proofs.Scanning.{after_white-splits, after_white-clear, starts_with-splits}
+use Rattle.city_json.proofs.Sound.{Found, FoundMembers, FoundMember, items-last, items-next, members-last, members-next, member-found}
+use Rattle.city_json.proofs.SpelledString.{string_at-sound}
+
+pub no_names : (name : List ℕ) (members : MemberTrees) → names members ≡ [] → IsNewName name members
+no_names name no_members is = tt
+no_names name (member n v o) is = cc
+
+pub none_differ : (members : MemberTrees) → names members ≡ [] → HasDistinctNames members
+none_differ no_members is = tt
+none_differ (member n v o) is = cc
+
+pub new_step : (name other : List ℕ) (rest : List (List ℕ)) → (other ≡ name → ⊥) → ((members : MemberTrees) → names members ≡ rest → IsNewName name members) → (members : MemberTrees) → names members ≡ other ∷ rest → IsNewName name members
+new_step name other rest apart new no_members is = cc
+new_step name other rest apart new (member n v o) is = (λ same. apart cc, new o cc)
+
+pub differ_step : (name : List ℕ) (rest : List (List ℕ)) → ((members : MemberTrees) → names members ≡ rest → IsNewName name members) → ((members : MemberTrees) → names members ≡ rest → HasDistinctNames members) → (members : MemberTrees) → names members ≡ name ∷ rest → HasDistinctNames members
+differ_step name rest new differ no_members is = cc
+differ_step name rest new differ (member n v o) is =
+    let same : n ≡ name = cc in
+    let others : names o ≡ rest = cc in
+    (subst (λ l. IsNewName l o) (sym same) (new o others), differ o others)
+
+-- the names of listed things are new, are different
+abbrev pub AreNew : {A : Type 0} → (A → List ℕ) → List ℕ → List A → Type 0
+AreNew bytes name listed = (members : MemberTrees) → names members ≡ map bytes listed → IsNewName name members
+
+abbrev pub AreApart : {A : Type 0} → (A → List ℕ) → List A → Type 0
+AreApart bytes listed = (members : MemberTrees) → names members ≡ map bytes listed → HasDistinctNames members
+
+pub new_step_at : {A : Type 0} (bytes : A → List ℕ) (name : List ℕ) (listed : List A) (i : ℕ) (d : A) (W : Type 0) → i < length listed → false ≡ bytes_eq (bytes (get_or listed i d)) name → (AreNew bytes name (drop i listed) → W) → AreNew bytes name (drop (i + 1) listed) → W
+new_step_at bytes name listed i d W inside apart before new = before (λ members is.
+    new_step name (bytes (get_or listed i d)) (map bytes (drop (i + 1) listed)) (λ same. false≢true (apart ∙ (bytes_eq-Decides (bytes (get_or listed i d)) name).1 same)) new members (is ∙ ap (map bytes) (drop_more listed i d inside)))
+
+pub differ_step_at : {A : Type 0} (bytes : A → List ℕ) (rest : List A) (n : ℕ) (d : A) (W : Type 0) → 1 ≤ length rest → n ≡ length rest - 1 → AreNew bytes (bytes (get_or rest 0 d)) (take n (drop 1 rest)) → (AreApart bytes rest → W) → AreApart bytes (take n (drop 1 rest)) → W
+differ_step_at bytes rest n d W some count new before differ = before (λ members is.
+    let others : take n (drop 1 rest) ≡ drop 1 rest = ap (λ k. take k (drop 1 rest)) count ∙ take_rest rest 1 in
+    differ_step (bytes (get_or rest 0 d)) (map bytes (take n (drop 1 rest))) new differ members (is ∙ (ap (map bytes) (drop_more rest 0 d (omega arith)) ∙ ap (λ l. bytes (get_or rest 0 d) ∷ map bytes l) (sym others))))
+
+-- ---- by their prints
+abbrev same_number : ℕ → ℕ → Bool
+same_number = eq_by_cmp nat_cmp
+
+new_by_print : (name : List ℕ) (members : MemberTrees) (print : List ℕ → ℕ) → AllByRecursion (λ y. same_number (print name) y ≡ false) (map print (names members)) → IsNewName name members
+new_by_print name no_members print apart = tt
+new_by_print name (member other value others) print apart =
+    let equal : same_number (print name) (print name) ≡ true = (eq_by_cmp_equiv nat_cmp_total).refl (print name) in
+    (λ same. true≢false (sym equal ∙ (ap (λ n. same_number (print name) (print n)) same ∙ apart.0)), new_by_print name others print apart.1)
+
+apart_by_prints : (members : MemberTrees) (print : List ℕ → ℕ) → IsDistinct same_number (map print (names members)) → HasDistinctNames members
+unfolding IsDistinct
+apart_by_prints no_members print apart = tt
+apart_by_prints (member name value others) print apart = (new_by_print name others print apart.0, apart_by_prints others print apart.1)
+
+abbrev pub rises : ℕ → ℕ → Bool
+rises x y = ltb x y
+
+-- r tells whether each number is below the next
+abbrev pub TellsRise : Bool → List ℕ → Type 0
+TellsRise r listed = IsAllAdjacentAnswer (λ x y b. b ≡ rises x y) listed r
+
+-- what a sort of the prints and a look at the neighbours show
+pub apart_when_rising : (members : MemberTrees) (print : List ℕ → ℕ) (prints sorted : List ℕ) (r : Bool) → map print (names members) ≡ prints → IsPermutation prints sorted → TellsRise r sorted → IsTrue r → HasDistinctNames members
+apart_when_rising members print prints sorted r are moved answer so = by r answer so
+  where
+    by : (b : Bool) → TellsRise b sorted → IsTrue b → HasDistinctNames members
+    by true neighbours _ =
+        let up : IsStrictlySortedBy nat_cmp sorted = sorted_from_strictly_increasing sorted (λ k within. ltb-true _ _ (sym (neighbours k 0 within))) in
+        let apart : IsDistinct same_number prints = IsDistinct-IsPermutation same_number (eq_by_cmp_equiv nat_cmp_total).symm sorted prints (IsPermutation-sym prints sorted moved) (IsDistinct-from_sorted nat_cmp sorted up) in
+        apart_by_prints members print (subst (IsDistinct same_number) (sym are) apart)
+    by false found not = absurd (true≢false (sym not))

@@ -1,0 +1,170 @@
+-- Arrays: the items that the pass takes, one after another.
+use Rattle.std.proofs.Common.{◌≡◌, ◌++◌, ◌∙◌, ◌≤◌, ◌<◌, ◌+◌, ◌-◌, ℕ, zero, suc, List, [], ◌∷◌, Some, None, length, take, drop, map, get_or, refl, ap, sym, subst, arith, append_assoc, append-nil, slice_range, IsUtf8, Option, Bool, true, false, nat_eq, codes, length-drop, length-append, IfSome, inl, inr}
+use Rattle.std.specs.Str.{IsCharBoundary}
+use Rattle.std.specs.Str.Parse.{AllDigits}
+use Rattle.std.proofs.lemmas.Str.Parse.{digit_from_value}
+use Rattle.std.specs.List.{starts_with, prefix_len}
+use Rattle.std.proofs.lemmas.Str.{IsUtf8-between, IsCharBoundary-after_ascii, IsCharBoundary-before_ascii}
+use Rattle.std.proofs.lemmas.Grind.{flat_map-append}
+use Rattle.std.proofs.lemmas.Bool.{false≢true}
+use Rattle.std.proofs.lemmas.Bool.Decides.{nat_tests}
+use Rattle.std.proofs.lemmas.Slice.Eq.{bytes_eq-Decides}
+use Rattle.std.specs.Prelude.{bytes_eq}
+use Rattle.std.proofs.lemmas.List.Edits.{between_none}
+use Rattle.city_json.specs.Number.{IsNumber, IsWhole}
+use Rattle.city_json.specs.NumberAt.{number_at, past_digits}
+use Rattle.city_json.specs.ReadString.{is_plain, decoded, string_at}
+use Rattle.city_json.specs.Depth.{IsDeep}
+use Rattle.city_json.proofs.DepthLaws.{nests_as_value}
+use Rattle.city_json.proofs.CompactText.{written_run}
+use Rattle.city_json.proofs.NumberLaws.{number_starts, digits-split}
+use Rattle.city_json.proofs.NumberLaws as number_laws
+use Rattle.city_json.proofs.ReadString.{string_at-some, checked-some}
+use Rattle.city_json.proofs.StringSteps.{run_closes}
+use Rattle.std.proofs.Math.Seq.{take-add}
+use Rattle.std.proofs.lemmas.List.{drop-drop, drop_more, take_rest, take_all, take_at, drop_at, get_or-drop, take-append-drop, append_cancel_right, drop-append-le, take-append-le, map-append, drop_all}
+use Rattle.std.proofs.lemmas.List.Folds.{drop_split}
+use Rattle.std.specs.Borrow.{Bor}
+use Rattle.std.specs.List.{flat_map}
+use Rattle.city_json.specs.Bytes.{digit_zero, comma, colon, open_bracket, open_brace, close_bracket, close_brace, quotation_mark}
+use Rattle.city_json.specs.Compact.{written, quoted, plain, plain_items, plain_more_items, plain_members, plain_more_members}
+use Rattle.city_json.specs.Compacting.{shown, Taken, TakenItems, TakenMembers, TakenString, TakenName, TakenStart, TakenMember, IsScalarText, IsPlainString, ItemsFrom, FoundItems}
+use Rattle.city_json.specs.Fits.{most_depth, Fits, depth, IsDistinct, AreDistinctItems, AreDistinctMembers, HasDistinctNames, IsNewName}
+use Rattle.city_json.specs.Grammar.{Spells, SpellsValue, SpellsMember}
+use Rattle.city_json.specs.Members.{names}
+use Rattle.city_json.specs.Reading.{after_white, is_white}
+use Rattle.city_json.specs.Strings.{SpellsString}
+use Rattle.city_json.specs.Tree.{Tree, null, boolean, number, string, array, object, ItemTrees, no_items, item, MemberTrees, no_members, member}
+use Rattle.city_json.proofs.Scanning.{after_white-splits, after_white-clear, starts_with-splits}
+use Rattle.city_json.proofs.Sound.{Found, FoundMembers, FoundMember, items-last, items-next, members-last, members-next, member-found}
+use Rattle.city_json.proofs.SpelledString.{string_at-sound}
+use Rattle.city_json.proofs.PassScalars.{scalar_taken}
+use Rattle.city_json.proofs.Places.{at_mark, drop_one, shown_one, slice_more, slice_one}
+
+pub found_of : {levels : ℕ} {b rest before after : List ℕ} (taken : Taken levels b rest before after) → Found levels taken.value b rest
+found_of taken = record { text = taken.text; splits = taken.splits; spells = taken.spells; within = taken.within }
+
+pub last_shown : (before value mid after : List ℕ) (close : ℕ) → mid ≡ before ++ value → after ≡ mid ++ close ∷ [] → after ≡ before ++ ((value ++ []) ++ close ∷ [])
+last_shown before value mid after close is then = then ∙ (ap (λ l. l ++ close ∷ []) is ∙ (append_assoc before value (close ∷ []) ∙ ap (λ l. before ++ (l ++ close ∷ [])) (sym (append-nil value))))
+
+pub next_shown : (before value others mid after : List ℕ) (close : ℕ) → mid ≡ before ++ value → after ≡ (mid ++ comma ∷ []) ++ (others ++ close ∷ []) → after ≡ before ++ ((value ++ comma ∷ others) ++ close ∷ [])
+next_shown before value others mid after close is then =
+    let joined : (((before ++ value) ++ comma ∷ []) ++ (others ++ close ∷ [])) ≡ before ++ ((value ++ comma ∷ others) ++ close ∷ []) = simp append_assoc in
+    then ∙ (ap (λ l. (l ++ comma ∷ []) ++ (others ++ close ∷ [])) is ∙ joined)
+
+pub items_close : (levels : ℕ) (b behind rest before mid after : List ℕ) → Taken levels b behind before mid → after_white behind ≡ close_bracket ∷ rest → after ≡ mid ++ close_bracket ∷ [] → ItemsFrom levels b rest before after
+items_close levels b behind rest before mid after taken closes is = record {
+  first = taken.value;
+  others = no_items;
+  found = items-last levels taken.value b behind rest (found_of taken) closes;
+  distinct = (taken.distinct, tt);
+  is_shown = last_shown before (plain taken.value) mid after close_bracket taken.is_shown is;
+}
+
+pub items_more : (levels : ℕ) (b behind next rest before mid after : List ℕ) → Taken levels b behind before mid → after_white behind ≡ comma ∷ next
+    → ItemsFrom levels (after_white next) rest (mid ++ comma ∷ []) after → ItemsFrom levels b rest before after
+items_more levels b behind next rest before mid after taken goes from = record {
+  first = taken.value;
+  others = item from.first from.others;
+  found = items-next levels taken.value (item from.first from.others) b behind next rest (found_of taken) goes from.found;
+  distinct = (taken.distinct, from.distinct);
+  is_shown = next_shown before (plain taken.value) (plain_items (item from.first from.others)) mid after close_bracket taken.is_shown from.is_shown;
+}
+
+pub items_begin : (levels : ℕ) (b rest before after : List ℕ) → ItemsFrom levels (after_white b) rest before after → TakenItems levels b rest before after
+items_begin levels b rest before after from =
+    let white = after_white-splits b in
+    record {
+      items = item from.first from.others;
+      inner = white.white ++ from.found.inner;
+      splits = white.splits ∙ (ap (λ l. white.white ++ l) from.found.splits ∙ sym (append_assoc white.white from.found.inner (close_bracket ∷ rest)));
+      spells = from.found.spells white.white white.blank;
+      within = from.found.within;
+      distinct = from.distinct;
+      is_shown = from.is_shown;
+    }
+
+pub items_none : (levels : ℕ) (b rest before after : List ℕ) → after_white b ≡ close_bracket ∷ rest → after ≡ before ++ close_bracket ∷ [] → TakenItems levels b rest before after
+items_none levels b rest before after closes is =
+    let white = after_white-splits b in
+    record {
+      items = no_items;
+      inner = white.white;
+      splits = white.splits ∙ ap (λ l. white.white ++ l) closes;
+      spells = white.blank;
+      within = omega arith;
+      distinct = tt;
+      is_shown = is;
+    }
+
+pub array_taken : (levels : ℕ) (b b' rest before before' after : List ℕ) → (levels ≡ 0 → ⊥) → b ≡ open_bracket ∷ b' → before' ≡ before ++ open_bracket ∷ [] → TakenItems (levels - 1) b' rest before' after → Taken levels b rest before after
+array_taken levels b b' rest before before' after some opens is taken = record {
+  value = array taken.items;
+  text = open_bracket ∷ taken.inner ++ close_bracket ∷ [];
+  splits = opens ∙ ap (λ l. open_bracket ∷ l) (taken.splits ∙ sym (append_assoc taken.inner (close_bracket ∷ []) rest));
+  spells = (taken.inner, refl, taken.spells);
+  within = omega (arith, taken.within);
+  distinct = taken.distinct;
+  is_shown = taken.is_shown ∙ (ap (λ l. l ++ (plain_items taken.items ++ close_bracket ∷ [])) is ∙ append_assoc before (open_bracket ∷ []) (plain_items taken.items ++ close_bracket ∷ []));
+}
+
+-- one more item: what the loop reads from `b` on is what it reads behind the comma, an item earlier
+pub items_step : (levels : ℕ) (b behind next rest before mid at_mark behind_mark after : List ℕ) → Taken levels b behind before mid → after_white behind ≡ comma ∷ next → at_mark ≡ mid → behind_mark ≡ at_mark ++ comma ∷ []
+    → ItemsFrom levels (after_white next) rest behind_mark after → ItemsFrom levels b rest before after
+items_step levels b behind next rest before mid at_mark behind_mark after taken goes is₁ is₂ from =
+    items_more levels b behind next rest before mid after taken goes (subst (λ l. ItemsFrom levels (after_white next) rest l after) (is₂ ∙ ap (λ l. l ++ comma ∷ []) is₁) from)
+
+-- from where white space was skipped
+pub items_skip : (levels : ℕ) (b b' rest before before' after : List ℕ) → b' ≡ b → before' ≡ before → ItemsFrom levels b' rest before' after → ItemsFrom levels b rest before after
+items_skip levels b b' rest before before' after skips is from = subst (λ l. ItemsFrom levels b rest l after) is (subst (λ l. ItemsFrom levels l rest before' after) skips from)
+
+white_once : (b : List ℕ) → after_white (after_white b) ≡ after_white b
+white_once [] = refl
+white_once (c ∷ b) = one_more (is_white c) refl (white_once b)
+  where
+    one_more : (t : Bool) → is_white c ≡ t → after_white (after_white b) ≡ after_white b → after_white (after_white (c ∷ b)) ≡ after_white (c ∷ b)
+    one_more true is rest = rw is rest
+    one_more false is rest = rw (is, is) refl
+
+pub items_start : (levels : ℕ) (b b' rest before before' after : List ℕ) → b' ≡ after_white b → before' ≡ before → ItemsFrom levels (after_white b') rest before' after → TakenItems levels b rest before after
+items_start levels b b' rest before before' after skips is from = items_begin levels b rest before after (items_skip levels (after_white b) (after_white b') rest before before' after (ap after_white skips ∙ white_once b) is from)
+
+-- the last item, where the bracket was found
+pub items_stop : (levels : ℕ) (b behind rest before mid at_mark behind_mark : List ℕ) → Taken levels b behind before mid → after_white behind ≡ close_bracket ∷ rest → at_mark ≡ mid → behind_mark ≡ at_mark ++ close_bracket ∷ [] → ItemsFrom levels b rest before behind_mark
+items_stop levels b behind rest before mid at_mark behind_mark taken closes is₁ is₂ = items_close levels b behind rest before mid behind_mark taken closes (is₂ ∙ ap (λ l. l ++ close_bracket ∷ []) is₁)
+
+digit_clear : (c : ℕ) (b : List ℕ) → 48 ≤ c → after_white (c ∷ b) ≡ c ∷ b
+digit_clear c b is = after_white-clear (c ∷ b) (grind (arith, nat_tests))
+
+pub zero_clear : (text : List ℕ) (at : ℕ) → at < length text → get_or text at 0 ≡ digit_zero → after_white (drop at text) ≡ drop at text
+zero_clear text at inside is = ap after_white (drop_one text at digit_zero inside is) ∙ sym (drop_one text at digit_zero inside is)
+
+pub digits_clear : (text : List ℕ) (at end : ℕ) → at < length text → at ≤ end → end ≤ length text → drop end text ≡ past_digits (drop at text) → at < end → after_white (drop at text) ≡ drop at text
+digits_clear text at end inside order fits passed some =
+    let split = digits-split (drop at text) in
+    let both : slice_range text at end ++ drop end text ≡ split.0 ++ drop end text = sym (drop_split text at end order) ∙ (split.1 ∙ ap (λ l. split.0 ++ l) (sym passed)) in
+    let is : slice_range text at end ≡ split.0 = append_cancel_right (slice_range text at end) split.0 (drop end text) both in
+    let first : split.0 ≡ get_or text at 0 ∷ slice_range text (at + 1) end = sym is ∙ (slice_more text at (at + 1) end (omega arith) (omega arith) ∙ ap (λ l. l ++ slice_range text (at + 1) end) (slice_one text at (get_or text at 0) inside refl)) in
+    let digits : AllDigits 10 (get_or text at 0 ∷ slice_range text (at + 1) end) = subst (AllDigits 10) first split.2 in
+    let range : (48 ≤ get_or text at 0) × (get_or text at 0 ≤ 57) = digit_from_value (get_or text at 0) digits.0 in
+    let begins : drop at text ≡ get_or text at 0 ∷ drop (at + 1) text = drop_one text at (get_or text at 0) inside refl in
+    ap after_white begins ∙ (digit_clear (get_or text at 0) (drop (at + 1) text) range.0 ∙ sym begins)
+
+-- a whole number and a comma
+pub integer_more : (levels : ℕ) (text line rest after : List ℕ) (from at end : ℕ) → from ≤ at → at < end → end < length text → IsScalarText text at end → after_white (drop at text) ≡ drop at text → get_or text end 0 ≡ comma
+    → ItemsFrom levels (after_white (drop (end + 1) text)) rest (shown line text from (end + 1)) after → ItemsFrom levels (after_white (drop at text)) rest (shown line text from at) after
+integer_more levels text line rest after from at end copied some inside is clear is_comma further =
+    let taken = scalar_taken levels line text from at end copied some is in
+    let goes : after_white (drop end text) ≡ comma ∷ drop (end + 1) text = ap after_white (drop_one text end comma inside is_comma) in
+    let stepped = items_step levels (drop at text) (drop end text) (drop (end + 1) text) rest (shown line text from at) (shown line text from end) (shown line text from end) (shown line text from (end + 1)) after taken goes refl (shown_one line text from end comma (omega arith) inside is_comma) further in
+    items_skip levels (after_white (drop at text)) (drop at text) rest (shown line text from at) (shown line text from at) after (sym clear) refl stepped
+
+-- the last item, a whole number
+pub integer_stop : (levels : ℕ) (text line : List ℕ) (from at end : ℕ) → from ≤ at → at < end → end < length text → IsScalarText text at end → after_white (drop at text) ≡ drop at text → get_or text end 0 ≡ close_bracket
+    → ItemsFrom levels (after_white (drop at text)) (drop (end + 1) text) (shown line text from at) (shown line text from (end + 1))
+integer_stop levels text line from at end copied some inside is clear closes =
+    items_skip levels (after_white (drop at text)) (drop at text) (drop (end + 1) text) (shown line text from at) (shown line text from at) (shown line text from (end + 1)) (sym clear) refl
+    (items_stop levels (drop at text) (drop end text) (drop (end + 1) text) (shown line text from at) (shown line text from end) (shown line text from end) (shown line text from (end + 1)) (scalar_taken levels line text from at end copied some is)
+    (ap after_white (drop_one text end close_bracket inside closes)) refl (shown_one line text from end close_bracket (omega arith) inside closes))
+
+-- what stands at a mark behind white space

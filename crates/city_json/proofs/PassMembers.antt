@@ -1,0 +1,185 @@
+-- Objects: the members that the pass takes, one after another; and the whole text.
+use Rattle.std.proofs.Common.{◌≡◌, ◌++◌, ◌∙◌, ◌≤◌, ◌<◌, ◌+◌, ◌-◌, ℕ, zero, suc, List, [], ◌∷◌, Some, None, length, take, drop, map, get_or, refl, ap, sym, subst, arith, append_assoc, append-nil, slice_range, IsUtf8, Option, Bool, true, false, nat_eq, codes, length-drop, length-append, IfSome, inl, inr}
+use Rattle.std.specs.Str.{IsCharBoundary}
+use Rattle.std.specs.Str.Parse.{AllDigits}
+use Rattle.std.proofs.lemmas.Str.Parse.{digit_from_value}
+use Rattle.std.specs.List.{starts_with, prefix_len}
+use Rattle.std.proofs.lemmas.Str.{IsUtf8-between, IsCharBoundary-after_ascii, IsCharBoundary-before_ascii}
+use Rattle.std.proofs.lemmas.Grind.{flat_map-append}
+use Rattle.std.proofs.lemmas.Bool.{false≢true}
+use Rattle.std.proofs.lemmas.Bool.Decides.{nat_tests}
+use Rattle.std.proofs.lemmas.Slice.Eq.{bytes_eq-Decides}
+use Rattle.std.specs.Prelude.{bytes_eq}
+use Rattle.std.proofs.lemmas.List.Edits.{between_none}
+use Rattle.city_json.specs.Number.{IsNumber, IsWhole}
+use Rattle.city_json.specs.NumberAt.{number_at, past_digits}
+use Rattle.city_json.specs.ReadString.{is_plain, decoded, string_at}
+use Rattle.city_json.specs.Depth.{IsDeep}
+use Rattle.city_json.proofs.DepthLaws.{nests_as_value}
+use Rattle.city_json.proofs.CompactText.{written_run}
+use Rattle.city_json.proofs.NumberLaws.{number_starts, digits-split}
+use Rattle.city_json.proofs.NumberLaws as number_laws
+use Rattle.city_json.proofs.ReadString.{string_at-some, checked-some}
+use Rattle.city_json.proofs.StringSteps.{run_closes}
+use Rattle.std.proofs.Math.Seq.{take-add}
+use Rattle.std.proofs.lemmas.List.{drop-drop, drop_more, take_rest, take_all, take_at, drop_at, get_or-drop, take-append-drop, append_cancel_right, drop-append-le, take-append-le, map-append, drop_all}
+use Rattle.std.proofs.lemmas.List.Folds.{drop_split}
+use Rattle.std.specs.Borrow.{Bor}
+use Rattle.std.specs.List.{flat_map}
+use Rattle.city_json.specs.Bytes.{digit_zero, comma, colon, open_bracket, open_brace, close_bracket, close_brace, quotation_mark}
+use Rattle.city_json.specs.Compact.{written, quoted, plain, plain_items, plain_more_items, plain_members, plain_more_members}
+use Rattle.city_json.specs.Compacting.{shown, Taken, TakenItems, TakenMembers, TakenString, TakenName, TakenStart, TakenMember, IsScalarText, IsPlainString, ItemsFrom, FoundItems}
+use Rattle.city_json.specs.Fits.{most_depth, Fits, depth, IsDistinct, AreDistinctItems, AreDistinctMembers, HasDistinctNames, IsNewName}
+use Rattle.city_json.specs.Grammar.{Spells, SpellsValue, SpellsMember}
+use Rattle.city_json.specs.Members.{names}
+use Rattle.city_json.specs.Reading.{after_white, is_white}
+use Rattle.city_json.specs.Strings.{SpellsString}
+use Rattle.city_json.specs.Tree.{Tree, null, boolean, number, string, array, object, ItemTrees, no_items, item, MemberTrees, no_members, member}
+use Rattle.city_json.proofs.Scanning.{after_white-splits, after_white-clear, starts_with-splits}
+use Rattle.city_json.proofs.Sound.{Found, FoundMembers, FoundMember, items-last, items-next, members-last, members-next, member-found}
+use Rattle.city_json.proofs.SpelledString.{string_at-sound}
+use Rattle.city_json.proofs.PassItems.{found_of}
+use Rattle.city_json.proofs.Places.{at_mark}
+
+-- one or more members and the closing brace, where white space was skipped, and their names
+pub record MembersFrom (levels : ℕ) (b rest before after : List ℕ) (listed : List (List ℕ)) : Type 0 where
+  pub name : List ℕ
+  pub value : Tree
+  pub others : MemberTrees
+  pub found : FoundMembers levels (member name value others) b rest
+  pub distinct : AreDistinctMembers (member name value others)
+  pub is_shown : after ≡ before ++ (plain_members (member name value others) ++ close_brace ∷ [])
+  pub names_are : names (member name value others) ≡ listed
+
+-- the members of an object, and their names, which need not differ
+pub record MembersWhole (levels : ℕ) (b rest before after : List ℕ) (listed : List (List ℕ)) : Type 0 where
+  pub members : MemberTrees
+  pub names_are : names members ≡ listed
+  pub whole : HasDistinctNames members → TakenMembers levels b rest before after
+
+pub found_member : {levels : ℕ} {b rest before after : List ℕ} {one two : List (List ℕ)} (taken : TakenMember levels b rest before after one two) → FoundMember levels taken.name taken.value b rest
+found_member taken = record { text = taken.text; splits = taken.splits; spells = taken.spells; within = taken.within }
+
+pub member_shown : (before quoted_name value mid after : List ℕ) → mid ≡ before ++ (quoted_name ++ colon ∷ []) → after ≡ mid ++ value → after ≡ before ++ (quoted_name ++ colon ∷ value)
+member_shown before quoted_name value mid after is then =
+    let joined : (before ++ (quoted_name ++ colon ∷ [])) ++ value ≡ before ++ (quoted_name ++ colon ∷ value) = simp append_assoc in
+    then ∙ (ap (λ l. l ++ value) is ∙ joined)
+
+-- a name with its colon, and a value
+unfoldable pub member_taken : (levels : ℕ) (b start rest before mid after : List ℕ) (one two three : List (List ℕ)) → TakenStart b start before mid one two → Taken levels start rest mid after → three ≡ two → TakenMember levels b rest before after one three
+member_taken levels b start rest before mid after one two three named taken same =
+    let found : Found levels taken.value (after_white named.next) rest = subst (λ l. Found levels taken.value l rest) named.starts (found_of taken) in
+    let all = member-found levels named.name taken.value b (named.inner ++ named.left) named.inner named.left named.next rest named.splits refl named.spells named.goes_on found in
+    record {
+      name = named.name;
+      value = taken.value;
+      text = all.text;
+      splits = all.splits;
+      spells = all.spells;
+      within = all.within;
+      distinct = taken.distinct;
+      is_shown = member_shown before (quoted named.name) (plain taken.value) mid after named.is_shown taken.is_shown;
+      names_are = same ∙ named.names_are;
+    }
+
+pub last_member : (before quoted_name value mid after : List ℕ) (close : ℕ) → mid ≡ before ++ (quoted_name ++ colon ∷ value) → after ≡ mid ++ close ∷ [] → after ≡ before ++ (((quoted_name ++ colon ∷ value) ++ []) ++ close ∷ [])
+last_member before quoted_name value mid after close is then =
+    let joined : (before ++ (quoted_name ++ colon ∷ value)) ++ close ∷ [] ≡ before ++ (((quoted_name ++ colon ∷ value) ++ []) ++ close ∷ []) = simp (append_assoc, append-nil) in
+    then ∙ (ap (λ l. l ++ close ∷ []) is ∙ joined)
+
+pub next_member : (before quoted_name value others mid after : List ℕ) (close : ℕ) → mid ≡ before ++ (quoted_name ++ colon ∷ value) → after ≡ (mid ++ comma ∷ []) ++ (others ++ close ∷ []) → after ≡ before ++ (((quoted_name ++ colon ∷ value) ++ comma ∷ others) ++ close ∷ [])
+next_member before quoted_name value others mid after close is then =
+    let joined : ((before ++ (quoted_name ++ colon ∷ value)) ++ comma ∷ []) ++ (others ++ close ∷ []) ≡ before ++ (((quoted_name ++ colon ∷ value) ++ comma ∷ others) ++ close ∷ []) = simp append_assoc in
+    then ∙ (ap (λ l. (l ++ comma ∷ []) ++ (others ++ close ∷ [])) is ∙ joined)
+
+unfoldable pub members_stop : (levels : ℕ) (b behind rest before mid at_mark behind_mark : List ℕ) (one two : List (List ℕ)) (taken : TakenMember levels b behind before mid one two) → after_white behind ≡ close_brace ∷ rest → at_mark ≡ mid → behind_mark ≡ at_mark ++ close_brace ∷ []
+    → MembersFrom levels b rest before behind_mark (taken.name ∷ [])
+members_stop levels b behind rest before mid at_mark behind_mark one two taken closes is₁ is₂ = record {
+  name = taken.name;
+  value = taken.value;
+  others = no_members;
+  found = members-last levels taken.name taken.value b behind rest (found_member taken) closes;
+  distinct = (taken.distinct, tt);
+  is_shown = last_member before (quoted taken.name) (plain taken.value) mid behind_mark close_brace taken.is_shown (is₂ ∙ ap (λ l. l ++ close_brace ∷ []) is₁);
+  names_are = refl;
+}
+
+unfoldable pub members_step : (levels : ℕ) (b behind next b' rest before mid at_mark behind_mark before' after : List ℕ) (one two : List (List ℕ)) (listed : List (List ℕ)) (taken : TakenMember levels b behind before mid one two) → after_white behind ≡ comma ∷ next → at_mark ≡ mid → behind_mark ≡ at_mark ++ comma ∷ []
+    → b' ≡ after_white next → before' ≡ behind_mark → MembersFrom levels b' rest before' after listed → MembersFrom levels b rest before after (taken.name ∷ listed)
+members_step levels b behind next b' rest before mid at_mark behind_mark before' after one two listed taken goes is₁ is₂ skips is₃ from =
+    let shows : before' ≡ mid ++ comma ∷ [] = is₃ ∙ (is₂ ∙ ap (λ l. l ++ comma ∷ []) is₁) in
+    let further : FoundMembers levels (member from.name from.value from.others) (after_white next) rest = subst (λ l. FoundMembers levels (member from.name from.value from.others) l rest) skips from.found in
+    record {
+      name = taken.name;
+      value = taken.value;
+      others = member from.name from.value from.others;
+      found = members-next levels taken.name taken.value (member from.name from.value from.others) b behind next rest (found_member taken) goes further;
+      distinct = (taken.distinct, from.distinct);
+      is_shown = next_member before (quoted taken.name) (plain taken.value) (plain_members (member from.name from.value from.others)) mid after close_brace taken.is_shown (from.is_shown ∙ ap (λ l. l ++ (plain_members (member from.name from.value from.others) ++ close_brace ∷ [])) shows);
+      names_are = ap (λ l. taken.name ∷ l) from.names_are;
+    }
+
+unfoldable pub members_start : (levels : ℕ) (b b' rest before before' after : List ℕ) (done listed : List (List ℕ)) → b' ≡ after_white b → before' ≡ before → done ≡ [] → MembersFrom levels b' rest before' after listed → MembersWhole levels b rest before after (done ++ listed)
+members_start levels b b' rest before before' after done listed skips is none from =
+    let white = after_white-splits b in
+    record {
+      members = member from.name from.value from.others;
+      names_are = from.names_are ∙ ap (λ l. l ++ listed) (sym none);
+      whole = λ differ. record {
+        members = member from.name from.value from.others;
+        inner = white.white ++ from.found.inner;
+        splits = white.splits ∙ (ap (λ l. white.white ++ l) (sym skips ∙ from.found.splits) ∙ sym (append_assoc white.white from.found.inner (close_brace ∷ rest)));
+        spells = from.found.spells white.white white.blank;
+        within = from.found.within;
+        names_differ = differ;
+        distinct = from.distinct;
+        is_shown = from.is_shown ∙ ap (λ l. l ++ (plain_members (member from.name from.value from.others) ++ close_brace ∷ [])) is;
+      };
+    }
+
+unfoldable pub members_none : (levels : ℕ) (b rest before after : List ℕ) → after_white b ≡ close_brace ∷ rest → after ≡ before ++ close_brace ∷ [] → TakenMembers levels b rest before after
+members_none levels b rest before after closes is =
+    let white = after_white-splits b in
+    record {
+      members = no_members;
+      inner = white.white;
+      splits = white.splits ∙ ap (λ l. white.white ++ l) closes;
+      spells = white.blank;
+      within = omega arith;
+      names_differ = tt;
+      distinct = tt;
+      is_shown = is;
+    }
+
+unfoldable pub object_taken : (levels : ℕ) (b b' rest before before' after : List ℕ) → (levels ≡ 0 → ⊥) → b ≡ open_brace ∷ b' → before' ≡ before ++ open_brace ∷ [] → TakenMembers (levels - 1) b' rest before' after → Taken levels b rest before after
+object_taken levels b b' rest before before' after some opens is taken = record {
+  value = object taken.members;
+  text = open_brace ∷ taken.inner ++ close_brace ∷ [];
+  splits = opens ∙ ap (λ l. open_brace ∷ l) (taken.splits ∙ sym (append_assoc taken.inner (close_brace ∷ []) rest));
+  spells = (taken.inner, refl, taken.spells);
+  within = omega (arith, taken.within);
+  distinct = (taken.names_differ, taken.distinct);
+  is_shown = taken.is_shown ∙ (ap (λ l. l ++ (plain_members taken.members ++ close_brace ∷ [])) is ∙ append_assoc before (open_brace ∷ []) (plain_members taken.members ++ close_brace ∷ []));
+}
+
+-- one name more behind those from `base` on
+-- one name more after those from `base` on
+pub names_more : (base : ℕ) (one two three : List (List ℕ)) (x : List ℕ) (listed : List (List ℕ)) → base ≤ length one → two ≡ one ++ x ∷ [] → three ≡ two → drop base one ++ (x ∷ listed) ≡ drop base three ++ listed
+names_more base one two three x listed fits is same =
+    let all : drop base three ≡ drop base one ++ x ∷ [] = ap (drop base) (same ∙ is) ∙ drop-append-le base one (x ∷ []) fits in
+    sym (ap (λ l. l ++ listed) all ∙ append_assoc (drop base one) (x ∷ []) listed)
+
+pub names_kept : (base : ℕ) (one two three : List (List ℕ)) (x : List ℕ) → base ≤ length one → two ≡ one ++ x ∷ [] → three ≡ two → take base three ≡ take base one
+names_kept base one two three x fits is same = ap (take base) (same ∙ is) ∙ take-append-le base one (x ∷ []) fits
+
+-- ---- the whole text
+unfoldable pub text_taken : (text line : List ℕ) (at end last : ℕ) (start shown_at shown_end : List ℕ) → IsUtf8 text → start ≡ [] → shown_at ≡ start → drop at text ≡ after_white text → Taken most_depth (drop at text) (drop end text) shown_at shown_end
+    → drop last text ≡ after_white (drop end text) → length text ≤ last → line ≡ shown_end → (value : Tree) × Spells text value × Fits value × (IsDeep text → ⊥) × (line ≡ plain value)
+text_taken text line at end last start shown_at shown_end utf8 empty is₁ skipped taken skipped₂ over is₂ =
+    let before = after_white-splits text in
+    let behind = after_white-splits (drop end text) in
+    let nothing : after_white (drop end text) ≡ [] = sym skipped₂ ∙ drop_all last text over in
+    let splits : text ≡ before.white ++ (taken.text ++ behind.white) =
+    before.splits ∙ ap (λ l. before.white ++ l) (sym skipped ∙ (taken.splits ∙ ap (λ l. taken.text ++ l) (behind.splits ∙ (ap (λ l. behind.white ++ l) nothing ∙ append-nil behind.white)))) in
+    let spells : Spells text taken.value = (utf8, (before.white, taken.text, behind.white, splits, before.blank, taken.spells, behind.blank)) in
+    (taken.value, spells, (taken.within, taken.distinct), (nests_as_value text taken.value spells).1 taken.within, is₂ ∙ (taken.is_shown ∙ ap (λ l. l ++ plain taken.value) (is₁ ∙ empty)))

@@ -1,0 +1,165 @@
+-- Strings and names that the pass takes, as they stand or written anew.
+use Rattle.std.proofs.Common.{◌≡◌, ◌++◌, ◌∙◌, ◌≤◌, ◌<◌, ◌+◌, ◌-◌, ℕ, zero, suc, List, [], ◌∷◌, Some, None, length, take, drop, map, get_or, refl, ap, sym, subst, arith, append_assoc, append-nil, slice_range, IsUtf8, Option, Bool, true, false, nat_eq, codes, length-drop, length-append, IfSome, inl, inr}
+use Rattle.std.specs.Str.{IsCharBoundary}
+use Rattle.std.specs.Str.Parse.{AllDigits}
+use Rattle.std.proofs.lemmas.Str.Parse.{digit_from_value}
+use Rattle.std.specs.List.{starts_with, prefix_len}
+use Rattle.std.proofs.lemmas.Str.{IsUtf8-between, IsCharBoundary-after_ascii, IsCharBoundary-before_ascii}
+use Rattle.std.proofs.lemmas.Grind.{flat_map-append}
+use Rattle.std.proofs.lemmas.Bool.{false≢true}
+use Rattle.std.proofs.lemmas.Bool.Decides.{nat_tests}
+use Rattle.std.proofs.lemmas.Slice.Eq.{bytes_eq-Decides}
+use Rattle.std.specs.Prelude.{bytes_eq}
+use Rattle.std.proofs.lemmas.List.Edits.{between_none}
+use Rattle.city_json.specs.Number.{IsNumber, IsWhole}
+use Rattle.city_json.specs.NumberAt.{number_at, past_digits}
+use Rattle.city_json.specs.ReadString.{is_plain, decoded, string_at}
+use Rattle.city_json.specs.Depth.{IsDeep}
+use Rattle.city_json.proofs.DepthLaws.{nests_as_value}
+use Rattle.city_json.proofs.CompactText.{written_run}
+use Rattle.city_json.proofs.NumberLaws.{number_starts, digits-split}
+use Rattle.city_json.proofs.NumberLaws as number_laws
+use Rattle.city_json.proofs.ReadString.{string_at-some, checked-some}
+use Rattle.city_json.proofs.StringSteps.{run_closes}
+use Rattle.std.proofs.Math.Seq.{take-add}
+use Rattle.std.proofs.lemmas.List.{drop-drop, drop_more, take_rest, take_all, take_at, drop_at, get_or-drop, take-append-drop, append_cancel_right, drop-append-le, take-append-le, map-append, drop_all}
+use Rattle.std.proofs.lemmas.List.Folds.{drop_split}
+use Rattle.std.specs.Borrow.{Bor}
+use Rattle.std.specs.List.{flat_map}
+use Rattle.city_json.specs.Bytes.{digit_zero, comma, colon, open_bracket, open_brace, close_bracket, close_brace, quotation_mark}
+use Rattle.city_json.specs.Compact.{written, quoted, plain, plain_items, plain_more_items, plain_members, plain_more_members}
+use Rattle.city_json.specs.Compacting.{shown, Taken, TakenItems, TakenMembers, TakenString, TakenName, TakenStart, TakenMember, IsScalarText, IsPlainString, ItemsFrom, FoundItems}
+use Rattle.city_json.specs.Fits.{most_depth, Fits, depth, IsDistinct, AreDistinctItems, AreDistinctMembers, HasDistinctNames, IsNewName}
+use Rattle.city_json.specs.Grammar.{Spells, SpellsValue, SpellsMember}
+use Rattle.city_json.specs.Members.{names}
+use Rattle.city_json.specs.Reading.{after_white, is_white}
+use Rattle.city_json.specs.Strings.{SpellsString}
+use Rattle.city_json.specs.Tree.{Tree, null, boolean, number, string, array, object, ItemTrees, no_items, item, MemberTrees, no_members, member}
+use Rattle.city_json.proofs.Scanning.{after_white-splits, after_white-clear, starts_with-splits}
+use Rattle.city_json.proofs.Sound.{Found, FoundMembers, FoundMember, items-last, items-next, members-last, members-next, member-found}
+use Rattle.city_json.proofs.SpelledString.{string_at-sound}
+use Rattle.city_json.proofs.PassScalars.{rest_is}
+use Rattle.city_json.proofs.Places.{drop_one, shown_more, slice_more, slice_one}
+
+pub plain_string_is : (text : List ℕ) (at long : ℕ) → IsUtf8 text → 0 < at → get_or text (at - 1) 0 ≡ quotation_mark → at ≤ length text
+    → long ≡ prefix_len is_plain (take (length text - at) (drop at text)) → at + long < length text → get_or text (at + long) 0 ≡ quotation_mark → IsPlainString text at (at + long)
+plain_string_is text at long utf8 some opened fits run within closed =
+    let behind = drop at text in
+    let run' : long ≡ prefix_len is_plain behind = run ∙ ap (prefix_len is_plain) (rest_is text at) in
+    let room : long < length behind = omega (arith, length-drop at text) in
+    let mark : get_or behind long 0 ≡ quotation_mark = get_or-drop at text long 0 ∙ closed in
+    let count : (at + long) - at ≡ long = omega arith in
+    let slice : slice_range text at (at + long) ≡ take long behind = ap (λ n. take n behind) count in
+    let place : at + (long + 1) ≡ suc (at + long) = omega arith in
+    let left : take (length behind - (long + 1)) (drop (long + 1) behind) ≡ drop (suc (at + long)) text = take_rest behind (long + 1) ∙ (drop-drop (long + 1) at text ∙ ap (λ n. drop n text) place) in
+    let decodes : decoded behind ≡ Some (take long behind, drop (suc (at + long)) text) = run_closes behind long run' room mark ∙ ap (λ l. Some (take long behind, l)) left in
+    let start : IsCharBoundary text at = subst (IsCharBoundary text) (omega arith) (IsCharBoundary-after_ascii text (at - 1) utf8 (omega arith) (omega (arith, opened))) in
+    let stop : IsCharBoundary text (at + long) = IsCharBoundary-before_ascii text (at + long) within (omega (arith, closed)) in
+    let whole : IsUtf8 (slice_range text at (at + long)) = IsUtf8-between text at (at + long) utf8 (omega arith) start stop in
+    let whole' : IsUtf8 (take long behind) = subst IsUtf8 slice whole in
+    let parts : flat_map written behind ≡ flat_map written (take long behind) ++ flat_map written (drop long behind) = ap (flat_map written) (sym (take-append-drop long behind)) ∙ flat_map-append written (take long behind) (drop long behind) in
+    let as_is : take long behind ++ flat_map written (drop long behind) ≡ flat_map written behind = subst (λ n. take n behind ++ flat_map written (drop n behind) ≡ flat_map written behind) (sym run') (written_run behind) in
+    record {
+      closed = closed;
+      is_read = string_at-some behind (take long behind) (drop (suc (at + long)) text) decodes ∙ (checked-some (take long behind) (drop (suc (at + long)) text) whole' ∙ ap (λ l. Some (l, drop (suc (at + long)) text)) (sym slice));
+      compact = ap (flat_map written) slice ∙ (sym (append_cancel_right (take long behind) (flat_map written (take long behind)) (flat_map written (drop long behind)) (as_is ∙ parts)) ∙ sym slice);
+    }
+
+-- what the string's characters and its closing mark are in the text
+pub record PlainParts (text : List ℕ) (at close : ℕ) : Type 0 where
+  pub spells : SpellsString (slice_range text (at + 1) close) (slice_range text at (close + 1))
+  pub is : quoted (slice_range text (at + 1) close) ≡ slice_range text at (close + 1)
+  pub inner_spells : SpellsString (slice_range text (at + 1) close) (quotation_mark ∷ slice_range text (at + 1) (close + 1))
+
+pub plain_parts : (text : List ℕ) (at close : ℕ) → at < length text → get_or text at 0 ≡ quotation_mark → at + 1 ≤ close → close < length text → IsPlainString text (at + 1) close → PlainParts text at close
+plain_parts text at close within opened order fits plainly =
+    let content = slice_range text (at + 1) close in
+    let law = string_at-sound (drop (at + 1) text) content (drop (suc close) text) plainly.is_read in
+    let next : suc close ≡ close + 1 = omega arith in
+    let both : slice_range text (at + 1) (close + 1) ++ drop (close + 1) text ≡ law.0 ++ drop (close + 1) text = sym (drop_split text (at + 1) (close + 1) (omega arith)) ∙ (law.1 ∙ ap (λ n. law.0 ++ drop n text) next) in
+    let consumed : slice_range text (at + 1) (close + 1) ≡ law.0 = append_cancel_right (slice_range text (at + 1) (close + 1)) law.0 (drop (close + 1) text) both in
+    let front : slice_range text at (close + 1) ≡ quotation_mark ∷ slice_range text (at + 1) (close + 1) = slice_more text at (at + 1) (close + 1) (omega arith) (omega arith) ∙ ap (λ l. l ++ slice_range text (at + 1) (close + 1)) (slice_one text at quotation_mark within opened) in
+    let last : slice_range text (at + 1) (close + 1) ≡ content ++ quotation_mark ∷ [] = slice_more text (at + 1) close (close + 1) order (omega arith) ∙ ap (λ l. content ++ l) (slice_one text close quotation_mark fits plainly.closed) in
+    record {
+      inner_spells = subst (SpellsString content) (sym (ap (λ l. quotation_mark ∷ l) consumed)) law.2;
+      spells = subst (SpellsString content) (sym (front ∙ ap (λ l. quotation_mark ∷ l) consumed)) law.2;
+      is = ap (λ l. quotation_mark ∷ (l ++ quotation_mark ∷ [])) plainly.compact ∙ sym (front ∙ ap (λ l. quotation_mark ∷ l) last);
+    }
+
+-- a string without escapes stands in its one spelling
+pub plain_taken : (text line : List ℕ) (from at close : ℕ) → from ≤ at → at < length text → get_or text at 0 ≡ quotation_mark → at + 1 ≤ close → close < length text → IsPlainString text (at + 1) close
+    → TakenString (slice_range text (at + 1) close) (drop at text) (drop (close + 1) text) (shown line text from at) (shown line text from (close + 1))
+plain_taken text line from at close copied within opened order fits plainly =
+    let parts = plain_parts text at close within opened order fits plainly in
+    record {
+      inner = slice_range text (at + 1) (close + 1);
+      splits = drop_one text at quotation_mark within opened ∙ ap (λ l. quotation_mark ∷ l) (drop_split text (at + 1) (close + 1) (omega arith));
+      spells = parts.inner_spells;
+      is_shown = shown_more line text from at (close + 1) copied (omega arith) ∙ ap (λ l. shown line text from at ++ l) (sym parts.is);
+    }
+
+-- what was read of a string with escapes
+pub record EscapedEnd (text content rest : List ℕ) (at : ℕ) : Type 0 where
+  pub onward : at + 1 + length rest < length text + 1
+  pub short : length rest ≤ length text
+  pub end_is : drop (length text - length rest) text ≡ rest
+  pub inner : List ℕ
+  pub splits : drop (at + 1) text ≡ inner ++ rest
+  pub spells : SpellsString content (quotation_mark ∷ inner)
+
+pub escaped_end : (text content rest : List ℕ) (at : ℕ) → at < length text → string_at (take (length text - (at + 1)) (drop (at + 1) text)) ≡ Some (content, rest) → EscapedEnd text content rest at
+escaped_end text content rest at within read =
+    let law = string_at-sound (drop (at + 1) text) content rest (ap string_at (sym (rest_is text (at + 1))) ∙ read) in
+    let long : length (drop (at + 1) text) ≡ length law.0 + length rest = ap length law.1 ∙ length-append law.0 rest in
+    let count : length text ≡ (at + 1) + (length law.0 + length rest) = omega (arith, length-drop (at + 1) text) in
+    let place : length text - length rest ≡ (at + 1) + length law.0 = omega arith in
+    record {
+      onward = omega arith;
+      short = omega arith;
+      end_is = ap (λ n. drop n text) place ∙ (sym (drop-drop (length law.0) (at + 1) text) ∙ (ap (drop (length law.0)) law.1 ∙ drop_at law.0 rest (length law.0) refl));
+      inner = law.0;
+      splits = law.1;
+      spells = law.2;
+    }
+
+pub respelled_taken : (text content rest line line' before : List ℕ) (at from : ℕ) → at < length text → get_or text at 0 ≡ quotation_mark → EscapedEnd text content rest at
+    → from ≡ length text - length rest → line ≡ before → line' ≡ line ++ quoted content → TakenString content (drop at text) (drop (length text - length rest) text) before (shown line' text from (length text - length rest))
+respelled_taken text content rest line line' before at from within opened end place was now = record {
+  inner = end.inner;
+  splits = drop_one text at quotation_mark within opened ∙ (ap (λ l. quotation_mark ∷ l) end.splits ∙ ap (λ l. quotation_mark ∷ (end.inner ++ l)) (sym end.end_is));
+  spells = end.spells;
+  is_shown = ap (λ n. line' ++ slice_range text n (length text - length rest)) place ∙ (ap (λ l. line' ++ l) (between_none text (length text - length rest)) ∙ (append-nil line' ∙ (now ∙ ap (λ l. l ++ quoted content) was)));
+}
+
+pub string_taken : (levels : ℕ) (content b rest before after : List ℕ) → TakenString content b rest before after → Taken levels b rest before after
+string_taken levels content b rest before after taken = record {
+  value = string content;
+  text = quotation_mark ∷ taken.inner;
+  splits = taken.splits;
+  spells = taken.spells;
+  within = omega arith;
+  distinct = tt;
+  is_shown = taken.is_shown;
+}
+
+-- a name that was put after the names
+pub name_taken : (name b rest before after : List ℕ) (one two : List (List ℕ)) → TakenString name b rest before after → two ≡ one ++ name ∷ [] → TakenName b rest before after one two
+name_taken name b rest before after one two taken listed = record { name = name; taken = taken; names_are = listed }
+
+-- a name, white space, a colon, and white space
+pub start_taken : (b behind next rest before at_name at_colon after_colon after : List ℕ) (one two three : List (List ℕ)) → TakenName b behind before at_name one two → after_white behind ≡ colon ∷ next → at_colon ≡ at_name → after_colon ≡ at_colon ++ colon ∷ []
+    → rest ≡ after_white next → after ≡ after_colon → three ≡ two → TakenStart b rest before after one three
+start_taken b behind next rest before at_name at_colon after_colon after one two three named goes is₁ is₂ starts is₃ same =
+    let shows : after ≡ at_name ++ colon ∷ [] = is₃ ∙ (is₂ ∙ ap (λ l. l ++ colon ∷ []) is₁) in
+    record {
+      name = named.name;
+      inner = named.taken.inner;
+      left = behind;
+      next = next;
+      splits = named.taken.splits;
+      spells = named.taken.spells;
+      goes_on = goes;
+      starts = starts;
+      is_shown = shows ∙ (ap (λ l. l ++ colon ∷ []) named.taken.is_shown ∙ append_assoc before (quoted named.name) (colon ∷ []));
+      names_are = same ∙ named.names_are;
+    }

@@ -1,0 +1,200 @@
+use Rattle.std.proofs.Common.{◌≡◌, ◌++◌, ◌≤◌, ◌<◌, ◌-◌, ◌+◌, ◌∙◌, ℕ, List, length, drop, get_or, refl, sym, arith, le_refl, rules, ap, subst, map, take, take_all, append-nil, [], ◌∷◌}
+use Rattle.std.proofs.lemmas.List.{drop_all, length_push, take_rest}
+use Rattle.city_json.specs.Bytes.{comma, colon, close_bracket, open_bracket, close_brace, open_brace, quotation_mark}
+use Rattle.city_json.specs.Compacting.{shown}
+use Rattle.city_json.specs.Reading.{after_white}
+use Rattle.city_json.proofs.WholeArrays.{whole_taken}
+use Rattle.city_json.proofs.PassItems.{array_taken, integer_more, integer_stop, items_none, items_skip, items_start, items_step, items_stop}
+use Rattle.city_json.proofs.PassMembers.{MembersWhole, member_taken, members_none, members_start, members_step, members_stop, names_kept, names_more, object_taken}
+use Rattle.city_json.proofs.PassScalars.{if_some, if_some_both, scalar_taken}
+use Rattle.city_json.proofs.Places.{at_mark, drop_one, mark_shown, shown_one}
+use Rattle.city_json.proofs.compacting.values.+value.Goals as goal
+
+pub array-returns-then-at-whole-clause-taken : goal.array-returns-then-at-whole-clause-taken
+array-returns-then-at-whole-clause-taken t c =
+    whole_taken c.args.levels c.args.draft.now.line c.args.text.now c.args.draft.now.from c.args.at c.whole_from-whole.result c.requires.copied c.if-at-whole.true (c.whole_from-whole.ensures.is c.if-at-whole.true)
+
+pub array-returns-then-text-first-eq93-clause-taken : goal.array-returns-then-text-first-eq93-clause-taken
+array-returns-then-text-first-eq93-clause-taken t c =
+    let text = c.args.text.now in
+    let before_end : c.skip-first.result ≤ length text = c.skip-first.ensures.within in
+    let inside : c.skip-first.result < length text = omega (arith, c.if-first-text.false) in
+    items_none c.args.levels (drop c.args.at text) (drop (c.skip-first.result + 1) text) _ _
+    (at_mark text (drop c.args.at text) c.skip-first.result close_bracket (c.skip-first.ensures.skipped inside) inside c.if-text-first-eq93.true)
+    (mark_shown c.skip-first.new.draft.line text _ c.skip-first.new.draft.from c.skip-first.result close_bracket (c.skip-first.ensures.copied inside) inside c.if-text-first-eq93.true (c.skip-first.ensures.is_shown inside))
+
+pub array-returns-clause-taken : goal.array-returns-clause-taken
+array-returns-clause-taken t c =
+    let text = c.args.text.now in
+    let before_end : c.skip-first.result ≤ length text = c.skip-first.ensures.within in
+    let inside : c.skip-first.result < length text = omega (arith, c.if-first-text.false) in
+    if_some _ _ c.items.result (λ end from. items_start c.args.levels (drop c.args.at text) (drop c.skip-first.result text) (drop end text) _ _ _ (c.skip-first.ensures.skipped inside) (c.skip-first.ensures.is_shown inside) from) c.items.ensures.taken
+
+pub member-returns-clause-taken : goal.member-returns-clause-taken
+member-returns-clause-taken t c =
+    member_taken c.args.levels (drop c.args.at c.args.text.now) (drop c.in_ok-start.start c.args.text.now) (drop c.in_ok-end.end c.args.text.now) _ _ _ c.args.draft.now.names c.name_and_colon.new.draft.names c.member_value.new.draft.names
+    c.in_ok-start.ensures.taken c.in_ok-end.ensures.taken c.in_ok-end.ensures.names
+
+pub value-returns-else-levels-eq0-clause-taken : goal.value-returns-else-levels-eq0-clause-taken
+value-returns-else-levels-eq0-clause-taken t c =
+    let text = c.args.text.now in
+    let at_end : c.args.at ≤ length text = c.requires.within in
+    let inside : c.args.at < length text = omega (arith, c.if-at-text.false) in
+    if_some _ _ c.array.result (λ end taken. array_taken c.args.levels (drop c.args.at text) (drop (c.args.at + 1) text) (drop end text) _ _ _ c.if-levels-eq0.false (drop_one text c.args.at open_bracket inside c.in-91.is)
+    (shown_one c.args.draft.now.line text c.args.draft.now.from c.args.at open_bracket c.requires.copied inside c.in-91.is) taken) c.array.ensures.taken
+
+pub value-returns-else-levels-eq0-2-clause-taken : goal.value-returns-else-levels-eq0-2-clause-taken
+value-returns-else-levels-eq0-2-clause-taken t c =
+    let text = c.args.text.now in
+    let at_end : c.args.at ≤ length text = c.requires.within in
+    let inside : c.args.at < length text = omega (arith, c.if-at-text.false) in
+    if_some _ _ c.object.result (λ end taken. object_taken c.args.levels (drop c.args.at text) (drop (c.args.at + 1) text) (drop end text) _ _ _ c.if-levels-eq0-2.false (drop_one text c.args.at open_brace inside c.in-123.is)
+    (shown_one c.args.draft.now.line text c.args.draft.now.from c.args.at open_brace c.requires.copied inside c.in-123.is) taken) c.object.ensures.taken
+
+pub value-returns-in_default-clause-taken : goal.value-returns-in_default-clause-taken
+value-returns-in_default-clause-taken t c =
+    if_some_both _ _ _ c.scalar_end.result (λ end onward is. scalar_taken c.args.levels c.args.draft.now.line c.args.text.now c.args.draft.now.from c.args.at end c.requires.copied onward is) c.scalar_end.ensures.onward c.scalar_end.ensures.is
+
+pub object-returns-then-text-i-eq125-clause-taken : goal.object-returns-then-text-i-eq125-clause-taken
+object-returns-then-text-i-eq125-clause-taken t c =
+    let text = c.args.text.now in
+    let before_end : c.skip-i.result ≤ length text = c.skip-i.ensures.within in
+    let inside : c.skip-i.result < length text = omega (arith, c.if-i-text.false) in
+    members_none c.args.levels (drop c.args.at text) (drop (c.skip-i.result + 1) text) _ _
+    (at_mark text (drop c.args.at text) c.skip-i.result close_brace (c.skip-i.ensures.skipped inside) inside c.if-text-i-eq125.true)
+    (mark_shown c.skip-i.new.draft.line text _ c.skip-i.new.draft.from c.skip-i.result close_brace (c.skip-i.ensures.copied inside) inside c.if-text-i-eq125.true (c.skip-i.ensures.is_shown inside))
+
+pub object-members-init : goal.object-members-init
+object-members-init t c =
+    let text = c.args.text.now in
+    let before_end : c.skip-i.result ≤ length text = c.skip-i.ensures.within in
+    let inside : c.skip-i.result < length text = omega (arith, c.if-i-text.false) in
+    let same : c.skip-i.new.draft.names ≡ c.args.draft.now.names = (c.skip-i.ensures.names inside) in
+    let count : c.len-base.result ≡ length c.args.draft.now.names = c.len-base.ensures in
+    let long : length c.skip-i.new.draft.names ≡ length c.args.draft.now.names = ap length same in
+    record {
+      onward = (c.skip-i.ensures.onward inside);
+      within = c.skip-i.ensures.within;
+      copied = (c.skip-i.ensures.copied inside);
+      few = omega (arith, count, long);
+      names = take_all c.len-base.result c.skip-i.new.draft.names (omega (arith, count, long)) ∙ same;
+      goes_on = λ rest after listed from. members_start c.args.levels (drop c.args.at text) (drop c.skip-i.result text) rest _ _ after (drop c.len-base.result c.skip-i.new.draft.names) listed (c.skip-i.ensures.skipped inside) (c.skip-i.ensures.is_shown inside)
+          (drop_all c.len-base.result c.skip-i.new.draft.names (omega (arith, count, long))) from;
+    }
+
+pub object-members-preserved : goal.object-members-preserved
+object-members-preserved t c =
+    let text = c.args.text.now in
+    let onward : c.members.i < c.in_ok-end.end = c.in_ok-end.ensures.onward in
+    let before_end : c.skip-place.result ≤ length text = c.skip-place.ensures.within in
+    let inside : c.skip-place.result < length text = omega (arith, c.if-place-text.false) in
+    let further : c.in_ok-end.end ≤ c.skip-place.result = c.skip-place.ensures.onward inside in
+    let before_end₂ : c.skip-i-in-members.result ≤ length text = c.skip-i-in-members.ensures.within in
+    let inside₂ : c.skip-i-in-members.result < length text = omega (arith, c.if-i-text-2.false) in
+    let behind : c.skip-place.result + 1 ≤ c.skip-i-in-members.result = (c.skip-i-in-members.ensures.onward inside₂) in
+    let is_comma : get_or text c.skip-place.result 0 ≡ comma = omega arith in
+    let draft = c.skip-place.new.draft in
+    let same : c.skip-i-in-members.new.draft.names ≡ c.member.new.draft.names = (c.skip-i-in-members.ensures.names inside₂) ∙ (c.skip-place.ensures.names inside) in
+    let one = c.members.draft.names in
+    let taken = c.in_ok-end.ensures.taken in
+    let few : c.len-base.result ≤ length one = c.members.invariant.few in
+    let grown : length c.member.new.draft.names ≡ length one + 1 = ap length taken.names_are ∙ length_push one taken.name in
+    let long : length c.skip-i-in-members.new.draft.names ≡ length c.member.new.draft.names = ap length same in
+    record {
+      onward = omega (arith, onward, further, c.members.invariant.onward, behind);
+      within = c.skip-i-in-members.ensures.within;
+      copied = (c.skip-i-in-members.ensures.copied inside₂);
+      few = omega (arith, few, grown, long);
+      names = names_kept c.len-base.result one c.member.new.draft.names c.skip-i-in-members.new.draft.names taken.name few taken.names_are same ∙ c.members.invariant.names;
+      goes_on = λ rest after listed from. subst (λ l. MembersWhole c.args.levels (drop c.args.at text) rest (shown c.args.draft.now.line text c.args.draft.now.from c.args.at) after l)
+          (names_more c.len-base.result one c.member.new.draft.names c.skip-i-in-members.new.draft.names taken.name listed few taken.names_are same)
+          (c.members.invariant.goes_on rest after (taken.name ∷ listed)
+          (members_step c.args.levels (drop c.members.i text) (drop c.in_ok-end.end text) (drop (c.skip-place.result + 1) text) (drop c.skip-i-in-members.result text) rest _ _ _ (shown draft.line text draft.from (c.skip-place.result + 1)) _ after one c.member.new.draft.names listed taken
+          (at_mark text (drop c.in_ok-end.end text) c.skip-place.result comma (c.skip-place.ensures.skipped inside) inside is_comma) (c.skip-place.ensures.is_shown inside)
+          (mark_shown draft.line text _ draft.from c.skip-place.result comma (c.skip-place.ensures.copied inside) inside is_comma refl) (c.skip-i-in-members.ensures.skipped inside₂) (c.skip-i-in-members.ensures.is_shown inside₂) from));
+    }
+
+pub object-returns-then-text-place-eq125-clause-taken : goal.object-returns-then-text-place-eq125-clause-taken
+object-returns-then-text-place-eq125-clause-taken t c =
+    let text = c.args.text.now in
+    let before_end : c.skip-place.result ≤ length text = c.skip-place.ensures.within in
+    let inside : c.skip-place.result < length text = omega (arith, c.if-place-text.false) in
+    let draft = c.skip-place.new.draft in
+    let one = c.members.draft.names in
+    let taken = c.in_ok-end.ensures.taken in
+    let few : c.len-base.result ≤ length one = c.members.invariant.few in
+    let all = c.members.invariant.goes_on _ _ (taken.name ∷ [])
+    (members_stop c.args.levels (drop c.members.i text) (drop c.in_ok-end.end text) (drop (c.skip-place.result + 1) text) _ _ _ (shown draft.line text draft.from (c.skip-place.result + 1)) one c.member.new.draft.names taken
+    (at_mark text (drop c.in_ok-end.end text) c.skip-place.result close_brace (c.skip-place.ensures.skipped inside) inside c.if-text-place-eq125.true) (c.skip-place.ensures.is_shown inside)
+    (mark_shown draft.line text _ draft.from c.skip-place.result close_brace (c.skip-place.ensures.copied inside) inside c.if-text-place-eq125.true refl)) in
+    let listed = names_more c.len-base.result one c.member.new.draft.names draft.names taken.name [] few taken.names_are (c.skip-place.ensures.names inside) in
+    all.whole (c.are_apart_from.ensures c.if-not-are_apart_from.false all.members (all.names_are ∙ (listed ∙ append-nil (drop c.len-base.result draft.names))))
+
+pub member_value-returns-then-may_end-clause-taken : goal.member_value-returns-then-may_end-clause-taken
+member_value-returns-then-may_end-clause-taken t c =
+    scalar_taken c.args.levels c.args.draft.now.line c.args.text.now c.args.draft.now.from c.args.at c.integer_end-end.result c.requires.copied c.if-at-end.true (c.integer_end-end.ensures.is c.if-at-end.true)
+
+pub items-returns-then-text-place-eq93-clause-taken : goal.items-returns-then-text-place-eq93-clause-taken
+items-returns-then-text-place-eq93-clause-taken t c =
+    let text = c.args.text.now in
+    let start_end : c.skip-start.result ≤ length text = c.skip-start.ensures.within in
+    let start_inside : c.skip-start.result < length text = omega (arith, c.if-start-text.false) in
+    let before_end : c.skip-place.result ≤ length text = c.skip-place.ensures.within in
+    let inside : c.skip-place.result < length text = omega (arith, c.if-place-text.false) in
+    let draft = c.skip-place.new.draft in
+    let now = c.items.draft in
+    c.items.invariant.goes_on _ _
+    (items_skip c.args.levels (after_white (drop c.items.i text)) (drop c.skip-start.result text) _ (shown now.line text now.from c.items.i) _ (shown draft.line text draft.from (c.skip-place.result + 1)) (c.skip-start.ensures.skipped start_inside) (c.skip-start.ensures.is_shown start_inside)
+    (items_stop c.args.levels (drop c.skip-start.result text) (drop c.in_ok-end.end text) (drop (c.skip-place.result + 1) text) _ _ _ (shown draft.line text draft.from (c.skip-place.result + 1)) c.in_ok-end.ensures.taken
+    (at_mark text (drop c.in_ok-end.end text) c.skip-place.result close_bracket (c.skip-place.ensures.skipped inside) inside c.if-text-place-eq93.true) (c.skip-place.ensures.is_shown inside)
+    (mark_shown draft.line text _ draft.from c.skip-place.result close_bracket (c.skip-place.ensures.copied inside) inside c.if-text-place-eq93.true refl)))
+
+pub items-items-preserved : goal.items-items-preserved
+items-items-preserved t c =
+    let text = c.args.text.now in
+    let start_end : c.skip-start.result ≤ length text = c.skip-start.ensures.within in
+    let start_inside : c.skip-start.result < length text = omega (arith, c.if-start-text.false) in
+    let before_end : c.skip-place.result ≤ length text = c.skip-place.ensures.within in
+    let inside : c.skip-place.result < length text = omega (arith, c.if-place-text.false) in
+    let is_comma : get_or text c.skip-place.result 0 ≡ comma = omega (arith, c.if-text-place-ne44.false) in
+    let one : c.args.at ≤ c.items.i = c.items.invariant.onward in
+    let two : c.items.i ≤ c.skip-start.result = c.skip-start.ensures.onward start_inside in
+    let four : c.skip-start.result < c.in_ok-end.end = c.in_ok-end.ensures.onward in
+    let five : c.in_ok-end.end ≤ c.skip-place.result = c.skip-place.ensures.onward inside in
+    let copied : c.skip-place.new.draft.from ≤ c.skip-place.result = c.skip-place.ensures.copied inside in
+    let draft = c.skip-place.new.draft in
+    let now = c.items.draft in
+    record {
+      onward = omega (arith, one, two, four, five);
+      within = omega (arith, inside);
+      copied = omega (arith, copied);
+      names = c.skip-place.ensures.names inside ∙ (c.in_ok-end.ensures.names ∙ (c.skip-start.ensures.names start_inside ∙ c.items.invariant.names));
+      goes_on = λ rest after from. c.items.invariant.goes_on rest after
+          (items_skip c.args.levels (after_white (drop c.items.i text)) (drop c.skip-start.result text) rest (shown now.line text now.from c.items.i) _ after (c.skip-start.ensures.skipped start_inside) (c.skip-start.ensures.is_shown start_inside)
+          (items_step c.args.levels (drop c.skip-start.result text) (drop c.in_ok-end.end text) (drop (c.skip-place.result + 1) text) rest _ _ _ (shown draft.line text draft.from (c.skip-place.result + 1)) after c.in_ok-end.ensures.taken
+          (at_mark text (drop c.in_ok-end.end text) c.skip-place.result comma (c.skip-place.ensures.skipped inside) inside is_comma) (c.skip-place.ensures.is_shown inside)
+          (mark_shown draft.line text _ draft.from c.skip-place.result comma (c.skip-place.ensures.copied inside) inside is_comma refl) from));
+    }
+
+pub items-items-preserved-then-text-stop-eq44 : goal.items-items-preserved-then-text-stop-eq44
+items-items-preserved-then-text-stop-eq44 t c =
+    let text = c.args.text.now in
+    let one : c.args.at ≤ c.items.i = c.items.invariant.onward in
+    let some : c.items.i < c.integer_end-stop.result = c.if-i-stop.true in
+    let inside : c.integer_end-stop.result < length text = c.if-stop-text.true in
+    let copied : c.items.draft.from ≤ c.items.i = c.items.invariant.copied in
+    let now = c.items.draft in
+    record {
+      onward = omega (arith, one, some);
+      within = omega (arith, inside);
+      copied = omega (arith, copied, some);
+      names = c.items.invariant.names;
+      goes_on = λ rest after from. c.items.invariant.goes_on rest after
+          (integer_more c.args.levels text now.line rest after now.from c.items.i c.integer_end-stop.result copied some inside (c.integer_end-stop.ensures.is some) (c.integer_end-stop.ensures.clear some) c.if-text-stop-eq44.true from);
+    }
+
+pub items-returns-then-text-stop-eq93-clause-taken : goal.items-returns-then-text-stop-eq93-clause-taken
+items-returns-then-text-stop-eq93-clause-taken t c =
+    let text = c.args.text.now in
+    let now = c.items.draft in
+    c.items.invariant.goes_on _ _ (integer_stop c.args.levels text now.line now.from c.items.i c.integer_end-stop.result c.items.invariant.copied c.if-i-stop.true c.if-stop-text.true (c.integer_end-stop.ensures.is c.if-i-stop.true) (c.integer_end-stop.ensures.clear c.if-i-stop.true) c.if-text-stop-eq93.true)

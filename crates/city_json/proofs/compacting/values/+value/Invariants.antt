@@ -1,0 +1,50 @@
+use Rattle.std.proofs.Common.{◌≡◌, ◌++◌, ◌≤◌, ◌-◌, ◌+◌, ◌*◌, List, ℕ, length, take, drop, map}
+use Rattle.city_json.specs.Compacting.{shown, TakenItems, ItemsFrom}
+use Rattle.city_json.specs.Reading.{after_white}
+use Rattle.city_json.proofs.PassMembers.{MembersFrom, MembersWhole}
+use Rattle.city_json.proofs.compacting.values.+value.Given as goal
+
+abbrev pub decreases-value : goal.decreases-value
+decreases-value l = 4 * l.levels
+
+abbrev pub decreases-member : goal.decreases-member
+decreases-member l = 4 * l.levels + 2
+
+abbrev pub decreases-member_value : goal.decreases-member_value
+decreases-member_value l = 4 * l.levels + 1
+
+abbrev pub decreases-array : goal.decreases-array
+decreases-array l = 4 * l.levels + 3
+
+abbrev pub decreases-object : goal.decreases-object
+decreases-object l = 4 * l.levels + 3
+
+abbrev pub decreases-items : goal.decreases-items
+decreases-items l = 4 * l.levels + 2
+
+abbrev pub invariant-items-items : goal.invariant-items-items
+invariant-items-items l = record {
+  onward : l.at ≤ l.i;
+  within : l.i ≤ length l.text;
+  copied : l.draft.from ≤ l.i;
+  names : l.draft.names ≡ l.fn.draft.names;
+  goes_on : (rest after : List ℕ) → ItemsFrom l.levels (after_white (drop l.i l.text)) rest (shown l.draft.line l.text l.draft.from l.i) after
+      → ItemsFrom l.levels (after_white (drop l.at l.text)) rest (shown l.fn.draft.line l.text l.fn.draft.from l.at) after;
+}
+
+abbrev pub decreases-items-items : goal.decreases-items-items
+decreases-items-items l = length l.text - l.i
+
+abbrev pub invariant-object-members : goal.invariant-object-members
+invariant-object-members l = record {
+  onward : l.at ≤ l.i;
+  within : l.i ≤ length l.text;
+  copied : l.draft.from ≤ l.i;
+  few : l.base ≤ length l.draft.names;
+  names : take l.base l.draft.names ≡ l.fn.draft.names;
+  goes_on : (rest after : List ℕ) (listed : List (List ℕ)) → MembersFrom l.levels (drop l.i l.text) rest (shown l.draft.line l.text l.draft.from l.i) after listed
+      → MembersWhole l.levels (drop l.at l.text) rest (shown l.fn.draft.line l.text l.fn.draft.from l.at) after (drop l.base l.draft.names ++ listed);
+}
+
+abbrev pub decreases-object-members : goal.decreases-object-members
+decreases-object-members l = length l.text - l.i

@@ -1,0 +1,27 @@
+-- Where the members of an object lie in its compact text, and an object with the value of one member exchanged.
+use Rattle.std.specs.Prelude.{◌≡◌, ◌++◌, ◌+◌, ℕ, zero, suc, List, [], ◌∷◌, length, take, drop}
+use Rattle.city_json.specs.Bytes.{colon}
+use Rattle.city_json.specs.Compact.{quoted, plain}
+use Rattle.city_json.specs.Tree.{Tree, MemberTrees, no_members, member}
+use Rattle.city_json.specs.declared.compacting.parts.Part.{Part}
+
+-- in a text in which `front` bytes stand before the member, it lies there
+abbrev pub IsPart : ℕ → Part → List ℕ → Tree → Type 0
+IsPart front part name value = (part.at ≡ front) × (part.value ≡ front + length (quoted name ++ colon ∷ [])) × (part.end ≡ part.value + length (plain value))
+
+-- the same of members with a comma between them
+abbrev pub AreParts : ℕ → List Part → MemberTrees → Type 0
+AreParts front [] no_members = Unit {0}
+AreParts front [] (member name value others) = ⊥
+AreParts front (part ∷ parts) no_members = ⊥
+AreParts front (part ∷ parts) (member name value others) = IsPart front part name value × AreParts (part.end + 1) parts others
+
+-- a text in which the value's part of it is another
+abbrev pub with_value : List ℕ → Part → List ℕ → List ℕ
+with_value text part value = take part.value text ++ (value ++ drop part.end text)
+
+-- the members with another value at place k, from 0; the same members where there is no such place
+abbrev pub replaced : ℕ → Tree → MemberTrees → MemberTrees
+replaced k value no_members = no_members
+replaced zero value (member name other others) = member name value others
+replaced (suc k) value (member name other others) = member name other (replaced k value others)

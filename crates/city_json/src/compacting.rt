@@ -1,0 +1,51 @@
+//! The compact text of a text in one pass, with no tree between them.
+//!
+//! The pass goes over the text once, checks it, and writes nothing anew where the text is in its compact spelling
+//! already: it copies. It answers for the common spellings only, and says nothing of any other text and of no fault, so
+//! that it decides no refusal. Whoever calls it goes on with [`crate::read`] and [`crate::print`] where it is silent.
+ghost use Rattle.std.specs.Prelude.{◌≡◌, IfSome};
+ghost use Rattle.city_json.specs.Compact.{plain};
+ghost use Rattle.city_json.specs.Depth.{IsDeep};
+ghost use Rattle.city_json.specs.Fits.{Fits};
+ghost use Rattle.city_json.specs.Grammar.{Spells};
+ghost use Rattle.city_json.specs.Tree.{Tree};
+
+mod digits;
+mod draft;
+mod name;
+mod names;
+mod parts;
+mod scalars;
+mod strings;
+#[cfg(test)]
+mod tests;
+mod values;
+mod whole_arrays;
+
+use crate::depth::MOST_DEPTH;
+use crate::line::Line;
+use draft::{begun, copy_to, skip_white};
+pub use parts::{Compacted, Part, compact_parts};
+use std::alloc::Global;
+use values::value;
+
+/// The compact text of the value that the text spells. What `line` held is dropped; it is taken for its memory.
+///
+/// None says nothing of the text: [`crate::read`] tells what is the matter with it.
+pub fn compact(alloc: Global, text: &[u8], line: Line) -> Option<Line>
+    ensures { IfSome result (λ line. (value : Tree)
+        × Spells text.now value × Fits value × (¬ IsDeep text.now) × (line ≡ plain value)) }
+{
+    if !simdutf8::is_utf8(text) {
+        return None;
+    }
+    let mut draft = begun(alloc, line);
+    let at = skip_white(text, 0, &mut draft)?;
+    let end = value(text, at, MOST_DEPTH, &mut draft)?;
+    let last = skip_white(text, end, &mut draft)?;
+    if last < text.len() {
+        return None;
+    }
+    copy_to(text, last, last, &mut draft)?;
+    Some(draft.line)
+}

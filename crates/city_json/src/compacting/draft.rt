@@ -1,0 +1,139 @@
+//! What the pass has written, and how it goes on over white space.
+ghost use Rattle.std.specs.Prelude.{◌≡◌, ◌<◌, ◌≤◌, [], length, drop, IfSome, OnSome};
+ghost use Rattle.city_json.specs.Compacting.{shown};
+ghost use Rattle.city_json.specs.Reading.{after_white};
+
+use super::names::Names;
+use crate::line::Line;
+use std::alloc::Global;
+
+/// What is written so far: the line, and after it the text from `from` on, which is still to be copied. Beside it
+/// the names of the objects that are open, those of an inner one last.
+#[derive(Drop)]
+pub(super) struct Draft<'a> {
+    pub(super) alloc: Global,
+    pub(super) line: Line,
+    pub(super) from: usize,
+    pub(super) names: Names<'a>,
+}
+
+/// A draft with nothing written.
+pub(super) fn begun<'a>(alloc: Global, line: Line) -> Draft<'a>
+    ensures line { result.line ≡ [] }
+    ensures from { result.from ≡ 0 }
+    ensures names { result.names ≡ [] }
+{
+    let mut line = line;
+    line.truncate(0);
+    Draft {
+        alloc,
+        line,
+        from: 0,
+        names: Names::new(alloc),
+    }
+}
+
+/// Copies the text up to `at`, and goes on from `next`.
+#[inline(never)]
+pub(super) fn copy_to<'a>(
+    text: &'a [u8],
+    at: usize,
+    next: usize,
+    draft: &mut Draft<'a>,
+) -> Option<()>
+    requires copied { draft.old.from ≤ at }
+    requires order { at ≤ next }
+    requires within { next ≤ length text.now }
+    ensures line { OnSome result (draft.new.line ≡ shown draft.old.line text.now draft.old.from at) }
+    ensures from { OnSome result (draft.new.from ≡ next) }
+    ensures names { OnSome result (draft.new.names ≡ draft.old.names) }
+{
+    if draft.line.append(&text[draft.from..at]).is_err() {
+        return None;
+    }
+    draft.from = next;
+    Some(())
+}
+
+/// The place of the next byte that is no white space. The end of the text says nothing.
+#[inline(always)]
+pub(super) fn skip<'a>(text: &'a [u8], at: usize, draft: &mut Draft<'a>) -> usize
+    requires copied { draft.old.from ≤ at }
+    requires within { at ≤ length text.now }
+    ensures within { result ≤ length text.now }
+    ensures onward { result < length text.now → at ≤ result }
+    ensures copied { result < length text.now → draft.new.from ≤ result }
+    ensures skipped { result < length text.now → drop result text.now ≡ after_white (drop at text.now) }
+    ensures is_shown { result < length text.now → shown draft.new.line text.now draft.new.from result
+        ≡ shown draft.old.line text.now draft.old.from at }
+    ensures names { result < length text.now → draft.new.names ≡ draft.old.names }
+{
+    if at < text.len() && text[at] > b' ' {
+        return at;
+    }
+    skip_or_end(text, at, draft)
+}
+
+/// The same, where there may be white space.
+#[inline(never)]
+fn skip_or_end<'a>(text: &'a [u8], at: usize, draft: &mut Draft<'a>) -> usize
+    requires copied { draft.old.from ≤ at }
+    requires within { at ≤ length text.now }
+    ensures within { result ≤ length text.now }
+    ensures onward { result < length text.now → at ≤ result }
+    ensures copied { result < length text.now → draft.new.from ≤ result }
+    ensures skipped { result < length text.now → drop result text.now ≡ after_white (drop at text.now) }
+    ensures is_shown { result < length text.now → shown draft.new.line text.now draft.new.from result
+        ≡ shown draft.old.line text.now draft.old.from at }
+    ensures names { result < length text.now → draft.new.names ≡ draft.old.names }
+{
+    match skip_white(text, at, draft) {
+        Some(end) => end,
+        None => text.len(),
+    }
+}
+
+/// Leaves out the white space from `at` on: where it ends.
+#[inline(never)]
+pub(super) fn skip_white<'a>(text: &'a [u8], at: usize, draft: &mut Draft<'a>) -> Option<usize>
+    requires copied { draft.old.from ≤ at }
+    requires within { at ≤ length text.now }
+    ensures onward { IfSome result (λ end. at ≤ end) }
+    ensures within { IfSome result (λ end. end ≤ length text.now) }
+    ensures copied { IfSome result (λ end. draft.new.from ≤ end) }
+    ensures skipped { IfSome result (λ end. drop end text.now ≡ after_white (drop at text.now)) }
+    ensures is_shown { IfSome result (λ end. shown draft.new.line text.now draft.new.from end
+        ≡ shown draft.old.line text.now draft.old.from at) }
+    ensures names { OnSome result (draft.new.names ≡ draft.old.names) }
+{
+    let end = white_end(text, at);
+    if end == at {
+        return Some(at);
+    }
+    copy_to(text, at, end, draft)?;
+    Some(end)
+}
+
+/// The place of the first byte from `at` on that is no white space.
+fn white_end(text: &[u8], at: usize) -> usize
+    requires { at ≤ length text.now }
+    ensures onward { at ≤ result }
+    ensures within { result ≤ length text.now }
+    ensures skipped { drop result text.now ≡ after_white (drop at text.now) }
+{
+    let mut end = at;
+    while end < text.len() && matches!(text[end], b' ' | b'\t' | b'\n' | b'\r') {
+        end += 1;
+    }
+    end
+}
+
+/// How long what is written is, where the text up to `at` is taken.
+#[inline(always)]
+pub(super) fn written_len(text: &[u8], at: usize, draft: &Draft<'_>) -> Option<usize>
+    requires copied { draft.now.from ≤ at }
+    requires within { at ≤ length text.now }
+    ensures { IfSome result (λ n. n ≡ length (shown draft.now.line text.now draft.now.from at)) }
+{
+    draft.line.items().len().checked_add(at - draft.from)
+}

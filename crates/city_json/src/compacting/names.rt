@@ -1,0 +1,175 @@
+//! The names of the members of the open objects, and whether those of one object differ (RFC 8259, section 4).
+ghost use Rattle.std.specs.Prelude.{◌≡◌, ◌++◌, ◌∷◌, ◌≤◌, [], take, drop, length, map, IfSome, OnSome, IsTrue};
+ghost use Rattle.city_json.specs.Fits.{IsNewName, HasDistinctNames};
+ghost use Rattle.city_json.specs.MemberName.{name_bytes};
+ghost use Rattle.city_json.specs.Members.{names};
+ghost use Rattle.city_json.specs.NamePrint.{print_of, short_print_of};
+ghost use Rattle.city_json.specs.Tree.{MemberTrees};
+
+use super::name::Name;
+use crate::names::{MOST_COMPARED, are_apart_when_sorted};
+use std::alloc::Global;
+use std::marker::Model;
+
+/// The names of the members of the open objects, in their order.
+#[derive(Drop)]
+pub(super) struct Names<'a> {
+    listed: Vec<Name<'a>>,
+}
+
+impl<'a> Model for Names<'a> {
+    ghost use Rattle.std.specs.Prelude.{List, ℕ, map};
+    ghost use Rattle.city_json.specs.MemberName.{name_bytes};
+
+    ghost Value = { List (List ℕ) };
+
+    ghost view = { λ names. map name_bytes names.listed.items };
+}
+
+impl<'a> Names<'a> {
+    pub(super) fn new(alloc: Global) -> Names<'a>
+        ensures { result ≡ [] }
+    {
+        Names {
+            listed: Vec::new(alloc),
+        }
+    }
+
+    #[inline(always)]
+    pub(super) fn len(&self) -> usize
+        ensures { result ≡ length self.now }
+    {
+        self.listed.len()
+    }
+
+    /// Puts a name after the others.
+    #[inline(always)]
+    pub(super) fn push(&mut self, name: Name<'a>) -> Option<()>
+        ensures { OnSome result (self.new ≡ self.old ++ name_bytes name.entry ∷ []) }
+    {
+        if self.listed.push(name).is_err() {
+            return None;
+        }
+        Some(())
+    }
+
+    /// Leaves out the names from `base` on.
+    #[inline(always)]
+    pub(super) fn truncate(&mut self, base: usize)
+        ensures { self.new ≡ take base self.old }
+    {
+        self.listed.truncate(base);
+    }
+
+    /// Whether the names from `base` on are pairwise different. No says nothing: there may be no memory to tell.
+    /// The time is near linear in the names' bytes, whatever they are.
+    pub(super) fn are_apart_from(&self, alloc: Global, base: usize) -> bool
+        requires { base ≤ length self.now }
+        ensures { IsTrue result → (members : MemberTrees) → names members ≡ drop base self.now → HasDistinctNames members }
+    {
+        let listed = &self.listed[base..];
+        if listed.len() <= MOST_COMPARED {
+            few_are_apart(listed)
+        } else {
+            many_are_apart(alloc, listed)
+        }
+    }
+}
+
+/// The same for few names, each compared with each.
+fn few_are_apart(listed: &[Name<'_>]) -> bool
+    ensures { IsTrue result → (members : MemberTrees) → names members ≡ map name_bytes listed.now → HasDistinctNames members }
+{
+    let mut rest = listed;
+    while let [first, others @ ..] = rest {
+        if !is_new(first.bytes(), others) {
+            return false;
+        }
+        rest = others;
+    }
+    true
+}
+
+/// Whether the name is none of these.
+fn is_new(name: &[u8], listed: &[Name<'_>]) -> bool
+    ensures { IsTrue result → (members : MemberTrees) → names members ≡ map name_bytes listed.now → IsNewName name.now members }
+{
+    for other in listed {
+        if other.bytes() == name {
+            return false;
+        }
+    }
+    true
+}
+
+/// The same for many names: by their prints, and where two of these are equal by the names themselves.
+fn many_are_apart(alloc: Global, listed: &[Name<'_>]) -> bool
+    ensures { IsTrue result → (members : MemberTrees) → names members ≡ map name_bytes listed.now → HasDistinctNames members }
+{
+    let Some(prints) = prints_of(alloc, listed) else {
+        return false;
+    };
+    if rise_when_sorted(prints) {
+        return true;
+    }
+    let Some(all) = bytes_of(alloc, listed) else {
+        return false;
+    };
+    are_apart_when_sorted(all)
+}
+
+fn prints_of(alloc: Global, listed: &[Name<'_>]) -> Option<Vec<u64>>
+    ensures { IfSome result (λ prints. prints.items ≡ map (λ name. print_of (name_bytes name)) listed.now) }
+{
+    let Ok(mut prints) = Vec::with_capacity(alloc, listed.len()) else {
+        return None;
+    };
+    for name in listed {
+        prints.push_reserved(print_of(name.bytes()));
+    }
+    Some(prints)
+}
+
+fn bytes_of<'b>(alloc: Global, listed: &'b [Name<'_>]) -> Option<Vec<&'b [u8]>>
+    ensures { IfSome result (λ all. map (λ name. name.now) all.items ≡ map name_bytes listed.now) }
+{
+    let Ok(mut all) = Vec::with_capacity(alloc, listed.len()) else {
+        return None;
+    };
+    for name in listed {
+        all.push_reserved(name.bytes());
+    }
+    Some(all)
+}
+
+/// Whether each print is above the one before it once they are sorted, so that no two are equal.
+fn rise_when_sorted(prints: Vec<u64>) -> bool
+    ensures { IsTrue result → (members : MemberTrees) → map print_of (names members) ≡ prints.items → HasDistinctNames members }
+{
+    let mut prints = prints;
+    prints.sort_unstable();
+    prints.is_sorted_by(|first, second| first < second)
+}
+
+/// A number that equal names share, and different ones seldom.
+#[tactic(auto, unfolding(crate::specs::NamePrint::print_of))]
+#[inline(always)]
+fn print_of(name: &[u8]) -> u64
+    ensures { result ≡ print_of name.now }
+{
+    match (name.first_chunk::<8>(), name.last_chunk::<8>()) {
+        (Some(first), Some(last)) => {
+            u64::from_le_bytes(*first).rotate_left(24) ^ u64::from_le_bytes(*last)
+        }
+        _ => short_print_of(name),
+    }
+}
+
+/// The same for a name of fewer than eight bytes.
+#[tactic(auto, unfolding(crate::specs::NamePrint::short_print_of))]
+fn short_print_of(name: &[u8]) -> u64
+    ensures { result ≡ short_print_of name.now }
+{
+    name.iter()
+        .fold(0, |print, byte| print.rotate_left(8) ^ u64::from(*byte))
+}

@@ -1,0 +1,151 @@
+//! The compact text of an object, and where its members lie in it.
+ghost use Rattle.std.specs.Prelude.{◌≡◌, ◌++◌, ◌<◌, ◌≤◌, ◌∷◌, [], length, drop, IfSome, OnSome, IsUtf8};
+ghost use Rattle.city_json.specs.Compact.{plain};
+ghost use Rattle.city_json.specs.Compacting.{shown, TakenPart, TakenParts};
+ghost use Rattle.city_json.specs.Depth.{IsDeep};
+ghost use Rattle.city_json.specs.Fits.{Fits};
+ghost use Rattle.city_json.specs.Grammar.{Spells};
+ghost use Rattle.city_json.specs.Parts.{AreParts};
+ghost use Rattle.city_json.specs.Tree.{MemberTrees, object};
+ghost use Rattle.city_json.specs.declared.compacting.parts.Part.{Part};
+
+use super::draft::{Draft, begun, copy_to, skip, skip_white, written_len};
+use super::strings::name_and_colon;
+use super::values::member_value;
+use crate::depth::MOST_DEPTH;
+use crate::line::Line;
+use std::alloc::Global;
+
+/// Where a member lies in the compact text of an object, in bytes from its beginning: its name from `at` on, a colon
+/// before `value`, its value from there up to `end`.
+#[derive(Clone, Copy, Debug, PartialEq, Eq)]
+pub struct Part {
+    pub at: usize,
+    pub value: usize,
+    pub end: usize,
+}
+
+/// The compact text of an object, and the place of each of its members in it.
+#[derive(Debug, Drop)]
+pub struct Compacted {
+    pub line: Line,
+    pub parts: Vec<Part>,
+}
+
+/// The compact text of the object that the text spells, and where its members lie in it, in their order. What `line`
+/// held is dropped; it is taken for its memory.
+///
+/// None says nothing of the text: [`crate::read`] tells what is the matter with it.
+pub fn compact_parts(alloc: Global, text: &[u8], line: Line) -> Option<Compacted>
+    ensures { IfSome result (λ found. (members : MemberTrees)
+        × Spells text.now (object members) × Fits (object members) × (¬ IsDeep text.now)
+        × (found.line ≡ plain (object members)) × AreParts 1 found.parts.items members) }
+{
+    if !simdutf8::is_utf8(text) {
+        return None;
+    }
+    let mut draft = begun(alloc, line);
+    let mut parts = Vec::new(alloc);
+    let at = skip_white(text, 0, &mut draft)?;
+    if at == text.len() || text[at] != b'{' {
+        return None;
+    }
+    let end = members(text, at + 1, MOST_DEPTH - 1, &mut draft, &mut parts)?;
+    let last = skip_white(text, end, &mut draft)?;
+    if last < text.len() {
+        return None;
+    }
+    copy_to(text, last, last, &mut draft)?;
+    Some(Compacted {
+        line: draft.line,
+        parts,
+    })
+}
+
+/// The members after the first brace, and the closing one: where it ends.
+fn members<'a>(
+    text: &'a [u8],
+    at: usize,
+    levels: usize,
+    draft: &mut Draft<'a>,
+    parts: &mut Vec<Part>,
+) -> Option<usize>
+    requires utf8 { IsUtf8 text.now }
+    requires copied { draft.old.from ≤ at }
+    requires within { at ≤ length text.now }
+    requires none { draft.old.names ≡ [] }
+    requires no_parts { parts.old.items ≡ [] }
+    ensures onward { IfSome result (λ end. at < end) }
+    ensures within { IfSome result (λ end. end ≤ length text.now) }
+    ensures copied { IfSome result (λ end. draft.new.from ≤ end) }
+    ensures taken { IfSome result (λ end. TakenParts levels (drop at text.now) (drop end text.now)
+        (shown draft.old.line text.now draft.old.from at) (shown draft.new.line text.now draft.new.from end)
+        parts.new.items) }
+{
+    let mut i = skip(text, at, draft);
+    if i == text.len() {
+        return None;
+    }
+    if text[i] == b'}' {
+        return Some(i + 1);
+    }
+    'members: loop {
+        let end = member(text, i, levels, draft, parts)?;
+        let place = skip(text, end, draft);
+        if place == text.len() {
+            return None;
+        }
+        if text[place] == b'}' {
+            if !draft.names.are_apart_from(draft.alloc, 0) {
+                return None;
+            }
+            return Some(place + 1);
+        }
+        if text[place] != b',' {
+            return None;
+        }
+        i = skip(text, place + 1, draft);
+        if i == text.len() {
+            return None;
+        }
+    }
+}
+
+/// A member that begins at `at`: where it ends. Its name stands last among the names, its place last among the parts.
+fn member<'a>(
+    text: &'a [u8],
+    at: usize,
+    levels: usize,
+    draft: &mut Draft<'a>,
+    parts: &mut Vec<Part>,
+) -> Option<usize>
+    requires utf8 { IsUtf8 text.now }
+    requires copied { draft.old.from ≤ at }
+    requires within { at ≤ length text.now }
+    ensures onward { IfSome result (λ end. at < end) }
+    ensures within { IfSome result (λ end. end ≤ length text.now) }
+    ensures copied { IfSome result (λ end. draft.new.from ≤ end) }
+    ensures taken { IfSome result (λ end. TakenPart levels (drop at text.now) (drop end text.now)
+        (shown draft.old.line text.now draft.old.from at) (shown draft.new.line text.now draft.new.from end)
+        draft.old.names draft.new.names parts.old.items parts.new.items) }
+{
+    let named = written_len(text, at, draft)?;
+    let start = name_and_colon(text, at, draft)?;
+    let valued = written_len(text, start, draft)?;
+    let end = member_value(text, start, levels, draft)?;
+    let ended = written_len(text, end, draft)?;
+    list_part(named, valued, ended, parts)?;
+    Some(end)
+}
+
+/// Puts a part after the parts.
+#[inline(always)]
+fn list_part(at: usize, value: usize, end: usize, parts: &mut Vec<Part>) -> Option<()>
+    ensures { OnSome result ((p : Part) × (p.at ≡ at) × (p.value ≡ value) × (p.end ≡ end)
+        × (parts.new.items ≡ parts.old.items ++ p ∷ [])) }
+{
+    if parts.push(Part { at, value, end }).is_err() {
+        return None;
+    }
+    Some(())
+}

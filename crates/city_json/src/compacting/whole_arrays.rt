@@ -1,0 +1,298 @@
+//! Nested arrays of whole numbers in their compact text, 64 bytes at a time.
+ghost use Rattle.std.specs.Prelude.{◌≡◌, ◌<◌, ◌≤◌, ◌+◌, ◌-◌, ◌++◌, ◌∷◌, ◌==◌, ◌||◌, ◌&&◌, Bool, true, if◌then◌else◌, ℕ, List, length, map, slice_index, slice_range, IfSome, IsTrue};
+ghost use Rattle.std.specs.Char.{is_ascii_digit};
+ghost use Rattle.std.specs.Simd.Lanes.{mask_l};
+ghost use Rattle.city_json.specs.Bytes.{open_bracket, close_bracket, comma};
+ghost use Rattle.city_json.specs.Whole.{AreFine, StaysOpen, Closes, IsItemsText, stage_of, is_wrong, begins_zero, zeroed_by, is_place, lag};
+
+use crate::depth::{marks_of, marks_of_either};
+use std::simd::prelude::*;
+
+/// The brackets of a block, and whether it ends with a zero that begins a number.
+#[derive(Clone, Copy, Drop)]
+struct Brackets {
+    opens: u64,
+    closes: u64,
+    zeroed: bool,
+}
+
+/// A bit for each digit.
+#[inline(always)]
+fn digit_marks(block: u8x64) -> u64
+    ensures { result ≡ mask_l (map is_ascii_digit block) }
+{
+    (block.simd_ge(u8x64::splat(b'0')) & block.simd_le(u8x64::splat(b'9'))).to_bitmask()
+}
+
+#[inline(always)]
+fn one_if(first: bool) -> u64
+    ensures value { result ≡ (if first then 1 else 0) }
+    ensures small { result ≤ 1 }
+{
+    if first { 1 } else { 0 }
+}
+
+#[inline(always)]
+fn is_digit_byte(byte: u8) -> bool
+    ensures { result ≡ is_ascii_digit byte }
+{
+    byte.is_ascii_digit()
+}
+
+/// Whether an item may begin after the byte.
+#[inline(always)]
+fn leads_item(byte: u8) -> bool
+    ensures { result ≡ ((byte == open_bracket) || (byte == comma)) }
+{
+    byte == b'[' || byte == b','
+}
+
+/// Each bit one place up, after a first one.
+#[inline(always)]
+fn lag(mask: u64, first: bool) -> u64
+    ensures { (marks : List Bool) → length marks ≡ 64 → mask ≡ mask_l marks → result ≡ mask_l (lag first marks) }
+{
+    (mask << 1) + one_if(first)
+}
+
+/// The brackets of a block in which each byte may stand where it stands, after the byte `before`.
+#[inline(always)]
+fn brackets_of(block: u8x64, before: u8, zeroed: bool) -> Option<Brackets>
+    ensures fine { IfSome result (λ found. AreFine before zeroed block) }
+    ensures opens { IfSome result (λ found. found.opens ≡ mask_l (map (λ b. b == open_bracket) block)) }
+    ensures closes { IfSome result (λ found. found.closes ≡ mask_l (map (λ b. b == close_bracket) block)) }
+    ensures zeroed { IfSome result (λ found. found.zeroed ≡ zeroed_by before zeroed block) }
+{
+    let digits = digit_marks(block);
+    let commas = marks_of(block, b',');
+    let opens = marks_of(block, b'[');
+    let closes = marks_of(block, b']');
+    if digits | (commas | (opens | closes)) != u64::MAX {
+        return None;
+    }
+    let vain = marks_of(block, b'0') & lag(opens | commas, leads_item(before));
+    if lag(opens, before == b'[') & commas != 0 {
+        return None;
+    }
+    if lag(closes, before == b']') & (digits | opens) != 0 {
+        return None;
+    }
+    if lag(commas, before == b',') & (commas | closes) != 0 {
+        return None;
+    }
+    if lag(digits, is_digit_byte(before)) & opens != 0 {
+        return None;
+    }
+    if lag(vain, zeroed) & digits != 0 {
+        return None;
+    }
+    Some(Brackets {
+        opens,
+        closes,
+        zeroed: !((vain >> 63) & 1 == 0),
+    })
+}
+
+/// Whether so many open arrays stay open through a block with these brackets.
+#[inline(always)]
+fn stays_open(depth: usize, opens: u64, closes: u64) -> bool
+    requires { depth ≤ 1000 }
+    ensures { IsTrue result → (bytes : List ℕ) → length bytes ≤ 64 → opens ≡ mask_l (map (λ b. b == open_bracket) bytes) → closes ≡ mask_l (map (λ b. b == close_bracket) bytes) → StaysOpen depth bytes }
+{
+    let mut left = depth;
+    let mut up = opens;
+    let mut down = closes;
+    'rounds: for round in 0..64usize {
+        if left == 0 {
+            return false;
+        }
+        if down == 0 {
+            return true;
+        }
+        let place = down.trailing_zeros();
+        if place >= 64 {
+            return false;
+        }
+        left = (left + (up % (1u64 << place)).count_ones() as usize) - 1;
+        up = (up >> place) >> 1;
+        down = (down >> place) >> 1;
+    }
+    false
+}
+
+/// How many arrays are open at a place, how deep its items may still nest, and whether a zero that begins a number
+/// stands before it.
+#[derive(Clone, Copy, Drop)]
+struct Place {
+    depth: usize,
+    room: usize,
+    zeroed: bool,
+}
+
+/// What stands after the 64 bytes at `at`, where they go on with arrays of whole numbers.
+#[inline(always)]
+fn after_block(text: &[u8], at: usize, from: Place) -> Option<Place>
+    requires some { 0 < at }
+    requires within { at + 64 ≤ length text.now }
+    requires depth { from.depth ≤ 129 }
+    requires room { from.room ≤ 129 }
+    requires place { is_place (slice_index text.now (at - 1)) ≡ true }
+    ensures open { IfSome result (λ to. 0 < to.depth) }
+    ensures sum { IfSome result (λ to. to.depth + to.room ≡ from.depth + from.room) }
+    ensures place { IfSome result (λ to. is_place (slice_index text.now (at + 63)) ≡ true) }
+    ensures goes_on { IfSome result (λ to. (further : List ℕ)
+        → Closes to.depth to.room (stage_of (slice_index text.now (at + 63)) to.zeroed) further
+        → Closes from.depth from.room (stage_of (slice_index text.now (at - 1)) from.zeroed) (slice_range text.now at (at + 64) ++ further)) }
+{
+    let found = brackets_of(u8x64::from_slice(&text[at..]), text[at - 1], from.zeroed)?;
+    let opened = found.opens.count_ones() as usize;
+    let closed = found.closes.count_ones() as usize;
+    if opened > from.room
+        || !stays_open(from.depth, found.opens, found.closes)
+        || closed > from.depth + opened
+    {
+        return None;
+    }
+    Some(Place {
+        depth: from.depth + opened - closed,
+        room: from.room + closed - opened,
+        zeroed: found.zeroed,
+    })
+}
+
+/// What stands after the byte at `at`, where it goes on with arrays of whole numbers.
+#[inline(always)]
+fn after_byte(text: &[u8], at: usize, from: Place) -> Option<Place>
+    requires some { 0 < at }
+    requires within { at < length text.now }
+    requires open { 0 < from.depth }
+    requires depth { from.depth ≤ 129 }
+    requires room { from.room ≤ 129 }
+    requires place { is_place (slice_index text.now (at - 1)) ≡ true }
+    ensures sum { IfSome result (λ to. to.depth + to.room ≡ from.depth + from.room) }
+    ensures place { IfSome result (λ to. is_place (slice_index text.now at) ≡ true) }
+    ensures goes_on { IfSome result (λ to. (further : List ℕ)
+        → Closes to.depth to.room (stage_of (slice_index text.now at) to.zeroed) further
+        → Closes from.depth from.room (stage_of (slice_index text.now (at - 1)) from.zeroed) (slice_index text.now at ∷ further)) }
+{
+    let before = text[at - 1];
+    let byte = text[at];
+    if !may_stand(byte) || may_not_follow(before, byte) || repeats_zero(from.zeroed, byte) {
+        return None;
+    }
+    let zeroed = begins_with_zero(before, byte);
+    if byte == b'[' {
+        if from.room == 0 {
+            return None;
+        }
+        return Some(Place {
+            depth: from.depth + 1,
+            room: from.room - 1,
+            zeroed,
+        });
+    }
+    if byte == b']' {
+        return Some(Place {
+            depth: from.depth - 1,
+            room: from.room + 1,
+            zeroed,
+        });
+    }
+    Some(Place {
+        depth: from.depth,
+        room: from.room,
+        zeroed,
+    })
+}
+
+#[inline(always)]
+fn may_stand(byte: u8) -> bool
+    ensures { result ≡ is_place byte }
+{
+    byte.is_ascii_digit() || (byte == b',' || (byte == b'[' || byte == b']'))
+}
+
+#[inline(always)]
+fn may_not_follow(before: u8, byte: u8) -> bool
+    ensures { result ≡ is_wrong before byte }
+{
+    (before == b'[' && byte == b',')
+        || ((before == b']' && (byte.is_ascii_digit() || byte == b'['))
+            || ((before == b',' && (byte == b',' || byte == b']'))
+                || (before.is_ascii_digit() && byte == b'[')))
+}
+
+#[inline(always)]
+fn repeats_zero(zeroed: bool, byte: u8) -> bool
+    ensures { result ≡ (zeroed && is_ascii_digit byte) }
+{
+    zeroed && byte.is_ascii_digit()
+}
+
+#[inline(always)]
+fn begins_with_zero(before: u8, byte: u8) -> bool
+    ensures { result ≡ begins_zero before byte }
+{
+    byte == b'0' && leads_item(before)
+}
+
+/// Where the array ends whose opening bracket stands before `at`, or `at` where it is not one of whole numbers, or of
+/// such arrays, in its compact text.
+#[inline(never)]
+pub(super) fn whole_end(text: &[u8], at: usize, levels: usize) -> usize
+    requires some { 0 < at }
+    requires within { at ≤ length text.now }
+    requires opened { slice_index text.now (at - 1) ≡ open_bracket }
+    requires levels { levels ≤ 128 }
+    ensures onward { at ≤ result }
+    ensures within { result ≤ length text.now }
+    ensures is { at < result → IsItemsText levels text.now at result }
+{
+    let mut i = at;
+    let mut place = Place {
+        depth: 1,
+        room: levels,
+        zeroed: false,
+    };
+    let mut in_blocks = true;
+    'bytes: while i < text.len() {
+        if in_blocks && text.len() - i >= 64 {
+            match after_block(text, i, place) {
+                Some(next) => {
+                    place = next;
+                    i += 64;
+                    continue;
+                }
+                None => {
+                    in_blocks = false;
+                }
+            }
+        }
+        let Some(next) = after_byte(text, i, place) else {
+            return at;
+        };
+        i += 1;
+        if next.depth == 0 {
+            return i;
+        }
+        place = next;
+    }
+    at
+}
+
+/// The same, where anything may stand before `at`. It is tried only after a colon, so that no byte is tried twice.
+#[inline(always)]
+pub(super) fn whole_from(text: &[u8], at: usize, levels: usize) -> usize
+    requires { at ≤ length text.now }
+    ensures onward { at ≤ result }
+    ensures within { result ≤ length text.now }
+    ensures is { at < result → IsItemsText levels text.now at result }
+{
+    if at < 2 || at == text.len() || levels > 128 {
+        return at;
+    }
+    if text[at - 2] != b':' || text[at - 1] != b'[' || text[at] > b'[' || text[at] < b'0' {
+        return at;
+    }
+    whole_end(text, at, levels)
+}
