@@ -9,7 +9,7 @@ help:
 	@echo '  make demo    build it, run it on the tiles in examples/ and show what came out'
 	@echo '  make test    all that has to hold: the documents, the built program at its edges, then the gate'
 	@echo '               (every proof from nothing, the edits that must fail, the tests); takes long'
-	@echo '  make bench   how fast it is, beside jq (BENCH="--help" lists the options)'
+	@echo '  make bench   how fast it is, beside its plain path and jq (BENCH="--help" lists the options)'
 	@echo '  make clean   remove what was built and what the proofs kept'
 	@echo
 	@echo 'Needed: the Rattle kit, its command rt on PATH, which itself needs python3. For make bench also jq and valgrind.'
@@ -37,7 +37,8 @@ test: docs-test program-test
 
 bench: build
 	@tools/need.sh python3
-	@python3 bench/bench.py --program build/citymerge $(BENCH)
+	@tools/build_plain.sh $(RTFLAGS)
+	@python3 bench/bench.py --program build/citymerge --plain build/citymerge-plain $(BENCH)
 
 clean:
 	@rm -rf build crates/*/out

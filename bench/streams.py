@@ -1,8 +1,9 @@
-"""Streams in the shape of 3D building tiles, and shapes that are hard on a reader.
+"""Streams in the shape of 3D building tiles.
 
 Everything is drawn from a seed, so that two runs with one seed give the same bytes.
 """
 
+import json
 import random
 
 HEADER = (
@@ -14,6 +15,18 @@ HEADER = (
 
 STATUSES = ("in use", "under construction", "in use, not measured", "demolition permit granted")
 ROOFS = ("slanted", "horizontal", "multiple horizontal", "no points")
+
+
+def stream(size, feature):
+    """The header, and the features of 0, 1, 2 and so on up to about `size` bytes."""
+    yield HEADER
+    done = len(HEADER)
+    number = 0
+    while done < size:
+        line = feature(number)
+        number += 1
+        done += len(line)
+        yield line
 
 
 def attributes(rng):
@@ -86,14 +99,78 @@ def feature(rng, number):
 def buildings(seed, size):
     """The lines of a stream of about `size` bytes, each in compact spelling."""
     rng = random.Random(seed)
-    done = len(HEADER)
-    yield HEADER
-    number = 0
-    while done < size:
-        line = feature(rng, number)
-        number += 1
-        done += len(line)
-        yield line
+    return stream(size, lambda number: feature(rng, number))
+
+
+def spaced(seed, size):
+    """The same with a blank after each comma and colon."""
+    for line in buildings(seed, size * 6 / 7):
+        # No string has an escape, so that every second piece is a string's.
+        pieces = line.split(b'"')
+        pieces[::2] = [piece.replace(b",", b", ").replace(b":", b": ") for piece in pieces[::2]]
+        yield b'"'.join(pieces)
+
+
+FRONTS = (
+    "b", "height_", "area_of_", "energy_performance_", "energy_performance_of_the_", "registered_by_the_office_of_",
+    "straße_", "größe_der_fläche_", "année_", "建物高さ_", "構造_",
+)
+MIDDLES = ("", "", "roof_", "wall_", "north_facade_", "ground_", "installation_", "lod_2_2_")
+WORDS = (
+    "in use", "", "2024-02-28", "unknown", "measured from the air", "NL.IMBAG.Pand.0503100000012345",
+    "Straße der Einheit 17", "木造二階建て", "Łódź", "concrete, brick and timber; insulated in 1998",
+)
+NOTES = WORDS + (
+    "first line\nsecond line", 'the so-called "annex"', "C:\\tiles\\west", "m3/h", "one\ttwo\tthree", "🏠 home",
+    "café and crêperie, ground floor", "https://example.org/buildings/0503100000012345",
+)
+
+
+def attribute_names(rng, count):
+    """Different names of varied length, many with a shared front, in no order."""
+    names = ["%s%s%03d" % (rng.choice(FRONTS), rng.choice(MIDDLES), at) for at in range(count)]
+    rng.shuffle(names)
+    return names
+
+
+def attribute_value(rng, texts, spell):
+    kind = rng.random()
+    if kind < 0.35:
+        return spell(rng.choice(texts))
+    if kind < 0.55:
+        return rng.choice(("true", "false", "false", "null"))
+    if kind < 0.75:
+        return str(rng.choice((rng.randrange(10), rng.randrange(3000), rng.randrange(-(10**9), 10**9))))
+    return "%.*f" % (rng.choice((1, 2, 3, 6, 13)), rng.random() * 4000 - 100)
+
+
+def small_building(rng, number, names, texts, spell):
+    """A box of eight vertices with these attributes."""
+    name = "DE.TILE.%08d" % number
+    members = ",".join(["%s:%s" % (spell(each), attribute_value(rng, texts, spell)) for each in names])
+    x, y, z = rng.randrange(2_000_000), rng.randrange(2_000_000), rng.randrange(20_000)
+    vertices = ["[%d,%d,%d]" % (x + 9000 * (at & 1), y + 7000 * (at >> 1 & 1), z + 5000 * (at >> 2)) for at in range(8)]
+    text = (
+        '{"type":"CityJSONFeature","id":"%s","CityObjects":{"%s":{"type":"Building","attributes":{%s},'
+        '"geometry":[{"type":"MultiSurface","lod":"1.2","boundaries":[[[0,2,3,1]],[[4,5,7,6]],[[0,1,5,4]],'
+        '[[1,3,7,5]],[[3,2,6,7]],[[2,0,4,6]]]}]}},"vertices":[%s]}\n' % (name, name, members, ",".join(vertices))
+    )
+    return text.encode("utf-8")
+
+
+def wide(seed, size):
+    """Features with 300 attributes each, in compact spelling."""
+    rng = random.Random(seed)
+    names = attribute_names(rng, 300)
+    return stream(size, lambda number: small_building(rng, number, names, WORDS, lambda text: '"%s"' % text))
+
+
+def escaped(seed, size):
+    """Features with 60 attributes each, in whose names and texts all but ASCII is escaped, and so is the slash."""
+    rng = random.Random(seed)
+    names = attribute_names(rng, 60)
+    spell = lambda text: json.dumps(text).replace("/", "\\/")
+    return stream(size, lambda number: small_building(rng, number, names, NOTES, spell))
 
 
 LETTERS = ("caf\u00e9", "stra\u00dfe", "\u5efa\u7269", "\U0001f3e0", "a/b", 'say "so"', "back\\slash", "tab\there", "\x1f\x7f")
@@ -158,78 +235,6 @@ def loose(seed, size):
         yield line
 
 
-def members(count, name):
-    """One feature whose attributes are one object of `count` members."""
-    yield HEADER
-    yield b'{"type":"CityJSONFeature","id":"a","CityObjects":{"a":{"type":"Building","attributes":{'
-    piece = []
-    for at in range(count):
-        piece.append('%s"%s":%d' % ("," if at else "", name(at), at))
-        if len(piece) == 10_000:
-            yield "".join(piece).encode("ascii")
-            piece = []
-    yield "".join(piece).encode("ascii")
-    yield b'}}},"vertices":[]}\n'
-
-
-def repeated(before, piece, count, after):
-    """One line: the piece many times over, with a comma between."""
-    yield HEADER
-    yield before
-    block = b",".join([piece] * 1000)
-    for at in range(count // 1000):
-        yield (b"," if at else b"") + block
-    yield after + b"\n"
-
-
-def mirrored(at):
-    """Names of one length which begin and end alike and differ in the middle."""
-    return "the_same_first_part_of_a_name_" + "%08d" % at + "_and_the_same_last_part_of_it"
-
-
-def nulls_apart(at):
-    """Names of one length that are made of two letters alone."""
-    return format(at, "020b").replace("0", "a").replace("1", "b")
-
-
-# Parts of names that were found to have one hash, whichever of each two is taken, under the hash of fixed
-# seed that the standard library's maps have. A reader that kept names in such a map would take time as the square.
-FRONT = 'p9r7ko74a5c5ez96'
-EITHER = (
-    ('QpTfjM-:cKi]SXC>', 'Gkerh)(%uPXIQ<F!'),
-    ('KQ ~MAqLpIt($(~B', 'U3/r;/Irn+{$RFF|'),
-    ('8[iE)HIq.6>jk(}S', 'n&}Ea!{`xK*j#AOB'),
-    ('(lFB-h>x=wIT,V_H', 'P/<V w9DE43@!IXt'),
-    ('hAal1OntER6rt|m>', '{Lmb6XDgV_:|skG-'),
-    (']@N n?I~&$g,klws', '<RD f#RTG6m,cplY'),
-    ('{/fSu}t:D+o-u7ji', 'kR><Kn,;TV7BK$2h'),
-    ('y3]&JZ`ZeMtc(CEE', '+$I/6cE?7Z`jTz` '),
-    ('5]:vBbqf|>A%!9q0', '2_)6V<Zg{<Re5gZ1'),
-    ('B&AtbRW cU{,5Hh:', 'y<UtcrZDXOo,4he^'),
-    ('F$C)~SIHI<oe=/@K', 'HZN&:>iCGBbjyB`@'),
-    ('v4V[Ht0/VhD`8>h%', 's/LAX,9ySs^z(fas'),
-    ('LoM@*I$NsM_=2YlW', 'Sc(JVv2ilA:7Nfzp'),
-    ('EIRu|OBThk&D~!HM', 'Bq,d,Jb%oSXU.$h<'),
-    ('#c[p$M?rm$5/0B^^', "8`K)At zv'%vU{AV"),
-    ('2dv:EbGQK|1@jMlr', 'F,}4OhQJ?4:N`Gzi'),
-)
-
-
-def colliding(at):
-    return FRONT + "".join([two[(at >> place) & 1] for place, two in enumerate(EITHER)])
-
-
-# Each hostile shape: its name, its size in items, and its stream of so many items.
-HOSTILE = (
-    ("members of one object", 200_000, lambda n: members(n, lambda at: "n%d" % at)),
-    ("members whose names begin and end alike", 200_000, lambda n: members(n, mirrored)),
-    ("members whose names are of two letters", 200_000, lambda n: members(n, nulls_apart)),
-    ("members whose names have one hash", 64_000, lambda n: members(n, colliding)),
-    ("strings of backslashes", 100_000, lambda n: repeated(b"[", b'"' + b"\\\\" * 20 + b'"', n, b"]")),
-    ("surrogate pairs", 200_000, lambda n: repeated(b"[", b'"\\ud83d\\ude00\\u000a"', n, b"]")),
-    ("brackets 120 deep", 20_000, lambda n: repeated(b"[", b"[" * 120 + b"]" * 120, n, b"]")),
-    ("objects of one member", 400_000, lambda n: repeated(b"[", b'{"a":1}', n, b"]")),
-    ("brackets in strings", 200_000, lambda n: repeated(b"[", b'"[[[[{{{{]]]]}}}}"', n, b"]")),
-    ("digits of one number", 10_000_000, lambda n: iter((HEADER, b"7" * n, b"\n"))),
-    ("blank lines", 5_000_000, lambda n: iter((HEADER, b" \n" * n))),
-)
+BUILDINGS, WIDE, SPACED, ESCAPED = "building tiles", "300 attributes", "blanks", "escapes"
+# The streams whose speed is measured.
+MEASURED = {BUILDINGS: buildings, WIDE: wide, SPACED: spaced, ESCAPED: escaped}

@@ -1,0 +1,38 @@
+"""Is the output that of another compactor?"""
+
+import os
+
+from compactor import compact
+from running import Run
+from streams import MEASURED, loose
+
+
+def compare(bench, name, path, expected):
+    target = bench.path("output")
+    run = Run(bench.filter, path, target)
+    with open(target, "rb") as file:
+        got = file.read()
+    os.remove(target)
+    if run.status != 0:
+        bench.fail("%s: %s" % (name, run.trouble()))
+    elif got != expected:
+        at = next((i for i, (a, b) in enumerate(zip(got, expected)) if a != b), min(len(got), len(expected)))
+        bench.fail("%s: output differs from byte %d on" % (name, at))
+        bench.say("    wanted .. %r" % expected[max(0, at - 30):at + 30])
+        bench.say("    got    .. %r" % got[max(0, at - 30):at + 30])
+    else:
+        bench.say("  right: %s, %d bytes in, %d bytes out" % (name, os.path.getsize(path), len(got)))
+
+
+def right(bench):
+    bench.say("Is the output right?")
+    size = bench.options.small * 1_000_000
+    for name, lines in (*MEASURED.items(), ("white space, escapes, blank lines", loose)):
+        stream = b"".join(lines(bench.options.seed, size))
+        path = bench.write("small", (stream,))
+        compare(bench, name, path, compact(stream))
+        os.remove(path)
+    for name in bench.options.files:
+        with open(name, "rb") as file:
+            stream = file.read()
+        compare(bench, name, name, compact(stream))

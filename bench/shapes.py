@@ -1,0 +1,134 @@
+"""Shapes of text that are hard on a reader, each in the size that is asked for."""
+
+import typing
+
+from streams import HEADER
+
+
+class Shape(typing.NamedTuple):
+    name: str
+    # its size in items
+    most: int
+    # the stream of so many items
+    lines: typing.Callable
+    # how the run has to end
+    status: int = 0
+
+
+def members(count, name, value=str):
+    """One feature whose attributes are one object of `count` members."""
+    yield HEADER
+    yield b'{"type":"CityJSONFeature","id":"a","CityObjects":{"a":{"type":"Building","attributes":{'
+    for first in range(0, count, 1000):
+        piece = ['"%s":%s' % (name(at), value(at)) for at in range(first, min(first + 1000, count))]
+        yield (("," if first else "") + ",".join(piece)).encode("ascii")
+    yield b'}}},"vertices":[]}\n'
+
+
+def repeated(before, piece, count, after):
+    """One line: the piece many times over, with a comma between."""
+    yield HEADER
+    yield before
+    block = b",".join([piece] * 1000)
+    for at in range(count // 1000):
+        yield (b"," if at else b"") + block
+    yield after + b"\n"
+
+
+def within(levels, before, inner, after):
+    """A text this many times within brackets or braces."""
+    return before * levels + inner + after * levels
+
+
+def mirrored(at):
+    """Names of one length which begin and end alike and differ in the middle."""
+    return "the_same_first_part_of_a_name_" + "%08d" % at + "_and_the_same_last_part_of_it"
+
+
+def alike_at_the_ends(at):
+    """Names of 24 letters, the first eight and the last eight the same."""
+    return "building" + "%08d" % at + "_measure"
+
+
+def alike_for_long(at):
+    return "of_one_front_" * 80 + "%d" % at
+
+
+def written_with_escapes(at):
+    """Names with characters that are written as escapes, the first ones the same."""
+    return "\\u00e9\\/\\u5EFA\\ud83c\\udfe0%d\\n" % at
+
+
+def letters_apart(at):
+    """Names of one length that are made of two letters alone."""
+    return format(at, "020b").replace("0", "a").replace("1", "b")
+
+
+# Parts of names that were found to have one hash, whichever of each two is taken, under the hash of fixed
+# seed that the standard library's maps have. A reader that kept names in such a map would take time as the square.
+FRONT = 'p9r7ko74a5c5ez96'
+EITHER = (
+    ('QpTfjM-:cKi]SXC>', 'Gkerh)(%uPXIQ<F!'),
+    ('KQ ~MAqLpIt($(~B', 'U3/r;/Irn+{$RFF|'),
+    ('8[iE)HIq.6>jk(}S', 'n&}Ea!{`xK*j#AOB'),
+    ('(lFB-h>x=wIT,V_H', 'P/<V w9DE43@!IXt'),
+    ('hAal1OntER6rt|m>', '{Lmb6XDgV_:|skG-'),
+    (']@N n?I~&$g,klws', '<RD f#RTG6m,cplY'),
+    ('{/fSu}t:D+o-u7ji', 'kR><Kn,;TV7BK$2h'),
+    ('y3]&JZ`ZeMtc(CEE', '+$I/6cE?7Z`jTz` '),
+    ('5]:vBbqf|>A%!9q0', '2_)6V<Zg{<Re5gZ1'),
+    ('B&AtbRW cU{,5Hh:', 'y<UtcrZDXOo,4he^'),
+    ('F$C)~SIHI<oe=/@K', 'HZN&:>iCGBbjyB`@'),
+    ('v4V[Ht0/VhD`8>h%', 's/LAX,9ySs^z(fas'),
+    ('LoM@*I$NsM_=2YlW', 'Sc(JVv2ilA:7Nfzp'),
+    ('EIRu|OBThk&D~!HM', 'Bq,d,Jb%oSXU.$h<'),
+    ('#c[p$M?rm$5/0B^^', "8`K)At zv'%vU{AV"),
+    ('2dv:EbGQK|1@jMlr', 'F,}4OhQJ?4:N`Gzi'),
+)
+
+
+def colliding(at):
+    return FRONT + "".join([two[(at >> place) & 1] for place, two in enumerate(EITHER)])
+
+
+def object_of(count):
+    """An object of so many members."""
+    return ("{" + ",".join(['"name_%d":%d' % (at, at) for at in range(count)]) + "}").encode("ascii")
+
+
+def whole_numbers_within(count):
+    """Arrays within arrays, each with whole numbers in front, and a fraction in the innermost."""
+    return iter((HEADER, within(120, b"[" + b"7," * (count // 120), b"[0.5]", b"]"), b"\n"))
+
+
+# Each hostile shape. Those of status 1 have to be refused, which may not take longer.
+HOSTILE = (
+    Shape("members of one object", 200_000, lambda n: members(n, lambda at: "n%d" % at)),
+    Shape("members in falling order", 200_000, lambda n: members(n, lambda at: "n%08d" % (n - at))),
+    Shape("members whose names begin and end alike", 200_000, lambda n: members(n, mirrored)),
+    Shape("members alike at the ends, of one length", 32_000, lambda n: members(n, alike_at_the_ends)),
+    Shape("members whose names begin alike for long", 20_000, lambda n: members(n, alike_for_long)),
+    Shape("members whose names are of two letters", 200_000, lambda n: members(n, letters_apart)),
+    Shape("members whose names have one hash", 64_000, lambda n: members(n, colliding)),
+    Shape("members whose names have escapes", 100_000, lambda n: members(n, written_with_escapes)),
+    Shape("members, the last name as the first", 200_000, lambda n: members(n, lambda at: "n%d" % (at % (n - 1))), 1),
+    Shape("members, each with an object", 200_000, lambda n: members(n, lambda at: "n%d" % at, lambda at: '{"a":1}')),
+    Shape("objects of one member", 400_000, lambda n: repeated(b"[", b'{"a":1}', n, b"]")),
+    Shape("objects of 17 members", 20_000, lambda n: repeated(b"[", object_of(17), n, b"]")),
+    Shape("objects of 257 members", 2_000, lambda n: repeated(b"[", object_of(257), n, b"]")),
+    Shape("objects 127 deep", 4_000, lambda n: repeated(b"[", within(127, b'{"a":1,"b":', b"2", b',"c":3}'), n, b"]")),
+    Shape("brackets 120 deep", 20_000, lambda n: repeated(b"[", within(120, b"[", b"", b"]"), n, b"]")),
+    Shape("brackets in strings", 200_000, lambda n: repeated(b"[", b'"[[[[{{{{]]]]}}}}"', n, b"]")),
+    Shape("strings of backslashes", 100_000, lambda n: repeated(b"[", b'"' + b"\\\\" * 20 + b'"', n, b"]")),
+    Shape("strings whose last letter is escaped", 20_000, lambda n: repeated(b"[", b'"' + b"a" * 500 + b'\\u0061"', n, b"]")),
+    Shape("surrogate pairs", 200_000, lambda n: repeated(b"[", b'"\\ud83d\\ude00\\u000a"', n, b"]")),
+    Shape("one string of escapes", 2_000_000, lambda n: iter((HEADER, b'"' + b"\\u00e9" * n + b'"\n'))),
+    Shape("digits of one number", 10_000_000, lambda n: iter((HEADER, b"7" * n, b"\n"))),
+    Shape("whole numbers, the last a fraction", 2_000_000, lambda n: repeated(b"[", b"12", n, b",0.5]")),
+    Shape("whole numbers, the last with a zero in front", 2_000_000, lambda n: repeated(b"[", b"12", n, b",01]"), 1),
+    Shape("arrays of whole numbers, then a bad one", 400_000, lambda n: repeated(b"[", b"[1,2,3]", n, b",[01]]"), 1),
+    Shape("arrays of whole numbers 120 deep", 2_000_000, whole_numbers_within),
+    Shape("blanks between two items", 10_000_000, lambda n: iter((HEADER, b"[1," + b" " * n + b"2]\n"))),
+    Shape("white space around each item", 1_000_000, lambda n: repeated(b"[", b" \t1\r ", n, b"]")),
+    Shape("blank lines", 5_000_000, lambda n: iter((HEADER, b" \n" * n))),
+)

@@ -1,0 +1,81 @@
+"""How many MB a second, the programs in turn."""
+
+import os
+import shutil
+
+from running import Run
+from streams import BUILDINGS, MEASURED
+
+OURS = "citymerge filter"
+PLAIN = "by the plain path"
+JQ = "jq -c ."
+MEGA = 1_000_000
+# The streams beside the building tiles are this many times shorter.
+SHORTER = 5
+
+
+def programs_for(bench, name):
+    programs = {OURS: bench.filter}
+    if bench.plain:
+        programs[PLAIN] = bench.plain
+    if name == BUILDINGS and shutil.which("jq"):
+        programs[JQ] = ["jq", "-c", "."]
+    return programs
+
+
+def race(bench, programs, path):
+    """The runs of each program on a file, the programs in turn."""
+    runs = {name: [] for name in programs}
+    for turn in range(bench.options.rounds):
+        for name, words in programs.items():
+            run = Run(words, path)
+            if run.status != 0:
+                bench.fail("%s: %s" % (name, run.trouble()))
+            runs[name].append(run)
+    return runs
+
+
+def best_seconds(runs):
+    return min(run.seconds for run in runs)
+
+
+def best_processor(runs):
+    return min(run.processor for run in runs)
+
+
+def show(bench, program, runs, size):
+    rates = sorted(size / MEGA / run.seconds for run in runs)
+    bench.say(
+        "    %-17s %6.1f MB/s (median %.1f), by processor time %.1f MB/s, peak memory %.0f MB"
+        % (
+            program, rates[-1], rates[len(rates) // 2],
+            size / MEGA / best_processor(runs), max(run.peak for run in runs) / MEGA,
+        )
+    )
+
+
+def measure(bench, name, megabytes):
+    path = bench.write("stream", MEASURED[name](bench.options.seed, megabytes * MEGA))
+    size = os.path.getsize(path)
+    bench.say("  %s, %.0f MB" % (name, size / MEGA))
+    runs = race(bench, programs_for(bench, name), path)
+    os.remove(path)
+    for program, some in runs.items():
+        show(bench, program, some, size)
+    ours = runs.pop(OURS)
+    for program, some in runs.items():
+        gain = best_processor(some) / best_processor(ours)
+        bench.say(
+            "    %.2f times as fast as %s (by processor time %.2f times)"
+            % (best_seconds(some) / best_seconds(ours), program, gain)
+        )
+        if program == PLAIN:
+            bench.see_gain(name, gain, "seconds")
+
+
+def speed(bench):
+    bench.say("How fast? (%d runs of each program in turn, the best)" % bench.options.rounds)
+    if not shutil.which(JQ.split()[0]):
+        bench.say("  missing: jq (apt-get install jq); going on without it")
+    for name in MEASURED:
+        measure(bench, name, bench.options.size / (1 if name == BUILDINGS else SHORTER))
