@@ -11,8 +11,8 @@ class Shape(typing.NamedTuple):
     most: int
     # the stream of so many items
     lines: typing.Callable
-    # how the run has to end
-    status: int = 0
+    # the fault that has to be told of its second line, if any
+    fault: str = ""
 
 
 def members(count, name, value=str):
@@ -101,7 +101,10 @@ def whole_numbers_within(count):
     return iter((HEADER, within(120, b"[" + b"7," * (count // 120), b"[0.5]", b"]"), b"\n"))
 
 
-# Each hostile shape. Those of status 1 have to be refused, which may not take longer.
+REPEATED = "a name is repeated in an object"
+NO_JSON = "the line is not a JSON text"
+
+# Each hostile shape. A line that is refused may not take longer than about its size either.
 HOSTILE = (
     Shape("members of one object", 200_000, lambda n: members(n, lambda at: "n%d" % at)),
     Shape("members in falling order", 200_000, lambda n: members(n, lambda at: "n%08d" % (n - at))),
@@ -111,7 +114,7 @@ HOSTILE = (
     Shape("members whose names are of two letters", 200_000, lambda n: members(n, letters_apart)),
     Shape("members whose names have one hash", 64_000, lambda n: members(n, colliding)),
     Shape("members whose names have escapes", 100_000, lambda n: members(n, written_with_escapes)),
-    Shape("members, the last name as the first", 200_000, lambda n: members(n, lambda at: "n%d" % (at % (n - 1))), 1),
+    Shape("members, the last name as the first", 200_000, lambda n: members(n, lambda at: "n%d" % (at % (n - 1))), REPEATED),
     Shape("members, each with an object", 200_000, lambda n: members(n, lambda at: "n%d" % at, lambda at: '{"a":1}')),
     Shape("objects of one member", 400_000, lambda n: repeated(b"[", b'{"a":1}', n, b"]")),
     Shape("objects of 17 members", 20_000, lambda n: repeated(b"[", object_of(17), n, b"]")),
@@ -125,8 +128,8 @@ HOSTILE = (
     Shape("one string of escapes", 2_000_000, lambda n: iter((HEADER, b'"' + b"\\u00e9" * n + b'"\n'))),
     Shape("digits of one number", 10_000_000, lambda n: iter((HEADER, b"7" * n, b"\n"))),
     Shape("whole numbers, the last a fraction", 2_000_000, lambda n: repeated(b"[", b"12", n, b",0.5]")),
-    Shape("whole numbers, the last with a zero in front", 2_000_000, lambda n: repeated(b"[", b"12", n, b",01]"), 1),
-    Shape("arrays of whole numbers, then a bad one", 400_000, lambda n: repeated(b"[", b"[1,2,3]", n, b",[01]]"), 1),
+    Shape("whole numbers, the last with a zero in front", 2_000_000, lambda n: repeated(b"[", b"12", n, b",01]"), NO_JSON),
+    Shape("arrays of whole numbers, then a bad one", 400_000, lambda n: repeated(b"[", b"[1,2,3]", n, b",[01]]"), NO_JSON),
     Shape("arrays of whole numbers 120 deep", 2_000_000, whole_numbers_within),
     Shape("blanks between two items", 10_000_000, lambda n: iter((HEADER, b"[1," + b" " * n + b"2]\n"))),
     Shape("white space around each item", 1_000_000, lambda n: repeated(b"[", b" \t1\r ", n, b"]")),
