@@ -1,9 +1,10 @@
 #!/bin/sh
 # Builds the program with the plain path alone, for make bench, and leaves it at build/citymerge-plain: in a copy
-# of the tree, build/plain-tree, the one pass is never tried. Words are passed on to rt, as --jobs 1.
+# of the tree the one pass is never tried. Words are passed on to rt, as --jobs 1.
+# The copy lies outside the tree, since the gate refuses sources that are no crate's.
 set -u
 cd "$(dirname "$0")/.."
-tree=build/plain-tree
+built=build/citymerge-plain
 file=crates/citymerge/src/compact.rt
 tried='if let Some(text) = compact(alloc, line, text) {'
 never='if let Some(text) = None::<Line> {'
@@ -20,22 +21,28 @@ if [ "$(grep -cF "$tried" "$file")" -ne 1 ]; then
     echo "tools/build_plain.sh: this line has to stand once in $file: $tried" >&2
     exit 1
 fi
-rm -rf "$tree.new"
-mkdir -p "$tree.new"
-tar -cf - --exclude=out crates.txt HANDLES tools crates | tar -xf - -C "$tree.new" || exit 1
-sed "s|$tried|$never|" "$file" >"$tree.new/$file"
-
-if [ -x build/citymerge-plain ] && diff -r --exclude=out --exclude=build "$tree.new" "$tree" >/dev/null 2>&1; then
-    rm -rf "$tree.new"
+newer=$(find crates.txt HANDLES tools crates -name out -prune -o -type f -newer "$built" -print 2>/dev/null)
+if [ -x "$built" ] && [ -z "$newer" ]; then
     exit 0
 fi
-rm -rf "$tree" build/citymerge-plain
-mv "$tree.new" "$tree"
+
+echo 'Building it with the plain path alone, to measure beside it.'
+rm -f "$built"
+tree=$(mktemp -d "${TMPDIR:-/tmp}/citymerge-plain.XXXXXX") || exit 1
+trap 'rm -rf "$tree"' EXIT
+trap 'exit 130' INT
+trap 'exit 143' TERM
+tar -cf - --exclude=out crates.txt HANDLES tools crates | tar -xf - -C "$tree" || exit 1
 # what the proofs kept, so that only the edited function is proved anew
 for crate in $(below citymerge | sort -u); do
-    [ ! -d "crates/$crate/out" ] || cp -R "crates/$crate/out" "$tree/crates/$crate/out"
+    [ ! -d "crates/$crate/out" ] || cp -R "crates/$crate/out" "$tree/crates/$crate/out" || exit 1
 done
-echo 'The same with the plain path alone, to measure beside it.'
-"$tree/tools/build.sh" "$@" >/dev/null || exit 1
-cp "$tree/build/citymerge" build/citymerge-plain
-echo 'Built: build/citymerge-plain'
+sed "s|$tried|$never|" "$file" >"$tree/$file"
+mkdir -p build
+if ! "$tree/tools/build.sh" "$@" >/dev/null; then
+    cp "$tree/build/build.log" build/plain.log
+    echo "$built is not built; of the edited copy, rt's whole answer is in build/plain.log" >&2
+    exit 1
+fi
+cp "$tree/build/citymerge" "$built"
+echo "Built: $built"
