@@ -27,7 +27,7 @@ def measure(bench, name, path):
     most = MOST.get(name)
     wanted = "no limit" if most is None else "wanted: at most %d" % most
     beside = "" if plain is None else "by the plain path %.1f, %.1f times as many" % (plain, plain / found)
-    bench.say("  %-15s %6.1f   %-18s   %s" % (name, found, wanted, beside))
+    bench.say(("  %-15s %6.1f   %-18s   %s" % (name, found, wanted, beside)).rstrip())
     if bench.options.functions:
         show_functions(bench, os.path.getsize(path))
     if most is not None and found > most:
