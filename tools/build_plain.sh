@@ -6,7 +6,7 @@ set -u
 cd "$(dirname "$0")/.."
 built=build/citymerge-plain
 file=crates/citymerge/src/compact.rt
-tried='if let Some(text) = compact(alloc, line, text) {'
+tried='if let Some(text) = [a-z_]*(alloc, line, text) {'
 never='if let Some(text) = None::<Line> {'
 
 # The crates of this repository that a crate is built on, and the crate itself.
@@ -17,8 +17,8 @@ below() {
     done
 }
 
-if [ "$(grep -cF "$tried" "$file")" -ne 1 ]; then
-    echo "tools/build_plain.sh: this line has to stand once in $file: $tried" >&2
+if [ "$(grep -c "$tried" "$file")" -ne 1 ]; then
+    echo "tools/build_plain.sh: one line of $file has to be like this one: $tried" >&2
     exit 1
 fi
 newer=$(find crates.txt HANDLES tools crates -name out -prune -o -type f -newer "$built" -print 2>/dev/null)
