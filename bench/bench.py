@@ -76,7 +76,7 @@ def read_options():
     reader.add_argument("--program", default=os.path.join(here, "build", "citymerge"))
     reader.add_argument("--plain", metavar="PROGRAM", help="a build that takes the plain path alone")
     reader.add_argument("--only", metavar="PARTS", help="some of %s, with commas between" % ", ".join(PARTS))
-    reader.add_argument("--size", type=float, default=50, metavar="MB", help="of the tiles for speed (50); the other streams are a fifth")
+    reader.add_argument("--size", type=float, default=50, metavar="MB", help="of the tiles for speed (50); else a fifth")
     reader.add_argument("--rounds", type=int, default=5, help="runs of each program for speed (5)")
     reader.add_argument("--small", type=float, default=2, metavar="MB", help="of the streams for the other parts (2)")
     reader.add_argument("--share", type=float, default=1, help="of the hostile shapes' sizes (1)")

@@ -128,7 +128,7 @@ HOSTILE = (
     Shape("one string of escapes", 2_000_000, lambda n: iter((HEADER, b'"' + b"\\u00e9" * n + b'"\n'))),
     Shape("digits of one number", 10_000_000, lambda n: iter((HEADER, b"7" * n, b"\n"))),
     Shape("whole numbers, the last a fraction", 2_000_000, lambda n: repeated(b"[", b"12", n, b",0.5]")),
-    Shape("whole numbers, the last with a zero in front", 2_000_000, lambda n: repeated(b"[", b"12", n, b",01]"), NO_JSON),
+    Shape("whole numbers, the last with a leading zero", 2_000_000, lambda n: repeated(b"[", b"12", n, b",01]"), NO_JSON),
     Shape("arrays of whole numbers, then a bad one", 400_000, lambda n: repeated(b"[", b"[1,2,3]", n, b",[01]]"), NO_JSON),
     Shape("arrays of whole numbers 120 deep", 2_000_000, whole_numbers_within),
     Shape("blanks between two items", 10_000_000, lambda n: iter((HEADER, b"[1," + b" " * n + b"2]\n"))),
