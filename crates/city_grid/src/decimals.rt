@@ -1,34 +1,46 @@
-ghost use Rattle.std.specs.Prelude.{◌≡◌, ℤ, IfOk, IfErr, IfSome, IfNone};
-ghost use Rattle.city_json.specs.Number.{IsNumber};
-ghost use Rattle.city_grid.specs.Decimal.{IsUnits};
+ghost use Rattle.std.specs.Prelude.{◌≡◌, ◌<◌, unsigned_abs};
+ghost use Rattle.city_grid.specs.Decimal.{decimal_bound, signed};
 
-use crate::digits::{moved_place, placed};
-use crate::parts::Parts;
-use crate::units::Decimal;
-use city_json::{Fault, NumText};
+pub(crate) mod digits;
+pub(crate) mod reader;
 
-/// The places of decimals that a unit has.
-const UNIT_PLACES: u128 = 24;
+use std::marker::Model;
 
-/// Reads a number exactly; [`Fault::Decimal`] where it is no whole number of units or not below
-/// 10^36 of them in size.
-pub fn decimal(number: &NumText) -> Result<Decimal, Fault>
-    ensures value { IfOk result (λ n. IsUnits number.now n) }
-    ensures only { (n : ℤ) → IsUnits number.now n → result ≡ Ok n }
-    ensures refusal { IfErr result (λ fault. fault ≡ Fault.Decimal) }
-{
-    decimal_of(number.as_bytes()).ok_or(Fault::Decimal)
+/// A decimal number, in units of 10^-24 and below 10^36 of them in size.
+#[derive(Clone, Copy, Debug, PartialEq, Eq)]
+pub struct Decimal {
+    units: i128,
 }
 
-/// The decimal that a number's text stands for, where there is one.
-pub fn decimal_of(text: &[u8]) -> Option<Decimal>
-    requires { IsNumber text.now }
-    ensures some { IfSome result (λ n. IsUnits text.now n) }
-    ensures none { IfNone result ((n : ℤ) → ¬ IsUnits text.now n) }
-    ensures only { (n : ℤ) → IsUnits text.now n → result ≡ Some n }
-{
-    let parts = Parts::of(text);
-    let place = moved_place(parts.whole.len() as u128 + UNIT_PLACES, parts.exponent);
-    let size = placed(parts.whole, parts.places, place)?;
-    Some(Decimal::with_sign(parts.negative, size))
+impl Model for Decimal {
+    ghost use Rattle.std.specs.Prelude.{ℤ, ◌<◌, unsigned_abs};
+    ghost use Rattle.city_grid.specs.Decimal.{decimal_bound};
+
+    ghost Value = { ℤ };
+
+    ghost view = { λ decimal. decimal.units };
+
+    ghost invariant = { λ decimal. unsigned_abs decimal.units < decimal_bound };
+
+    ghost inverse = { λ units. record { units = units } };
+}
+
+impl Decimal {
+    /// The decimal of a sign and a size in units of 10^-24.
+    pub(crate) fn with_sign(negative: bool, size: u128) -> Decimal
+        requires { size < decimal_bound }
+        ensures { result ≡ signed negative size }
+    {
+        let size = size as i128;
+        let units = if negative { -size } else { size };
+        Decimal { units }
+    }
+
+    /// How many units of 10^-24 it has.
+    pub fn units(&self) -> i128
+        ensures value { result ≡ self.now }
+        ensures small { unsigned_abs result < decimal_bound }
+    {
+        self.units
+    }
 }

@@ -5,27 +5,19 @@
 
 mod axes;
 mod decimals;
-mod digits;
-mod grids;
-mod integers;
 mod parts;
-mod points;
 mod shifts;
-mod steps;
 mod transforms;
-mod units;
 mod vertices;
-mod writing;
 
-pub use decimals::decimal;
-pub use grids::{Decimals, Transform};
-pub use points::Vertex;
-pub use shifts::Shift;
-pub use steps::shift_of;
-pub use transforms::transform;
-pub use units::Decimal;
-pub use vertices::{moved, vertex};
-pub use writing::vertex_json;
+pub use decimals::Decimal;
+pub use decimals::reader::decimal;
+pub use shifts::{Shift, shift_of};
+pub use transforms::reader::transform;
+pub use transforms::{Decimals, Transform};
+pub use vertices::reader::vertex;
+pub use vertices::writer::vertex_json;
+pub use vertices::{Vertex, moved};
 
 #[cfg(test)]
 mod tests;

@@ -1,70 +1,105 @@
-ghost use Rattle.std.specs.Prelude.{◌≡◌, ◌≢◌, Some, IfOk, IfErr, IfSome, IfNone};
-ghost use Rattle.city_json.specs.Members.{member_of};
-ghost use Rattle.city_json.specs.Tree.{tree};
-ghost use Rattle.city_grid.specs.Axes.{Each, Texts, Triple, three};
-ghost use Rattle.city_grid.specs.Decimal.{IsUnits};
-ghost use Rattle.city_grid.specs.Transform.{Grid, IsAboveZero, IsTransform, RefusesTransform};
-ghost use Rattle.city_grid.specs.Written.{texts_of};
+ghost use Rattle.std.specs.Prelude.{◌≡◌, ◌↔◌, IsTrue, pos, ◌<ℤ◌};
+ghost use Rattle.std.specs.Option.{SomeIff};
+ghost use Rattle.city_grid.specs.Transform.{IsAboveZero};
 
-use crate::axes::{Numbers, three_numbers};
-use crate::decimals::decimal_of;
-use crate::grids::{Decimals, Transform};
-use city_json::{Fault, Json};
+pub(crate) mod reader;
 
-/// The three numbers of a member.
-fn numbers_named<'a>(value: &'a Json, name: &str) -> Option<Numbers<'a>>
-    ensures some { IfSome result (λ n. member_of name.now (tree value.now)
-        ≡ Some (three (texts_of n))) }
-    ensures none { IfNone result ((texts : Texts)
-        → member_of name.now (tree value.now) ≢ Some (three texts)) }
-{
-    let Some(member) = value.get(name) else {
-        return None;
-    };
-    three_numbers(member)
+use crate::decimals::Decimal;
+use std::marker::Model;
+
+/// Three decimals, one for each axis.
+#[derive(Clone, Copy, Debug, PartialEq, Eq)]
+pub struct Decimals {
+    x: Decimal,
+    y: Decimal,
+    z: Decimal,
 }
 
-/// Three numbers as decimals; none where one is no decimal.
-fn decimals(numbers: &Numbers<'_>) -> Option<Decimals>
-    ensures some { IfSome result (λ read.
-        Each IsUnits (texts_of numbers.now) read) }
-    ensures none { IfNone result ((units : Triple)
-        → ¬ Each IsUnits (texts_of numbers.now) units) }
-    ensures only { IfSome result (λ read. (units : Triple)
-        → Each IsUnits (texts_of numbers.now) units → units ≡ read) }
-{
-    let x = decimal_of(numbers.x.as_bytes())?;
-    let y = decimal_of(numbers.y.as_bytes())?;
-    let z = decimal_of(numbers.z.as_bytes())?;
-    Some(Decimals::new(x, y, z))
+impl Model for Decimals {
+    ghost use Rattle.city_grid.specs.Axes.{Triple};
+
+    ghost Value = { Triple };
+
+    ghost view = { λ decimals. record { x = decimals.x; y = decimals.y; z = decimals.z } };
+
+    ghost inverse = { λ triple. record { x = triple.x; y = triple.y; z = triple.z } };
 }
 
-/// Reads a transform, the value of the member `transform` (CityJSON 2.0, Transform Object). Of members
-/// with one name the first counts.
-///
-/// # Errors
-///
-/// [`Fault::NoTransform`] where the value is no object whose `scale` and `translate` are arrays of
-/// exactly three numbers, else [`Fault::Decimal`] where one of the six is no decimal, else
-/// [`Fault::ScaleNotPositive`] where a scale is not above 0.
-pub fn transform(value: &Json) -> Result<Transform, Fault>
-    ensures ok { IfOk result (λ transform. IsTransform (tree value.now) transform) }
-    ensures above_zero { IfOk result (λ transform. IsAboveZero transform.scale) }
-    ensures only { (grid : Grid)
-        → IsTransform (tree value.now) grid → IsAboveZero grid.scale → result ≡ Ok grid }
-    ensures refusal { IfErr result (λ fault. RefusesTransform fault (tree value.now)) }
+impl Decimals {
+    pub fn new(x: Decimal, y: Decimal, z: Decimal) -> Decimals
+        ensures { result ≡ record { x = x; y = y; z = z } }
+    {
+        Decimals { x, y, z }
+    }
+
+    pub fn x(&self) -> Decimal
+        ensures { result ≡ self.now.x }
+    {
+        self.x
+    }
+
+    pub fn y(&self) -> Decimal
+        ensures { result ≡ self.now.y }
+    {
+        self.y
+    }
+
+    pub fn z(&self) -> Decimal
+        ensures { result ≡ self.now.z }
+    {
+        self.z
+    }
+}
+
+/// A transform (CityJSON 2.0, Transform Object): how long a step of the grid is, above 0 in each
+/// component, and where the grid begins.
+#[derive(Clone, Copy, Debug, PartialEq, Eq)]
+pub struct Transform {
+    scale: Decimals,
+    translate: Decimals,
+}
+
+impl Model for Transform {
+    ghost use Rattle.city_grid.specs.Transform.{Grid, IsAboveZero};
+
+    ghost Value = { Grid };
+
+    ghost view = { λ transform. record { scale = transform.scale; translate = transform.translate } };
+
+    ghost invariant = { λ transform. IsAboveZero transform.scale };
+
+    ghost inverse = { λ grid. record { scale = grid.scale; translate = grid.translate } };
+}
+
+fn is_above_zero(decimal: Decimal) -> bool
+    ensures { IsTrue result ↔ (pos 0 <ℤ decimal) }
 {
-    let Some(scale) = numbers_named(value, "scale") else {
-        return Err(Fault::NoTransform);
-    };
-    let Some(translate) = numbers_named(value, "translate") else {
-        return Err(Fault::NoTransform);
-    };
-    let Some(scale) = decimals(&scale) else {
-        return Err(Fault::Decimal);
-    };
-    let Some(translate) = decimals(&translate) else {
-        return Err(Fault::Decimal);
-    };
-    Transform::new(scale, translate).ok_or(Fault::ScaleNotPositive)
+    decimal.units() > 0
+}
+
+impl Transform {
+    /// The transform of a scale and a translation, where each scale is above 0.
+    pub fn new(scale: Decimals, translate: Decimals) -> Option<Transform>
+        ensures { SomeIff result (IsAboveZero scale)
+            (record { scale = scale; translate = translate }) }
+    {
+        if is_above_zero(scale.x) && is_above_zero(scale.y) && is_above_zero(scale.z) {
+            Some(Transform { scale, translate })
+        } else {
+            None
+        }
+    }
+
+    pub fn scale(&self) -> Decimals
+        ensures value { result ≡ self.now.scale }
+        ensures above_zero { IsAboveZero result }
+    {
+        self.scale
+    }
+
+    pub fn translate(&self) -> Decimals
+        ensures { result ≡ self.now.translate }
+    {
+        self.translate
+    }
 }

@@ -1,59 +1,71 @@
-ghost use Rattle.std.specs.Prelude.{◌≡◌, IfOk, IfErr, IfSome, IfNone};
-ghost use Rattle.city_json.specs.Tree.{tree};
-ghost use Rattle.city_grid.specs.Axes.{Each, IsInRange, Triple, sum};
-ghost use Rattle.city_grid.specs.Vertex.{IsInteger, IsSameOrLarge, IsVertex, RefusesVertex};
-ghost use Rattle.city_grid.specs.Written.{texts_of};
+ghost use Rattle.std.specs.Prelude.{◌≡◌, ◌≤◌, ◌↔◌, IsTrue, IfOk, IfErr, unsigned_abs};
+ghost use Rattle.std.specs.Option.{SomeIff};
+ghost use Rattle.city_grid.specs.Axes.{IsInRange, most_steps, sum, triple};
 
-use crate::axes::{Numbers, three_numbers};
-use crate::integers::integer;
-use crate::points::Vertex;
+mod integers;
+pub(crate) mod reader;
+pub(crate) mod writer;
+
 use crate::shifts::Shift;
-use city_json::{Fault, Json};
+use city_json::Fault;
+use std::marker::Model;
 
-/// Three integers, one for each axis, as far as they are not too large.
-#[derive(Clone, Copy)]
-struct Integers {
+/// The greatest size of a component: 2^53 - 1, up to which a number in floating point is exact.
+pub const MOST_STEPS: u64 = 9_007_199_254_740_991;
+
+/// A vertex in steps of the grid, each component at most 2^53 - 1 in size (CityJSON 2.0,
+/// Transform Object).
+#[derive(Clone, Copy, Debug, PartialEq, Eq)]
+pub struct Vertex {
     x: i64,
     y: i64,
     z: i64,
 }
 
-/// The integers that the numbers write; none where one has a fraction or an exponent.
-fn all_integers(numbers: &Numbers<'_>) -> Option<Integers>
-    ensures some { IfSome result (λ read. (p : Triple)
-        × Each IsInteger (texts_of numbers.now) p
-        × IsSameOrLarge p.x read.x × IsSameOrLarge p.y read.y × IsSameOrLarge p.z read.z) }
-    ensures none { IfNone result ((p : Triple)
-        → ¬ Each IsInteger (texts_of numbers.now) p) }
-{
-    Some(Integers {
-        x: integer(numbers.x.as_bytes())?,
-        y: integer(numbers.y.as_bytes())?,
-        z: integer(numbers.z.as_bytes())?,
-    })
+impl Model for Vertex {
+    ghost use Rattle.city_grid.specs.Axes.{Triple, IsInRange};
+
+    ghost Value = { Triple };
+
+    ghost view = { λ vertex. record { x = vertex.x; y = vertex.y; z = vertex.z } };
+
+    ghost invariant = { λ vertex. IsInRange (record { x = vertex.x; y = vertex.y; z = vertex.z }) };
+
+    ghost inverse = { λ point. record { x = point.x; y = point.y; z = point.z } };
 }
 
-/// Reads a vertex: an array of exactly three integers (CityJSON 2.0, Transform Object).
-///
-/// # Errors
-///
-/// [`Fault::VertexShape`] where the value is no array of exactly three numbers, else
-/// [`Fault::VertexNotInteger`] where a number is written with a fraction or an exponent, else
-/// [`Fault::VertexRange`] where one is above 2^53 - 1 in size.
-pub fn vertex(value: &Json) -> Result<Vertex, Fault>
-    ensures ok { IfOk result (λ vertex. IsVertex (tree value.now) vertex) }
-    ensures range { IfOk result IsInRange }
-    ensures only { (p : Triple)
-        → IsVertex (tree value.now) p → IsInRange p → result ≡ Ok p }
-    ensures refusal { IfErr result (λ fault. RefusesVertex fault (tree value.now)) }
-{
-    let Some(numbers) = three_numbers(value) else {
-        return Err(Fault::VertexShape);
-    };
-    let Some(read) = all_integers(&numbers) else {
-        return Err(Fault::VertexNotInteger);
-    };
-    Vertex::new(read.x, read.y, read.z).ok_or(Fault::VertexRange)
+impl Vertex {
+    /// The vertex of three components, where none is above 2^53 - 1 in size.
+    pub fn new(x: i64, y: i64, z: i64) -> Option<Vertex>
+        ensures { SomeIff result (IsInRange (triple x y z)) (triple x y z) }
+    {
+        if are_small(x, y, z) {
+            Some(Vertex { x, y, z })
+        } else {
+            None
+        }
+    }
+
+    pub fn x(&self) -> i64
+        ensures value { result ≡ self.now.x }
+        ensures range { unsigned_abs result ≤ most_steps }
+    {
+        self.x
+    }
+
+    pub fn y(&self) -> i64
+        ensures value { result ≡ self.now.y }
+        ensures range { unsigned_abs result ≤ most_steps }
+    {
+        self.y
+    }
+
+    pub fn z(&self) -> i64
+        ensures value { result ≡ self.now.z }
+        ensures range { unsigned_abs result ≤ most_steps }
+    {
+        self.z
+    }
 }
 
 /// The vertex after the shift: the sum in each component; [`Fault::VertexRange`] where one is above
@@ -68,4 +80,13 @@ pub fn moved(vertex: Vertex, shift: Shift) -> Result<Vertex, Fault>
     let y = vertex.y() + shift.y();
     let z = vertex.z() + shift.z();
     Vertex::new(x, y, z).ok_or(Fault::VertexRange)
+}
+
+/// Whether no component is above 2^53 - 1 in size.
+pub fn are_small(x: i64, y: i64, z: i64) -> bool
+    ensures { IsTrue result ↔ IsInRange (triple x y z) }
+{
+    x.unsigned_abs() <= MOST_STEPS
+        && y.unsigned_abs() <= MOST_STEPS
+        && z.unsigned_abs() <= MOST_STEPS
 }

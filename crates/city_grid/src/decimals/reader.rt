@@ -1,0 +1,34 @@
+ghost use Rattle.std.specs.Prelude.{◌≡◌, ℤ, IfOk, IfErr, IfSome, IfNone};
+ghost use Rattle.city_json.specs.Number.{IsNumber};
+ghost use Rattle.city_grid.specs.Decimal.{IsUnits};
+
+use crate::decimals::Decimal;
+use crate::decimals::digits::{moved_place, placed};
+use crate::parts::Parts;
+use city_json::{Fault, NumText};
+
+/// The places of decimals that a unit has.
+const UNIT_PLACES: u128 = 24;
+
+/// Reads a number exactly; [`Fault::Decimal`] where it is no whole number of units or not below
+/// 10^36 of them in size.
+pub fn decimal(number: &NumText) -> Result<Decimal, Fault>
+    ensures value { IfOk result (λ n. IsUnits number.now n) }
+    ensures only { (n : ℤ) → IsUnits number.now n → result ≡ Ok n }
+    ensures refusal { IfErr result (λ fault. fault ≡ Fault.Decimal) }
+{
+    decimal_of(number.as_bytes()).ok_or(Fault::Decimal)
+}
+
+/// The decimal that a number's text stands for, where there is one.
+pub fn decimal_of(text: &[u8]) -> Option<Decimal>
+    requires { IsNumber text.now }
+    ensures some { IfSome result (λ n. IsUnits text.now n) }
+    ensures none { IfNone result ((n : ℤ) → ¬ IsUnits text.now n) }
+    ensures only { (n : ℤ) → IsUnits text.now n → result ≡ Some n }
+{
+    let parts = Parts::of(text);
+    let place = moved_place(parts.whole.len() as u128 + UNIT_PLACES, parts.exponent);
+    let size = placed(parts.whole, parts.places, place)?;
+    Some(Decimal::with_sign(parts.negative, size))
+}
