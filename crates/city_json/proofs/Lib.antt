@@ -29,3 +29,4 @@ pub mod StringSteps
 pub mod Texts
 pub mod ParityLemmas
 pub mod WholeArrays
+pub mod PartsOfNumbers

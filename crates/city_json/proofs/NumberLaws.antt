@@ -131,7 +131,7 @@ number-split b rest e =
       },
     )))
 
-split-front : (b front rest : List ℕ) → b ≡ front ++ rest → take (length b - length rest) b ≡ front
+pub split-front : (b front rest : List ℕ) → b ≡ front ++ rest → take (length b - length rest) b ≡ front
 split-front b front rest e =
     let n : length b - length rest ≡ length front = omega (arith, ap length e, length-append front rest) in
     rw (n, e) (take-append_seam front rest)
@@ -150,7 +150,7 @@ sound b text rest e = sound-step b text rest (past_number b) refl e
 
 -- Complete: what the grammar says is passed over, where nothing goes on with it.
 
-digits-passed : (digits rest : List ℕ) → AllDigits 10 digits → past_digits rest ≡ rest → past_digits (digits ++ rest) ≡ rest
+pub digits-passed : (digits rest : List ℕ) → AllDigits 10 digits → past_digits rest ≡ rest → past_digits (digits ++ rest) ≡ rest
 digits-passed [] rest all ends = ends
 digits-passed (c ∷ cs) rest all ends =
     let is : is_ascii_digit c ≡ true = digit_from_value_test c all.0 in
@@ -170,7 +170,7 @@ whole-passed (c ∷ cs) rest (inr is) ends =
     let digit : is_ascii_digit c ≡ true = grind (arith, nat_tests) in
     rw (other, digit) (ap (λ l. Some l) (digits-passed cs rest is.2 ends))
 
-minus-passed : (minus_sign whole rest : List ℕ) → IsMinus minus_sign → IsWhole whole → past_minus (minus_sign ++ (whole ++ rest)) ≡ whole ++ rest
+pub minus-passed : (minus_sign whole rest : List ℕ) → IsMinus minus_sign → IsWhole whole → past_minus (minus_sign ++ (whole ++ rest)) ≡ whole ++ rest
 minus-passed m [] rest is is_whole = absurd is_whole
 minus-passed m (c ∷ cs) rest (inr is) is_whole = rw is
 minus-passed m (c ∷ cs) rest (inl is) is_whole =
@@ -197,7 +197,7 @@ exponent-passed (c ∷ cs) rest (mark, (sign, digits, split, is_sign, are_digits
     rw (is, split, sign-passed sign digits rest is_sign are_digits) (some_digits-passed digits rest are_digits no_digit)
 
 -- An exponent or a fraction goes on with no digits, and an exponent with no fraction.
-digits-before_exponent : (exponent rest : List ℕ) → IsExponent exponent → past_digits rest ≡ rest → past_digits (exponent ++ rest) ≡ exponent ++ rest
+pub digits-before_exponent : (exponent rest : List ℕ) → IsExponent exponent → past_digits rest ≡ rest → past_digits (exponent ++ rest) ≡ exponent ++ rest
 digits-before_exponent [] rest is ends = ends
 digits-before_exponent (c ∷ cs) rest is ends =
     let mark : (c ≡ small_e) ⊎ (c ≡ large_e) = is.0 in
@@ -211,7 +211,7 @@ fraction-before_exponent (c ∷ cs) rest is ends =
     let other : (c == point) ≡ false = grind (arith, nat_tests) in
     rw other
 
-digits-before_fraction : (fraction rest : List ℕ) → IsFraction fraction → past_digits rest ≡ rest → past_digits (fraction ++ rest) ≡ fraction ++ rest
+pub digits-before_fraction : (fraction rest : List ℕ) → IsFraction fraction → past_digits rest ≡ rest → past_digits (fraction ++ rest) ≡ fraction ++ rest
 digits-before_fraction [] rest is ends = ends
 digits-before_fraction (c ∷ cs) rest is ends = rw is.0
 

@@ -16,6 +16,7 @@ mod line;
 mod memory;
 mod names;
 mod number;
+mod number_parts;
 mod output;
 mod plain;
 mod printing;
@@ -44,6 +45,7 @@ pub use laws::{
     spelled_value_is_writable, texts_nest_as_their_values,
 };
 pub use line::Line;
+pub use number_parts::NumberParts;
 pub use output::write_all;
 pub use printing::print;
 pub use reading::read;

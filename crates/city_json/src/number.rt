@@ -33,7 +33,7 @@ fn past_number(bytes: &[u8]) -> Option<&[u8]>
 }
 
 #[inline]
-fn past_minus(bytes: &[u8]) -> &[u8]
+pub(crate) fn past_minus(bytes: &[u8]) -> &[u8]
     ensures { result.now ≡ past_minus bytes.now }
 {
     match bytes {
@@ -93,7 +93,7 @@ fn past_some_digits(bytes: &[u8]) -> Option<&[u8]>
 }
 
 #[inline]
-fn past_digits(bytes: &[u8]) -> &[u8]
+pub(crate) fn past_digits(bytes: &[u8]) -> &[u8]
     ensures { result.now ≡ past_digits bytes.now }
 {
     let mut rest = bytes;

@@ -1,10 +1,13 @@
-ghost use Rattle.std.specs.Prelude.{◌≡◌, IfOk, IfErr, MatchResult};
+ghost use Rattle.std.specs.Prelude.{◌≡◌, [], ◌∷◌, drop, if◌then◌else◌, IfOk, IfErr, MatchResult};
+ghost use Rattle.std.specs.Str.Parse.{AllDigits, without_leading_sign};
+ghost use Rattle.city_json.specs.Bytes.{minus};
 ghost use Rattle.city_json.specs.Gives.{Gives, RefusesNumber};
 ghost use Rattle.city_json.specs.Number.{IsNumber};
 ghost use Rattle.city_json.specs.NumberAt.{number_at};
 
 use crate::fault::Fault;
 use crate::number::{is_number, number};
+use crate::number_parts::{NumberParts, number_parts};
 use crate::short::ShortBytes;
 use std::alloc::Global;
 use std::marker::Model;
@@ -119,6 +122,20 @@ impl NumText {
     {
         self.text.items()
     }
+
+    /// Its sign, its digits before and after the point, and its exponent.
+    pub fn parts(&self) -> NumberParts<'_>
+        ensures number { IsNumber self.now }
+        ensures sign { (n : IsNumber self.now)
+            → n.minus_sign ≡ (if result.is_negative then minus ∷ [] else []) }
+        ensures whole { (n : IsNumber self.now) → result.whole.now ≡ n.whole }
+        ensures fraction { (n : IsNumber self.now) → result.fraction.now ≡ drop 1 n.fraction }
+        ensures exponent { (n : IsNumber self.now) → result.exponent.now ≡ drop 1 n.exponent }
+        ensures digits { AllDigits 10 result.whole.now × AllDigits 10 result.fraction.now
+            × AllDigits 10 (without_leading_sign result.exponent.now) }
+    {
+        number_parts(self.text.items())
+    }
 }
 
 #[cfg(test)]
@@ -171,6 +188,32 @@ mod tests {
         for text in texts {
             assert_eq!(rt; NumText::read(rt.alloc(), text).err(), Some(Fault::Syntax));
         }
+    }
+
+    #[test]
+    fn numbers_have_their_parts(rt: HostRuntime) -> Result<(), Fail> {
+        let rows: [(&[u8], (bool, &[u8], &[u8], &[u8])); 6] = [
+            (b"0", (false, b"0", b"", b"")),
+            (b"-0.0", (true, b"0", b"0", b"")),
+            (b"-184.250", (true, b"184", b"250", b"")),
+            (b"1.50e+3", (false, b"1", b"50", b"+3")),
+            (b"20E-24", (false, b"20", b"", b"-24")),
+            (b"7e05", (false, b"7", b"", b"05")),
+        ];
+        for (text, want) in rows {
+            let number = NumText::read(rt.alloc(), text)?;
+            let parts = number.parts();
+            assert_eq!(rt;
+                (
+                    parts.is_negative,
+                    parts.whole,
+                    parts.fraction,
+                    parts.exponent
+                ),
+                want
+            );
+        }
+        Ok(())
     }
 
     #[test]
