@@ -1,10 +1,1 @@
-pub mod DigitValues
-pub mod IntegerText
 pub mod NumberParts
-pub mod Placing
-pub mod InRange
-pub mod Quotients
-pub mod PlainIntegers
-pub mod Scaling
-pub mod ThreeNumbers
-pub mod UnitsOfText

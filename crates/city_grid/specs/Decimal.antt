@@ -12,7 +12,7 @@ unit_places = 24
 abbrev pub decimal_bound : ℕ
 decimal_bound = 10 ^ 36
 
--- the digits behind the point
+-- the digits after the point
 abbrev pub places : {text : List ℕ} → IsNumber text → List ℕ
 places parts = drop 1 parts.fraction
 
@@ -41,6 +41,6 @@ pub record IsUnits (text : List ℕ) (n : ℤ) : Type 0 where
 abbrev pub signed : Bool → ℕ → ℤ
 signed negative size = if negative then neg_ℤ (pos size) else pos size
 
--- the digits write n with the point behind the first `place` of them, to which zeros may fill up
+-- the digits write n with the point after the first `place` of them, to which zeros may fill up
 abbrev pub IsPlaced : List ℕ → ℕ → ℕ → Type 0
 IsPlaced digits place n = n * 10 ^ length digits ≡ digits_value 10 digits * 10 ^ place

@@ -28,7 +28,7 @@ RefusesVertex VertexNotInteger value =
 RefusesVertex VertexRange value = (p : Triple) × IsVertex value p × ¬ IsInRange p
 RefusesVertex other value = ⊥
 
--- the array of the three plain decimal integers
+-- the array of the three integers in decimal
 abbrev pub vertex_tree : Triple → Tree
 vertex_tree p =
     three (record { x = signed_decimal p.x; y = signed_decimal p.y; z = signed_decimal p.z })

@@ -11,7 +11,7 @@ pub struct Parts<'a> {
     pub negative: bool,
     /// The digits before the point.
     pub whole: &'a [u8],
-    /// The digits behind the point, or none.
+    /// The digits after the point, or none.
     pub places: &'a [u8],
     /// The exponent's sign and digits, or nothing.
     pub exponent: &'a [u8],
@@ -23,7 +23,7 @@ pub fn is_negative(text: &[u8]) -> bool
     matches!(text, [b'-', ..])
 }
 
-pub fn behind_minus(text: &[u8]) -> &[u8]
+pub fn after_minus(text: &[u8]) -> &[u8]
     ensures { result.now ≡ (if starts_with_minus text.now then drop 1 text.now else text.now) }
 {
     match text {
@@ -32,7 +32,7 @@ pub fn behind_minus(text: &[u8]) -> &[u8]
     }
 }
 
-fn behind_point(text: &[u8]) -> &[u8]
+fn after_point(text: &[u8]) -> &[u8]
     ensures { result.now ≡ (if slice_index text.now 0 == point then drop 1 text.now else text.now) }
 {
     match text {
@@ -41,7 +41,7 @@ fn behind_point(text: &[u8]) -> &[u8]
     }
 }
 
-fn behind_mark(text: &[u8]) -> &[u8]
+fn after_mark(text: &[u8]) -> &[u8]
     ensures { result.now ≡ drop 1 text.now }
 {
     match text {
@@ -57,7 +57,7 @@ fn leading_digits(text: &[u8]) -> usize
     text.iter().take_while(|byte| byte.is_ascii_digit()).count()
 }
 
-/// The digits that a text begins with, and what stands behind them.
+/// The digits that a text begins with, and what stands after them.
 fn split_digits(text: &[u8]) -> (&[u8], &[u8])
     ensures digits { result.0.now ≡ take_while is_ascii_digit text.now }
     ensures rest { result.1.now ≡ drop (prefix_len is_ascii_digit text.now) text.now }
@@ -75,13 +75,13 @@ impl<'a> Parts<'a> {
         ensures places { (n : IsNumber text.now) → result.places.now ≡ drop 1 n.fraction }
         ensures exponent { (n : IsNumber text.now) → result.exponent.now ≡ drop 1 n.exponent }
     {
-        let (whole, rest) = split_digits(behind_minus(text));
-        let (places, rest) = split_digits(behind_point(rest));
+        let (whole, rest) = split_digits(after_minus(text));
+        let (places, rest) = split_digits(after_point(rest));
         Parts {
             negative: is_negative(text),
             whole,
             places,
-            exponent: behind_mark(rest),
+            exponent: after_mark(rest),
         }
     }
 }

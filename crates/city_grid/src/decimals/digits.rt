@@ -19,7 +19,7 @@ pub fn digit_of(byte: u8) -> u8
 }
 
 /// The number that the digits write, or the greatest that there is where it is greater.
-fn saturated(digits: &[u8]) -> u128
+fn saturated_value(digits: &[u8]) -> u128
     requires { AllDigits 10 digits.now }
     ensures { result ≡ min (digits_value 10 digits.now) (2 ^ 128 - 1) }
 {
@@ -33,7 +33,7 @@ fn saturated(digits: &[u8]) -> u128
 }
 
 /// The place of the point after an exponent, its sign and digits, has moved it from `place`.
-pub fn moved_place(place: u128, exponent: &[u8]) -> u128
+pub fn move_place(place: u128, exponent: &[u8]) -> u128
     requires { AllDigits 10 (without_leading_sign exponent.now) }
     ensures right { starts_with_minus exponent.now ≡ false
         → result ≡ min (place + digits_value 10 (without_leading_sign exponent.now)) (2 ^ 128 - 1) }
@@ -41,14 +41,14 @@ pub fn moved_place(place: u128, exponent: &[u8]) -> u128
         → result ≡ place - digits_value 10 (without_leading_sign exponent.now) }
 {
     match exponent {
-        [b'-', digits @ ..] => place.saturating_sub(saturated(digits)),
-        [b'+', digits @ ..] => place.saturating_add(saturated(digits)),
-        digits => place.saturating_add(saturated(digits)),
+        [b'-', digits @ ..] => place.saturating_sub(saturated_value(digits)),
+        [b'+', digits @ ..] => place.saturating_add(saturated_value(digits)),
+        digits => place.saturating_add(saturated_value(digits)),
     }
 }
 
-/// The number that the digits write behind those of `value`, where it stays small.
-fn extended(mut value: u128, digits: &[u8]) -> Option<u128>
+/// The number that the digits write after those of `value`, where it stays small.
+fn append_digits(mut value: u128, digits: &[u8]) -> Option<u128>
     requires small { value < decimal_bound }
     requires digits { AllDigits 10 digits.now }
     ensures { let extended = digits_value_after 10 value digits.now
@@ -70,7 +70,7 @@ fn are_zeros(digits: &[u8]) -> bool
 }
 
 /// `value` times ten to the power `by`, where it stays small.
-fn raised(mut value: u128, by: u128) -> Option<u128>
+fn append_zeros(mut value: u128, by: u128) -> Option<u128>
     requires { value < decimal_bound }
     ensures { SomeIff result (value * 10 ^ by < decimal_bound) (value * 10 ^ by) }
 {
@@ -87,19 +87,19 @@ fn raised(mut value: u128, by: u128) -> Option<u128>
 }
 
 /// The number that digits and further digits and then zeros write, where it stays small.
-fn joined(front: &[u8], more: &[u8], zeros: u128) -> Option<u128>
+fn join_digits(front: &[u8], more: &[u8], zeros: u128) -> Option<u128>
     requires front { AllDigits 10 front.now }
     requires more { AllDigits 10 more.now }
     ensures { SomeIff result
         (digits_value 10 (front.now ++ more.now) * 10 ^ zeros < decimal_bound)
         (digits_value 10 (front.now ++ more.now) * 10 ^ zeros) }
 {
-    raised(extended(extended(0, front)?, more)?, zeros)
+    append_zeros(append_digits(append_digits(0, front)?, more)?, zeros)
 }
 
-/// The number below 10^36 that digits write with the point behind the first `place` of them; none
+/// The number below 10^36 that digits write with the point after the first `place` of them; none
 /// where it is not whole or not so small.
-pub fn placed(whole: &[u8], places: &[u8], place: u128) -> Option<u128>
+pub fn place_point(whole: &[u8], places: &[u8], place: u128) -> Option<u128>
     requires whole { AllDigits 10 whole.now }
     requires places { AllDigits 10 places.now }
     ensures some { IfSome result (λ n.
@@ -116,5 +116,5 @@ pub fn placed(whole: &[u8], places: &[u8], place: u128) -> Option<u128>
     if !are_zeros(&places[more..]) {
         return None;
     }
-    joined(&whole[..kept], &places[..more], left - more as u128)
+    join_digits(&whole[..kept], &places[..more], left - more as u128)
 }

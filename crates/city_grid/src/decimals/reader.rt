@@ -3,7 +3,7 @@ ghost use Rattle.city_json.specs.Number.{IsNumber};
 ghost use Rattle.city_grid.specs.Decimal.{IsUnits};
 
 use crate::decimals::Decimal;
-use crate::decimals::digits::{moved_place, placed};
+use crate::decimals::digits::{move_place, place_point};
 use crate::parts::Parts;
 use city_json::{Fault, NumText};
 
@@ -28,7 +28,7 @@ pub fn decimal_of(text: &[u8]) -> Option<Decimal>
     ensures only { (n : ℤ) → IsUnits text.now n → result ≡ Some n }
 {
     let parts = Parts::of(text);
-    let place = moved_place(parts.whole.len() as u128 + UNIT_PLACES, parts.exponent);
-    let size = placed(parts.whole, parts.places, place)?;
+    let place = move_place(parts.whole.len() as u128 + UNIT_PLACES, parts.exponent);
+    let size = place_point(parts.whole, parts.places, place)?;
     Some(Decimal::with_sign(parts.negative, size))
 }

@@ -5,11 +5,11 @@ ghost use Rattle.city_grid.specs.Axes.{most_steps};
 ghost use Rattle.city_grid.specs.Vertex.{IsInteger, IsCapped, IsSameOrLarge};
 
 use crate::decimals::digits::digit_of;
-use crate::parts::{behind_minus, is_negative};
+use crate::parts::{after_minus, is_negative};
 use crate::vertices::MOST_STEPS;
 
-/// One digit more, behind a number that is not above 2^53 - 1.
-fn extended(size: u64, digit: u8) -> u64
+/// One digit more, after a number that is not above 2^53 - 1.
+fn append_digit(size: u64, digit: u8) -> u64
     requires { (size ≤ 10 * most_steps + 9) × (digit < 10) }
     ensures more { size ≤ most_steps → result ≡ size * 10 + digit }
     ensures large { most_steps < size → result ≡ size }
@@ -24,7 +24,7 @@ fn extended(size: u64, digit: u8) -> u64
 
 /// The number that the digits write, or one above 2^53 - 1 where it is above that; none where a
 /// byte is no digit.
-fn capped(digits: &[u8]) -> Option<u64>
+fn capped_value(digits: &[u8]) -> Option<u64>
     ensures digits { IfSome result (λ _. AllDigits 10 digits.now) }
     ensures value { IfSome result (λ size. IsCapped (digits_value 10 digits.now) size) }
     ensures small { IfSome result (λ size. size ≤ 10 * most_steps + 9) }
@@ -35,7 +35,7 @@ fn capped(digits: &[u8]) -> Option<u64>
         if !byte.is_ascii_digit() {
             return None;
         }
-        size = extended(size, digit_of(*byte));
+        size = append_digit(size, digit_of(*byte));
     }
     Some(size)
 }
@@ -47,6 +47,6 @@ pub fn integer(text: &[u8]) -> Option<i64>
     ensures some { IfSome result (λ read. (z : ℤ) × IsInteger text.now z × IsSameOrLarge z read) }
     ensures none { IfNone result ((z : ℤ) → ¬ IsInteger text.now z) }
 {
-    let size = capped(behind_minus(text))? as i64;
+    let size = capped_value(after_minus(text))? as i64;
     Some(if is_negative(text) { -size } else { size })
 }

@@ -8,8 +8,8 @@ use city_json::{Fault, Json, NumText};
 use itoa::Buffer;
 use std::alloc::Global;
 
-/// A component as a plain decimal integer. The only fault is [`Fault::Memory`].
-fn plain_integer(alloc: Global, component: i64) -> Result<Json, Fault>
+/// A component as an integer in decimal. The only fault is [`Fault::Memory`].
+fn integer_json(alloc: Global, component: i64) -> Result<Json, Fault>
     ensures ok { IfOk result (λ json. tree json ≡ number (signed_decimal component)) }
     ensures fault { IfErr result (λ fault. fault ≡ Fault.Memory) }
 {
@@ -17,14 +17,14 @@ fn plain_integer(alloc: Global, component: i64) -> Result<Json, Fault>
     Ok(Json::Num(NumText::read(alloc, digits.format(component).as_bytes())?))
 }
 
-/// The vertex as an array of three plain decimal integers. The only fault is [`Fault::Memory`].
+/// The vertex as an array of three integers in decimal. The only fault is [`Fault::Memory`].
 pub fn vertex_json(alloc: Global, vertex: &Vertex) -> Result<Json, Fault>
     ensures ok { IfOk result (λ json. tree json ≡ vertex_tree vertex.now) }
     ensures fault { IfErr result (λ fault. fault ≡ Fault.Memory) }
 {
-    let x = plain_integer(alloc, vertex.x())?;
-    let y = plain_integer(alloc, vertex.y())?;
-    let z = plain_integer(alloc, vertex.z())?;
+    let x = integer_json(alloc, vertex.x())?;
+    let y = integer_json(alloc, vertex.y())?;
+    let z = integer_json(alloc, vertex.z())?;
     match Vec::from_array(alloc, [x, y, z]) {
         Ok(items) => Ok(Json::List(items)),
         Err(_) => Err(Fault::Memory),

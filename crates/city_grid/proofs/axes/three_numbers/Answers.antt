@@ -1,7 +1,7 @@
 use Rattle.std.proofs.Common.{◌≡◌, ◌∙◌, sym, ap, arith}
 use Rattle.std.proofs.lemmas.Bool.Decides.{nat_tests}
 use Rattle.city_json.specs.Tree.{tree, array, items_tree}
-use Rattle.city_grid.proofs.ThreeNumbers.{tree_of_list, length_of_three, first_of_three, second_of_three, third_of_three, three_from}
+use Rattle.city_grid.proofs.axes.ThreeNumbers.{tree_of_list, length_of_three, first_of_three, second_of_three, third_of_three, three_from}
 use Rattle.city_grid.proofs.axes.three_numbers.Goals as goal
 use Rattle.city_grid.proofs.axes.three_numbers.Goals.{After-as_slice}
 

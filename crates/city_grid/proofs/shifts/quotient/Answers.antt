@@ -1,7 +1,7 @@
 use Rattle.std.proofs.Common.{ap, of_z}
 use Rattle.std.specs.Int.{w128}
 use Rattle.std.proofs.lemmas.Int.{to_z-of_z}
-use Rattle.city_grid.proofs.Quotients.{rem_of_multiple}
+use Rattle.city_grid.proofs.shifts.Quotients.{rem_of_multiple}
 use Rattle.city_grid.proofs.shifts.quotient.Goals as goal
 
 pub returns-then-difference-step-ne0-clause-none : goal.returns-then-difference-step-ne0-clause-none

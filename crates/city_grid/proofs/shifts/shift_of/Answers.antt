@@ -5,7 +5,8 @@ use Rattle.std.specs.Option.{SomeIff}
 use Rattle.city_grid.specs.Axes.{Triple, IsInRange}
 use Rattle.city_grid.specs.Shift.{IsShift, RefusesShift}
 use Rattle.city_grid.specs.Transform.{IsAboveZero}
-use Rattle.city_grid.proofs.InRange.{found_at, shift_found, shift_refused, only_shift}
+use Rattle.city_grid.proofs.axes.Triples.{found_at}
+use Rattle.city_grid.proofs.shifts.OneShift.{shift_found, shift_refused, only_shift}
 use Rattle.city_grid.proofs.shifts.shift_of.Goals as goal
 use Rattle.city_grid.proofs.shifts.shift_of.Goals.{After-ok_or}
 

@@ -3,7 +3,7 @@ use Rattle.std.proofs.lemmas.Int.{ints}
 use Rattle.std.specs.Option.{SomeIff}
 use Rattle.city_json.specs.declared.fault.Fault.TheVariants.{VertexRange}
 use Rattle.city_grid.specs.Axes.{IsInRange, sum}
-use Rattle.city_grid.proofs.InRange.{found_at, answered, answered_in_range, refused}
+use Rattle.city_grid.proofs.axes.Triples.{found_at, answered, answered_in_range, refused}
 use Rattle.city_grid.proofs.vertices.moved.Goals as goal
 use Rattle.city_grid.proofs.vertices.moved.Goals.{After-ok_or}
 

@@ -1,6 +1,6 @@
 use Rattle.std.proofs.Common.{arith}
 use Rattle.std.proofs.lemmas.Str.Parse.{digit_from_value}
-use Rattle.city_grid.proofs.DigitValues.{digit_byte}
+use Rattle.city_grid.proofs.decimals.DigitValues.{digit_byte}
 use Rattle.city_grid.proofs.decimals.digits.digit_of.Goals as goal
 
 pub overflow_sub-result : goal.overflow_sub-result

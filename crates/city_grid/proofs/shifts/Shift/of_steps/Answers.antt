@@ -2,7 +2,7 @@ use Rattle.std.proofs.Common.{◌≡◌, ◌≤◌, ℤ, FitsSigned, to_z, of_z,
 use Rattle.std.proofs.lemmas.Int.{ints, to_z-of_z}
 use Rattle.std.specs.Int.{w128}
 use Rattle.city_grid.specs.Axes.{most_steps}
-use Rattle.city_grid.proofs.InRange.{same_triple}
+use Rattle.city_grid.proofs.axes.Triples.{same_triple}
 use Rattle.city_grid.proofs.shifts.Shift.of_steps.Goals as goal
 
 narrowed : (z : ℤ) → unsigned_abs z ≤ most_steps → to_z w64 (of_z w64 (to_z w128 (of_z w128 z))) ≡ z

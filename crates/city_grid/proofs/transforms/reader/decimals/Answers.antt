@@ -1,6 +1,6 @@
 use Rattle.std.proofs.Common.{◌≡◌, ◌∙◌, ℤ, Some, subst, sym}
 use Rattle.city_grid.specs.Decimal.{IsUnits}
-use Rattle.city_grid.proofs.InRange.{same_triple}
+use Rattle.city_grid.proofs.axes.Triples.{same_triple}
 use Rattle.city_grid.proofs.transforms.reader.decimals.Goals as goal
 
 same_some : {a b : ℤ} → Some a ≡ Some b → b ≡ a

@@ -3,8 +3,8 @@ use Rattle.city_json.specs.Tree.{tree}
 use Rattle.city_grid.specs.Axes.{Each, Texts}
 use Rattle.city_grid.specs.Decimal.{IsUnits}
 use Rattle.city_grid.specs.Transform.{Grid, HasNumbers, IsTransform, RefusesTransform}
-use Rattle.city_grid.proofs.InRange.{transform_of, transform_refused, only_transform, some_three}
-use Rattle.city_grid.proofs.ThreeNumbers.{same_texts}
+use Rattle.city_grid.proofs.transforms.OneTransform.{transform_of, transform_refused, only_transform, some_three}
+use Rattle.city_grid.proofs.axes.ThreeNumbers.{same_texts}
 use Rattle.city_grid.proofs.transforms.reader.transform.Goals as goal
 use Rattle.city_grid.proofs.transforms.reader.transform.Goals.{In-Some-numbers_named, After-ok_or}
 

@@ -4,8 +4,9 @@ use Rattle.std.specs.Option.{SomeIff}
 use Rattle.city_json.specs.Tree.{tree}
 use Rattle.city_grid.specs.Axes.{Each, Triple, Texts, IsInRange}
 use Rattle.city_grid.specs.Vertex.{IsInteger, IsVertex, RefusesVertex}
-use Rattle.city_grid.proofs.InRange.{found_at, vertex_of, vertex_refused, only_vertex}
-use Rattle.city_grid.proofs.ThreeNumbers.{same_texts}
+use Rattle.city_grid.proofs.axes.Triples.{found_at}
+use Rattle.city_grid.proofs.vertices.OneVertex.{vertex_of, vertex_refused, only_vertex}
+use Rattle.city_grid.proofs.axes.ThreeNumbers.{same_texts}
 use Rattle.city_grid.proofs.vertices.reader.vertex.Goals as goal
 use Rattle.city_grid.proofs.vertices.reader.vertex.Goals.{After-ok_or}
 

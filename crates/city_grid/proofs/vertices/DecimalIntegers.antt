@@ -1,4 +1,4 @@
--- A plain decimal integer is a number, so that only memory can be wanting for it.
+-- An integer in decimal is a number, so that nothing but memory can be out for it.
 use Rattle.std.proofs.Common.{◌≡◌, ◌<◌, ◌^◌, ℕ, zero, suc, sym, ap, refl, subst, inl, inr, List, [], ◌∷◌, get_or, ℤ, pos, negsuc, FitsSigned, w64, arith}
 use Rattle.std.proofs.lemmas.Fmt.{decimal_is_IsNumeral, decimal_digit, first_decimal}
 use Rattle.std.proofs.lemmas.Int.{ints}
@@ -21,8 +21,8 @@ decimal_is_whole : (n : ℕ) → n < 2 ^ 64 → IsWhole (decimal n)
 decimal_is_whole zero short = subst IsWhole (sym (decimal_digit 0 (omega arith))) (inl (refl, refl))
 decimal_is_whole (suc n) short = whole_from (decimal (suc n)) (decimal_is_IsNumeral (suc n) short).0.1 (first_decimal (suc n) (omega arith) short)
 
-pub plain_is_number : (z : ℤ) → FitsSigned w64 z → IsNumber (signed_decimal z)
-plain_is_number (pos n) fits =
+pub decimal_is_number : (z : ℤ) → FitsSigned w64 z → IsNumber (signed_decimal z)
+decimal_is_number (pos n) fits =
     record {
       minus_sign = [];
       whole = decimal n;
@@ -34,7 +34,7 @@ plain_is_number (pos n) fits =
       is_fraction = tt;
       is_exponent = tt;
     }
-plain_is_number (negsuc n) fits =
+decimal_is_number (negsuc n) fits =
     record {
       minus_sign = minus ∷ [];
       whole = decimal (suc n);

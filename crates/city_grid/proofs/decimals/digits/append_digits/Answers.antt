@@ -1,6 +1,6 @@
 use Rattle.std.proofs.Common.{◌+◌, arith}
-use Rattle.city_grid.proofs.DigitValues.{digit_below, value_after_more, value_after_part}
-use Rattle.city_grid.proofs.decimals.digits.extended.Goals as goal
+use Rattle.city_grid.proofs.decimals.DigitValues.{digit_below, value_after_more, value_after_part}
+use Rattle.city_grid.proofs.decimals.digits.append_digits.Goals as goal
 
 pub digit_of-requires : goal.digit_of-requires
 digit_of-requires c = digit_below c.args.digits.now c.loop-digit.digit-index c.requires.digits (omega arith)

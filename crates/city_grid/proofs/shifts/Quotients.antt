@@ -4,7 +4,7 @@ use Rattle.std.proofs.Math.Nat.{mul-mod_left, eq_of_mul-eq-mul_right}
 use Rattle.std.proofs.lemmas.Int.{ints, unsigned_abs-mul}
 use Rattle.std.specs.Int.RustNames.{int_rem}
 use Rattle.city_grid.specs.Decimal.{signed}
-use Rattle.city_grid.proofs.Scaling.{sign_is, size_is}
+use Rattle.city_grid.proofs.decimals.Equations.{sign_is, size_is}
 
 rem_from_sizes : (a d : ℤ) → unsigned_abs a % unsigned_abs d ≡ 0 → int_rem a d ≡ pos 0
 rem_from_sizes (pos a) d none = ap pos none

@@ -11,9 +11,9 @@ use Rattle.std.specs.Str.Parse.{AllDigits, digits_value, signed_digits_value, st
 use Rattle.city_json.specs.Bytes.{minus}
 use Rattle.city_json.specs.Number.{IsNumber, IsWhole, IsExponent, IsSign}
 use Rattle.city_grid.specs.Decimal.{IsUnits, IsPlaced, power, places, decimal_bound, unit_places, signed}
-use Rattle.city_grid.proofs.DigitValues.{all_digits-append}
+use Rattle.city_grid.proofs.decimals.DigitValues.{all_digits-append}
 use Rattle.city_grid.proofs.NumberParts.{all_digits_of_whole, all_digits_of_fraction, first_digit}
-use Rattle.city_grid.proofs.Scaling.{abs_signed, signed_product, sign_is, size_is, placed_left, scaled_left, placed_right, scaled_right}
+use Rattle.city_grid.proofs.decimals.Equations.{abs_signed, signed_product, sign_is, size_is, placed_left, scaled_left, placed_right, scaled_right}
 
 -- digits have no sign in front
 no_sign : (ds : List ℕ) → 48 ≤ slice_index ds 0 → (starts_with_minus ds ≡ false) × (without_leading_sign ds ≡ ds)
@@ -47,17 +47,17 @@ all_digits_of_exponent (mark ∷ power) exponent =
     let spelled = exponent.1 in
     subst (λ text. AllDigits 10 (without_leading_sign text)) (sym spelled.2) (sign_free spelled.0 spelled.1 spelled.3 spelled.4.1)
 
-apart_left : (e : ℤ) (move behind a b : ℕ) → e ≡ neg_ℤ (pos move) → b + move + behind ≡ 24 + a → pos b ≡ ((e -ℤ pos behind) +ℤ pos 24) +ℤ pos a
-apart_left e move behind a b is sum = omega (arith, ints)
+apart_left : (e : ℤ) (move after a b : ℕ) → e ≡ neg_ℤ (pos move) → b + move + after ≡ 24 + a → pos b ≡ ((e -ℤ pos after) +ℤ pos 24) +ℤ pos a
+apart_left e move after a b is sum = omega (arith, ints)
 
-apart_right : (e : ℤ) (move behind a b : ℕ) → e ≡ pos move → b + behind ≡ move + 24 + a → pos b ≡ ((e -ℤ pos behind) +ℤ pos 24) +ℤ pos a
-apart_right e move behind a b is sum = omega (arith, ints)
+apart_right : (e : ℤ) (move after a b : ℕ) → e ≡ pos move → b + after ≡ move + 24 + a → pos b ≡ ((e -ℤ pos after) +ℤ pos 24) +ℤ pos a
+apart_right e move after a b is sum = omega (arith, ints)
 
-sum_left : (e : ℤ) (move behind a b : ℕ) → e ≡ neg_ℤ (pos move) → pos b ≡ ((e -ℤ pos behind) +ℤ pos 24) +ℤ pos a → b + move + behind ≡ 24 + a
-sum_left e move behind a b is apart = omega (arith, ints)
+sum_left : (e : ℤ) (move after a b : ℕ) → e ≡ neg_ℤ (pos move) → pos b ≡ ((e -ℤ pos after) +ℤ pos 24) +ℤ pos a → b + move + after ≡ 24 + a
+sum_left e move after a b is apart = omega (arith, ints)
 
-sum_right : (e : ℤ) (move behind a b : ℕ) → e ≡ pos move → pos b ≡ ((e -ℤ pos behind) +ℤ pos 24) +ℤ pos a → b + behind ≡ move + 24 + a
-sum_right e move behind a b is apart = omega (arith, ints)
+sum_right : (e : ℤ) (move after a b : ℕ) → e ≡ pos move → pos b ≡ ((e -ℤ pos after) +ℤ pos 24) +ℤ pos a → b + after ≡ move + 24 + a
+sum_right e move after a b is apart = omega (arith, ints)
 
 -- what the code finds of a number: its sign, and the place of its point among all digits
 pub record IsFound (text : List ℕ) (n : IsNumber text) (negative : Bool) (place : ℕ) : Type 0 where
@@ -75,16 +75,16 @@ scaled_from text n negative place size found small placed =
     let x = drop 1 n.exponent in
     let all = n.whole ++ places n in
     let move = digits_value 10 (without_leading_sign x) in
-    let behind = length (places n) in
+    let after = length (places n) in
     let sum = length-append n.whole (places n) in
     let short = digits_value-lt 10 all (all_digits text n) in
     ⊎_elim
     (λ minus_first.
-    let s = scaled_left (length n.whole) behind (length all) (digits_value 10 all) move size sum short place (found.left minus_first) placed in
-    (s.0, s.1, apart_left (signed_digits_value 10 x) move behind s.0 s.1 (value_left x minus_first) s.2, s.3))
+    let s = scaled_left (length n.whole) after (length all) (digits_value 10 all) move size sum short place (found.left minus_first) placed in
+    (s.0, s.1, apart_left (signed_digits_value 10 x) move after s.0 s.1 (value_left x minus_first) s.2, s.3))
     (λ other_first.
-    let s = scaled_right (length n.whole) behind (length all) (digits_value 10 all) move size sum short (2 ^ 128 - 1) (omega (arith, found.room)) small place (found.right other_first) placed in
-    (s.0, s.1, apart_right (signed_digits_value 10 x) move behind s.0 s.1 (value_right x other_first) s.2, s.3))
+    let s = scaled_right (length n.whole) after (length all) (digits_value 10 all) move size sum short (2 ^ 128 - 1) (omega (arith, found.room)) small place (found.right other_first) placed in
+    (s.0, s.1, apart_right (signed_digits_value 10 x) move after s.0 s.1 (value_right x other_first) s.2, s.3))
     (cases_Bool (starts_with_minus x))
 
 pub placed_of : (text : List ℕ) (n : IsNumber text) (negative : Bool) (place size a b : ℕ) → IsFound text n negative place → size < decimal_bound → pos b ≡ (power n +ℤ pos unit_places) +ℤ pos a → size * 10 ^ a ≡ digits_value 10 (n.whole ++ places n) * 10 ^ b → IsPlaced (n.whole ++ places n) place size
@@ -92,12 +92,12 @@ placed_of text n negative place size a b found small apart equal =
     let x = drop 1 n.exponent in
     let all = n.whole ++ places n in
     let move = digits_value 10 (without_leading_sign x) in
-    let behind = length (places n) in
+    let after = length (places n) in
     let sum = length-append n.whole (places n) in
     let short = digits_value-lt 10 all (all_digits text n) in
     ⊎_elim
-    (λ minus_first. placed_left (length n.whole) behind (length all) (digits_value 10 all) move size sum short place a b (found.left minus_first) (sum_left (signed_digits_value 10 x) move behind a b (value_left x minus_first) apart) equal)
-    (λ other_first. placed_right (length n.whole) behind (length all) (digits_value 10 all) move size sum short (2 ^ 128 - 1) (omega (arith, found.room)) small place a b (found.right other_first) (sum_right (signed_digits_value 10 x) move behind a b (value_right x other_first) apart) equal)
+    (λ minus_first. placed_left (length n.whole) after (length all) (digits_value 10 all) move size sum short place a b (found.left minus_first) (sum_left (signed_digits_value 10 x) move after a b (value_left x minus_first) apart) equal)
+    (λ other_first. placed_right (length n.whole) after (length all) (digits_value 10 all) move size sum short (2 ^ 128 - 1) (omega (arith, found.room)) small place a b (found.right other_first) (sum_right (signed_digits_value 10 x) move after a b (value_right x other_first) apart) equal)
     (cases_Bool (starts_with_minus x))
 
 pub units_from : (text : List ℕ) (n : IsNumber text) (negative : Bool) (place size : ℕ) → IsFound text n negative place → size < decimal_bound → IsPlaced (n.whole ++ places n) place size → IsUnits text (signed negative size)
@@ -139,8 +139,8 @@ found_by text n negative place whole exponent sign whole_is exponent_is left rig
       room = omega (arith, parts_fit text n);
     }
 
-pub digits_are : (text : List ℕ) (n : IsNumber text) (whole behind : List ℕ) → whole ≡ n.whole → behind ≡ places n → whole ++ behind ≡ n.whole ++ places n
-digits_are text n whole behind first second = ap (λ w. w ++ behind) first ∙ ap (λ f. n.whole ++ f) second
+pub digits_are : (text : List ℕ) (n : IsNumber text) (whole after : List ℕ) → whole ≡ n.whole → after ≡ places n → whole ++ after ≡ n.whole ++ places n
+digits_are text n whole after first second = ap (λ w. w ++ after) first ∙ ap (λ f. n.whole ++ f) second
 
 -- a number has one count of units
 pub only_is : (text : List ℕ) (negative : Bool) (place : ℕ) (n : ℤ) (units : IsUnits text n) → IsFound text units.parts negative place → (size : ℕ) → IsPlaced (units.parts.whole ++ places units.parts) place size → n ≡ signed negative size

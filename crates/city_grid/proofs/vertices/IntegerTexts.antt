@@ -11,8 +11,8 @@ use Rattle.city_grid.specs.Axes.{most_steps}
 use Rattle.city_grid.specs.Decimal.{signed}
 use Rattle.city_grid.specs.Vertex.{IsInteger, IsCapped, IsSameOrLarge}
 use Rattle.city_grid.proofs.NumberParts.{ends_digits, prefix_of_digits, unsigned_is, minus_is}
-use Rattle.city_grid.proofs.Scaling.{abs_signed}
-use Rattle.city_grid.proofs.UnitsOfText.{mantissa_is}
+use Rattle.city_grid.proofs.decimals.Equations.{abs_signed}
+use Rattle.city_grid.proofs.decimals.Units.{mantissa_is}
 
 pub capped_more : (value more size next digit : ℕ) → IsCapped value size → (size ≤ most_steps → next ≡ size * 10 + digit) → (most_steps < size → next ≡ size) → more ≡ value * 10 + digit → IsCapped more next
 capped_more value more size next digit (inl same) small large is =
@@ -34,15 +34,15 @@ all_digits_behind : (xs ys : List ℕ) → AllDigits 10 (xs ++ ys) → AllDigits
 all_digits_behind [] ys all = all
 all_digits_behind (x ∷ xs) ys all = all_digits_behind xs ys all.1
 
--- a number that is digits alone, behind its sign, is an integer
-pub integer_from : (text : List ℕ) (n : IsNumber text) (negative : Bool) (behind : List ℕ) → starts_with_minus text ≡ negative → behind ≡ cond (starts_with_minus text) (drop 1 text) text → AllDigits 10 behind → IsInteger text (signed negative (digits_value 10 behind))
-integer_from text n negative behind first is all =
-    let unsigned = unsigned_is text n behind is in
+-- a number that is digits alone, after its sign, is an integer
+pub integer_from : (text : List ℕ) (n : IsNumber text) (negative : Bool) (after : List ℕ) → starts_with_minus text ≡ negative → after ≡ cond (starts_with_minus text) (drop 1 text) text → AllDigits 10 after → IsInteger text (signed negative (digits_value 10 after))
+integer_from text n negative after first is all =
+    let unsigned = unsigned_is text n after is in
     let nothing = nothing_follows n.fraction n.exponent n.is_fraction n.is_exponent (all_digits_behind n.whole (n.fraction ++ n.exponent) (subst (AllDigits 10) unsigned all)) in
     let rest : n.fraction ++ n.exponent ≡ [] = ap (λ f. f ++ n.exponent) nothing.0 ∙ nothing.1 in
     let spelled : text ≡ n.minus_sign ++ (n.whole ++ []) = n.spelled ∙ ap (λ r. n.minus_sign ++ (n.whole ++ r)) rest in
     let sign : n.minus_sign ≡ cond negative (minus ∷ []) [] = minus_is n.minus_sign n.whole (n.fraction ++ n.exponent) n.is_minus n.is_whole ∙ ap (λ t. cond (starts_with_minus t) (minus ∷ []) []) (sym n.spelled) ∙ ap (λ b. cond b (minus ∷ []) []) first in
-    let value : signed_digits_value 10 text ≡ signed negative (digits_value 10 behind) = ap (signed_digits_value 10) spelled ∙ mantissa_is n.minus_sign n.whole [] negative sign n.is_whole ∙ ap (λ ds. signed negative (digits_value 10 ds)) (sym (unsigned ∙ ap (λ r. n.whole ++ r) rest)) in
+    let value : signed_digits_value 10 text ≡ signed negative (digits_value 10 after) = ap (signed_digits_value 10) spelled ∙ mantissa_is n.minus_sign n.whole [] negative sign n.is_whole ∙ ap (λ ds. signed negative (digits_value 10 ds)) (sym (unsigned ∙ ap (λ r. n.whole ++ r) rest)) in
     (n, nothing.0, nothing.1, sym value)
 
 pub same_or_large : (negative : Bool) (value size : ℕ) → IsCapped value size → IsSameOrLarge (signed negative value) (signed negative size)

@@ -8,9 +8,9 @@ use Rattle.std.specs.List.{All}
 use Rattle.std.specs.Option.{SomeIff}
 use Rattle.std.specs.Str.Parse.{AllDigits, digits_value}
 use Rattle.city_grid.specs.Decimal.{IsPlaced}
-use Rattle.city_grid.proofs.DigitValues.{value-append, value_after-append, value_after_grows, value_from_zeros, zeros_from_value, all_digits-append, all_digits-drop}
+use Rattle.city_grid.proofs.decimals.DigitValues.{value-append, value_after-append, value_after_grows, value_from_zeros, zeros_from_value, all_digits-append, all_digits-drop}
 
--- `placed_is` on numbers: a in front, b behind, p and q the powers of the lengths, z that of the filling
+-- `placed_is` on numbers: a in front, b after, p and q the powers of the lengths, z that of the filling
 placed_numbers : (n a b p q z : ℕ) → 0 < q → b < p → (z ≡ 1) ⊎ ((b ≡ 0) × (p ≡ 1)) → n * (q * p) ≡ (a * p + b) * (q * z) → (b ≡ 0) × (n ≡ a * z)
 placed_numbers n a b p q z some short (inl one) placed =
     let shorter : n * p ≡ (a * p + b) * z = eq_of_mul-eq-mul_right q some (n * p) ((a * p + b) * z) (omega arith) in
@@ -21,7 +21,7 @@ placed_numbers n a b p q z some short (inr none) placed =
     let shorter : n * p ≡ (a * p + b) * z = eq_of_mul-eq-mul_right q some (n * p) ((a * p + b) * z) (omega arith) in
     (none.0, omega (arith, ap (λ x. n * x) none.1, ap (λ x. (a * x + b) * z) none.1, ap (λ x. x * z) none.0))
 
--- the digits fall into those in front of the point and those behind it, of which there are none where filling fill up to the point
+-- the digits fall into those in front of the point and those after it, of which there are none where filling fill up to the point
 pub record IsCut (digits front back : List ℕ) (place filling : ℕ) : Type 0 where
   pub split : digits ≡ front ++ back
   pub reached : length front + filling ≡ place
@@ -47,7 +47,7 @@ filled_numbers : (back : List ℕ) (filling : ℕ) → (filling ≡ 0) ⊎ (back
 filled_numbers back filling (inl none) = inl (ap (λ x. 10 ^ x) none)
 filled_numbers back filling (inr none) = inr (ap (digits_value 10) none, ap (λ ds. 10 ^ length ds) none)
 
--- n is then the number in front, with the filling, and nothing stands behind the point
+-- n is then the number in front, with the filling, and nothing stands after the point
 pub placed_is : (digits front back : List ℕ) (place filling n : ℕ) → IsCut digits front back place filling → IsPlaced digits place n → (digits_value 10 back ≡ 0) × (n ≡ digits_value 10 front * 10 ^ filling)
 placed_is digits front back place filling n cut placed =
     let sides = cut_sides digits front back place filling cut n in
@@ -84,7 +84,7 @@ cut_of_two whole places kept more place digits more_digits within within_places 
     nothing_left : (whole places : List ℕ) (kept more : ℕ) → kept ≡ length whole → more ≡ length places → drop kept whole ++ drop more places ≡ []
     nothing_left whole places kept more all all_places = rw (drop_all kept whole (omega arith), drop_all more places (omega arith))
 
--- the digits in front of the place, in each part, and those behind it
+-- the digits in front of the place, in each part, and those after it
 pub cut_at : (whole places : List ℕ) (place kept more : ℕ) → AllDigits 10 whole → AllDigits 10 places → kept ≡ min place (length whole) → more ≡ min (place - kept) (length places) → IsCut (whole ++ places) (take kept whole ++ take more places) (drop kept whole ++ drop more places) place (place - kept - more)
 cut_at whole places place kept more digits more_digits first second =
     cut_of_two whole places kept more place digits more_digits (omega arith) (omega arith) (omega arith) (grind arith) (grind arith)

@@ -69,23 +69,23 @@ none_above n m l p small far equal =
 of_zeros : (n m a b : ℕ) → (n ≡ 0) × (m ≡ 0) → n * 10 ^ a ≡ m * 10 ^ b
 of_zeros n m a b none = ap (λ x. x * 10 ^ a) none.0 ∙ omega (arith, ap (λ x. x * 10 ^ b) none.1)
 
--- digits before the point, behind it, and all; their value; and how far the exponent moves the point
-module _ (whole behind all mass move size : ℕ) (sum : all ≡ whole + behind) (short : mass < 10 ^ all) where
+-- digits before the point, after it, and all; their value; and how far the exponent moves the point
+module _ (whole after all mass move size : ℕ) (sum : all ≡ whole + after) (short : mass < 10 ^ all) where
   -- to the left, up to before all digits
-  pub placed_left : (place a b : ℕ) → place ≡ (whole + 24) - move → b + move + behind ≡ 24 + a → size * 10 ^ a ≡ mass * 10 ^ b → size * 10 ^ all ≡ mass * 10 ^ place
+  pub placed_left : (place a b : ℕ) → place ≡ (whole + 24) - move → b + move + after ≡ 24 + a → size * 10 ^ a ≡ mass * 10 ^ b → size * 10 ^ all ≡ mass * 10 ^ place
   placed_left place a b is apart equal =
       ⊎_elim (λ far. of_zeros size mass all place (none_below size mass a b all short (omega arith) equal)) (λ near. moved_powers size mass a b all place (omega arith) equal) (cases_lt (whole + 24) move)
 
-  pub scaled_left : (place : ℕ) → place ≡ (whole + 24) - move → size * 10 ^ all ≡ mass * 10 ^ place → (a : ℕ) × (b : ℕ) × (b + move + behind ≡ 24 + a) × (size * 10 ^ a ≡ mass * 10 ^ b)
+  pub scaled_left : (place : ℕ) → place ≡ (whole + 24) - move → size * 10 ^ all ≡ mass * 10 ^ place → (a : ℕ) × (b : ℕ) × (b + move + after ≡ 24 + a) × (size * 10 ^ a ≡ mass * 10 ^ b)
   scaled_left place is equal =
-      ⊎_elim (λ far. (move + behind, 24, omega arith, of_zeros size mass (move + behind) 24 (none_below size mass all place all short (omega arith) equal))) (λ near. (all, place, omega arith, equal)) (cases_lt (whole + 24) move)
+      ⊎_elim (λ far. (move + after, 24, omega arith, of_zeros size mass (move + after) 24 (none_below size mass all place all short (omega arith) equal))) (λ near. (all, place, omega arith, equal)) (cases_lt (whole + 24) move)
 
   -- to the right, as far as numbers go that are counted
   module _ (top : ℕ) (room : all + 36 ≤ top) (small : size < decimal_bound) where
-    pub placed_right : (place a b : ℕ) → place ≡ min (whole + 24 + move) top → b + behind ≡ move + 24 + a → size * 10 ^ a ≡ mass * 10 ^ b → size * 10 ^ all ≡ mass * 10 ^ place
+    pub placed_right : (place a b : ℕ) → place ≡ min (whole + 24 + move) top → b + after ≡ move + 24 + a → size * 10 ^ a ≡ mass * 10 ^ b → size * 10 ^ all ≡ mass * 10 ^ place
     placed_right place a b is apart equal =
         ⊎_elim (λ far. of_zeros size mass all place (none_above size mass all (whole + 24 + move) small (omega arith) (moved_powers size mass a b all (whole + 24 + move) (omega arith) equal))) (λ near. moved_powers size mass a b all place (omega arith) equal) (cases_lt top (whole + 24 + move))
 
-    pub scaled_right : (place : ℕ) → place ≡ min (whole + 24 + move) top → size * 10 ^ all ≡ mass * 10 ^ place → (a : ℕ) × (b : ℕ) × (b + behind ≡ move + 24 + a) × (size * 10 ^ a ≡ mass * 10 ^ b)
+    pub scaled_right : (place : ℕ) → place ≡ min (whole + 24 + move) top → size * 10 ^ all ≡ mass * 10 ^ place → (a : ℕ) × (b : ℕ) × (b + after ≡ move + 24 + a) × (size * 10 ^ a ≡ mass * 10 ^ b)
     scaled_right place is equal =
         ⊎_elim (λ far. (all, whole + 24 + move, omega arith, of_zeros size mass all (whole + 24 + move) (none_above size mass all place small (omega arith) equal))) (λ near. (all, place, omega arith, equal)) (cases_lt top (whole + 24 + move))

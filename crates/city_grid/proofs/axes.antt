@@ -1,0 +1,2 @@
+pub mod ThreeNumbers
+pub mod Triples

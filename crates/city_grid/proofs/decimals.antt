@@ -1,0 +1,4 @@
+pub mod DigitValues
+pub mod Equations
+pub mod Places
+pub mod Units

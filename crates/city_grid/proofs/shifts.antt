@@ -1,0 +1,2 @@
+pub mod OneShift
+pub mod Quotients

@@ -1,0 +1,3 @@
+pub mod DecimalIntegers
+pub mod IntegerTexts
+pub mod OneVertex
