@@ -1,21 +1,23 @@
 -- Three of a kind, one for each axis.
 use Rattle.std.specs.Prelude.{◌≤◌, ℕ, ℤ, ◌+ℤ◌, List, unsigned_abs}
+use Rattle.std.specs.Borrow.{Bor}
 use Rattle.city_json.specs.Tree.{Tree, number, array, no_items, item}
+use Rattle.city_grid.specs.declared.axes.Axes.{Axes}
 
 -- three whole numbers
-pub record Triple : Type 0 where
-  pub x : ℤ
-  pub y : ℤ
-  pub z : ℤ
+abbrev pub Triple : Type 0
+Triple = Axes ℤ
 
 abbrev pub triple : ℤ → ℤ → ℤ → Triple
 triple x y z = record { x = x; y = y; z = z }
 
 -- three numbers as they are written
-pub record Texts : Type 0 where
-  pub x : List ℕ
-  pub y : List ℕ
-  pub z : List ℕ
+abbrev pub Texts : Type 0
+Texts = Axes (List ℕ)
+
+-- what three numbers of the code have written
+abbrev pub texts_of : Axes (Bor (List ℕ)) → Texts
+texts_of numbers = record { x = numbers.x.now; y = numbers.y.now; z = numbers.z.now }
 
 -- the array of three numbers
 abbrev pub three : Texts → Tree
@@ -35,4 +37,6 @@ most_steps = 9007199254740991
 
 abbrev pub IsInRange : Triple → Type 0
 IsInRange p =
-    (unsigned_abs p.x ≤ most_steps) × (unsigned_abs p.y ≤ most_steps) × (unsigned_abs p.z ≤ most_steps)
+    (unsigned_abs p.x ≤ most_steps)
+    × (unsigned_abs p.y ≤ most_steps)
+    × (unsigned_abs p.z ≤ most_steps)

@@ -3,4 +3,3 @@ pub mod Decimal
 pub mod Shift
 pub mod Transform
 pub mod Vertex
-pub mod Written

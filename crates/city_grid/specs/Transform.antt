@@ -1,5 +1,5 @@
--- Transforms (CityJSON 2.0, Transform Object): objects with the members `scale` and `translate`, three
--- numbers each.
+-- Transforms (CityJSON 2.0, Transform Object): objects with the members `scale` and `translate`,
+-- three numbers each.
 use Rattle.std.specs.Prelude.{◌≡◌, pos, ◌<ℤ◌, Some, codes}
 use Rattle.city_json.specs.declared.fault.Fault.{Fault}
 use Rattle.city_json.specs.declared.fault.Fault.TheVariants.{NoTransform, Decimal, ScaleNotPositive}

@@ -1,16 +1,15 @@
 ghost use Rattle.std.specs.Prelude.{◌≡◌, ◌≢◌, ℕ, List, IfSome, IfNone};
 ghost use Rattle.city_json.specs.Tree.{tree, number};
-ghost use Rattle.city_grid.specs.Axes.{Texts, three};
-ghost use Rattle.city_grid.specs.Written.{texts_of};
+ghost use Rattle.city_grid.specs.Axes.{Texts, texts_of, three};
 
 use city_json::{Json, NumText};
 
-/// Three numbers as they are written, one for each axis.
-#[derive(Clone, Copy)]
-pub struct Numbers<'a> {
-    pub x: &'a NumText,
-    pub y: &'a NumText,
-    pub z: &'a NumText,
+/// One value for each axis.
+#[derive(Clone, Copy, Debug, PartialEq, Eq)]
+pub struct Axes<T> {
+    pub x: T,
+    pub y: T,
+    pub z: T,
 }
 
 fn as_number(value: &Json) -> Option<&NumText>
@@ -24,8 +23,8 @@ fn as_number(value: &Json) -> Option<&NumText>
 }
 
 /// The numbers of an array of exactly three.
-pub fn three_numbers(value: &Json) -> Option<Numbers<'_>>
-    ensures some { IfSome result (λ n. tree value.now ≡ three (texts_of n)) }
+pub fn three_numbers(value: &Json) -> Option<Axes<&NumText>>
+    ensures some { IfSome result (λ numbers. tree value.now ≡ three (texts_of numbers)) }
     ensures none { IfNone result ((texts : Texts) → tree value.now ≢ three texts) }
 {
     let Json::List(items) = value else {
@@ -34,7 +33,7 @@ pub fn three_numbers(value: &Json) -> Option<Numbers<'_>>
     let [x, y, z] = items.as_slice() else {
         return None;
     };
-    Some(Numbers {
+    Some(Axes {
         x: as_number(x)?,
         y: as_number(y)?,
         z: as_number(z)?,

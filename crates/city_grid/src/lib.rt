@@ -1,20 +1,21 @@
-//! Decimals, transforms, exact shifts and vertices: the arithmetic of CityJSON's grid (CityJSON 2.0,
-//! Transform Object), in whole numbers alone. A shift `k` has `k * scale` equal to the difference of the
-//! translations exactly ([`shift_of`]).
+//! Decimals, transforms, exact shifts and vertices: the arithmetic of CityJSON's grid (CityJSON
+//! 2.0, Transform Object), in whole numbers alone. A shift `k` has `k * scale` equal to the
+//! difference of the translations exactly ([`shift_of`]).
 #![tactic(auto)]
 
 mod axes;
 mod decimals;
-mod parts;
 mod shifts;
+mod steps;
 mod transforms;
 mod vertices;
 
+pub use axes::Axes;
 pub use decimals::Decimal;
 pub use decimals::reader::decimal;
 pub use shifts::{Shift, shift_of};
+pub use transforms::Transform;
 pub use transforms::reader::transform;
-pub use transforms::{Decimals, Transform};
 pub use vertices::reader::vertex;
 pub use vertices::writer::vertex_json;
 pub use vertices::{Vertex, moved};

@@ -1,33 +1,30 @@
-ghost use Rattle.std.specs.Prelude.{◌≡◌, ◌≢◌, ◌≤◌, ◌↔◌, ℤ, pos, ◌<ℤ◌, ◌-ℤ◌, ◌*ℤ◌, unsigned_abs};
-ghost use Rattle.std.specs.Prelude.{IsTrue, IfOk, IfErr, IfSome, IfNone};
+ghost use Rattle.std.specs.Prelude.{◌≡◌, ◌≢◌, ℤ, pos, ◌<ℤ◌, ◌-ℤ◌, ◌*ℤ◌};
+ghost use Rattle.std.specs.Prelude.{IfOk, IfErr, IfSome, IfNone};
 ghost use Rattle.std.specs.Option.{SomeIff};
-ghost use Rattle.city_grid.specs.Axes.{IsInRange, Triple, most_steps, triple};
+ghost use Rattle.city_grid.specs.Axes.{IsInRange, Triple, triple};
 ghost use Rattle.city_grid.specs.Shift.{IsShift, RefusesShift};
 
+use crate::axes::Axes;
 use crate::decimals::Decimal;
+use crate::steps::Steps;
 use crate::transforms::Transform;
-use crate::vertices::{MOST_STEPS, are_small};
 use city_json::Fault;
 use std::marker::Model;
 
 /// A shift in whole steps of the grid, each component at most 2^53 - 1 in size.
 #[derive(Clone, Copy, Debug, PartialEq, Eq)]
 pub struct Shift {
-    x: i64,
-    y: i64,
-    z: i64,
+    steps: Steps,
 }
 
 impl Model for Shift {
-    ghost use Rattle.city_grid.specs.Axes.{Triple, IsInRange};
+    ghost use Rattle.city_grid.specs.Axes.{Triple};
 
     ghost Value = { Triple };
 
-    ghost view = { λ shift. record { x = shift.x; y = shift.y; z = shift.z } };
+    ghost view = { λ shift. shift.steps };
 
-    ghost invariant = { λ shift. IsInRange (record { x = shift.x; y = shift.y; z = shift.z }) };
-
-    ghost inverse = { λ point. record { x = point.x; y = point.y; z = point.z } };
+    ghost inverse = { λ steps. record { steps = steps } };
 }
 
 impl Shift {
@@ -35,62 +32,38 @@ impl Shift {
     pub fn zero() -> Shift
         ensures { result ≡ triple (pos 0) (pos 0) (pos 0) }
     {
-        Shift { x: 0, y: 0, z: 0 }
+        Shift {
+            steps: Steps::zero(),
+        }
     }
 
     /// The shift of three components, where none is above 2^53 - 1 in size.
     pub fn new(x: i64, y: i64, z: i64) -> Option<Shift>
         ensures { SomeIff result (IsInRange (triple x y z)) (triple x y z) }
     {
-        if are_small(x, y, z) {
-            Some(Shift { x, y, z })
-        } else {
-            None
-        }
+        Shift::of_steps(Axes {
+            x: i128::from(x),
+            y: i128::from(y),
+            z: i128::from(z),
+        })
     }
 
     /// The shift of three components of any size, where none is above 2^53 - 1.
-    pub(crate) fn of_steps(x: i128, y: i128, z: i128) -> Option<Shift>
-        ensures { SomeIff result (IsInRange (triple x y z)) (triple x y z) }
+    fn of_steps(steps: Axes<i128>) -> Option<Shift>
+        ensures { SomeIff result (IsInRange steps) steps }
     {
-        if is_few(x) && is_few(y) && is_few(z) {
-            Some(Shift {
-                x: x as i64,
-                y: y as i64,
-                z: z as i64,
-            })
-        } else {
-            None
-        }
+        let Some(steps) = Steps::new(steps) else {
+            return None;
+        };
+        Some(Shift { steps })
     }
 
-    pub fn x(&self) -> i64
-        ensures value { result ≡ self.now.x }
-        ensures range { unsigned_abs result ≤ most_steps }
+    pub fn steps(&self) -> Axes<i64>
+        ensures value { result ≡ self.now }
+        ensures range { IsInRange result }
     {
-        self.x
+        self.steps.axes()
     }
-
-    pub fn y(&self) -> i64
-        ensures value { result ≡ self.now.y }
-        ensures range { unsigned_abs result ≤ most_steps }
-    {
-        self.y
-    }
-
-    pub fn z(&self) -> i64
-        ensures value { result ≡ self.now.z }
-        ensures range { unsigned_abs result ≤ most_steps }
-    {
-        self.z
-    }
-}
-
-/// Whether a component is at most 2^53 - 1 in size.
-fn is_few(steps: i128) -> bool
-    ensures { IsTrue result ↔ (unsigned_abs steps ≤ most_steps) }
-{
-    steps.unsigned_abs() <= u128::from(MOST_STEPS)
 }
 
 /// The whole number of steps that a difference is, where it is one.
@@ -114,16 +87,8 @@ fn whole_steps(to: Decimal, from: Decimal, step: Decimal) -> Option<i128>
     quotient(to.units() - from.units(), step.units())
 }
 
-/// Whole steps in each component, however many.
-#[derive(Clone, Copy)]
-struct Steps {
-    x: i128,
-    y: i128,
-    z: i128,
-}
-
 /// The steps from the base's origin to the tile's, where they are whole.
-fn steps_between(tile: &Transform, base: &Transform) -> Option<Steps>
+fn steps_between(tile: &Transform, base: &Transform) -> Option<Axes<i128>>
     ensures some { IfSome result (λ k.
         (k.x *ℤ base.now.scale.x ≡ tile.now.translate.x -ℤ base.now.translate.x)
         × (k.y *ℤ base.now.scale.y ≡ tile.now.translate.y -ℤ base.now.translate.y)
@@ -131,10 +96,11 @@ fn steps_between(tile: &Transform, base: &Transform) -> Option<Steps>
     ensures none { IfNone result ((k : Triple) → ¬ IsShift tile.now base.now k) }
 {
     let (scale, to, from) = (base.scale(), tile.translate(), base.translate());
-    let x = whole_steps(to.x(), from.x(), scale.x())?;
-    let y = whole_steps(to.y(), from.y(), scale.y())?;
-    let z = whole_steps(to.z(), from.z(), scale.z())?;
-    Some(Steps { x, y, z })
+    Some(Axes {
+        x: whole_steps(to.x, from.x, scale.x)?,
+        y: whole_steps(to.y, from.y, scale.y)?,
+        z: whole_steps(to.z, from.z, scale.z)?,
+    })
 }
 
 /// The shift of a tile's transform against a base, in whole steps: in each component the steps
@@ -157,5 +123,5 @@ pub fn shift_of(tile: &Transform, base: &Transform) -> Result<Shift, Fault>
     let Some(steps) = steps_between(tile, base) else {
         return Err(Fault::OffGrid);
     };
-    Shift::of_steps(steps.x, steps.y, steps.z).ok_or(Fault::ShiftRange)
+    Shift::of_steps(steps).ok_or(Fault::ShiftRange)
 }

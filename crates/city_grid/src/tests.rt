@@ -1,41 +1,17 @@
 use crate::{
     Decimal, Shift, Transform, Vertex, decimal, moved, shift_of, transform, vertex, vertex_json,
 };
-use city_json::{Fault, Json, Line, Member, NumText, Str, print};
+use city_json::{Fault, Line, NumText, print, read};
 use std::alloc::Global;
 use std::test::Fail;
 
-fn number(alloc: Global, text: &[u8]) -> Result<Json, Fail> {
-    Ok(Json::Num(NumText::read(alloc, text)?))
-}
-
-fn array(alloc: Global, texts: &[&str]) -> Result<Json, Fail> {
-    let mut items = Vec::new(alloc);
-    for text in texts {
-        items.push(number(alloc, text.as_bytes())?)?;
-    }
-    Ok(Json::List(items))
-}
-
-fn object(alloc: Global, scale: Json, translate: Json) -> Result<Json, Fail> {
-    let scale = Member {
-        name: Str::read(alloc, "scale")?,
-        value: scale,
-    };
-    let translate = Member {
-        name: Str::read(alloc, "translate")?,
-        value: translate,
-    };
-    Ok(Json::Map(vec![in alloc; translate, scale]?))
-}
-
 fn transform_of(
     alloc: Global,
-    scale: &[&str],
-    translate: &[&str],
+    scale: &str,
+    translate: &str,
 ) -> Result<Result<Transform, Fault>, Fail> {
-    let value = object(alloc, array(alloc, scale)?, array(alloc, translate)?)?;
-    Ok(transform(&value))
+    let text = format!(in alloc; "{{\"translate\": {translate}, \"scale\": {scale}}}")?;
+    Ok(transform(&read(alloc, text.as_bytes())?))
 }
 
 fn units(alloc: Global, text: &[u8]) -> Result<Result<i128, Fault>, Fail> {
@@ -118,24 +94,19 @@ fn long_numbers_are_read(rt: HostRuntime) -> Result<(), Fail> {
 
 #[test]
 fn transforms_are_read(rt: HostRuntime) -> Result<(), Fail> {
-    let alloc = rt.alloc();
-    let read = transform_of(
-        alloc,
-        &["0.001", "1e-3", "1"],
-        &["84710.1", "446846.0", "-5.3"],
-    )??;
-    assert_eq!(rt; read.scale().x(), read.scale().y());
-    assert_eq!(rt; read.scale().z().units(), 1_000_000_000_000_000_000_000_000);
+    let read = transform_of(rt.alloc(), "[0.001, 1e-3, 1]", "[84710.1, 446846.0, -5.3]")??;
+    assert_eq!(rt; read.scale().x, read.scale().y);
+    assert_eq!(rt; read.scale().z.units(), 1_000_000_000_000_000_000_000_000);
     assert_eq!(rt;
-        read.translate().x().units(),
+        read.translate().x.units(),
         84_710_100_000_000_000_000_000_000_000
     );
     assert_eq!(rt;
-        read.translate().y().units(),
+        read.translate().y.units(),
         446_846_000_000_000_000_000_000_000_000
     );
     assert_eq!(rt;
-        read.translate().z().units(),
+        read.translate().z.units(),
         -5_300_000_000_000_000_000_000_000
     );
     Ok(())
@@ -143,159 +114,131 @@ fn transforms_are_read(rt: HostRuntime) -> Result<(), Fail> {
 
 #[test]
 fn transforms_are_refused(rt: HostRuntime) -> Result<(), Fail> {
-    let zero: &[&str] = &["0", "0", "0"];
-    let rows: [(&[&str], &[&str], Fault); 8] = [
-        (&["1", "1", "1", "1"], zero, Fault::NoTransform),
-        (&["1", "1"], zero, Fault::NoTransform),
-        (&["1", "1", "1"], &["0", "0"], Fault::NoTransform),
-        (&["0", "1", "1"], &["1e12", "0", "0"], Fault::Decimal),
-        (&["1", "1", "1e-25"], zero, Fault::Decimal),
-        (&["-0.001", "1", "1"], zero, Fault::ScaleNotPositive),
-        (&["1", "0.0", "1"], zero, Fault::ScaleNotPositive),
-        (&["1", "1", "-0"], zero, Fault::ScaleNotPositive),
+    let rows: [(&str, &str, Fault); 9] = [
+        ("[1, 1, 1, 1]", "[0, 0, 0]", Fault::NoTransform),
+        ("[1, 1]", "[0, 0, 0]", Fault::NoTransform),
+        ("[1, 1, 1]", "[0, 0]", Fault::NoTransform),
+        ("\"0.001\"", "[0, 0, 0]", Fault::NoTransform),
+        ("[0, 1, 1]", "[1e12, 0, 0]", Fault::Decimal),
+        ("[1, 1, 1e-25]", "[0, 0, 0]", Fault::Decimal),
+        ("[-0.001, 1, 1]", "[0, 0, 0]", Fault::ScaleNotPositive),
+        ("[1, 0.0, 1]", "[0, 0, 0]", Fault::ScaleNotPositive),
+        ("[1, 1, -0]", "[0, 0, 0]", Fault::ScaleNotPositive),
     ];
     for (scale, translate, want) in rows {
         assert_eq!(rt;
             transform_of(rt.alloc(), scale, translate)?,
             Err(want),
-            "{scale:?} {translate:?}"
+            "{scale} {translate}"
         );
     }
-    assert_eq!(rt; transform(&Json::Null), Err(Fault::NoTransform));
-    assert_eq!(rt;
-        transform(&Json::Map(Vec::new(rt.alloc()))),
-        Err(Fault::NoTransform)
-    );
-    let text = Json::Text(Str::read(rt.alloc(), "0.001")?);
-    let value = object(rt.alloc(), text, array(rt.alloc(), zero)?)?;
-    assert_eq!(rt; transform(&value), Err(Fault::NoTransform));
+    for text in ["null", "{}", "{\"scale\": [1, 1, 1]}"] {
+        assert_eq!(rt;
+            transform(&read(rt.alloc(), text.as_bytes())?),
+            Err(Fault::NoTransform),
+            "{text}"
+        );
+    }
     Ok(())
 }
 
 #[test]
 fn shifts_are_whole_steps(rt: HostRuntime) -> Result<(), Fail> {
-    let alloc = rt.alloc();
-    let millimetre: &[&str] = &["0.001", "0.001", "0.001"];
-    let written: &[&str] = &["1e-3", "0.0010", "1.0E-3"];
-    let micrometre: &[&str] = &["0.000001", "0.000001", "0.000001"];
-    let other: &[&str] = &["0.001", "0.001", "0.01"];
-    let zero: &[&str] = &["0", "0", "0"];
-    let rows: [(
-        &[&str],
-        &[&str],
-        &[&str],
-        &[&str],
-        Result<Option<Shift>, Fault>,
-    ); 8] = [
+    let millimetre = "[0.001, 0.001, 0.001]";
+    let written = "[1e-3, 0.0010, 1.0E-3]";
+    let micrometre = "[0.000001, 0.000001, 0.000001]";
+    let other = "[0.001, 0.001, 0.01]";
+    let rows: [(&str, &str, &str, Result<Option<Shift>, Fault>); 7] = [
         (
             millimetre,
-            &["84800.35", "0", "0"],
-            written,
-            &["84710.1", "0", "0"],
-            Ok(Shift::new(90250, 0, 0)),
-        ),
-        (
+            "[0, -1.5, 0]",
             millimetre,
-            &["0", "-1.5", "0"],
-            millimetre,
-            zero,
             Ok(Shift::new(0, -1500, 0)),
         ),
         (
             micrometre,
-            &["9007199254.740991", "0", "0"],
+            "[9007199254.740991, 0, 0]",
             micrometre,
-            zero,
             Ok(Shift::new(9_007_199_254_740_991, 0, 0)),
         ),
         (
             micrometre,
-            &["-9007199254.740991", "0", "0"],
+            "[-9007199254.740991, 0, 0]",
             micrometre,
-            zero,
             Ok(Shift::new(-9_007_199_254_740_991, 0, 0)),
         ),
         (
             micrometre,
-            &["9007199254.740992", "0", "0"],
+            "[9007199254.740992, 0, 0]",
             micrometre,
-            zero,
             Err(Fault::ShiftRange),
         ),
         (
             micrometre,
-            &["9007199254.740992", "0", "0.0000005"],
+            "[9007199254.740992, 0, 0.0000005]",
             micrometre,
-            zero,
             Err(Fault::OffGrid),
         ),
         (
             millimetre,
-            &["0.0005", "0", "0"],
+            "[0.0005, 0, 0]",
             millimetre,
-            zero,
             Err(Fault::OffGrid),
         ),
         (
             millimetre,
-            &["0.0005", "0", "0"],
+            "[0.0005, 0, 0]",
             other,
-            zero,
             Err(Fault::ScaleDiffers),
         ),
     ];
-    for (scale, translate, base_scale, base_translate, want) in rows {
-        let tile = transform_of(alloc, scale, translate)??;
-        let base = transform_of(alloc, base_scale, base_translate)??;
-        assert_eq!(rt;
-            shift_of(&tile, &base).map(Some),
-            want,
-            "{translate:?} {base_translate:?}"
-        );
+    for (scale, translate, base_scale, want) in rows {
+        let tile = transform_of(rt.alloc(), scale, translate)??;
+        let base = transform_of(rt.alloc(), base_scale, "[0, 0, 0]")??;
+        assert_eq!(rt; shift_of(&tile, &base).map(Some), want, "{translate}");
     }
+    let tile = transform_of(rt.alloc(), millimetre, "[84800.35, 0, 0]")??;
+    let base = transform_of(rt.alloc(), written, "[84710.1, 0, 0]")??;
+    assert_eq!(rt;
+        shift_of(&tile, &base).map(Some),
+        Ok(Shift::new(90250, 0, 0))
+    );
     Ok(())
 }
 
 #[test]
 fn vertices_are_read(rt: HostRuntime) -> Result<(), Fail> {
     let most = 9_007_199_254_740_991;
-    let rows: [(&[&str], Result<Option<Vertex>, Fault>); 10] = [
-        (&["1", "20", "-300"], Ok(Vertex::new(1, 20, -300))),
-        (&["-0", "0", "0"], Ok(Vertex::new(0, 0, 0))),
+    let rows: [(&str, Result<Option<Vertex>, Fault>); 12] = [
+        ("[1, 20, -300]", Ok(Vertex::new(1, 20, -300))),
+        ("[-0, 0, 0]", Ok(Vertex::new(0, 0, 0))),
         (
-            &["9007199254740991", "-9007199254740991", "0"],
+            "[9007199254740991, -9007199254740991, 0]",
             Ok(Vertex::new(most, -most, 0)),
         ),
-        (&["1.0", "0", "0"], Err(Fault::VertexNotInteger)),
-        (&["1e2", "0", "0"], Err(Fault::VertexNotInteger)),
-        (
-            &["9007199254740992", "0", "0E0"],
-            Err(Fault::VertexNotInteger),
-        ),
-        (&["9007199254740992", "0", "0"], Err(Fault::VertexRange)),
-        (&["0", "0", "-9007199254740992"], Err(Fault::VertexRange)),
-        (&["1", "2"], Err(Fault::VertexShape)),
-        (&["1", "2", "3", "4e1"], Err(Fault::VertexShape)),
+        ("[1.0, 0, 0]", Err(Fault::VertexNotInteger)),
+        ("[1e2, 0, 0]", Err(Fault::VertexNotInteger)),
+        ("[9007199254740992, 0, 0E0]", Err(Fault::VertexNotInteger)),
+        ("[9007199254740992, 0, 0]", Err(Fault::VertexRange)),
+        ("[0, 0, -9007199254740992]", Err(Fault::VertexRange)),
+        ("[1, 2]", Err(Fault::VertexShape)),
+        ("[1, 2, 3, 4e1]", Err(Fault::VertexShape)),
+        ("[\"1\", 2, 3]", Err(Fault::VertexShape)),
+        ("null", Err(Fault::VertexShape)),
     ];
-    for (texts, want) in rows {
-        let value = array(rt.alloc(), texts)?;
-        assert_eq!(rt; vertex(&value).map(Some), want, "{texts:?}");
+    for (text, want) in rows {
+        let value = read(rt.alloc(), text.as_bytes())?;
+        assert_eq!(rt; vertex(&value).map(Some), want, "{text}");
     }
-    let huge = vec![in rt.alloc(); b'9'; 10000]?;
-    let value = Json::List(vec![in rt.alloc();
-        number(rt.alloc(), &huge)?,
-        number(rt.alloc(), b"0")?,
-        number(rt.alloc(), b"0")?,
-    ]?);
-    assert_eq!(rt; vertex(&value), Err(Fault::VertexRange));
-    let text = Json::Text(Str::read(rt.alloc(), "1")?);
-    let value = Json::List(vec![in rt.alloc();
-        text,
-        number(rt.alloc(), b"2")?,
-        number(rt.alloc(), b"3")?,
-    ]?);
-    assert_eq!(rt; vertex(&value), Err(Fault::VertexShape));
-    assert_eq!(rt; vertex(&Json::Null), Err(Fault::VertexShape));
+    Ok(())
+}
+
+#[test]
+fn a_long_integer_is_out_of_range(rt: HostRuntime) -> Result<(), Fail> {
+    let mut text = vec![in rt.alloc(); b'9'; 10000]?;
+    text.insert(0, b'[')?;
+    text.extend_from_slice(b", 0, 0]")?;
+    assert_eq!(rt; vertex(&read(rt.alloc(), &text)?), Err(Fault::VertexRange));
     Ok(())
 }
 

@@ -1,37 +1,32 @@
-ghost use Rattle.std.specs.Prelude.{◌≡◌, ◌≤◌, ◌↔◌, IsTrue, IfOk, IfErr, unsigned_abs};
+ghost use Rattle.std.specs.Prelude.{◌≡◌, IfOk, IfErr};
 ghost use Rattle.std.specs.Option.{SomeIff};
-ghost use Rattle.city_grid.specs.Axes.{IsInRange, most_steps, sum, triple};
+ghost use Rattle.city_grid.specs.Axes.{IsInRange, sum, triple};
 
 mod integers;
 pub(crate) mod reader;
 pub(crate) mod writer;
 
+use crate::axes::Axes;
 use crate::shifts::Shift;
+use crate::steps::Steps;
 use city_json::Fault;
 use std::marker::Model;
-
-/// The greatest size of a component: 2^53 - 1, up to which a number in floating point is exact.
-pub const MOST_STEPS: u64 = 9_007_199_254_740_991;
 
 /// A vertex in steps of the grid, each component at most 2^53 - 1 in size (CityJSON 2.0,
 /// Transform Object).
 #[derive(Clone, Copy, Debug, PartialEq, Eq)]
 pub struct Vertex {
-    x: i64,
-    y: i64,
-    z: i64,
+    steps: Steps,
 }
 
 impl Model for Vertex {
-    ghost use Rattle.city_grid.specs.Axes.{Triple, IsInRange};
+    ghost use Rattle.city_grid.specs.Axes.{Triple};
 
     ghost Value = { Triple };
 
-    ghost view = { λ vertex. record { x = vertex.x; y = vertex.y; z = vertex.z } };
+    ghost view = { λ vertex. vertex.steps };
 
-    ghost invariant = { λ vertex. IsInRange (record { x = vertex.x; y = vertex.y; z = vertex.z }) };
-
-    ghost inverse = { λ point. record { x = point.x; y = point.y; z = point.z } };
+    ghost inverse = { λ steps. record { steps = steps } };
 }
 
 impl Vertex {
@@ -39,32 +34,21 @@ impl Vertex {
     pub fn new(x: i64, y: i64, z: i64) -> Option<Vertex>
         ensures { SomeIff result (IsInRange (triple x y z)) (triple x y z) }
     {
-        if are_small(x, y, z) {
-            Some(Vertex { x, y, z })
-        } else {
-            None
-        }
+        let Some(steps) = Steps::new(Axes {
+            x: i128::from(x),
+            y: i128::from(y),
+            z: i128::from(z),
+        }) else {
+            return None;
+        };
+        Some(Vertex { steps })
     }
 
-    pub fn x(&self) -> i64
-        ensures value { result ≡ self.now.x }
-        ensures range { unsigned_abs result ≤ most_steps }
+    pub fn steps(&self) -> Axes<i64>
+        ensures value { result ≡ self.now }
+        ensures range { IsInRange result }
     {
-        self.x
-    }
-
-    pub fn y(&self) -> i64
-        ensures value { result ≡ self.now.y }
-        ensures range { unsigned_abs result ≤ most_steps }
-    {
-        self.y
-    }
-
-    pub fn z(&self) -> i64
-        ensures value { result ≡ self.now.z }
-        ensures range { unsigned_abs result ≤ most_steps }
-    {
-        self.z
+        self.steps.axes()
     }
 }
 
@@ -76,17 +60,6 @@ pub fn moved(vertex: Vertex, shift: Shift) -> Result<Vertex, Fault>
     ensures refusal { IfErr result (λ fault.
         (fault ≡ Fault.VertexRange) × ¬ IsInRange (sum vertex shift)) }
 {
-    let x = vertex.x() + shift.x();
-    let y = vertex.y() + shift.y();
-    let z = vertex.z() + shift.z();
-    Vertex::new(x, y, z).ok_or(Fault::VertexRange)
-}
-
-/// Whether no component is above 2^53 - 1 in size.
-pub fn are_small(x: i64, y: i64, z: i64) -> bool
-    ensures { IsTrue result ↔ IsInRange (triple x y z) }
-{
-    x.unsigned_abs() <= MOST_STEPS
-        && y.unsigned_abs() <= MOST_STEPS
-        && z.unsigned_abs() <= MOST_STEPS
+    let (from, by) = (vertex.steps(), shift.steps());
+    Vertex::new(from.x + by.x, from.y + by.y, from.z + by.z).ok_or(Fault::VertexRange)
 }

@@ -5,15 +5,18 @@ use Rattle.std.proofs.lemmas.Bool.{cases_Bool}
 use Rattle.std.proofs.lemmas.Bool.Decides.{nat_tests}
 use Rattle.std.proofs.lemmas.Int.{ints}
 use Rattle.std.proofs.lemmas.Int.Digits.{digits_value-lt}
-use Rattle.std.proofs.lemmas.List.{length-append, length-drop}
-use Rattle.std.proofs.lemmas.Str.Parse.{digit_from_value}
+use Rattle.std.proofs.lemmas.List.{length-append}
 use Rattle.std.specs.Str.Parse.{AllDigits, digits_value, signed_digits_value, starts_with_minus, without_leading_sign}
 use Rattle.city_json.specs.Bytes.{minus}
-use Rattle.city_json.specs.Number.{IsNumber, IsWhole, IsExponent, IsSign}
+use Rattle.city_json.specs.Number.{IsNumber, IsWhole}
 use Rattle.city_grid.specs.Decimal.{IsUnits, IsPlaced, power, places, decimal_bound, unit_places, signed}
 use Rattle.city_grid.proofs.decimals.DigitValues.{all_digits-append}
-use Rattle.city_grid.proofs.NumberParts.{all_digits_of_whole, all_digits_of_fraction, first_digit}
 use Rattle.city_grid.proofs.decimals.Equations.{abs_signed, signed_product, sign_is, size_is, placed_left, scaled_left, placed_right, scaled_right}
+
+first_digit : (w : List ℕ) (rest : List ℕ) → IsWhole w → 48 ≤ slice_index (w ++ rest) 0
+first_digit [] rest whole = absurd whole
+first_digit (d ∷ ds) rest (inl zero) = omega (arith, zero.0)
+first_digit (d ∷ ds) rest (inr more) = omega (arith, more.0)
 
 -- digits have no sign in front
 no_sign : (ds : List ℕ) → 48 ≤ slice_index ds 0 → (starts_with_minus ds ≡ false) × (without_leading_sign ds ≡ ds)
@@ -31,21 +34,6 @@ mantissa_is m w f true sign whole = rw sign refl
 mantissa_is m w f false sign whole =
     let bare = no_sign (w ++ f) (first_digit w f whole) in
     ap (λ text. signed_digits_value 10 (text ++ (w ++ f))) sign ∙ value_right (w ++ f) bare.0 ∙ ap (λ ds. pos (digits_value 10 ds)) bare.1
-
-sign_free : (sign digits : List ℕ) → IsSign sign → AllDigits 10 digits → AllDigits 10 (without_leading_sign (sign ++ digits))
-sign_free sign [] (inl none) all = rw none tt
-sign_free sign (d ∷ ds) (inl none) all =
-    let digit = digit_from_value d all.0 in
-    let bare = no_sign (d ∷ ds) (omega (arith, digit.0)) in
-    rw none (subst (AllDigits 10) (sym bare.1) all)
-sign_free sign digits (inr (inl one)) all = rw one all
-sign_free sign digits (inr (inr one)) all = rw one all
-
-pub all_digits_of_exponent : (e : List ℕ) → IsExponent e → AllDigits 10 (without_leading_sign (drop 1 e))
-all_digits_of_exponent [] exponent = tt
-all_digits_of_exponent (mark ∷ power) exponent =
-    let spelled = exponent.1 in
-    subst (λ text. AllDigits 10 (without_leading_sign text)) (sym spelled.2) (sign_free spelled.0 spelled.1 spelled.3 spelled.4.1)
 
 apart_left : (e : ℤ) (move after a b : ℕ) → e ≡ neg_ℤ (pos move) → b + move + after ≡ 24 + a → pos b ≡ ((e -ℤ pos after) +ℤ pos 24) +ℤ pos a
 apart_left e move after a b is sum = omega (arith, ints)
@@ -65,9 +53,7 @@ pub record IsFound (text : List ℕ) (n : IsNumber text) (negative : Bool) (plac
   pub left : starts_with_minus (drop 1 n.exponent) ≡ true → place ≡ (length n.whole + 24) - digits_value 10 (without_leading_sign (drop 1 n.exponent))
   pub right : starts_with_minus (drop 1 n.exponent) ≡ false → place ≡ min (length n.whole + 24 + digits_value 10 (without_leading_sign (drop 1 n.exponent))) (2 ^ 128 - 1)
   pub room : length n.whole + length (drop 1 n.fraction) + 36 ≤ 2 ^ 128 - 1
-
-all_digits : (text : List ℕ) (n : IsNumber text) → AllDigits 10 (n.whole ++ places n)
-all_digits text n = all_digits-append n.whole (places n) (all_digits_of_whole n.whole n.is_whole) (all_digits_of_fraction n.fraction n.is_fraction)
+  pub digits : AllDigits 10 (n.whole ++ places n)
 
 -- n units where the digits write its size with the point at its place
 pub scaled_from : (text : List ℕ) (n : IsNumber text) (negative : Bool) (place size : ℕ) → IsFound text n negative place → size < decimal_bound → IsPlaced (n.whole ++ places n) place size → (a : ℕ) × (b : ℕ) × (pos b ≡ (power n +ℤ pos unit_places) +ℤ pos a) × (size * 10 ^ a ≡ digits_value 10 (n.whole ++ places n) * 10 ^ b)
@@ -77,7 +63,7 @@ scaled_from text n negative place size found small placed =
     let move = digits_value 10 (without_leading_sign x) in
     let after = length (places n) in
     let sum = length-append n.whole (places n) in
-    let short = digits_value-lt 10 all (all_digits text n) in
+    let short = digits_value-lt 10 all found.digits in
     ⊎_elim
     (λ minus_first.
     let s = scaled_left (length n.whole) after (length all) (digits_value 10 all) move size sum short place (found.left minus_first) placed in
@@ -94,7 +80,7 @@ placed_of text n negative place size a b found small apart equal =
     let move = digits_value 10 (without_leading_sign x) in
     let after = length (places n) in
     let sum = length-append n.whole (places n) in
-    let short = digits_value-lt 10 all (all_digits text n) in
+    let short = digits_value-lt 10 all found.digits in
     ⊎_elim
     (λ minus_first. placed_left (length n.whole) after (length all) (digits_value 10 all) move size sum short place a b (found.left minus_first) (sum_left (signed_digits_value 10 x) move after a b (value_left x minus_first) apart) equal)
     (λ other_first. placed_right (length n.whole) after (length all) (digits_value 10 all) move size sum short (2 ^ 128 - 1) (omega (arith, found.room)) small place a b (found.right other_first) (sum_right (signed_digits_value 10 x) move after a b (value_right x other_first) apart) equal)
@@ -125,22 +111,18 @@ units_are text negative place n units found =
     let equal : n *ℤ pos (10 ^ s.a) ≡ signed negative mass *ℤ pos (10 ^ s.b) = s.equation ∙ ap (λ m. m *ℤ pos (10 ^ s.b)) is in
     (sign_is negative n mass (10 ^ s.a) (10 ^ s.b) (one-le-pow s.a 10 (omega arith)) equal, placed_of text parts negative place (unsigned_abs n) s.a s.b found units.small s.apart (size_is negative n mass (10 ^ s.a) (10 ^ s.b) equal))
 
--- the parts of a text are no longer than it
-parts_fit : (text : List ℕ) (n : IsNumber text) → length n.whole + length (places n) ≤ length text
-parts_fit text n =
-    omega (arith, ap length n.spelled, length-append n.minus_sign (n.whole ++ (n.fraction ++ n.exponent)), length-append n.whole (n.fraction ++ n.exponent), length-append n.fraction n.exponent, length-drop 1 n.fraction)
+pub digits_are : (text : List ℕ) (n : IsNumber text) (whole after : List ℕ) → whole ≡ n.whole → after ≡ places n → whole ++ after ≡ n.whole ++ places n
+digits_are text n whole after first second = ap (λ w. w ++ after) first ∙ ap (λ f. n.whole ++ f) second
 
-pub found_by : (text : List ℕ) (n : IsNumber text) (negative : Bool) (place : ℕ) (whole exponent : List ℕ) → n.minus_sign ≡ cond negative (minus ∷ []) [] → whole ≡ n.whole → exponent ≡ drop 1 n.exponent → (starts_with_minus exponent ≡ true → place ≡ (length whole + 24) - digits_value 10 (without_leading_sign exponent)) → (starts_with_minus exponent ≡ false → place ≡ min (length whole + 24 + digits_value 10 (without_leading_sign exponent)) (2 ^ 128 - 1)) → length text < 2 ^ 64 → IsFound text n negative place
-found_by text n negative place whole exponent sign whole_is exponent_is left right short =
+pub found_by : (text : List ℕ) (n : IsNumber text) (negative : Bool) (place : ℕ) (whole fraction exponent : List ℕ) → n.minus_sign ≡ cond negative (minus ∷ []) [] → whole ≡ n.whole → fraction ≡ places n → exponent ≡ drop 1 n.exponent → AllDigits 10 whole → AllDigits 10 fraction → (starts_with_minus exponent ≡ true → place ≡ (length whole + 24) - digits_value 10 (without_leading_sign exponent)) → (starts_with_minus exponent ≡ false → place ≡ min (length whole + 24 + digits_value 10 (without_leading_sign exponent)) (2 ^ 128 - 1)) → length whole < 2 ^ 64 → length fraction < 2 ^ 64 → IsFound text n negative place
+found_by text n negative place whole fraction exponent sign whole_is fraction_is exponent_is all more left right short shorter =
     record {
       sign = sign;
       left = subst (λ x. starts_with_minus x ≡ true → place ≡ (length n.whole + 24) - digits_value 10 (without_leading_sign x)) exponent_is (subst (λ w. starts_with_minus exponent ≡ true → place ≡ (length w + 24) - digits_value 10 (without_leading_sign exponent)) whole_is left);
       right = subst (λ x. starts_with_minus x ≡ false → place ≡ min (length n.whole + 24 + digits_value 10 (without_leading_sign x)) (2 ^ 128 - 1)) exponent_is (subst (λ w. starts_with_minus exponent ≡ false → place ≡ min (length w + 24 + digits_value 10 (without_leading_sign exponent)) (2 ^ 128 - 1)) whole_is right);
-      room = omega (arith, parts_fit text n);
+      room = omega (arith, ap length whole_is, ap length fraction_is);
+      digits = subst (AllDigits 10) (digits_are text n whole fraction whole_is fraction_is) (all_digits-append whole fraction all more);
     }
-
-pub digits_are : (text : List ℕ) (n : IsNumber text) (whole after : List ℕ) → whole ≡ n.whole → after ≡ places n → whole ++ after ≡ n.whole ++ places n
-digits_are text n whole after first second = ap (λ w. w ++ after) first ∙ ap (λ f. n.whole ++ f) second
 
 -- a number has one count of units
 pub only_is : (text : List ℕ) (negative : Bool) (place : ℕ) (n : ℤ) (units : IsUnits text n) → IsFound text units.parts negative place → (size : ℕ) → IsPlaced (units.parts.whole ++ places units.parts) place size → n ≡ signed negative size

@@ -1,10 +1,8 @@
 ghost use Rattle.std.specs.Prelude.{◌≡◌, ℤ, IfOk, IfErr, IfSome, IfNone};
-ghost use Rattle.city_json.specs.Number.{IsNumber};
 ghost use Rattle.city_grid.specs.Decimal.{IsUnits};
 
 use crate::decimals::Decimal;
 use crate::decimals::digits::{move_place, place_point};
-use crate::parts::Parts;
 use city_json::{Fault, NumText};
 
 /// The places of decimals that a unit has.
@@ -17,18 +15,17 @@ pub fn decimal(number: &NumText) -> Result<Decimal, Fault>
     ensures only { (n : ℤ) → IsUnits number.now n → result ≡ Ok n }
     ensures refusal { IfErr result (λ fault. fault ≡ Fault.Decimal) }
 {
-    decimal_of(number.as_bytes()).ok_or(Fault::Decimal)
+    decimal_of(number).ok_or(Fault::Decimal)
 }
 
-/// The decimal that a number's text stands for, where there is one.
-pub fn decimal_of(text: &[u8]) -> Option<Decimal>
-    requires { IsNumber text.now }
-    ensures some { IfSome result (λ n. IsUnits text.now n) }
-    ensures none { IfNone result ((n : ℤ) → ¬ IsUnits text.now n) }
-    ensures only { (n : ℤ) → IsUnits text.now n → result ≡ Some n }
+/// The decimal that a number stands for, where there is one.
+pub(crate) fn decimal_of(number: &NumText) -> Option<Decimal>
+    ensures some { IfSome result (λ n. IsUnits number.now n) }
+    ensures none { IfNone result ((n : ℤ) → ¬ IsUnits number.now n) }
+    ensures only { (n : ℤ) → IsUnits number.now n → result ≡ Some n }
 {
-    let parts = Parts::of(text);
+    let parts = number.parts();
     let place = move_place(parts.whole.len() as u128 + UNIT_PLACES, parts.exponent);
-    let size = place_point(parts.whole, parts.places, place)?;
-    Some(Decimal::with_sign(parts.negative, size))
+    let size = place_point(parts.whole, parts.fraction, place)?;
+    Some(Decimal::with_sign(parts.is_negative, size))
 }

@@ -1,20 +1,20 @@
 ghost use Rattle.std.specs.Prelude.{◌≡◌, ◌≢◌, Some, IfOk, IfErr, IfSome, IfNone};
 ghost use Rattle.city_json.specs.Members.{member_of};
 ghost use Rattle.city_json.specs.Tree.{tree};
-ghost use Rattle.city_grid.specs.Axes.{Each, Texts, Triple, three};
+ghost use Rattle.city_grid.specs.Axes.{Each, Texts, Triple, texts_of, three};
 ghost use Rattle.city_grid.specs.Decimal.{IsUnits};
 ghost use Rattle.city_grid.specs.Transform.{Grid, IsAboveZero, IsTransform, RefusesTransform};
-ghost use Rattle.city_grid.specs.Written.{texts_of};
 
-use crate::axes::{Numbers, three_numbers};
+use crate::axes::{Axes, three_numbers};
+use crate::decimals::Decimal;
 use crate::decimals::reader::decimal_of;
-use crate::transforms::{Decimals, Transform};
-use city_json::{Fault, Json};
+use crate::transforms::Transform;
+use city_json::{Fault, Json, NumText};
 
 /// The three numbers of a member.
-fn numbers_named<'a>(value: &'a Json, name: &str) -> Option<Numbers<'a>>
-    ensures some { IfSome result (λ n. member_of name.now (tree value.now)
-        ≡ Some (three (texts_of n))) }
+fn numbers_named<'a>(value: &'a Json, name: &str) -> Option<Axes<&'a NumText>>
+    ensures some { IfSome result (λ numbers. member_of name.now (tree value.now)
+        ≡ Some (three (texts_of numbers))) }
     ensures none { IfNone result ((texts : Texts)
         → member_of name.now (tree value.now) ≢ Some (three texts)) }
 {
@@ -25,7 +25,7 @@ fn numbers_named<'a>(value: &'a Json, name: &str) -> Option<Numbers<'a>>
 }
 
 /// Three numbers as decimals; none where one is no decimal.
-fn decimals(numbers: &Numbers<'_>) -> Option<Decimals>
+fn decimals(numbers: &Axes<&NumText>) -> Option<Axes<Decimal>>
     ensures some { IfSome result (λ read.
         Each IsUnits (texts_of numbers.now) read) }
     ensures none { IfNone result ((units : Triple)
@@ -33,14 +33,15 @@ fn decimals(numbers: &Numbers<'_>) -> Option<Decimals>
     ensures only { IfSome result (λ read. (units : Triple)
         → Each IsUnits (texts_of numbers.now) units → units ≡ read) }
 {
-    let x = decimal_of(numbers.x.as_bytes())?;
-    let y = decimal_of(numbers.y.as_bytes())?;
-    let z = decimal_of(numbers.z.as_bytes())?;
-    Some(Decimals::new(x, y, z))
+    Some(Axes {
+        x: decimal_of(numbers.x)?,
+        y: decimal_of(numbers.y)?,
+        z: decimal_of(numbers.z)?,
+    })
 }
 
-/// Reads a transform, the value of the member `transform` (CityJSON 2.0, Transform Object). Of members
-/// with one name the first counts.
+/// Reads a transform, the value of the member `transform` (CityJSON 2.0, Transform Object). Of
+/// members with one name the first counts.
 ///
 /// # Errors
 ///

@@ -1,34 +1,26 @@
 ghost use Rattle.std.specs.Prelude.{◌≡◌, IfOk, IfErr, IfSome, IfNone};
 ghost use Rattle.city_json.specs.Tree.{tree};
-ghost use Rattle.city_grid.specs.Axes.{Each, IsInRange, Triple};
+ghost use Rattle.city_grid.specs.Axes.{Each, IsInRange, Triple, texts_of};
 ghost use Rattle.city_grid.specs.Vertex.{IsInteger, IsSameOrLarge, IsVertex, RefusesVertex};
-ghost use Rattle.city_grid.specs.Written.{texts_of};
 
-use crate::axes::{Numbers, three_numbers};
+use crate::axes::{Axes, three_numbers};
 use crate::vertices::Vertex;
 use crate::vertices::integers::integer;
-use city_json::{Fault, Json};
+use city_json::{Fault, Json, NumText};
 
-/// Three integers, one for each axis, as far as they are not too large.
-#[derive(Clone, Copy)]
-struct Integers {
-    x: i64,
-    y: i64,
-    z: i64,
-}
-
-/// The integers that the numbers write; none where one has a fraction or an exponent.
-fn all_integers(numbers: &Numbers<'_>) -> Option<Integers>
+/// The integers that the numbers write, as far as they are not too large; none where one has a
+/// fraction or an exponent.
+fn all_integers(numbers: &Axes<&NumText>) -> Option<Axes<i64>>
     ensures some { IfSome result (λ read. (p : Triple)
         × Each IsInteger (texts_of numbers.now) p
         × IsSameOrLarge p.x read.x × IsSameOrLarge p.y read.y × IsSameOrLarge p.z read.z) }
     ensures none { IfNone result ((p : Triple)
         → ¬ Each IsInteger (texts_of numbers.now) p) }
 {
-    Some(Integers {
-        x: integer(numbers.x.as_bytes())?,
-        y: integer(numbers.y.as_bytes())?,
-        z: integer(numbers.z.as_bytes())?,
+    Some(Axes {
+        x: integer(numbers.x)?,
+        y: integer(numbers.y)?,
+        z: integer(numbers.z)?,
     })
 }
 

@@ -22,9 +22,10 @@ pub fn vertex_json(alloc: Global, vertex: &Vertex) -> Result<Json, Fault>
     ensures ok { IfOk result (λ json. tree json ≡ vertex_tree vertex.now) }
     ensures fault { IfErr result (λ fault. fault ≡ Fault.Memory) }
 {
-    let x = integer_json(alloc, vertex.x())?;
-    let y = integer_json(alloc, vertex.y())?;
-    let z = integer_json(alloc, vertex.z())?;
+    let steps = vertex.steps();
+    let x = integer_json(alloc, steps.x)?;
+    let y = integer_json(alloc, steps.y)?;
+    let z = integer_json(alloc, steps.z)?;
     match Vec::from_array(alloc, [x, y, z]) {
         Ok(items) => Ok(Json::List(items)),
         Err(_) => Err(Fault::Memory),

@@ -1,26 +1,13 @@
-use Rattle.std.proofs.Common.{◌≡◌, ◌∙◌, ℤ, subst, sym, rules, to_z, of_z, IfOk, IfErr, arith}
-use Rattle.std.proofs.lemmas.Int.{ints}
-use Rattle.std.specs.Int.{w128}
-use Rattle.std.specs.Option.{SomeIff}
-use Rattle.city_grid.specs.Axes.{Triple, IsInRange}
+use Rattle.std.proofs.Common.{◌≡◌, ◌∙◌, subst, sym, rules, IfOk, IfErr}
+use Rattle.city_grid.specs.Axes.{Triple}
 use Rattle.city_grid.specs.Shift.{IsShift, RefusesShift}
 use Rattle.city_grid.specs.Transform.{IsAboveZero}
-use Rattle.city_grid.proofs.axes.Triples.{found_at}
 use Rattle.city_grid.proofs.shifts.OneShift.{shift_found, shift_refused, only_shift}
 use Rattle.city_grid.proofs.shifts.shift_of.Goals as goal
 use Rattle.city_grid.proofs.shifts.shift_of.Goals.{After-ok_or}
 
--- a number as the code passes it on
-abbrev passed : ℤ → ℤ
-passed z = to_z w128 (of_z w128 z)
-
 abbrev steps : After-ok_or → Triple
 steps c = let s = c.in-Some.steps in record { x = s.x; y = s.y; z = s.z }
-
-given : (c : After-ok_or) → SomeIff c.of_steps.result (IsInRange (steps c)) (steps c)
-given c =
-    let s = c.in-Some.steps in
-    found_at c.of_steps.result (record { x = passed s.x; y = passed s.y; z = passed s.z }) (steps c) c.of_steps.ensures (omega (arith, ints)) (omega (arith, ints)) (omega (arith, ints))
 
 above_zero : (c : After-ok_or) → IsAboveZero c.args.base.now.scale
 above_zero c = subst IsAboveZero c.scale-2.ensures.value c.scale-2.ensures.above_zero
@@ -38,14 +25,14 @@ shift c =
 pub returns-clause-ok : goal.returns-clause-ok
 returns-clause-ok c =
     let at = (goal.at.returns-clause-ok c).After-ok_or in
-    subst (λ answer. IfOk answer (λ k. IsShift c.args.tile.now c.args.base.now k)) (sym c.ok_or.ensures.value) (shift_found c.args.tile.now c.args.base.now (above_zero at) (steps at) (shift at) c.of_steps.result (given at))
+    subst (λ answer. IfOk answer (λ k. IsShift c.args.tile.now c.args.base.now k)) (sym c.ok_or.ensures.value) (shift_found c.args.tile.now c.args.base.now (above_zero at) (steps at) (shift at) c.of_steps.result c.of_steps.ensures)
 
 pub returns-clause-only : goal.returns-clause-only
 returns-clause-only c = λ k other range.
     let at = (goal.at.returns-clause-only c).After-ok_or in
-    c.ok_or.ensures.value ∙ only_shift c.args.tile.now c.args.base.now (above_zero at) (steps at) (shift at) c.of_steps.result (given at) k other range
+    c.ok_or.ensures.value ∙ only_shift c.args.tile.now c.args.base.now (above_zero at) (steps at) (shift at) c.of_steps.result c.of_steps.ensures k other range
 
 pub returns-clause-refusal : goal.returns-clause-refusal
 returns-clause-refusal c =
     let at = (goal.at.returns-clause-refusal c).After-ok_or in
-    subst (λ answer. IfErr answer (λ fault. RefusesShift fault c.args.tile.now c.args.base.now)) (sym c.ok_or.ensures.value) (shift_refused c.args.tile.now c.args.base.now (above_zero at) (steps at) (shift at) c.of_steps.result (given at))
+    subst (λ answer. IfErr answer (λ fault. RefusesShift fault c.args.tile.now c.args.base.now)) (sym c.ok_or.ensures.value) (shift_refused c.args.tile.now c.args.base.now (above_zero at) (steps at) (shift at) c.of_steps.result c.of_steps.ensures)

@@ -1,8 +1,8 @@
-use Rattle.std.proofs.Common.{ℤ, ◌+ℤ◌, to_z, of_z, w64, arith}
+use Rattle.std.proofs.Common.{ap, ℤ, ◌+ℤ◌, to_z, of_z, w64, arith}
 use Rattle.std.proofs.lemmas.Int.{ints}
 use Rattle.std.specs.Option.{SomeIff}
 use Rattle.city_json.specs.declared.fault.Fault.TheVariants.{VertexRange}
-use Rattle.city_grid.specs.Axes.{IsInRange, sum}
+use Rattle.city_grid.specs.Axes.{Triple, IsInRange, sum}
 use Rattle.city_grid.proofs.axes.Triples.{found_at, answered, answered_in_range, refused}
 use Rattle.city_grid.proofs.vertices.moved.Goals as goal
 use Rattle.city_grid.proofs.vertices.moved.Goals.{After-ok_or}
@@ -11,9 +11,22 @@ use Rattle.city_grid.proofs.vertices.moved.Goals.{After-ok_or}
 abbrev passed : ℤ → ℤ
 passed z = to_z w64 (of_z w64 z)
 
+abbrev x_of : Triple → ℤ
+x_of steps = steps.x
+
+abbrev y_of : Triple → ℤ
+y_of steps = steps.y
+
+abbrev z_of : Triple → ℤ
+z_of steps = steps.z
+
 given : (c : After-ok_or) → SomeIff c.new.result (IsInRange (sum c.args.vertex c.args.shift)) (sum c.args.vertex c.args.shift)
 given c =
-    found_at c.new.result (record { x = passed (passed c.x.result +ℤ passed c.x-2.result); y = passed (passed c.y.result +ℤ passed c.y-2.result); z = passed (passed c.z.result +ℤ passed c.z-2.result) }) (sum c.args.vertex c.args.shift) c.new.ensures (omega (arith, ints)) (omega (arith, ints)) (omega (arith, ints))
+    let from = c.steps-from.result in
+    let by = c.steps-by.result in
+    let of_vertex = c.steps-from.ensures in
+    let of_shift = c.steps-by.ensures in
+    found_at c.new.result (record { x = passed (passed from.x +ℤ passed by.x); y = passed (passed from.y +ℤ passed by.y); z = passed (passed from.z +ℤ passed by.z) }) (sum c.args.vertex c.args.shift) c.new.ensures (omega (arith, ints, ap x_of of_vertex.value, ap x_of of_shift.value, of_vertex.range.0, of_shift.range.0)) (omega (arith, ints, ap y_of of_vertex.value, ap y_of of_shift.value, of_vertex.range.1, of_shift.range.1)) (omega (arith, ints, ap z_of of_vertex.value, ap z_of of_shift.value, of_vertex.range.2, of_shift.range.2))
 
 pub returns-clause-ok : goal.returns-clause-ok
 returns-clause-ok c = answered c.new.result (sum c.args.vertex c.args.shift) (given c) VertexRange c.ok_or.result c.ok_or.ensures.value

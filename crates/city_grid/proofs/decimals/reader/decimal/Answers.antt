@@ -1,9 +1,7 @@
-use Rattle.std.proofs.Common.{◌∙◌, sym, ap, subst}
+use Rattle.std.proofs.Common.{◌∙◌, ap}
 use Rattle.std.specs.Option.{ok_or}
 use Rattle.city_json.specs.declared.fault.Fault.TheVariants.{Decimal}
-use Rattle.city_grid.specs.Decimal.{IsUnits}
 use Rattle.city_grid.proofs.decimals.reader.decimal.Goals as goal
 
 pub returns-clause-only : goal.returns-clause-only
-returns-clause-only c = λ n units.
-    c.ok_or.ensures.value ∙ ap (λ found. ok_or found Decimal) (c.decimal_of.ensures.only n (subst (λ text. IsUnits text n) (sym c.as_bytes.ensures.bytes) units))
+returns-clause-only c = λ n units. c.ok_or.ensures.value ∙ ap (λ found. ok_or found Decimal) (c.decimal_of.ensures.only n units)

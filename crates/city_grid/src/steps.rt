@@ -1,0 +1,67 @@
+ghost use Rattle.std.specs.Prelude.{◌≡◌, ◌≤◌, ◌↔◌, IsTrue, pos, unsigned_abs};
+ghost use Rattle.std.specs.Option.{SomeIff};
+ghost use Rattle.city_grid.specs.Axes.{IsInRange, most_steps, triple};
+
+use crate::axes::Axes;
+use std::marker::Model;
+
+/// The greatest size of a component: 2^53 - 1, up to which a number in floating point is exact.
+pub const MOST_STEPS: u64 = 9_007_199_254_740_991;
+
+/// Whole steps of the grid along each axis, none above 2^53 - 1 in size.
+#[derive(Clone, Copy, Debug, PartialEq, Eq)]
+pub struct Steps {
+    axes: Axes<i64>,
+}
+
+impl Model for Steps {
+    ghost use Rattle.city_grid.specs.Axes.{Triple, IsInRange};
+
+    ghost Value = { Triple };
+
+    ghost view = { λ steps. steps.axes };
+
+    ghost invariant = { λ steps. IsInRange steps.axes };
+
+    ghost inverse = { λ axes. record { axes = axes } };
+}
+
+impl Steps {
+    pub fn zero() -> Steps
+        ensures { result ≡ triple (pos 0) (pos 0) (pos 0) }
+    {
+        Steps {
+            axes: Axes { x: 0, y: 0, z: 0 },
+        }
+    }
+
+    /// The steps of three components, where none is above 2^53 - 1 in size.
+    pub fn new(axes: Axes<i128>) -> Option<Steps>
+        ensures { SomeIff result (IsInRange axes) axes }
+    {
+        if is_few(axes.x) && is_few(axes.y) && is_few(axes.z) {
+            let axes = Axes {
+                x: axes.x as i64,
+                y: axes.y as i64,
+                z: axes.z as i64,
+            };
+            Some(Steps { axes })
+        } else {
+            None
+        }
+    }
+
+    pub fn axes(&self) -> Axes<i64>
+        ensures value { result ≡ self.now }
+        ensures range { IsInRange result }
+    {
+        self.axes
+    }
+}
+
+/// Whether a component is at most 2^53 - 1 in size.
+fn is_few(steps: i128) -> bool
+    ensures { IsTrue result ↔ (unsigned_abs steps ≤ most_steps) }
+{
+    steps.unsigned_abs() <= u128::from(MOST_STEPS)
+}
