@@ -23,6 +23,7 @@ mod printing;
 mod reading;
 #[cfg(test)]
 mod sample;
+mod sequence;
 mod short;
 mod sink;
 mod source;
@@ -49,6 +50,7 @@ pub use number_parts::NumberParts;
 pub use output::write_all;
 pub use printing::print;
 pub use reading::read;
+pub use sequence::Sequence;
 pub use sink::Sink;
 pub use source::Source;
 pub use tape::Tape;

@@ -1,0 +1,82 @@
+ghost use Rattle.std.specs.Prelude.{◌≡◌, ◌^◌, ◌<◌, [], ◌∷◌, ◌++◌, length, is_ok, if◌then◌else◌};
+
+use std::alloc::{AllocError, Global};
+use std::marker::Model;
+
+/// Items in order. A contract sees it as the list of its items.
+#[derive(Debug, Drop)]
+pub struct Sequence<T> {
+    items: Vec<T>,
+}
+
+impl<T> Model for Sequence<T> {
+    ghost use Rattle.std.specs.Prelude.{List};
+
+    ghost Value = { List T };
+
+    ghost view = { λ sequence. sequence.items.items };
+}
+
+impl<T> Sequence<T> {
+    /// A sequence of no items. It takes no memory.
+    pub fn new(alloc: Global) -> Sequence<T>
+        ensures { result ≡ [] }
+    {
+        Sequence {
+            items: Vec::new(alloc),
+        }
+    }
+
+    pub fn from_vec(items: Vec<T>) -> Sequence<T>
+        ensures { result ≡ items.items }
+    {
+        Sequence { items }
+    }
+
+    pub fn into_vec(self) -> Vec<T>
+        ensures { result.items ≡ self }
+    {
+        self.items
+    }
+
+    pub fn items(&self) -> &[T]
+        ensures { result.now ≡ self.now }
+    {
+        &self.items
+    }
+}
+
+impl<T: Drop> Sequence<T> {
+    /// Adds an item at the end.
+    ///
+    /// # Errors
+    ///
+    /// `AllocError` where there is not enough memory; then the sequence is as before.
+    pub fn push(&mut self, item: T) -> Result<(), AllocError>
+        ensures items { self.new ≡ (if is_ok result then self.old ++ item ∷ [] else self.old) }
+        ensures within { length self.new < 2 ^ 64 }
+    {
+        self.items.push(item)?;
+        Ok(())
+    }
+}
+
+#[cfg(test)]
+mod tests {
+    use crate::sequence::Sequence;
+    use std::test::Fail;
+
+    #[test]
+    fn a_sequence_keeps_its_items(rt: HostRuntime) -> Result<(), Fail> {
+        let alloc = rt.alloc();
+        let mut numbers = Sequence::from_vec(vec![in alloc; 3, 1]?);
+        numbers.push(2)?;
+        assert_eq!(rt; numbers.items(), [3, 1, 2].as_slice());
+        assert_eq!(rt; numbers.into_vec().as_slice(), [3, 1, 2].as_slice());
+        let mut names = Sequence::new(alloc);
+        assert!(rt; names.items().is_empty());
+        names.push("a")?;
+        assert_eq!(rt; names.into_vec().as_slice(), ["a"].as_slice());
+        Ok(())
+    }
+}
