@@ -1,8 +1,5 @@
-ghost use Rattle.std.specs.Prelude.{◌≡◌};
-
 use crate::note::End;
-use city_json::Line;
-use std::marker::Model;
+use city_json::{Line, Sequence};
 
 /// What is asked of a row. Tiles are counted from 0.
 #[derive(Debug, Drop)]
@@ -32,71 +29,7 @@ pub enum Reply {
 }
 
 /// Events, in order.
-#[derive(Debug, Drop)]
-pub struct Events {
-    events: Vec<Event>,
-}
-
-impl Model for Events {
-    ghost use Rattle.std.specs.Prelude.{List};
-    ghost use Rattle.tile_handoff.specs.declared.event.Event.{Event};
-
-    ghost Value = { List Event };
-
-    ghost view = { λ events. events.events.items };
-}
-
-impl Events {
-    pub fn from_vec(events: Vec<Event>) -> Events
-        ensures { result ≡ events.items }
-    {
-        Events { events }
-    }
-
-    pub fn into_vec(self) -> Vec<Event>
-        ensures { result.items ≡ self }
-    {
-        self.events
-    }
-
-    pub fn items(&self) -> &[Event]
-        ensures { result.now ≡ self.now }
-    {
-        &self.events
-    }
-}
+pub type Events = Sequence<Event>;
 
 /// Replies, in order.
-#[derive(Debug, Drop)]
-pub struct Replies {
-    replies: Vec<Reply>,
-}
-
-impl Model for Replies {
-    ghost use Rattle.std.specs.Prelude.{List};
-    ghost use Rattle.tile_handoff.specs.declared.event.Reply.{Reply};
-
-    ghost Value = { List Reply };
-
-    ghost view = { λ replies. replies.replies.items };
-}
-
-impl Replies {
-    pub fn from_vec(replies: Vec<Reply>) -> Replies
-        ensures { result ≡ replies.items }
-    {
-        Replies { replies }
-    }
-
-    pub fn into_vec(self) -> Vec<Reply>
-        ensures { result.items ≡ self }
-    {
-        self.replies
-    }
-
-    pub fn items(&self) -> &[Reply]
-        ensures { result.now ≡ self.now }
-    {
-        &self.replies
-    }
-}
+pub type Replies = Sequence<Reply>;

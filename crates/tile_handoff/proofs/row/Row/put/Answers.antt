@@ -31,6 +31,6 @@ returns c =
     let room = seen_room row t _ before c.if-tile.false c.is_full.result c.is_full.ensures c.if-is_full.false in
     let left = ap (λ x. x.ring.items) c.store.ensures ∙ ap (λ x. x ++ Line c.args.line ∷ []) after.left in
     let numbered = c.next.ensures ∙ ap (λ n. n + length c.index-tile.result.now.ring.items) before.taken ∙ ap (λ x. taken_in row.marks t + length x) before.left in
-    let marked = c.push.ensures.marks ∙ ap (λ b. cond b (c.self.inside.marks ++ record { tile = t; kind = Put; number = c.next.result } ∷ []) c.self.inside.marks) c.if-is_err.ensures.negation in
+    let marked = c.push.ensures.items ∙ ap (λ b. cond b (c.self.inside.marks ++ record { tile = t; kind = Put; number = c.next.result } ∷ []) c.self.inside.marks) c.if-is_err.ensures.negation in
     let is = stored_is c.self.inside row t (Line c.args.line) c.store.new.self c.push.new.self c.next.result c.self.view_is left numbered marked in
     record { accepted = (room, is); refused = tt; cause = tt; shape = stored_shape row _ t (Line c.args.line) is; answer = put_accepted_answer row t c.args.line _ c.requires room is }

@@ -36,7 +36,7 @@ invariant_of-self-2 c =
     let before = seen c.self.inside row t c.index-tile.result.now c.self.view_is c.self.invariant c.requires c.index-tile.ensures in
     let after = seen c.self.inside row t c.index_mut.result.now c.self.view_is c.self.invariant c.requires c.index_mut.ensures.value in
     let some = eqb-false _ _ (sym c.is_empty.ensures ∙ c.if-is_empty.false) in
-    let marked = c.push.ensures.marks ∙ ap (λ b. cond b (c.self.inside.marks ++ record { tile = t; kind = Take; number = c.index-tile.result.now.taken } ∷ []) c.self.inside.marks) c.if-is_err.ensures.negation in
+    let marked = c.push.ensures.items ∙ ap (λ b. cond b (c.self.inside.marks ++ record { tile = t; kind = Take; number = c.index-tile.result.now.taken } ∷ []) c.self.inside.marks) c.if-is_err.ensures.negation in
     row_kept_fetched c.self.inside t _ c.index_mut.result.now c.fetch.new.self c.push.new.self c.self.invariant within c.index_mut.ensures.value (omega (arith, some, ap length before.left, ap length after.left)) c.fetch.ensures.rest marked c.push.ensures.within
 
 pub returns : goal.returns
@@ -45,7 +45,7 @@ returns c =
     let t = c.args.t in
     let before = seen c.self.inside row t c.index-tile.result.now c.self.view_is c.self.invariant c.requires c.index-tile.ensures in
     let after = seen c.self.inside row t c.index_mut.result.now c.self.view_is c.self.invariant c.requires c.index_mut.ensures.value in
-    let marked = c.push.ensures.marks ∙ ap (λ b. cond b (c.self.inside.marks ++ record { tile = t; kind = Take; number = c.index-tile.result.now.taken } ∷ []) c.self.inside.marks) c.if-is_err.ensures.negation in
+    let marked = c.push.ensures.items ∙ ap (λ b. cond b (c.self.inside.marks ++ record { tile = t; kind = Take; number = c.index-tile.result.now.taken } ∷ []) c.self.inside.marks) c.if-is_err.ensures.negation in
     let left = ap (λ x. x.ring.items) c.fetch.ensures.rest ∙ ap (drop 1) after.left in
     let is = fetched_is c.self.inside row t c.fetch.new.self c.push.new.self c.index-tile.result.now.taken c.self.view_is left before.taken marked in
     let first = ap (λ x. slice_get x 0) (sym after.left) ∙ c.fetch.ensures.note in
