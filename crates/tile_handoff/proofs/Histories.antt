@@ -14,7 +14,7 @@ use Rattle.tile_handoff.specs.declared.event.Event.TheVariants.{Put, Take, Close
 use Rattle.tile_handoff.specs.declared.event.Reply.{Reply}
 use Rattle.tile_handoff.specs.declared.event.Reply.TheVariants.{Accepted, Closed, Full, Line as LineReply, End as EndReply, Drained}
 use Rattle.tile_handoff.specs.Notes.{is_end, has_end}
-use Rattle.tile_handoff.specs.History.{History, put_by, got_by, put, got, put_reply, giving, reply_to, IsLegal}
+use Rattle.tile_handoff.specs.History.{History, put_by, got_by, put, got, put_reply, reply_with, reply_to, IsLegal}
 use Rattle.tile_handoff.specs.OrderAndClose.{IsPrefix, PutsTo, InOrder, WholeAtEnd, NothingAfterClose}
 
 pub put-push : (h : History) (entry : Event × Reply) (t : ℕ) → put (h ++ entry ∷ []) t ≡ put h t ++ put_by t entry
@@ -43,14 +43,14 @@ accepted_is false false e = (refl, refl)
 
 line_is :
     (drained : Bool) (next : Option Note) (line : List ℕ)
-    → LineReply line ≡ cond drained Drained (giving next) → next ≡ Some (LineNote line)
+    → LineReply line ≡ cond drained Drained (reply_with next) → next ≡ Some (LineNote line)
 line_is true next line e = cc
 line_is false None line e = cc
 line_is false (Some (LineNote other)) line e = cc
 line_is false (Some (EndNote end)) line e = cc
 
 end_is :
-    (drained : Bool) (next : Option Note) (end : End) → EndReply end ≡ cond drained Drained (giving next)
+    (drained : Bool) (next : Option Note) (end : End) → EndReply end ≡ cond drained Drained (reply_with next)
     → next ≡ Some (EndNote end)
 end_is true next end e = cc
 end_is false None end e = cc

@@ -1,4 +1,4 @@
 pub mod Histories
 pub mod Seeing
-pub mod Standing
+pub mod Reflecting
 pub mod Taking

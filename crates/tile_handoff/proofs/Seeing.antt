@@ -12,11 +12,11 @@ use Rattle.tile_handoff.specs.declared.mark.Mark.{Mark}
 use Rattle.tile_handoff.specs.declared.mark.Kind.TheVariants.{Take as TakeKind}
 use Rattle.tile_handoff.specs.declared.row.Tile.{Tile}
 use Rattle.tile_handoff.specs.declared.row.Row.TheInside.{Inside}
-use Rattle.tile_handoff.specs.Kept.{queues, IsKept, IsWellKept}
-use Rattle.tile_handoff.specs.Queues.{Queues, SameShape, is_close, is_take, left_of, closed_in, taken_in, kind_of, stored, fetched, IsClosed, IsFull, HasRoom}
+use Rattle.tile_handoff.specs.Kept.{state_of, IsKept, IsWellKept}
+use Rattle.tile_handoff.specs.Row.{RowState, SameShape, is_close, is_take, left_of, closed_in, taken_in, kind_of, with_note, without_first, IsClosed, IsFull, HasRoom}
 
 -- a tile's fields are what contracts see of it
-pub record Seen (row : Queues) (t : ℕ) (tile : Tile) : Type 0 where
+pub record Seen (row : RowState) (t : ℕ) (tile : Tile) : Type 0 where
   pub left : tile.ring.items ≡ left_of row t
   pub capacity : tile.ring.capacity ≡ row.capacity
   pub fits : length (left_of row t) ≤ row.capacity
@@ -25,24 +25,24 @@ pub record Seen (row : Queues) (t : ℕ) (tile : Tile) : Type 0 where
 
 seen_inside :
     (inside : Inside) (t : ℕ) (tile : Tile) → IsWellKept inside → t < length inside.tiles.items
-    → tile ≡ get_or inside.tiles.items t tile → Seen (queues inside) t tile
+    → tile ≡ get_or inside.tiles.items t tile → Seen (state_of inside) t tile
 seen_inside inside t tile kept within is =
     let here : IsKept inside.capacity inside.marks t tile = subst (IsKept inside.capacity inside.marks t) (sym is) (kept.tiles t tile within) in
-    let left : tile.ring.items ≡ left_of (queues inside) t = ap (λ x. x.ring.items) is ∙ sym (get_or-map (λ x. x.ring.items) inside.tiles.items t tile [] within) in
+    let left : tile.ring.items ≡ left_of (state_of inside) t = ap (λ x. x.ring.items) is ∙ sym (get_or-map (λ x. x.ring.items) inside.tiles.items t tile [] within) in
     record { left = left; capacity = here.ring; fits = subst (λ x. length x ≤ inside.capacity) left here.fits; closed = here.closed; taken = here.taken }
 
 pub within_inside :
-    (inside : Inside) (row : Queues) (t : ℕ) → queues inside ≡ row → t < length row.left
+    (inside : Inside) (row : RowState) (t : ℕ) → state_of inside ≡ row → t < length row.left
     → t < length inside.tiles.items
 within_inside inside row t view_is within = subst (λ n. t < n) (ap (λ x. length x.left) (sym view_is) ∙ length-map inside.tiles.items (λ tile. tile.ring.items)) within
 
 pub seen :
-    (inside : Inside) (row : Queues) (t : ℕ) (tile : Tile) → queues inside ≡ row → IsWellKept inside
+    (inside : Inside) (row : RowState) (t : ℕ) (tile : Tile) → state_of inside ≡ row → IsWellKept inside
     → t < length row.left → tile ≡ get_or inside.tiles.items t tile → Seen row t tile
 seen inside row t tile view_is kept within is =
     subst (λ x. Seen x t tile) view_is (seen_inside inside t tile kept (within_inside inside row t view_is within) is)
 
-module _ (row : Queues) (t : ℕ) (tile : Tile) (sees : Seen row t tile) where
+module _ (row : RowState) (t : ℕ) (tile : Tile) (sees : Seen row t tile) where
   pub seen_closed : tile.closed ≡ true → IsClosed row t
   seen_closed closed = sym sees.closed ∙ closed
 
@@ -60,32 +60,32 @@ module _ (row : Queues) (t : ℕ) (tile : Tile) (sees : Seen row t tile) where
       (sym sees.closed ∙ open_, omega (arith, sees.fits, sees.capacity))
 
 -- the row after one tile and the marks were changed
-changed_is :
-    (inside : Inside) (row : Queues) (t : ℕ) (tile : Tile) (marks : List Mark) (notes : List Note) (mark : Mark)
-    → queues inside ≡ row → tile.ring.items ≡ notes → marks ≡ inside.marks ++ mark ∷ []
-    → queues (record { capacity = inside.capacity; tiles = with_item inside.tiles t tile; marks = marks }) ≡ record { capacity = row.capacity; marks = row.marks ++ mark ∷ []; left = set row.left t notes }
-changed_is inside row t tile marks notes mark view_is left marked =
+change_is :
+    (inside : Inside) (row : RowState) (t : ℕ) (tile : Tile) (marks : List Mark) (notes : List Note) (mark : Mark)
+    → state_of inside ≡ row → tile.ring.items ≡ notes → marks ≡ inside.marks ++ mark ∷ []
+    → state_of (record { capacity = inside.capacity; tiles = with_item inside.tiles t tile; marks = marks }) ≡ record { capacity = row.capacity; marks = row.marks ++ mark ∷ []; left = set row.left t notes }
+change_is inside row t tile marks notes mark view_is left marked =
     ap (λ x. record { capacity = inside.capacity; marks = x; left = map (λ x. x.ring.items) (set inside.tiles.items t tile) }) marked
     ∙ ap (λ x. record { capacity = inside.capacity; marks = inside.marks ++ mark ∷ []; left = x }) (map-set _ inside.tiles.items t tile ∙ ap (λ x. set (map (λ x. x.ring.items) inside.tiles.items) t x) left)
     ∙ ap (λ x. record { capacity = x.capacity; marks = x.marks ++ mark ∷ []; left = set x.left t notes }) view_is
 
-pub stored_is :
-    (inside : Inside) (row : Queues) (t : ℕ) (note : Note) (tile : Tile) (marks : List Mark) (number : ℕ)
-    → queues inside ≡ row → tile.ring.items ≡ left_of row t ++ note ∷ []
+pub with_note_is :
+    (inside : Inside) (row : RowState) (t : ℕ) (note : Note) (tile : Tile) (marks : List Mark) (number : ℕ)
+    → state_of inside ≡ row → tile.ring.items ≡ left_of row t ++ note ∷ []
     → number ≡ taken_in row.marks t + length (left_of row t)
     → marks ≡ inside.marks ++ record { tile = t; kind = kind_of note; number = number } ∷ []
-    → queues (record { capacity = inside.capacity; tiles = with_item inside.tiles t tile; marks = marks }) ≡ stored row t note
-stored_is inside row t note tile marks number view_is left numbered marked =
-    changed_is inside row t tile marks (left_of row t ++ note ∷ []) (record { tile = t; kind = kind_of note; number = number }) view_is left marked
+    → state_of (record { capacity = inside.capacity; tiles = with_item inside.tiles t tile; marks = marks }) ≡ with_note row t note
+with_note_is inside row t note tile marks number view_is left numbered marked =
+    change_is inside row t tile marks (left_of row t ++ note ∷ []) (record { tile = t; kind = kind_of note; number = number }) view_is left marked
     ∙ ap (λ n. record { capacity = row.capacity; marks = row.marks ++ record { tile = t; kind = kind_of note; number = n } ∷ []; left = set row.left t (left_of row t ++ note ∷ []) }) numbered
 
-pub fetched_is :
-    (inside : Inside) (row : Queues) (t : ℕ) (tile : Tile) (marks : List Mark) (number : ℕ)
-    → queues inside ≡ row → tile.ring.items ≡ drop 1 (left_of row t) → number ≡ taken_in row.marks t
+pub without_first_is :
+    (inside : Inside) (row : RowState) (t : ℕ) (tile : Tile) (marks : List Mark) (number : ℕ)
+    → state_of inside ≡ row → tile.ring.items ≡ drop 1 (left_of row t) → number ≡ taken_in row.marks t
     → marks ≡ inside.marks ++ record { tile = t; kind = TakeKind; number = number } ∷ []
-    → queues (record { capacity = inside.capacity; tiles = with_item inside.tiles t tile; marks = marks }) ≡ fetched row t
-fetched_is inside row t tile marks number view_is left numbered marked =
-    changed_is inside row t tile marks (drop 1 (left_of row t)) (record { tile = t; kind = TakeKind; number = number }) view_is left marked
+    → state_of (record { capacity = inside.capacity; tiles = with_item inside.tiles t tile; marks = marks }) ≡ without_first row t
+without_first_is inside row t tile marks number view_is left numbered marked =
+    change_is inside row t tile marks (drop 1 (left_of row t)) (record { tile = t; kind = TakeKind; number = number }) view_is left marked
     ∙ ap (λ n. record { capacity = row.capacity; marks = row.marks ++ record { tile = t; kind = TakeKind; number = n } ∷ []; left = set row.left t (drop 1 (left_of row t)) }) numbered
 
 -- tiles with no notes are seen as empty lists
@@ -106,12 +106,12 @@ other_mark true t u other = ne_eqb t u other
 other_mark false t u other = refl
 
 -- where one tile and the marks change, the other tiles are kept as before
-pub kept_changed :
+pub kept_by_change :
     (inside : Inside) (t : ℕ) (tile : Tile) (marks : List Mark) (mark : Mark) → IsWellKept inside
     → mark.tile ≡ t → marks ≡ inside.marks ++ mark ∷ [] → length marks < 2 ^ 64
     → IsKept inside.capacity marks t tile
     → IsWellKept (record { capacity = inside.capacity; tiles = with_item inside.tiles t tile; marks = marks })
-kept_changed inside t tile marks mark kept own marked few here = record { tiles = λ u default within. each u default (subst (λ n. u < n) (length-set inside.tiles.items t tile) within) (cases_eq u t); few = few }
+kept_by_change inside t tile marks mark kept own marked few here = record { tiles = λ u default within. each u default (subst (λ n. u < n) (length-set inside.tiles.items t tile) within) (cases_eq u t); few = few }
   where
     each :
         (u : ℕ) (default : Tile) → u < length inside.tiles.items → (u ≡ t) ⊎ (u ≡ t → ⊥)
@@ -132,13 +132,13 @@ kept_changed inside t tile marks mark kept own marked few here = record { tiles 
         })
 
 -- a tile that gave its first note is kept, with the take's mark
-kept_fetched :
+kept_by_take :
     (capacity : ℕ) (before marks : List Mark) (t number : ℕ) (tile new : Tile) → IsKept capacity before t tile
     → 0 < length tile.ring.items
     → new ≡ record { ring = buffer (drop 1 tile.ring.items) tile.ring.capacity; closed = tile.closed; taken = tile.taken + 1 }
     → marks ≡ before ++ record { tile = t; kind = TakeKind; number = number } ∷ []
     → IsKept capacity marks t new
-kept_fetched capacity before marks t number tile new was some is marked =
+kept_by_take capacity before marks t number tile new was some is marked =
     record {
       ring = ap (λ x. x.ring.capacity) is ∙ was.ring;
       fits = omega (arith, was.fits, ap (λ x. length x.ring.items) is, length-drop 1 tile.ring.items);
@@ -147,19 +147,19 @@ kept_fetched capacity before marks t number tile new was some is marked =
       within = omega (arith, was.within, ap (λ x. x.taken) is, ap (λ x. length x.ring.items) is, length-drop 1 tile.ring.items, ap length marked, length-append before (record { tile = t; kind = TakeKind; number = number } ∷ []));
     }
 
-pub row_kept_fetched :
+pub row_kept_by_take :
     (inside : Inside) (t number : ℕ) (tile new : Tile) (marks : List Mark) → IsWellKept inside
     → t < length inside.tiles.items → tile ≡ get_or inside.tiles.items t tile → 0 < length tile.ring.items
     → new ≡ record { ring = buffer (drop 1 tile.ring.items) tile.ring.capacity; closed = tile.closed; taken = tile.taken + 1 }
     → marks ≡ inside.marks ++ record { tile = t; kind = TakeKind; number = number } ∷ []
     → length marks < 2 ^ 64
     → IsWellKept (record { capacity = inside.capacity; tiles = with_item inside.tiles t new; marks = marks })
-row_kept_fetched inside t number tile new marks kept within at some is marked few =
-    kept_changed inside t new marks _ kept refl marked few
-    (kept_fetched inside.capacity inside.marks marks t number tile new (subst (IsKept inside.capacity inside.marks t) (sym at) (kept.tiles t tile within)) some is marked)
+row_kept_by_take inside t number tile new marks kept within at some is marked few =
+    kept_by_change inside t new marks _ kept refl marked few
+    (kept_by_take inside.capacity inside.marks marks t number tile new (subst (IsKept inside.capacity inside.marks t) (sym at) (kept.tiles t tile within)) some is marked)
 
-pub stored_shape : (row new : Queues) (t : ℕ) (note : Note) → new ≡ stored row t note → SameShape row new
-stored_shape row new t note is = (ap (λ x. x.capacity) is, ap (λ x. length x.left) is ∙ length-set row.left t (left_of row t ++ note ∷ []))
+pub with_note_shape : (row new : RowState) (t : ℕ) (note : Note) → new ≡ with_note row t note → SameShape row new
+with_note_shape row new t note is = (ap (λ x. x.capacity) is, ap (λ x. length x.left) is ∙ length-set row.left t (left_of row t ++ note ∷ []))
 
-pub fetched_shape : (row new : Queues) (t : ℕ) → new ≡ fetched row t → SameShape row new
-fetched_shape row new t is = (ap (λ x. x.capacity) is, ap (λ x. length x.left) is ∙ length-set row.left t (drop 1 (left_of row t)))
+pub without_first_shape : (row new : RowState) (t : ℕ) → new ≡ without_first row t → SameShape row new
+without_first_shape row new t is = (ap (λ x. x.capacity) is, ap (λ x. length x.left) is ∙ length-set row.left t (drop 1 (left_of row t)))

@@ -51,14 +51,14 @@ put_reply capacity was_put was_got =
     if has_end was_put then Closed else (if length was_put == length was_got + capacity then Full else Accepted)
 
 -- the reply that gives a note, or Empty where there is none
-abbrev pub giving : Option Note → Reply
-giving None = Empty
-giving (Some (LineNote line)) = LineReply line
-giving (Some (EndNote end)) = EndReply end
+abbrev pub reply_with : Option Note → Reply
+reply_with None = Empty
+reply_with (Some (LineNote line)) = LineReply line
+reply_with (Some (EndNote end)) = EndReply end
 
 -- a take gives the first note that was put and not yet got, until the end note was got
 abbrev pub take_reply : List Note → List Note → Reply
-take_reply was_put was_got = if has_end was_got then Drained else giving (slice_get was_put (length was_got))
+take_reply was_put was_got = if has_end was_got then Drained else reply_with (slice_get was_put (length was_got))
 
 -- the reply to an event after a history, by counting alone
 abbrev pub reply_to : ℕ → History → Event → Reply

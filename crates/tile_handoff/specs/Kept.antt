@@ -1,13 +1,13 @@
 -- What the fields of a row keep.
 use Rattle.std.specs.Prelude.{ℕ, ◌+◌, ◌^◌, ◌≡◌, ◌<◌, ◌≤◌, List, length, map, slice_index_or}
-use Rattle.tile_handoff.specs.Queues.{Queues, closed_in, taken_in}
+use Rattle.tile_handoff.specs.Row.{RowState, closed_in, taken_in}
 use Rattle.tile_handoff.specs.declared.mark.Mark.{Mark}
 use Rattle.tile_handoff.specs.declared.row.Tile.{Tile}
 use Rattle.tile_handoff.specs.declared.row.Row.TheInside.{Inside}
 
 -- the row as contracts see it
-abbrev pub queues : Inside → Queues
-queues row =
+abbrev pub state_of : Inside → RowState
+state_of row =
     record { capacity = row.capacity; marks = row.marks; left = map (λ tile. tile.ring.items) row.tiles.items }
 
 -- a tile's ring has the row's capacity and holds no more, its flag and count are those of the marks, and it was asked

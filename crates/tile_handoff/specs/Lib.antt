@@ -1,7 +1,8 @@
-pub mod Answers
 pub mod History
 pub mod Kept
 pub mod Notes
 pub mod OrderAndClose
-pub mod Queues
-pub mod StandsFor
+pub mod Refusals
+pub mod Reflects
+pub mod Row
+pub mod Takes

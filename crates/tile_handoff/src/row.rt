@@ -1,10 +1,11 @@
 ghost use Rattle.std.specs.Prelude.{◌≡◌, ◌+◌, ◌^◌, ◌<◌, ◌≤◌, ◌==◌, true, false, [], ◌∷◌, ◌++◌, drop, length, slice_get, OnOk, OnErr, IfOk, IfErr, MatchResult};
 ghost use Rattle.circular_buffer.specs.Buffer.{buffer};
-ghost use Rattle.tile_handoff.specs.Answers.{line_of, PutCause, CloseCause, RefusesPut, RefusesClose, Takes, took_of, reply_of};
+ghost use Rattle.tile_handoff.specs.Refusals.{line_of, PutCause, CloseCause, RefusesPut, RefusesClose};
+ghost use Rattle.tile_handoff.specs.Takes.{Takes, took_of, reply_of};
 ghost use Rattle.tile_handoff.specs.declared.event.Event.{Event};
 ghost use Rattle.tile_handoff.specs.declared.event.Reply.{Reply};
-ghost use Rattle.tile_handoff.specs.Queues.{fresh, left_of, stored, HasRoom, SameShape};
-ghost use Rattle.tile_handoff.specs.StandsFor.{StandsFor, Answers, WouldChange};
+ghost use Rattle.tile_handoff.specs.Row.{fresh, left_of, with_note, HasRoom, SameShape};
+ghost use Rattle.tile_handoff.specs.Reflects.{Reflects, Answers, WouldChange};
 
 use crate::mark::{Kind, Mark, Marks};
 use crate::note::{End, Note};
@@ -121,13 +122,13 @@ pub struct Row {
 }
 
 impl Model for Row {
-    ghost use Rattle.tile_handoff.specs.Queues.{Queues};
+    ghost use Rattle.tile_handoff.specs.Row.{RowState};
 
-    ghost Value = { Queues };
+    ghost Value = { RowState };
 
-    ghost use Rattle.tile_handoff.specs.Kept.{queues, IsWellKept};
+    ghost use Rattle.tile_handoff.specs.Kept.{state_of, IsWellKept};
 
-    ghost view = { queues };
+    ghost view = { state_of };
 
     ghost invariant = { IsWellKept };
 }
@@ -142,12 +143,12 @@ impl Row {
         requires tiles { (0 < tiles) × (tiles ≤ 64) }
         requires capacity { (0 < capacity) × (capacity ≤ 1024) }
         ensures fresh { IfOk result (λ row. row ≡ fresh tiles capacity) }
-        ensures stands { IfOk result (λ row. StandsFor row []) }
+        ensures reflects { IfOk result (λ row. Reflects row []) }
         ensures memory { IfErr result (λ fault. fault ≡ Fault.Memory) }
     {
-        let mut queues = Vec::with_capacity(alloc, tiles as usize).map_err(wanting)?;
+        let mut queues = Vec::with_capacity(alloc, tiles as usize).map_err(out_of_memory)?;
         for _tile in 0..tiles {
-            let tile = Tile::new(alloc, capacity).map_err(wanting)?;
+            let tile = Tile::new(alloc, capacity).map_err(out_of_memory)?;
             queues.push_reserved(tile);
         }
         Ok(Row {
@@ -166,7 +167,7 @@ impl Row {
     /// and the row is as before.
     pub fn put(&mut self, t: u32, line: Line) -> Result<(), NoPut>
         requires { t < length self.old.left }
-        ensures accepted { OnOk result (HasRoom self.old t × (self.new ≡ stored self.old t (Note.Line line))) }
+        ensures accepted { OnOk result (HasRoom self.old t × (self.new ≡ with_note self.old t (Note.Line line))) }
         ensures refused { IfErr result (λ refusal. (line_of refusal ≡ line) × (self.new ≡ self.old)) }
         ensures cause { IfErr result (PutCause self.old t) }
         ensures shape { SameShape self.old self.new }
@@ -225,7 +226,7 @@ impl Row {
         if self.marks.push(mark).is_err() {
             return Err(Fault::Memory);
         }
-        Ok(given(self.tiles[t as usize].fetch()))
+        Ok(took_of(self.tiles[t as usize].fetch()))
     }
 
     /// Puts the end note at the end of tile `t`'s queue, where it takes a place as a line does. Nothing
@@ -237,7 +238,7 @@ impl Row {
     /// else `NoClose::Memory` where there is not enough memory for the mark. The row is then as before.
     pub fn close(&mut self, t: u32, end: End) -> Result<(), NoClose>
         requires { t < length self.old.left }
-        ensures accepted { OnOk result (HasRoom self.old t × (self.new ≡ stored self.old t (Note.End end))) }
+        ensures accepted { OnOk result (HasRoom self.old t × (self.new ≡ with_note self.old t (Note.End end))) }
         ensures refused { OnErr result (self.new ≡ self.old) }
         ensures cause { IfErr result (CloseCause self.old t) }
         ensures shape { SameShape self.old self.new }
@@ -272,7 +273,7 @@ impl Row {
     }
 }
 
-fn given(note: Note) -> Took
+fn took_of(note: Note) -> Took
     ensures { result ≡ took_of note }
 {
     match note {
@@ -281,7 +282,7 @@ fn given(note: Note) -> Took
     }
 }
 
-fn wanting(_: AllocError) -> Fault
+fn out_of_memory(_: AllocError) -> Fault
     ensures { result ≡ Fault.Memory }
 {
     Fault::Memory

@@ -1,10 +1,10 @@
 ghost use Rattle.std.specs.Prelude.{◌≡◌, ◌<◌, ◌≤◌, length, IfOk, IfErr};
 ghost use Rattle.std.specs.List.{All};
-ghost use Rattle.tile_handoff.specs.Answers.{reply_of};
+ghost use Rattle.tile_handoff.specs.Takes.{reply_of};
 ghost use Rattle.tile_handoff.specs.History.{history_of, tile_of, IsLegal};
 ghost use Rattle.tile_handoff.specs.OrderAndClose.{InOrder, WholeAtEnd, NothingAfterClose};
-ghost use Rattle.tile_handoff.specs.Queues.{SameShape};
-ghost use Rattle.tile_handoff.specs.StandsFor.{StandsFor, Answers};
+ghost use Rattle.tile_handoff.specs.Row.{SameShape};
+ghost use Rattle.tile_handoff.specs.Reflects.{Reflects, Answers};
 
 use crate::event::{Event, Events, Replies, Reply};
 use crate::history::Run;
@@ -25,7 +25,7 @@ pub fn run(alloc: Global, tiles: u32, capacity: u32, events: Events) -> Result<R
     requires events { All (λ event. tile_of event < tiles) events }
     ensures one_reply_each { IfOk result (λ run. length run.replies ≡ length events) }
     ensures legal { IfOk result (λ run. IsLegal capacity (history_of events run.replies)) }
-    ensures stands { IfOk result (λ run. StandsFor run.row (history_of events run.replies)) }
+    ensures reflects { IfOk result (λ run. Reflects run.row (history_of events run.replies)) }
     ensures shape { IfOk result (λ run. (run.row.capacity ≡ capacity) × (length run.row.left ≡ tiles)) }
 
     // The law of order and close.

@@ -6,9 +6,9 @@ use Rattle.std.proofs.lemmas.Iterator.Consumers.{YieldsList-turn, YieldsList-end
 use Rattle.tile_handoff.specs.declared.event.Event.{Event}
 use Rattle.tile_handoff.specs.declared.event.Reply.{Reply}
 use Rattle.tile_handoff.specs.History.{history_of, tile_of, IsLegal}
-use Rattle.tile_handoff.specs.StandsFor.{StandsFor}
+use Rattle.tile_handoff.specs.Reflects.{Reflects}
 use Rattle.tile_handoff.proofs.Histories.{in_order, whole_at_end, nothing_after_close}
-use Rattle.tile_handoff.proofs.Standing.{legal_empty, stands_push}
+use Rattle.tile_handoff.proofs.Reflecting.{legal_empty, reflects_push}
 use Rattle.tile_handoff.proofs.runs.run.Goals as goal
 
 -- two lists of one length have one length with one more item each
@@ -28,7 +28,7 @@ loop-event-init c =
       is_finite = tt;
       answered = ap length c.new-replies.ensures.items;
       legal = legal_empty c.args.capacity;
-      stands = c.in_ok-row.ensures.stands;
+      reflects = c.in_ok-row.ensures.reflects;
       capacity = ap (λ x. x.capacity) c.in_ok-row.ensures.fresh;
       tiles = ap (λ x. length x.left) c.in_ok-row.ensures.fresh ∙ length-replicate c.args.tiles [];
     }
@@ -37,13 +37,13 @@ pub loop-event-preserved : goal.loop-event-preserved
 loop-event-preserved c =
     let before = c.loop-event in
     let grown : c.push.new.self.items ≡ c.loop-event.replies.items ++ c.in_ok-reply.reply ∷ [] = c.push.ensures.items ∙ ap (λ b. cond b (before.replies.items ++ c.in_ok-reply.reply ∷ []) before.replies.items) c.if-is_err.ensures.negation in
-    let longer = stands_push c.args.capacity before.row c.apply.new.row before.yielded before.replies.items c.push.new.self.items c.in-Some.event c.in_ok-reply.reply before.invariant.capacity before.invariant.answered grown before.invariant.legal before.invariant.stands c.in_ok-reply.ensures.answer in
+    let longer = reflects_push c.args.capacity before.row c.apply.new.row before.yielded before.replies.items c.push.new.self.items c.in-Some.event c.in_ok-reply.reply before.invariant.capacity before.invariant.answered grown before.invariant.legal before.invariant.reflects c.in_ok-reply.ensures.answer in
     record {
       can_next = tt;
       is_finite = tt;
       answered = ap length grown ∙ same_length before.replies.items c.in_ok-reply.reply before.yielded c.in-Some.event before.invariant.answered;
       legal = longer.0;
-      stands = longer.1;
+      reflects = longer.1;
       capacity = c.in_ok-reply.ensures.shape.0 ∙ before.invariant.capacity;
       tiles = c.in_ok-reply.ensures.shape.1 ∙ before.invariant.tiles;
     }
@@ -57,7 +57,7 @@ returns c =
     record {
       one_reply_each = ap length c.from_vec-replies.ensures ∙ c.loop-event.invariant.answered ∙ end.1;
       legal = legal;
-      stands = subst (StandsFor c.loop-event.row) whole c.loop-event.invariant.stands;
+      reflects = subst (Reflects c.loop-event.row) whole c.loop-event.invariant.reflects;
       shape = (c.loop-event.invariant.capacity, c.loop-event.invariant.tiles);
       in_order = in_order c.args.capacity _ legal;
       whole = whole_at_end c.args.capacity _ legal;

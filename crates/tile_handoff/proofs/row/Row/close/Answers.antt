@@ -2,9 +2,9 @@
 use Rattle.std.proofs.Common.{◌+◌, cond, [], ◌∷◌, ◌++◌, length, ap, ◌∙◌}
 use Rattle.tile_handoff.specs.declared.mark.Kind.TheVariants.{Close}
 use Rattle.tile_handoff.specs.declared.note.Note.TheVariants.{End}
-use Rattle.tile_handoff.specs.Queues.{taken_in}
-use Rattle.tile_handoff.proofs.Seeing.{seen, seen_closed, seen_full, seen_room, stored_is, stored_shape}
-use Rattle.tile_handoff.proofs.Standing.{close_closed_answer, close_full_answer, close_wanting_answer, close_accepted_answer}
+use Rattle.tile_handoff.specs.Row.{taken_in}
+use Rattle.tile_handoff.proofs.Seeing.{seen, seen_closed, seen_full, seen_room, with_note_is, with_note_shape}
+use Rattle.tile_handoff.proofs.Reflecting.{close_closed_answer, close_full_answer, close_memory_answer, close_accepted_answer}
 use Rattle.tile_handoff.proofs.row.Row.close.Goals as goal
 
 pub returns-then-tile-clause-answer : goal.returns-then-tile-clause-answer
@@ -20,7 +20,7 @@ returns-then-is_full-clause-answer c =
 pub returns-then-is_err-clause-answer : goal.returns-then-is_err-clause-answer
 returns-then-is_err-clause-answer c =
     let sees = seen c.self.inside c.args.self.now c.args.t c.index-tile.result.now c.self.view_is c.self.invariant c.requires c.index-tile.ensures in
-    close_wanting_answer c.args.self.now c.args.t c.args.end (seen_room _ _ _ sees c.if-tile.false c.is_full.result c.is_full.ensures c.if-is_full.false)
+    close_memory_answer c.args.self.now c.args.t c.args.end (seen_room _ _ _ sees c.if-tile.false c.is_full.result c.is_full.ensures c.if-is_full.false)
 
 pub returns : goal.returns
 returns c =
@@ -32,5 +32,5 @@ returns c =
     let left = ap (λ x. x.ring.items) c.close.ensures ∙ ap (λ x. x ++ End c.args.end ∷ []) after.left in
     let numbered = c.next.ensures ∙ ap (λ n. n + length c.index-tile.result.now.ring.items) before.taken ∙ ap (λ x. taken_in row.marks t + length x) before.left in
     let marked = c.push.ensures.items ∙ ap (λ b. cond b (c.self.inside.marks ++ record { tile = t; kind = Close; number = c.next.result } ∷ []) c.self.inside.marks) c.if-is_err.ensures.negation in
-    let is = stored_is c.self.inside row t (End c.args.end) c.close.new.self c.push.new.self c.next.result c.self.view_is left numbered marked in
-    record { accepted = (room, is); refused = tt; cause = tt; shape = stored_shape row _ t (End c.args.end) is; answer = close_accepted_answer row t c.args.end _ c.requires room is }
+    let is = with_note_is c.self.inside row t (End c.args.end) c.close.new.self c.push.new.self c.next.result c.self.view_is left numbered marked in
+    record { accepted = (room, is); refused = tt; cause = tt; shape = with_note_shape row _ t (End c.args.end) is; answer = close_accepted_answer row t c.args.end _ c.requires room is }

@@ -3,8 +3,8 @@ use Rattle.std.proofs.Common.{cond, [], ◌∷◌, ◌++◌, length, drop, sym, 
 use Rattle.std.specs.Prelude.{slice_get}
 use Rattle.std.proofs.lemmas.Bool.{eqb-true, eqb-false}
 use Rattle.tile_handoff.specs.declared.mark.Kind.TheVariants.{Take}
-use Rattle.tile_handoff.specs.Answers.{Takes}
-use Rattle.tile_handoff.proofs.Seeing.{seen, within_inside, fetched_is, fetched_shape, row_kept_fetched}
+use Rattle.tile_handoff.specs.Takes.{Takes}
+use Rattle.tile_handoff.proofs.Seeing.{seen, within_inside, without_first_is, without_first_shape, row_kept_by_take}
 use Rattle.tile_handoff.proofs.Taking.{takes_answer, some_left_answer, fetch_takes, none_left}
 use Rattle.tile_handoff.proofs.row.Row.take.Goals as goal
 use Rattle.tile_handoff.proofs.row.Row.take.Goals.{then-tile, else-tile}
@@ -37,7 +37,7 @@ invariant_of-self-2 c =
     let after = seen c.self.inside row t c.index_mut.result.now c.self.view_is c.self.invariant c.requires c.index_mut.ensures.value in
     let some = eqb-false _ _ (sym c.is_empty.ensures ∙ c.if-is_empty.false) in
     let marked = c.push.ensures.items ∙ ap (λ b. cond b (c.self.inside.marks ++ record { tile = t; kind = Take; number = c.index-tile.result.now.taken } ∷ []) c.self.inside.marks) c.if-is_err.ensures.negation in
-    row_kept_fetched c.self.inside t _ c.index_mut.result.now c.fetch.new.self c.push.new.self c.self.invariant within c.index_mut.ensures.value (omega (arith, some, ap length before.left, ap length after.left)) c.fetch.ensures.rest marked c.push.ensures.within
+    row_kept_by_take c.self.inside t _ c.index_mut.result.now c.fetch.new.self c.push.new.self c.self.invariant within c.index_mut.ensures.value (omega (arith, some, ap length before.left, ap length after.left)) c.fetch.ensures.rest marked c.push.ensures.within
 
 pub returns : goal.returns
 returns c =
@@ -47,7 +47,7 @@ returns c =
     let after = seen c.self.inside row t c.index_mut.result.now c.self.view_is c.self.invariant c.requires c.index_mut.ensures.value in
     let marked = c.push.ensures.items ∙ ap (λ b. cond b (c.self.inside.marks ++ record { tile = t; kind = Take; number = c.index-tile.result.now.taken } ∷ []) c.self.inside.marks) c.if-is_err.ensures.negation in
     let left = ap (λ x. x.ring.items) c.fetch.ensures.rest ∙ ap (drop 1) after.left in
-    let is = fetched_is c.self.inside row t c.fetch.new.self c.push.new.self c.index-tile.result.now.taken c.self.view_is left before.taken marked in
+    let is = without_first_is c.self.inside row t c.fetch.new.self c.push.new.self c.index-tile.result.now.taken c.self.view_is left before.taken marked in
     let first = ap (λ x. slice_get x 0) (sym after.left) ∙ c.fetch.ensures.note in
-    let takes = fetch_takes row _ t c.fetch.result c.given.result c.requires first c.given.ensures is in
-    record { took = takes; memory = tt; cause = tt; shape = fetched_shape row _ t is; answer = takes_answer row _ t c.given.result c.requires takes }
+    let takes = fetch_takes row _ t c.fetch.result c.took_of.result c.requires first c.took_of.ensures is in
+    record { took = takes; memory = tt; cause = tt; shape = without_first_shape row _ t is; answer = takes_answer row _ t c.took_of.result c.requires takes }

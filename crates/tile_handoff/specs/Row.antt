@@ -8,17 +8,17 @@ use Rattle.tile_handoff.specs.declared.mark.Kind.{Kind}
 use Rattle.tile_handoff.specs.declared.mark.Kind.TheVariants.{Put, Take, Close}
 
 -- how many notes a tile's queue may hold, the marks, and the notes left of each tile
-pub record Queues : Type 0 where
+pub record RowState : Type 0 where
   pub capacity : ℕ
   pub marks : List Mark
   pub left : List (List Note)
 
 -- a row of which nothing was asked
-abbrev pub fresh : ℕ → ℕ → Queues
+abbrev pub fresh : ℕ → ℕ → RowState
 fresh tiles capacity = record { capacity = capacity; marks = []; left = replicate tiles [] }
 
 -- the notes left of tile t
-abbrev pub left_of : Queues → ℕ → List Note
+abbrev pub left_of : RowState → ℕ → List Note
 left_of row t = slice_index_or row.left t []
 
 -- whether an event was a close
@@ -47,8 +47,8 @@ kind_of (Line line) = Put
 kind_of (End end) = Close
 
 -- the row after tile t took a note in: the note's number is that of the notes taken and left before it
-abbrev pub stored : Queues → ℕ → Note → Queues
-stored row t note =
+abbrev pub with_note : RowState → ℕ → Note → RowState
+with_note row t note =
     record {
       capacity = row.capacity;
       marks = row.marks ++ record { tile = t; kind = kind_of note; number = taken_in row.marks t + length (left_of row t) } ∷ [];
@@ -56,8 +56,8 @@ stored row t note =
     }
 
 -- the row after tile t gave its first note
-abbrev pub fetched : Queues → ℕ → Queues
-fetched row t =
+abbrev pub without_first : RowState → ℕ → RowState
+without_first row t =
     record {
       capacity = row.capacity;
       marks = row.marks ++ record { tile = t; kind = Take; number = taken_in row.marks t } ∷ [];
@@ -65,17 +65,17 @@ fetched row t =
     }
 
 -- tile t was closed
-abbrev pub IsClosed : Queues → ℕ → Type 0
+abbrev pub IsClosed : RowState → ℕ → Type 0
 IsClosed row t = closed_in row.marks t ≡ true
 
 -- tile t was not closed, and its queue is full
-abbrev pub IsFull : Queues → ℕ → Type 0
+abbrev pub IsFull : RowState → ℕ → Type 0
 IsFull row t = (closed_in row.marks t ≡ false) × (length (left_of row t) ≡ row.capacity)
 
 -- tile t was not closed, and its queue has a place left
-abbrev pub HasRoom : Queues → ℕ → Type 0
+abbrev pub HasRoom : RowState → ℕ → Type 0
 HasRoom row t = (closed_in row.marks t ≡ false) × (length (left_of row t) < row.capacity)
 
 -- two rows have the same capacity and as many tiles
-abbrev pub SameShape : Queues → Queues → Type 0
+abbrev pub SameShape : RowState → RowState → Type 0
 SameShape old new = (new.capacity ≡ old.capacity) × (length new.left ≡ length old.left)
