@@ -12,9 +12,9 @@ pub struct Run {
     pub row: Row,
 }
 
-/// The law of order and close: in a history whose replies are those by counting, what was got of each
-/// tile is a prefix of what was put, all of it where the end note was taken, and nothing is accepted
-/// after a close. It is a law of the definitions alone; the call does nothing.
+/// The law of order and close: in a history whose replies are those by counting, what was got of
+/// each tile is a prefix of what was put, all of it where the end note was taken, and nothing is
+/// accepted after a close. It is a law of the definitions alone; the call does nothing.
 pub fn order_and_close()
     ensures in_order { (capacity : ℕ) (h : History) → IsLegal capacity h → InOrder h }
     ensures whole { (capacity : ℕ) (h : History) → IsLegal capacity h → WholeAtEnd h }

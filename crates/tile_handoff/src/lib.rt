@@ -1,6 +1,6 @@
-//! The row: a queue of bounded capacity for each tile, for one thread. For every list of puts, takes and
-//! closes, what was taken from each tile is a prefix of what it put, all of it after close and drain, and
-//! nothing is accepted after close ([`run`]).
+//! The row: a queue of bounded capacity for each tile, for one thread. For every list of puts,
+//! takes and closes, what was taken from each tile is a prefix of what it put, all of it after
+//! close and drain, and nothing is accepted after close ([`run`]).
 #![tactic(auto)]
 
 mod event;
@@ -16,5 +16,5 @@ pub use event::{Event, Events, Replies, Reply};
 pub use history::{Run, order_and_close};
 pub use mark::{Kind, Mark, Marks};
 pub use note::{End, Note};
-pub use row::{NoClose, NoPut, Row, Took};
+pub use row::{MAX_CAPACITY, MAX_TILES, NoClose, NoPut, Row, Took};
 pub use runs::run;

@@ -14,6 +14,12 @@ use city_json::{Fault, Line};
 use std::alloc::{AllocError, Global};
 use std::marker::Model;
 
+/// How many tiles a row has at most.
+pub const MAX_TILES: u32 = 64;
+
+/// How many notes a tile's queue holds at most.
+pub const MAX_CAPACITY: u32 = 1024;
+
 /// Why a line was not put, with the line.
 #[derive(Debug, Drop)]
 pub enum NoPut {
@@ -140,8 +146,8 @@ impl Row {
     ///
     /// `Fault::Memory` where there is not enough memory for the queues.
     pub fn new(alloc: Global, tiles: u32, capacity: u32) -> Result<Row, Fault>
-        requires tiles { (0 < tiles) × (tiles ≤ 64) }
-        requires capacity { (0 < capacity) × (capacity ≤ 1024) }
+        requires tiles { (0 < tiles) × (tiles ≤ MAX_TILES) }
+        requires capacity { (0 < capacity) × (capacity ≤ MAX_CAPACITY) }
         ensures fresh { IfOk result (λ row. row ≡ fresh tiles capacity) }
         ensures reflects { IfOk result (λ row. Reflects row []) }
         ensures memory { IfErr result (λ fault. fault ≡ Fault.Memory) }
@@ -162,13 +168,15 @@ impl Row {
     ///
     /// # Errors
     ///
-    /// `NoPut::Closed` where the tile was closed, or else `NoPut::Full` where its queue is full, or
-    /// else `NoPut::Memory` where there is not enough memory for the mark. Each hands the line back,
-    /// and the row is as before.
+    /// `NoPut::Closed` where the tile was closed, or else `NoPut::Full` where its queue is full,
+    /// or else `NoPut::Memory` where there is not enough memory for the mark. Each hands the line
+    /// back, and the row is as before.
     pub fn put(&mut self, t: u32, line: Line) -> Result<(), NoPut>
         requires { t < length self.old.left }
-        ensures accepted { OnOk result (HasRoom self.old t × (self.new ≡ with_note self.old t (Note.Line line))) }
-        ensures refused { IfErr result (λ refusal. (line_of refusal ≡ line) × (self.new ≡ self.old)) }
+        ensures accepted { OnOk result (HasRoom self.old t
+            × (self.new ≡ with_note self.old t (Note.Line line))) }
+        ensures refused { IfErr result (λ refusal.
+            (line_of refusal ≡ line) × (self.new ≡ self.old)) }
         ensures cause { IfErr result (PutCause self.old t) }
         ensures shape { SameShape self.old self.new }
         ensures answer { MatchResult result
@@ -229,16 +237,18 @@ impl Row {
         Ok(took_of(self.tiles[t as usize].fetch()))
     }
 
-    /// Puts the end note at the end of tile `t`'s queue, where it takes a place as a line does. Nothing
-    /// more is put after it.
+    /// Puts the end note at the end of tile `t`'s queue, where it takes a place as a line does.
+    /// Nothing more is put after it.
     ///
     /// # Errors
     ///
-    /// `NoClose::Closed` where the tile was closed, or else `NoClose::Full` where its queue is full, or
-    /// else `NoClose::Memory` where there is not enough memory for the mark. The row is then as before.
+    /// `NoClose::Closed` where the tile was closed, or else `NoClose::Full` where its queue is
+    /// full, or else `NoClose::Memory` where there is not enough memory for the mark. The row is
+    /// then as before.
     pub fn close(&mut self, t: u32, end: End) -> Result<(), NoClose>
         requires { t < length self.old.left }
-        ensures accepted { OnOk result (HasRoom self.old t × (self.new ≡ with_note self.old t (Note.End end))) }
+        ensures accepted { OnOk result (HasRoom self.old t
+            × (self.new ≡ with_note self.old t (Note.End end))) }
         ensures refused { OnErr result (self.new ≡ self.old) }
         ensures cause { IfErr result (CloseCause self.old t) }
         ensures shape { SameShape self.old self.new }

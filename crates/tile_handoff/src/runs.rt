@@ -8,25 +8,26 @@ ghost use Rattle.tile_handoff.specs.Reflects.{Reflects, Answers};
 
 use crate::event::{Event, Events, Replies, Reply};
 use crate::history::Run;
-use crate::row::{NoClose, NoPut, Row, Took};
+use crate::row::{MAX_CAPACITY, MAX_TILES, NoClose, NoPut, Row, Took};
 use city_json::Fault;
 use std::alloc::Global;
 
-/// Asks the events of a new row, one after the other. The replies are those by counting, so that, of
-/// each tile, what the takes answered is a prefix of what was put, all of it where the end note was
-/// taken, and nothing is accepted after a close.
+/// Asks the events of a new row, one after the other. The replies are those by counting, so that,
+/// of each tile, what the takes answered is a prefix of what was put, all of it where the end note
+/// was taken, and nothing is accepted after a close.
 ///
 /// # Errors
 ///
 /// `Fault::Memory` where there is not enough memory for the row, its marks or the replies.
 pub fn run(alloc: Global, tiles: u32, capacity: u32, events: Events) -> Result<Run, Fault>
-    requires tiles { (0 < tiles) × (tiles ≤ 64) }
-    requires capacity { (0 < capacity) × (capacity ≤ 1024) }
+    requires tiles { (0 < tiles) × (tiles ≤ MAX_TILES) }
+    requires capacity { (0 < capacity) × (capacity ≤ MAX_CAPACITY) }
     requires events { All (λ event. tile_of event < tiles) events }
     ensures one_reply_each { IfOk result (λ run. length run.replies ≡ length events) }
     ensures legal { IfOk result (λ run. IsLegal capacity (history_of events run.replies)) }
     ensures reflects { IfOk result (λ run. Reflects run.row (history_of events run.replies)) }
-    ensures shape { IfOk result (λ run. (run.row.capacity ≡ capacity) × (length run.row.left ≡ tiles)) }
+    ensures shape { IfOk result (λ run.
+        (run.row.capacity ≡ capacity) × (length run.row.left ≡ tiles)) }
 
     // The law of order and close.
     ensures in_order { IfOk result (λ run. InOrder (history_of events run.replies)) }
