@@ -3,8 +3,8 @@ ghost use Rattle.std.specs.List.{All};
 ghost use Rattle.tile_handoff.specs.History.{tile_of};
 
 use crate::{
-    End, Event, Events, Kind, Mark, Marks, NoClose, NoPut, Replies, Reply, Row, Run, Took,
-    order_and_close, run,
+    End, Event, Events, Kind, MAX_CAPACITY, MAX_TILES, Mark, Marks, NoClose, NoPut, Replies, Reply,
+    Row, Run, Took, order_and_close, run,
 };
 use city_json::Line;
 use std::alloc::{AllocError, Global};
@@ -199,5 +199,73 @@ fn lists_keep_their_items(rt: HostRuntime) -> Result<(), Fail> {
     assert_eq!(rt; events.items().len(), 10);
     assert_eq!(rt; events.into_vec().len(), 10);
     order_and_close();
+    Ok(())
+}
+
+// The line of tile `t` with this number.
+fn numbered(alloc: Global, t: u32, number: u32) -> Result<Line, AllocError> {
+    let mut bytes = Vec::from_slice(alloc, &t.to_le_bytes())?;
+    bytes.extend_from_slice(&number.to_le_bytes())?;
+    Ok(Line::from_vec(bytes))
+}
+
+fn is_numbered(alloc: Global, line: &Line, t: u32, number: u32) -> Result<bool, AllocError> {
+    Ok(line.items() == numbered(alloc, t, number)?.items())
+}
+
+// How often each tile is asked something.
+const ROUNDS: u32 = 2054;
+
+// What tile `t` is asked in a round: to take lines in until it is full and one more, to close, to
+// give a line, to close, to take a line in, to give all that is left and once more.
+fn event_in(alloc: Global, round: u32, t: u32) -> Result<Event, AllocError>
+    requires { t < MAX_TILES }
+    ensures { IfOk result (λ event. tile_of event < MAX_TILES) }
+{
+    Ok(match round {
+        ..=1024 | 1028 => Event::Put(t, numbered(alloc, t, round)?),
+        1025 | 1027 => Event::Close(t, END),
+        _ => Event::Take(t),
+    })
+}
+
+fn is_reply_in(alloc: Global, round: u32, t: u32, reply: &Reply) -> Result<bool, AllocError> {
+    Ok(match (round, reply) {
+        (..=1023 | 1027, Reply::Accepted) => true,
+        (1024 | 1025, Reply::Full) => true,
+        (1026, Reply::Line(line)) => is_numbered(alloc, line, t, 0)?,
+        (1028, Reply::Closed) => true,
+        (1029..=2051, Reply::Line(line)) => is_numbered(alloc, line, t, round - 1028)?,
+        (2052, Reply::End(end)) => *end == END,
+        (2053, Reply::Drained) => true,
+        _ => false,
+    })
+}
+
+fn largest_row(alloc: Global) -> Result<Events, AllocError>
+    ensures { IfOk result (All (λ event. tile_of event < MAX_TILES)) }
+{
+    let mut events = Vec::new(alloc);
+    for i in 0..ROUNDS * MAX_TILES {
+        events.push(event_in(alloc, i / MAX_TILES, i % MAX_TILES)?)?;
+    }
+    Ok(Events::from_vec(events))
+}
+
+#[test]
+fn the_largest_row_is_filled_and_drained(rt: HostRuntime) -> Result<(), Fail> {
+    let alloc = rt.alloc();
+    let answer = run(alloc, MAX_TILES, MAX_CAPACITY, largest_row(alloc)?)?;
+    let replies = answer.replies.items();
+    assert_eq!(rt; replies.len(), (ROUNDS * MAX_TILES) as usize);
+    for (i, reply) in (0..ROUNDS * MAX_TILES).zip(replies) {
+        let (round, t) = (i / MAX_TILES, i % MAX_TILES);
+        assert!(rt;
+            is_reply_in(alloc, round, t, reply)?,
+            "round {round}, tile {t}: {reply:?}"
+        );
+    }
+    let marks = answer.row.marks().items();
+    assert_eq!(rt; marks.len(), (2 * (MAX_CAPACITY + 1) * MAX_TILES) as usize);
     Ok(())
 }
