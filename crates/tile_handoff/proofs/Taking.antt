@@ -5,8 +5,8 @@ use Rattle.std.proofs.lemmas.List.{get_or-set_same}
 use Rattle.tile_handoff.specs.declared.note.Note.{Note}
 use Rattle.tile_handoff.specs.declared.note.Note.TheVariants.{Line as LineNote, End as EndNote}
 use Rattle.tile_handoff.specs.declared.event.Event.TheVariants.{Take}
-use Rattle.tile_handoff.specs.declared.row.Took.{Took}
-use Rattle.tile_handoff.specs.declared.row.Took.TheVariants.{Line, End, Empty, Drained}
+use Rattle.tile_handoff.specs.declared.outcome.Took.{Took}
+use Rattle.tile_handoff.specs.declared.outcome.Took.TheVariants.{Line, End, Empty, Drained}
 use Rattle.tile_handoff.specs.Takes.{Takes, took_of, reply_of}
 use Rattle.tile_handoff.specs.Row.{RowState, left_of, without_first}
 use Rattle.tile_handoff.specs.Reflects.{Answers, WouldChange}

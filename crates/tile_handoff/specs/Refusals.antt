@@ -5,10 +5,10 @@ use Rattle.tile_handoff.specs.Reflects.{Answers, WouldChange}
 use Rattle.tile_handoff.specs.declared.event.Event.{Event}
 use Rattle.tile_handoff.specs.declared.event.Reply.{Reply}
 use Rattle.tile_handoff.specs.declared.event.Reply.TheVariants.{Closed as ClosedReply, Full as FullReply}
-use Rattle.tile_handoff.specs.declared.row.NoPut.{NoPut}
-use Rattle.tile_handoff.specs.declared.row.NoPut.TheVariants.{Closed as NoPutClosed, Full as NoPutFull, Memory as NoPutMemory}
-use Rattle.tile_handoff.specs.declared.row.NoClose.{NoClose}
-use Rattle.tile_handoff.specs.declared.row.NoClose.TheVariants.{Closed as NoCloseClosed, Full as NoCloseFull, Memory as NoCloseMemory}
+use Rattle.tile_handoff.specs.declared.outcome.NoPut.{NoPut}
+use Rattle.tile_handoff.specs.declared.outcome.NoPut.TheVariants.{Closed as NoPutClosed, Full as NoPutFull, Memory as NoPutMemory}
+use Rattle.tile_handoff.specs.declared.outcome.NoClose.{NoClose}
+use Rattle.tile_handoff.specs.declared.outcome.NoClose.TheVariants.{Closed as NoCloseClosed, Full as NoCloseFull, Memory as NoCloseMemory}
 
 -- the line that a refused put hands back
 abbrev pub line_of : NoPut → List ℕ

@@ -5,8 +5,8 @@ use Rattle.tile_handoff.specs.declared.note.Note.{Note}
 use Rattle.tile_handoff.specs.declared.note.Note.TheVariants.{Line as LineNote, End as EndNote}
 use Rattle.tile_handoff.specs.declared.event.Reply.{Reply}
 use Rattle.tile_handoff.specs.declared.event.Reply.TheVariants.{Line as LineReply, End as EndReply, Empty as EmptyReply, Drained as DrainedReply}
-use Rattle.tile_handoff.specs.declared.row.Took.{Took}
-use Rattle.tile_handoff.specs.declared.row.Took.TheVariants.{Line, End, Empty, Drained}
+use Rattle.tile_handoff.specs.declared.outcome.Took.{Took}
+use Rattle.tile_handoff.specs.declared.outcome.Took.TheVariants.{Line, End, Empty, Drained}
 
 -- what a take gives of a note
 abbrev pub took_of : Note → Took

@@ -7,6 +7,7 @@ mod event;
 mod history;
 mod mark;
 mod note;
+mod outcome;
 mod row;
 mod runs;
 #[cfg(test)]
@@ -16,5 +17,6 @@ pub use event::{Event, Events, Replies, Reply};
 pub use history::{Run, order_and_close};
 pub use mark::{Kind, Mark, Marks};
 pub use note::{End, Note};
-pub use row::{MAX_CAPACITY, MAX_TILES, NoClose, NoPut, Row, Took};
+pub use outcome::{NoClose, NoPut, Took};
+pub use row::{MAX_CAPACITY, MAX_TILES, Row};
 pub use runs::run;

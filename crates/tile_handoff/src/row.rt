@@ -9,6 +9,7 @@ ghost use Rattle.tile_handoff.specs.Reflects.{Reflects, Answers, WouldChange};
 
 use crate::mark::{Kind, Mark, Marks};
 use crate::note::{End, Note};
+use crate::outcome::{NoClose, NoPut, Took};
 use circular_buffer::HeapCircularBuffer;
 use city_json::{Fault, Line};
 use std::alloc::{AllocError, Global};
@@ -19,39 +20,6 @@ pub const MAX_TILES: u32 = 64;
 
 /// How many notes a tile's queue holds at most.
 pub const MAX_CAPACITY: u32 = 1024;
-
-/// Why a line was not put, with the line.
-#[derive(Debug, Drop)]
-pub enum NoPut {
-    /// The tile was closed.
-    Closed(Line),
-    /// The tile's queue has no place left.
-    Full(Line),
-    /// There is not enough memory for the mark.
-    Memory(Line),
-}
-
-/// Why a tile was not closed.
-#[derive(Clone, Copy, Debug, PartialEq, Eq)]
-pub enum NoClose {
-    /// The tile was closed before.
-    Closed,
-    /// The tile's queue has no place left for the end note.
-    Full,
-    /// There is not enough memory for the mark.
-    Memory,
-}
-
-/// What a take found.
-#[derive(Debug, Drop)]
-pub enum Took {
-    Line(Line),
-    End(End),
-    /// No note is there, and the end note was not taken.
-    Empty,
-    /// The end note was taken before.
-    Drained,
-}
 
 // The queue of one tile. `taken` counts the notes that were taken of it.
 #[derive(Debug, Drop)]

@@ -8,7 +8,8 @@ ghost use Rattle.tile_handoff.specs.Reflects.{Reflects, Answers};
 
 use crate::event::{Event, Events, Replies, Reply};
 use crate::history::Run;
-use crate::row::{MAX_CAPACITY, MAX_TILES, NoClose, NoPut, Row, Took};
+use crate::outcome::{NoClose, NoPut, Took};
+use crate::row::{MAX_CAPACITY, MAX_TILES, Row};
 use city_json::Fault;
 use std::alloc::Global;
 
