@@ -1,4 +1,5 @@
 pub mod Histories
-pub mod Seeing
+pub mod Queueing
 pub mod Reflecting
+pub mod Seeing
 pub mod Taking

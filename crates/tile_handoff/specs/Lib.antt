@@ -1,7 +1,10 @@
 pub mod History
 pub mod Kept
+pub mod KeptQueues
 pub mod Notes
 pub mod OrderAndClose
+pub mod QueueCalls
+pub mod Queues
 pub mod Refusals
 pub mod Reflects
 pub mod Row

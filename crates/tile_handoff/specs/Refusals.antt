@@ -3,7 +3,6 @@ use Rattle.std.specs.Prelude.{ℕ, List}
 use Rattle.tile_handoff.specs.Row.{RowState, IsClosed, IsFull, HasRoom}
 use Rattle.tile_handoff.specs.Reflects.{Answers, WouldChange}
 use Rattle.tile_handoff.specs.declared.event.Event.{Event}
-use Rattle.tile_handoff.specs.declared.event.Reply.{Reply}
 use Rattle.tile_handoff.specs.declared.event.Reply.TheVariants.{Closed as ClosedReply, Full as FullReply}
 use Rattle.tile_handoff.specs.declared.outcome.NoPut.{NoPut}
 use Rattle.tile_handoff.specs.declared.outcome.NoPut.TheVariants.{Closed as NoPutClosed, Full as NoPutFull, Memory as NoPutMemory}

@@ -8,6 +8,7 @@ mod history;
 mod mark;
 mod note;
 mod outcome;
+mod queues;
 mod row;
 mod runs;
 #[cfg(test)]
@@ -18,5 +19,6 @@ pub use history::{Run, order_and_close};
 pub use mark::{Kind, Mark, Marks};
 pub use note::{End, Note};
 pub use outcome::{NoClose, NoPut, Took};
-pub use row::{MAX_CAPACITY, MAX_TILES, Row};
+pub use queues::{MAX_CAPACITY, MAX_TILES, Queues};
+pub use row::Row;
 pub use runs::run;

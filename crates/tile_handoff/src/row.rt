@@ -1,97 +1,28 @@
-ghost use Rattle.std.specs.Prelude.{◌≡◌, ◌+◌, ◌^◌, ◌<◌, ◌≤◌, ◌==◌, true, false, [], ◌∷◌, ◌++◌, drop, length, slice_get, OnOk, OnErr, IfOk, IfErr, MatchResult};
-ghost use Rattle.circular_buffer.specs.Buffer.{buffer};
+ghost use Rattle.std.specs.Prelude.{◌≡◌, ◌<◌, ◌≤◌, [], length, OnOk, OnErr, IfOk, IfErr, MatchResult};
 ghost use Rattle.tile_handoff.specs.Refusals.{line_of, PutCause, CloseCause, RefusesPut, RefusesClose};
-ghost use Rattle.tile_handoff.specs.Takes.{Takes, took_of, reply_of};
+ghost use Rattle.tile_handoff.specs.Takes.{Takes, reply_of};
 ghost use Rattle.tile_handoff.specs.declared.event.Event.{Event};
 ghost use Rattle.tile_handoff.specs.declared.event.Reply.{Reply};
+ghost use Rattle.tile_handoff.specs.declared.note.Note.{Note};
 ghost use Rattle.tile_handoff.specs.Row.{fresh, left_of, with_note, HasRoom, SameShape};
 ghost use Rattle.tile_handoff.specs.Reflects.{Reflects, Answers, WouldChange};
 
 use crate::mark::{Kind, Mark, Marks};
-use crate::note::{End, Note};
+use crate::note::End;
 use crate::outcome::{NoClose, NoPut, Took};
-use circular_buffer::HeapCircularBuffer;
+use crate::queues::{MAX_CAPACITY, MAX_TILES, Queues, took_of};
 use city_json::{Fault, Line};
-use std::alloc::{AllocError, Global};
+use std::alloc::Global;
 use std::marker::Model;
-
-/// How many tiles a row has at most.
-pub const MAX_TILES: u32 = 64;
-
-/// How many notes a tile's queue holds at most.
-pub const MAX_CAPACITY: u32 = 1024;
-
-// The queue of one tile. `taken` counts the notes that were taken of it.
-#[derive(Debug, Drop)]
-struct Tile {
-    ring: HeapCircularBuffer<Note>,
-    closed: bool,
-    taken: u64,
-}
-
-impl Tile {
-    fn new(alloc: Global, capacity: u32) -> Result<Tile, AllocError>
-        ensures ring { IfOk result (λ tile. tile.ring ≡ buffer [] capacity) }
-        ensures open { IfOk result (λ tile. tile.closed ≡ false) }
-        ensures taken { IfOk result (λ tile. tile.taken ≡ 0) }
-    {
-        let ring = HeapCircularBuffer::with_capacity(alloc, capacity as usize)?;
-        Ok(Tile {
-            ring,
-            closed: false,
-            taken: 0,
-        })
-    }
-
-    // The number of the note that is put next.
-    fn next(&self) -> u64
-        requires { self.now.taken + length self.now.ring.items < 2 ^ 64 }
-        ensures { result ≡ self.now.taken + length self.now.ring.items }
-    {
-        self.taken + self.ring.len() as u64
-    }
-
-    fn store(&mut self, note: Note)
-        requires { length self.old.ring.items < self.old.ring.capacity }
-        ensures { self.new ≡ record self.old {
-          ring = buffer (self.old.ring.items ++ note ∷ []) self.old.ring.capacity;
-        } }
-    {
-        let _ = self.ring.try_push_back(note);
-    }
-
-    fn close(&mut self, end: End)
-        requires { length self.old.ring.items < self.old.ring.capacity }
-        ensures { self.new ≡ record self.old {
-          ring = buffer (self.old.ring.items ++ Note.End end ∷ []) self.old.ring.capacity;
-          closed = true;
-        } }
-    {
-        self.store(Note::End(end));
-        self.closed = true;
-    }
-
-    fn fetch(&mut self) -> Note
-        requires some { 0 < length self.old.ring.items }
-        requires few { self.old.taken + 1 < 2 ^ 64 }
-        ensures note { slice_get self.old.ring.items 0 ≡ Some result }
-        ensures rest { self.new ≡ record self.old {
-          ring = buffer (drop 1 self.old.ring.items) self.old.ring.capacity;
-          taken = self.old.taken + 1;
-        } }
-    {
-        self.taken += 1;
-        self.ring.pop_front().unwrap()
-    }
-}
 
 /// A queue of notes for each tile, and the marks of what was accepted. Tiles are counted from 0.
 ///
 /// A contract sees it as its capacity, its marks and the notes left of each tile.
 #[derive(Debug, Drop)]
 pub struct Row {
-    capacity: u32,
-    tiles: Vec<Tile>,
+    queues: Queues,
+    // How many notes were taken of each tile.
+    taken: Vec<u64>,
     marks: Marks,
 }
 
@@ -120,14 +51,13 @@ impl Row {
         ensures reflects { IfOk result (λ row. Reflects row []) }
         ensures memory { IfErr result (λ fault. fault ≡ Fault.Memory) }
     {
-        let mut queues = Vec::with_capacity(alloc, tiles as usize).map_err(out_of_memory)?;
-        for _tile in 0..tiles {
-            let tile = Tile::new(alloc, capacity).map_err(out_of_memory)?;
-            queues.push_reserved(tile);
-        }
+        let queues = Queues::new(alloc, tiles, capacity)?;
+        let Ok(taken) = vec![in alloc; 0; tiles as usize] else {
+            return Err(Fault::Memory);
+        };
         Ok(Row {
-            capacity,
-            tiles: queues,
+            queues,
+            taken,
             marks: Marks::new(alloc),
         })
     }
@@ -151,22 +81,21 @@ impl Row {
             (λ _. Answers self.old (Event.Put t line) Reply.Accepted self.new)
             (RefusesPut self.old (Event.Put t line)) }
     {
-        let tile = &self.tiles[t as usize];
-        if tile.closed {
+        if self.queues.is_closed(t) {
             return Err(NoPut::Closed(line));
         }
-        if tile.ring.is_full() {
+        if self.queues.is_full(t) {
             return Err(NoPut::Full(line));
         }
         let mark = Mark {
             tile: t,
             kind: Kind::Put,
-            number: tile.next(),
+            number: self.taken[t as usize] + self.queues.len(t) as u64,
         };
         if self.marks.push(mark).is_err() {
             return Err(NoPut::Memory(line));
         }
-        self.tiles[t as usize].store(Note::Line(line));
+        self.queues.store_line(t, line);
         Ok(())
     }
 
@@ -186,9 +115,8 @@ impl Row {
             (λ took. Answers self.old (Event.Take t) (reply_of took) self.new)
             (λ _. WouldChange self.old (Event.Take t)) }
     {
-        let tile = &self.tiles[t as usize];
-        if tile.ring.is_empty() {
-            return Ok(if tile.closed {
+        if self.queues.is_empty(t) {
+            return Ok(if self.queues.is_closed(t) {
                 Took::Drained
             } else {
                 Took::Empty
@@ -197,12 +125,13 @@ impl Row {
         let mark = Mark {
             tile: t,
             kind: Kind::Take,
-            number: tile.taken,
+            number: self.taken[t as usize],
         };
         if self.marks.push(mark).is_err() {
             return Err(Fault::Memory);
         }
-        Ok(took_of(self.tiles[t as usize].fetch()))
+        self.taken[t as usize] += 1;
+        Ok(took_of(self.queues.fetch(t)))
     }
 
     /// Puts the end note at the end of tile `t`'s queue, where it takes a place as a line does.
@@ -224,22 +153,21 @@ impl Row {
             (λ _. Answers self.old (Event.Close t end) Reply.Accepted self.new)
             (RefusesClose self.old (Event.Close t end)) }
     {
-        let tile = &self.tiles[t as usize];
-        if tile.closed {
+        if self.queues.is_closed(t) {
             return Err(NoClose::Closed);
         }
-        if tile.ring.is_full() {
+        if self.queues.is_full(t) {
             return Err(NoClose::Full);
         }
         let mark = Mark {
             tile: t,
             kind: Kind::Close,
-            number: tile.next(),
+            number: self.taken[t as usize] + self.queues.len(t) as u64,
         };
         if self.marks.push(mark).is_err() {
             return Err(NoClose::Memory);
         }
-        self.tiles[t as usize].close(end);
+        self.queues.store_end(t, end);
         Ok(())
     }
 
@@ -249,19 +177,4 @@ impl Row {
     {
         &self.marks
     }
-}
-
-fn took_of(note: Note) -> Took
-    ensures { result ≡ took_of note }
-{
-    match note {
-        Note::Line(line) => Took::Line(line),
-        Note::End(end) => Took::End(end),
-    }
-}
-
-fn out_of_memory(_: AllocError) -> Fault
-    ensures { result ≡ Fault.Memory }
-{
-    Fault::Memory
 }

@@ -9,7 +9,8 @@ ghost use Rattle.tile_handoff.specs.Reflects.{Reflects, Answers};
 use crate::event::{Event, Events, Replies, Reply};
 use crate::history::Run;
 use crate::outcome::{NoClose, NoPut, Took};
-use crate::row::{MAX_CAPACITY, MAX_TILES, Row};
+use crate::queues::{MAX_CAPACITY, MAX_TILES};
+use crate::row::Row;
 use city_json::Fault;
 use std::alloc::Global;
 

@@ -3,8 +3,8 @@ ghost use Rattle.std.specs.List.{All};
 ghost use Rattle.tile_handoff.specs.History.{tile_of};
 
 use crate::{
-    End, Event, Events, Kind, MAX_CAPACITY, MAX_TILES, Mark, Marks, NoClose, NoPut, Replies, Reply,
-    Row, Run, Took, order_and_close, run,
+    End, Event, Events, Kind, MAX_CAPACITY, MAX_TILES, Mark, Marks, NoClose, NoPut, Queues,
+    Replies, Reply, Row, Run, Took, order_and_close, run,
 };
 use city_json::Line;
 use std::alloc::{AllocError, Global};
@@ -182,6 +182,31 @@ fn an_end_note_takes_a_place_by_calls(rt: HostRuntime) -> Result<(), Fail> {
     assert!(rt; matches!(row.take(0)?, Took::Empty));
     assert!(rt; row.put(0, line(alloc, "x")?).is_ok());
     assert_eq!(rt; row.close(0, END), Err(NoClose::Full));
+    Ok(())
+}
+
+#[test]
+fn queues_are_filled_and_drained(rt: HostRuntime) -> Result<(), Fail> {
+    let alloc = rt.alloc();
+    let mut queues = Queues::new(alloc, 2, 2)?;
+    assert!(rt; matches!(queues.take(1), Took::Empty));
+    assert!(rt; queues.put(1, line(alloc, "x")?).is_ok());
+    assert!(rt; queues.put(1, line(alloc, "y")?).is_ok());
+    assert!(rt; queues.is_full(1) && !queues.is_full(0));
+    let full = queues.put(1, line(alloc, "z")?);
+    assert!(rt; matches!(&full, Err(NoPut::Full(back)) if is_line(back, "z")));
+    assert_eq!(rt; queues.close(1, END), Err(NoClose::Full));
+    assert!(rt; matches!(&queues.take(1), Took::Line(x) if is_line(x, "x")));
+    assert!(rt; queues.close(1, END).is_ok());
+    assert!(rt; queues.is_closed(1) && !queues.is_closed(0));
+    assert_eq!(rt; queues.len(1), 2);
+    let closed = queues.put(1, line(alloc, "w")?);
+    assert!(rt; matches!(&closed, Err(NoPut::Closed(back)) if is_line(back, "w")));
+    assert!(rt; matches!(&queues.take(1), Took::Line(y) if is_line(y, "y")));
+    assert!(rt; matches!(&queues.take(1), Took::End(end) if *end == END));
+    assert!(rt; queues.is_empty(1) && queues.is_empty(0));
+    assert!(rt; matches!(queues.take(1), Took::Drained));
+    assert_eq!(rt; queues.close(1, END), Err(NoClose::Closed));
     Ok(())
 }
 
