@@ -1,43 +1,19 @@
 -- Arrays: the items that the pass takes, one after another.
-use Rattle.std.proofs.Common.{◌≡◌, ◌++◌, ◌∙◌, ◌≤◌, ◌<◌, ◌+◌, ◌-◌, ℕ, zero, suc, List, [], ◌∷◌, Some, None, length, take, drop, map, get_or, refl, ap, sym, subst, arith, append_assoc, append-nil, slice_range, IsUtf8, Option, Bool, true, false, nat_eq, codes, length-drop, length-append, IfSome, inl, inr}
-use Rattle.std.specs.Str.{IsCharBoundary}
+use Rattle.std.proofs.Common.{◌≡◌, ◌++◌, ◌∙◌, ◌≤◌, ◌<◌, ◌+◌, ◌-◌, ℕ, List, [], ◌∷◌, length, drop, get_or, refl, ap, sym, subst, arith, append_assoc, append-nil, slice_range, Bool, true, false}
 use Rattle.std.specs.Str.Parse.{AllDigits}
 use Rattle.std.proofs.lemmas.Str.Parse.{digit_from_value}
-use Rattle.std.specs.List.{starts_with, prefix_len}
-use Rattle.std.proofs.lemmas.Str.{IsUtf8-between, IsCharBoundary-after_ascii, IsCharBoundary-before_ascii}
-use Rattle.std.proofs.lemmas.Grind.{flat_map-append}
-use Rattle.std.proofs.lemmas.Bool.{false≢true}
 use Rattle.std.proofs.lemmas.Bool.Decides.{nat_tests}
-use Rattle.std.proofs.lemmas.Slice.Eq.{bytes_eq-Decides}
-use Rattle.std.specs.Prelude.{bytes_eq}
-use Rattle.std.proofs.lemmas.List.Edits.{between_none}
-use Rattle.city_json.specs.Number.{IsNumber, IsWhole}
-use Rattle.city_json.specs.NumberAt.{number_at, past_digits}
-use Rattle.city_json.specs.ReadString.{is_plain, decoded, string_at}
-use Rattle.city_json.specs.Depth.{IsDeep}
-use Rattle.city_json.proofs.DepthLaws.{nests_as_value}
-use Rattle.city_json.proofs.CompactText.{written_run}
-use Rattle.city_json.proofs.NumberLaws.{number_starts, digits-split}
-use Rattle.city_json.proofs.NumberLaws as number_laws
-use Rattle.city_json.proofs.ReadString.{string_at-some, checked-some}
-use Rattle.city_json.proofs.StringSteps.{run_closes}
-use Rattle.std.proofs.Math.Seq.{take-add}
-use Rattle.std.proofs.lemmas.List.{drop-drop, drop_more, take_rest, take_all, take_at, drop_at, get_or-drop, take-append-drop, append_cancel_right, drop-append-le, take-append-le, map-append, drop_all}
+use Rattle.city_json.specs.NumberAt.{past_digits}
+use Rattle.city_json.proofs.NumberLaws.{digits-split}
+use Rattle.std.proofs.lemmas.List.{append_cancel_right}
 use Rattle.std.proofs.lemmas.List.Folds.{drop_split}
-use Rattle.std.specs.Borrow.{Bor}
-use Rattle.std.specs.List.{flat_map}
-use Rattle.city_json.specs.Bytes.{digit_zero, comma, colon, open_bracket, open_brace, close_bracket, close_brace, quotation_mark}
-use Rattle.city_json.specs.Compact.{written, quoted, plain, plain_items, plain_more_items, plain_members, plain_more_members}
-use Rattle.city_json.specs.Compacting.{shown, Taken, TakenItems, TakenMembers, TakenString, TakenName, TakenStart, TakenMember, IsScalarText, IsPlainString, ItemsFrom, FoundItems}
-use Rattle.city_json.specs.Fits.{most_depth, Fits, depth, IsDistinct, AreDistinctItems, AreDistinctMembers, HasDistinctNames, IsNewName}
-use Rattle.city_json.specs.Grammar.{Spells, SpellsValue, SpellsMember}
-use Rattle.city_json.specs.Members.{names}
+use Rattle.city_json.specs.Bytes.{digit_zero, comma, open_bracket, close_bracket}
+use Rattle.city_json.specs.Compact.{plain, plain_items}
+use Rattle.city_json.specs.Compacting.{shown, Taken, TakenItems, IsScalarText, ItemsFrom}
 use Rattle.city_json.specs.Reading.{after_white, is_white}
-use Rattle.city_json.specs.Strings.{SpellsString}
-use Rattle.city_json.specs.Tree.{Tree, null, boolean, number, string, array, object, ItemTrees, no_items, item, MemberTrees, no_members, member}
-use Rattle.city_json.proofs.Scanning.{after_white-splits, after_white-clear, starts_with-splits}
-use Rattle.city_json.proofs.Sound.{Found, FoundMembers, FoundMember, items-last, items-next, members-last, members-next, member-found}
-use Rattle.city_json.proofs.SpelledString.{string_at-sound}
+use Rattle.city_json.specs.Tree.{array, no_items, item}
+use Rattle.city_json.proofs.Scanning.{after_white-splits, after_white-clear}
+use Rattle.city_json.proofs.Sound.{Found, items-last, items-next}
 use Rattle.city_json.proofs.PassScalars.{scalar_taken}
 use Rattle.city_json.proofs.Places.{at_mark, drop_one, shown_one, slice_more, slice_one}
 

@@ -1,11 +1,9 @@
 -- Where the members of an object lie in its compact text.
-use Rattle.std.proofs.Common.{◌≡◌, ◌++◌, ◌∙◌, ◌≤◌, ◌<◌, ◌+◌, ◌-◌, ℕ, List, [], ◌∷◌, length, take, drop, map, refl, ap, sym, subst, arith, append_assoc, append-nil, slice_range, length-append, suc, IsUtf8}
-use Rattle.std.proofs.lemmas.List.{take_at, drop_at, map-append, take-append-le, drop-append-le}
+use Rattle.std.proofs.Common.{◌≡◌, ◌++◌, ◌∙◌, ◌≤◌, ◌+◌, ℕ, List, [], ◌∷◌, length, drop, refl, ap, sym, subst, arith, append_assoc, length-append, IsUtf8}
 use Rattle.std.proofs.lemmas.List.{append_cancel_right, length_push}
-use Rattle.std.proofs.lemmas.Slice.{between_is}
 use Rattle.city_json.specs.Bytes.{comma, colon, open_brace, close_brace}
-use Rattle.city_json.specs.Compact.{quoted, plain, plain_members}
-use Rattle.city_json.specs.Compacting.{shown, Taken, TakenMember, TakenMembers, TakenPart, TakenParts}
+use Rattle.city_json.specs.Compact.{quoted, plain}
+use Rattle.city_json.specs.Compacting.{Taken, TakenPart, TakenParts}
 use Rattle.city_json.specs.Parts.{IsPart, AreParts}
 use Rattle.city_json.specs.Fits.{HasDistinctNames, Fits, most_depth}
 use Rattle.city_json.specs.Members.{names}

@@ -1,9 +1,9 @@
 -- The compact text of an object in which one member's value was exchanged.
-use Rattle.std.proofs.Common.{◌≡◌, ◌++◌, ◌∙◌, ◌≤◌, ◌<◌, ◌+◌, ◌-◌, ℕ, zero, suc, List, [], ◌∷◌, length, take, drop, get_or, refl, ap, sym, subst, arith, append_assoc, length-append}
+use Rattle.std.proofs.Common.{◌≡◌, ◌++◌, ◌∙◌, ◌<◌, ◌+◌, ℕ, zero, suc, List, [], ◌∷◌, length, take, drop, get_or, refl, ap, sym, subst, arith, append_assoc, length-append}
 use Rattle.std.proofs.lemmas.List.{take_at, drop_at, length_push}
 use Rattle.city_json.specs.Bytes.{comma, colon}
 use Rattle.city_json.specs.Compact.{quoted, plain, plain_members, plain_more_members}
-use Rattle.city_json.specs.Parts.{IsPart, AreParts, with_value, replaced}
+use Rattle.city_json.specs.Parts.{AreParts, with_value, replaced}
 use Rattle.city_json.specs.Tree.{Tree, MemberTrees, no_members, member}
 use Rattle.city_json.specs.declared.compacting.parts.Part.{Part}
 

@@ -6,8 +6,8 @@ use Rattle.std.proofs.lemmas.Option.{none-some, same_Some, cond_some}
 use Rattle.std.specs.List.{starts_with}
 use Rattle.city_json.specs.Bytes.{comma, colon, open_bracket, open_brace, close_bracket, close_brace, quotation_mark}
 use Rattle.city_json.specs.Compacting.{FoundItems}
-use Rattle.city_json.specs.Fits.{most_depth, depth, items_depth, members_depth}
-use Rattle.city_json.specs.Grammar.{IsBlank, Spaced, SpellsValue, SpellsItems, SpellsMoreItems, SpellsMembers, SpellsMoreMembers, SpellsMember}
+use Rattle.city_json.specs.Fits.{most_depth, depth, members_depth}
+use Rattle.city_json.specs.Grammar.{IsBlank, Spaced, SpellsValue, SpellsMoreItems, SpellsMembers, SpellsMoreMembers, SpellsMember}
 use Rattle.city_json.specs.Reading.{after_white, mark_at, after_byte, start_of, word_at, scalar_at, items_at, items_after, array_from, member_at, members_at, members_after, object_from, value_at, value_from, text_at}
 use Rattle.city_json.specs.Strings.{SpellsString}
 use Rattle.city_json.specs.Tree.{Tree, null, boolean, number, string, array, object, ItemTrees, no_items, item, MemberTrees, no_members, member}

@@ -1,11 +1,10 @@
 -- What a text spells can be written.
 use Rattle.std.proofs.Common.{true, false, ℕ, List}
-use Rattle.city_json.specs.Grammar.{SpellsValue, SpellsItems, SpellsMoreItems, SpellsMember, SpellsMembers, SpellsMoreMembers, Spells}
+use Rattle.city_json.specs.Grammar.{SpellsValue, SpellsItems, SpellsMoreItems, SpellsMembers, SpellsMoreMembers, Spells}
 use Rattle.city_json.specs.Compact.{plain}
 use Rattle.city_json.specs.Tree.{Tree, null, boolean, number, string, array, object, ItemTrees, no_items, item, MemberTrees, no_members, member}
 use Rattle.city_json.specs.Writable.{IsWritable, AreWritableItems, AreWritableMembers}
-use Rattle.std.proofs.Common.{◌≡◌, IsUtf8, subst, sym}
-use Rattle.city_json.specs.Strings.{SpellsString}
+use Rattle.std.proofs.Common.{◌≡◌, subst, sym}
 use Rattle.city_json.proofs.Complete.{one_meaning}
 use Rattle.city_json.proofs.CompactLaws.{compact-spells}
 use Rattle.city_json.proofs.SpelledString.{IsUtf8-spelled}

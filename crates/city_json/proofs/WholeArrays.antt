@@ -1,5 +1,5 @@
 -- Nested arrays of whole numbers in their compact text: what one byte more in front says, and what a block of bytes does.
-use Rattle.std.proofs.Common.{◌≡◌, ◌≢◌, ◌⊎◌, ◌∙◌, ◌++◌, ◌+◌, ◌-◌, ◌<◌, ◌≤◌, ◌&&◌, ◌||◌, ◌==◌, ℕ, zero, suc, max, Bool, true, false, not, cond, eqb, List, [], ◌∷◌, length, map, replicate, leb, bit_and, ◌/◌, count_by, drop, length-drop, slice_range, take, get_or, bit_or, ◌%◌, ◌*◌, ◌^◌, pow_pos, refl, ap, sym, subst, arith, append_assoc, append-nil, inl, inr, ⊎_elim}
+use Rattle.std.proofs.Common.{◌≡◌, ◌≢◌, ◌⊎◌, ◌∙◌, ◌++◌, ◌+◌, ◌-◌, ◌<◌, ◌≤◌, ◌&&◌, ◌||◌, ◌==◌, ℕ, zero, suc, max, Bool, true, false, not, cond, List, [], ◌∷◌, length, map, replicate, leb, bit_and, ◌/◌, count_by, drop, length-drop, slice_range, take, get_or, bit_or, ◌%◌, ◌*◌, ◌^◌, pow_pos, refl, ap, sym, subst, arith, append_assoc, append-nil, inl, inr, ⊎_elim}
 use Rattle.std.proofs.lemmas.Bool.{eqb-true, false≢true, cases_Bool, cond-true, cond-false, eq-eqb, ne_eqb}
 use Rattle.std.proofs.lemmas.Bool.Decides.{nat_tests}
 use Rattle.std.proofs.Math.Nat.{pow-suc, zero-div, pow-le-pow_right}
@@ -22,11 +22,9 @@ use Rattle.std.specs.Char.{digit_value, is_ascii_digit}
 use Rattle.std.specs.Str.Parse.{AllDigits}
 use Rattle.city_json.specs.Bytes.{digit_zero, comma, open_bracket, close_bracket}
 use Rattle.city_json.specs.Compact.{plain, plain_items, plain_more_items}
-use Rattle.city_json.specs.Fits.{depth, items_depth, IsDistinct, AreDistinctItems}
 use Rattle.city_json.specs.Number.{IsNumber, IsWhole}
 use Rattle.city_json.specs.Tree.{Tree, number, array, ItemTrees, no_items, item}
 use Rattle.city_json.specs.Whole.{Stage, at_start, after_comma, after_item, in_number, IsLeft, Inside, Closes, is_place, is_wrong, begins_zero, stage_of, up, down, AreFine, StaysOpen, ups, downs, last_of, zeroed_by, IsItemsText, lag}
-use Rattle.city_json.specs.Writable.{AreWritableItems}
 use Rattle.city_json.proofs.Places.{shown_more, slice_more, slice_one}
 
 -- ---- one byte more in front

@@ -1,5 +1,5 @@
 -- What the compactor has taken of a text, and what it has written for it.
-use Rattle.std.specs.Prelude.{◌≡◌, ◌++◌, ◌+◌, ◌≤◌, ℕ, suc, List, [], ◌∷◌, Some, length, drop, slice_range, slice_index, map}
+use Rattle.std.specs.Prelude.{◌≡◌, ◌++◌, ◌≤◌, ℕ, suc, List, [], ◌∷◌, Some, length, drop, slice_range, slice_index}
 use Rattle.std.specs.List.{flat_map}
 use Rattle.city_json.specs.Bytes.{comma, close_bracket, close_brace, colon, quotation_mark}
 use Rattle.city_json.specs.Compact.{written, quoted, plain, plain_items, plain_members}
@@ -8,7 +8,7 @@ use Rattle.city_json.specs.Grammar.{SpellsValue, SpellsItems, SpellsMoreItems, S
 use Rattle.city_json.specs.Reading.{after_white}
 use Rattle.city_json.specs.ReadString.{string_at}
 use Rattle.city_json.specs.Strings.{SpellsString}
-use Rattle.city_json.specs.Tree.{Tree, ItemTrees, item, MemberTrees, no_members, member}
+use Rattle.city_json.specs.Tree.{Tree, ItemTrees, item, MemberTrees}
 use Rattle.city_json.specs.Parts.{IsPart, AreParts}
 use Rattle.city_json.specs.declared.compacting.parts.Part.{Part}
 

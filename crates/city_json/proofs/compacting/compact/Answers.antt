@@ -1,4 +1,4 @@
-use Rattle.std.proofs.Common.{◌≡◌, ◌∙◌, ap, sym, refl, arith, rules}
+use Rattle.std.proofs.Common.{◌∙◌, refl, arith}
 use Rattle.city_json.proofs.PassMembers.{text_taken}
 use Rattle.city_json.proofs.Places.{nothing_shown}
 use Rattle.city_json.proofs.compacting.compact.Goals as goal

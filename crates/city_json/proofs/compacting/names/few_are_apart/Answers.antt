@@ -1,4 +1,4 @@
-use Rattle.std.proofs.Common.{◌≡◌, ◌∙◌, ◌-◌, ap, map, get_or, length, take, drop, subst, arith, refl}
+use Rattle.std.proofs.Common.{◌≡◌, ◌∙◌, ap, map, get_or, subst, arith, refl}
 use Rattle.city_json.specs.Fits.{IsNewName}
 use Rattle.std.proofs.lemmas.List.{nil_from_length}
 use Rattle.city_json.specs.MemberName.{name_bytes}

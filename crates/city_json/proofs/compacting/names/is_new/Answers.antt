@@ -1,4 +1,4 @@
-use Rattle.std.proofs.Common.{◌≡◌, ◌∙◌, ◌+◌, false, ap, map, get_or, drop, arith}
+use Rattle.std.proofs.Common.{◌≡◌, ◌∙◌, false, ap, map, get_or, arith}
 use Rattle.std.specs.Prelude.{bytes_eq}
 use Rattle.std.proofs.lemmas.List.{drop_all}
 use Rattle.city_json.specs.MemberName.{name_bytes}

@@ -1,4 +1,4 @@
-use Rattle.std.proofs.Common.{rules, subst, sym}
+use Rattle.std.proofs.Common.{rules, subst}
 use Rattle.std.proofs.lemmas.List.Sorted.{answers_always}
 use Rattle.city_json.specs.NamePrint.{print_of}
 use Rattle.city_json.proofs.NamesApart.{TellsRise, apart_when_rising, rises}

@@ -1,4 +1,4 @@
-use Rattle.std.proofs.Common.{◌≡◌, ◌<◌, ◌≤◌, ◌∙◌, length, get_or, ap, sym, refl, arith, rules}
+use Rattle.std.proofs.Common.{◌≡◌, ◌<◌, ◌≤◌, ◌∙◌, length, get_or, refl, arith}
 use Rattle.city_json.specs.Bytes.{open_brace}
 use Rattle.city_json.proofs.PassParts.{whole_parts}
 use Rattle.city_json.proofs.Places.{drop_one, nothing_shown, shown_one}

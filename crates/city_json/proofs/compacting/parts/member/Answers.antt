@@ -1,4 +1,4 @@
-use Rattle.std.proofs.Common.{◌≡◌, ◌++◌, ◌∙◌, ℕ, List, length, drop, refl, sym, ap}
+use Rattle.std.proofs.Common.{◌∙◌, ℕ, List, drop}
 use Rattle.city_json.specs.Compacting.{shown, TakenMember}
 use Rattle.city_json.proofs.PassMembers.{member_taken}
 use Rattle.city_json.proofs.PassParts.{part_is}

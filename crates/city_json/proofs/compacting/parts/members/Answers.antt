@@ -1,4 +1,4 @@
-use Rattle.std.proofs.Common.{◌≡◌, ◌++◌, ◌≤◌, ◌<◌, ◌-◌, ◌+◌, ◌∙◌, ℕ, List, length, drop, get_or, refl, sym, arith, rules, ap, subst, map, append-nil, [], ◌∷◌}
+use Rattle.std.proofs.Common.{◌≡◌, ◌++◌, ◌≤◌, ◌<◌, ◌+◌, ◌∙◌, length, drop, get_or, refl, sym, arith, subst, append-nil, [], ◌∷◌}
 use Rattle.city_json.specs.Bytes.{comma, close_brace}
 use Rattle.city_json.specs.Compacting.{shown, TakenParts}
 use Rattle.city_json.proofs.PassMembers.{names_more}

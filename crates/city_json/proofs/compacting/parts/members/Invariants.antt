@@ -1,4 +1,4 @@
-use Rattle.std.proofs.Common.{◌≡◌, ◌++◌, ◌≤◌, ◌-◌, List, ℕ, length, drop, map}
+use Rattle.std.proofs.Common.{◌++◌, ◌≤◌, ◌-◌, List, ℕ, length, drop}
 use Rattle.city_json.specs.Compacting.{shown}
 use Rattle.city_json.specs.declared.compacting.parts.Part.{Part}
 use Rattle.city_json.proofs.PassParts.{PartsFrom, PartsWhole}

@@ -1,5 +1,5 @@
 use Rattle.std.proofs.Common.{◌≡◌, ◌≤◌, ◌<◌, ◌+◌, ◌∙◌, length, drop, get_or, refl, arith}
-use Rattle.city_json.specs.Bytes.{colon, quotation_mark}
+use Rattle.city_json.specs.Bytes.{colon}
 use Rattle.city_json.specs.Compacting.{shown}
 use Rattle.city_json.proofs.PassStrings.{start_taken}
 use Rattle.city_json.proofs.Places.{at_mark, mark_shown}

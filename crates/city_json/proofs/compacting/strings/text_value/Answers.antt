@@ -1,4 +1,3 @@
-use Rattle.std.proofs.Common.{arith, ◌+◌}
 use Rattle.city_json.proofs.PassStrings.{plain_taken, string_taken}
 use Rattle.city_json.proofs.compacting.strings.text_value.Goals as goal
 

@@ -1,6 +1,6 @@
-use Rattle.std.proofs.Common.{◌≡◌, ◌++◌, ◌≤◌, ◌<◌, ◌-◌, ◌+◌, ◌∙◌, ℕ, List, length, drop, get_or, refl, sym, arith, le_refl, rules, ap, subst, map, take, take_all, append-nil, [], ◌∷◌}
-use Rattle.std.proofs.lemmas.List.{drop_all, length_push, take_rest}
-use Rattle.city_json.specs.Bytes.{comma, colon, close_bracket, open_bracket, close_brace, open_brace, quotation_mark}
+use Rattle.std.proofs.Common.{◌≡◌, ◌≤◌, ◌<◌, ◌+◌, ◌∙◌, length, drop, get_or, refl, arith, ap, subst, take_all, append-nil, [], ◌∷◌}
+use Rattle.std.proofs.lemmas.List.{drop_all, length_push}
+use Rattle.city_json.specs.Bytes.{comma, close_bracket, open_bracket, close_brace, open_brace}
 use Rattle.city_json.specs.Compacting.{shown}
 use Rattle.city_json.specs.Reading.{after_white}
 use Rattle.city_json.proofs.WholeArrays.{whole_taken}

@@ -1,5 +1,5 @@
-use Rattle.std.proofs.Common.{◌≡◌, ◌++◌, ◌≤◌, ◌-◌, ◌+◌, ◌*◌, List, ℕ, length, take, drop, map}
-use Rattle.city_json.specs.Compacting.{shown, TakenItems, ItemsFrom}
+use Rattle.std.proofs.Common.{◌≡◌, ◌++◌, ◌≤◌, ◌-◌, ◌+◌, ◌*◌, List, ℕ, length, take, drop}
+use Rattle.city_json.specs.Compacting.{shown, ItemsFrom}
 use Rattle.city_json.specs.Reading.{after_white}
 use Rattle.city_json.proofs.PassMembers.{MembersFrom, MembersWhole}
 use Rattle.city_json.proofs.compacting.values.+value.Given as goal

@@ -1,6 +1,5 @@
-use Rattle.std.proofs.Common.{◌≡◌, ◌-◌, ◌+◌, ◌∙◌, ap, sym, arith, get_or, true, false}
-use Rattle.std.specs.Char.{is_ascii_digit}
-use Rattle.city_json.specs.Whole.{is_place, is_wrong, up, down}
+use Rattle.std.proofs.Common.{◌-◌, ◌+◌, ◌∙◌, ap, sym, arith, get_or}
+use Rattle.city_json.specs.Whole.{up, down}
 use Rattle.city_json.proofs.WholeArrays.{byte_goes, no_up, no_down}
 use Rattle.city_json.proofs.compacting.whole_arrays.after_byte.Goals as goal
 

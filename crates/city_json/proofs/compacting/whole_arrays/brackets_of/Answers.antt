@@ -1,4 +1,4 @@
-use Rattle.std.proofs.Common.{◌≡◌, ◌∙◌, ap, sym, arith, subst, ℕ, Bool, List, length, ◌==◌, ◌||◌}
+use Rattle.std.proofs.Common.{◌≡◌, ◌∙◌, ap, ℕ, Bool, List, length}
 use Rattle.std.specs.Simd.Lanes.{mask_l}
 use Rattle.city_json.specs.Whole.{lag}
 use Rattle.city_json.proofs.WholeArrays.{fine_is, ends_zeroed}

@@ -1,4 +1,3 @@
-use Rattle.std.proofs.Common.{◌≡◌, ◌∙◌, ◌+◌, ◌*◌, ◌%◌, ◌^◌, cond, arith, Bool, true, false, ℕ}
 use Rattle.city_json.proofs.WholeArrays.{lag_is, shifted_is}
 use Rattle.city_json.proofs.compacting.whole_arrays.lag.Goals as goal
 

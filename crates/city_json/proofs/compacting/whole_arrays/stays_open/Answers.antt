@@ -1,4 +1,4 @@
-use Rattle.std.proofs.Common.{◌≡◌, ◌+◌, ◌-◌, ◌∙◌, ◌≤◌, ◌<◌, ◌*◌, ◌%◌, ◌^◌, ◌/◌, ap, sym, subst, arith, refl}
+use Rattle.std.proofs.Common.{◌≡◌, ◌+◌, ◌-◌, ◌∙◌, ◌≤◌, ◌<◌, ◌*◌, ◌%◌, ◌^◌, sym, subst, arith, refl}
 use Rattle.std.proofs.Math.Nat.{mod-le}
 use Rattle.std.proofs.lemmas.Nat.{ones-le}
 use Rattle.std.specs.Int.Count.{count_trailing_zeros, ones}

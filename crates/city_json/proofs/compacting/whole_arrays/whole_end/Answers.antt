@@ -1,4 +1,4 @@
-use Rattle.std.proofs.Common.{◌≡◌, ◌≤◌, length, ◌-◌, ◌+◌, ◌∙◌, ◌++◌, [], ◌∷◌, ap, sym, subst, arith, get_or, refl, slice_range, append-nil, true}
+use Rattle.std.proofs.Common.{◌≡◌, ◌≤◌, length, ◌-◌, ◌+◌, ◌∙◌, ◌++◌, [], ◌∷◌, sym, subst, arith, get_or, refl, slice_range, append-nil, true}
 use Rattle.city_json.specs.Whole.{Closes, stage_of, is_place, at_start}
 use Rattle.city_json.proofs.WholeArrays.{two_runs, one_more_byte, whole_items}
 use Rattle.city_json.proofs.compacting.whole_arrays.whole_end.Goals as goal
