@@ -50,10 +50,10 @@ def named_files():
 
 
 def fault_table():
-    code = re.findall(r'#\[error\("(.*?)"\)\]', read("crates/city_json/src/fault.rt"))
+    code = re.findall(r'^text_of \w+ = codes "(.*?)"$', read("crates/city_json/specs/Faults.antt"), re.MULTILINE)
     table = re.findall(r"^\| (\d+) \| `(.*?)` \|", read("README.md"), re.MULTILINE)
     if table != [(str(number), text) for number, text in enumerate(code, 1)]:
-        wrong.append("the README's table of faults is not that of crates/city_json/src/fault.rt")
+        wrong.append("the README's table of faults is not that of crates/city_json/specs/Faults.antt")
 
 
 def links():

@@ -1,75 +1,44 @@
-ghost use Rattle.std.specs.Prelude.{◌≡◌, ◌⊎◌, ◌<◌, IfSome, IfNone};
-ghost use Rattle.city_json.specs.Faults.{number_of};
+ghost use Rattle.std.specs.Prelude.{◌≡◌, ◌⊎◌, ◌<◌, ◌≤◌, length, IfSome, IfNone};
+ghost use Rattle.city_json.specs.Faults.{number_of, text_of};
 
-use thiserror::Error;
+use std::error::Error;
+use std::fmt;
 
-/// Why a call was refused. The message is the text that a fault line shows; the number, from 1 to 32,
-/// is the place in this list.
-#[derive(Clone, Copy, Debug, PartialEq, Eq, Error)]
+/// Why a call was refused. The number, from 1 to 32, is the place in this list; the text is what a fault
+/// line shows.
+#[derive(Clone, Copy, Debug, PartialEq, Eq)]
 pub enum Fault {
-    #[error("the stream has no header line")]
     NoHeader = 1,
-    #[error("the line is not UTF-8")]
     NotUtf8,
-    #[error("the line is not a JSON text")]
     Syntax,
-    #[error("the JSON text is nested too deeply")]
     TooDeep,
-    #[error("a name is repeated in an object")]
     DuplicateName,
-    #[error("the object is not a CityJSON object")]
     NotCityJson,
-    #[error("the version is not 2.0")]
     Version,
-    #[error("the transform is missing or malformed")]
     NoTransform,
-    #[error("a transform number is outside the profile")]
     Decimal,
-    #[error("a scale is not above zero")]
     ScaleNotPositive,
-    #[error("the header holds city objects or vertices")]
     HeaderNotEmpty,
-    #[error("the scale differs from tile 1")]
     ScaleDiffers,
-    #[error("the reference system differs from tile 1")]
     CrsDiffers,
-    #[error("the translation is off the grid")]
     OffGrid,
-    #[error("the shift is out of range")]
     ShiftRange,
-    #[error("an extension differs between tiles")]
     ExtensionClash,
-    #[error("geometry templates differ between tiles")]
     TemplatesDiffer,
-    #[error("the line is not a CityJSONFeature")]
     NotAFeature,
-    #[error("a vertex is not three numbers")]
     VertexShape,
-    #[error("a vertex number is not written as a whole number")]
     VertexNotInteger,
-    #[error("a vertex number is out of range")]
     VertexRange,
-    #[error("the line is too long")]
     LineTooLong,
-    #[error("the tile is too long")]
     TileTooLong,
-    #[error("the tile could not be read")]
     Read,
-    #[error("the output could not be written")]
     Write,
-    #[error("there is not enough memory")]
     Memory,
-    #[error("a thread could not be started")]
     NoThread,
-    #[error("the hand-off could not be confirmed")]
     Handoff,
-    #[error("there are more than 64 tiles")]
     TooManyTiles,
-    #[error("a child is missing")]
     ChildMissing,
-    #[error("a city object belongs to no feature")]
     Orphan,
-    #[error("a boundary index is wrong")]
     BoundaryIndex,
 }
 
@@ -122,7 +91,61 @@ impl Fault {
             _ => return None,
         })
     }
+
+    /// The fault's text, in ASCII and without a full stop.
+    pub fn text(&self) -> &'static str
+        ensures text { result.now ≡ text_of self.now }
+        ensures short { length result.now ≤ 48 }
+    {
+        match self {
+            Fault::NoHeader => "the stream has no header line",
+            Fault::NotUtf8 => "the line is not UTF-8",
+            Fault::Syntax => "the line is not a JSON text",
+            Fault::TooDeep => "the JSON text is nested too deeply",
+            Fault::DuplicateName => "a name is repeated in an object",
+            Fault::NotCityJson => "the object is not a CityJSON object",
+            Fault::Version => "the version is not 2.0",
+            Fault::NoTransform => "the transform is missing or malformed",
+            Fault::Decimal => "a transform number is outside the profile",
+            Fault::ScaleNotPositive => "a scale is not above zero",
+            Fault::HeaderNotEmpty => "the header holds city objects or vertices",
+            Fault::ScaleDiffers => "the scale differs from tile 1",
+            Fault::CrsDiffers => "the reference system differs from tile 1",
+            Fault::OffGrid => "the translation is off the grid",
+            Fault::ShiftRange => "the shift is out of range",
+            Fault::ExtensionClash => "an extension differs between tiles",
+            Fault::TemplatesDiffer => "geometry templates differ between tiles",
+            Fault::NotAFeature => "the line is not a CityJSONFeature",
+            Fault::VertexShape => "a vertex is not three numbers",
+            Fault::VertexNotInteger => "a vertex number is not written as a whole number",
+            Fault::VertexRange => "a vertex number is out of range",
+            Fault::LineTooLong => "the line is too long",
+            Fault::TileTooLong => "the tile is too long",
+            Fault::Read => "the tile could not be read",
+            Fault::Write => "the output could not be written",
+            Fault::Memory => "there is not enough memory",
+            Fault::NoThread => "a thread could not be started",
+            Fault::Handoff => "the hand-off could not be confirmed",
+            Fault::TooManyTiles => "there are more than 64 tiles",
+            Fault::ChildMissing => "a child is missing",
+            Fault::Orphan => "a city object belongs to no feature",
+            Fault::BoundaryIndex => "a boundary index is wrong",
+        }
+    }
 }
+
+impl fmt::Display for Fault {
+    ghost use Rattle.std.specs.Prelude.{Some};
+    ghost use Rattle.city_json.specs.Faults.{text_of};
+
+    ghost output = { λ fault. Some (text_of fault) };
+
+    fn fmt<W: fmt::Write>(&self, f: &mut fmt::Formatter<W>) -> fmt::Result {
+        f.write_str(self.text())
+    }
+}
+
+impl Error for Fault {}
 
 #[cfg(test)]
 mod tests {
@@ -130,77 +153,19 @@ mod tests {
     use std::test::Fail;
 
     #[test]
-    fn each_fault_has_its_number_and_its_text(rt: HostRuntime) -> Result<(), Fail> {
-        let table: [(u8, Fault, &str); 32] = [
-            (1, Fault::NoHeader, "the stream has no header line"),
-            (2, Fault::NotUtf8, "the line is not UTF-8"),
-            (3, Fault::Syntax, "the line is not a JSON text"),
-            (4, Fault::TooDeep, "the JSON text is nested too deeply"),
-            (5, Fault::DuplicateName, "a name is repeated in an object"),
-            (6, Fault::NotCityJson, "the object is not a CityJSON object"),
-            (7, Fault::Version, "the version is not 2.0"),
-            (
-                8,
-                Fault::NoTransform,
-                "the transform is missing or malformed",
-            ),
-            (
-                9,
-                Fault::Decimal,
-                "a transform number is outside the profile",
-            ),
-            (10, Fault::ScaleNotPositive, "a scale is not above zero"),
-            (
-                11,
-                Fault::HeaderNotEmpty,
-                "the header holds city objects or vertices",
-            ),
-            (12, Fault::ScaleDiffers, "the scale differs from tile 1"),
-            (
-                13,
-                Fault::CrsDiffers,
-                "the reference system differs from tile 1",
-            ),
-            (14, Fault::OffGrid, "the translation is off the grid"),
-            (15, Fault::ShiftRange, "the shift is out of range"),
-            (
-                16,
-                Fault::ExtensionClash,
-                "an extension differs between tiles",
-            ),
-            (
-                17,
-                Fault::TemplatesDiffer,
-                "geometry templates differ between tiles",
-            ),
-            (18, Fault::NotAFeature, "the line is not a CityJSONFeature"),
-            (19, Fault::VertexShape, "a vertex is not three numbers"),
-            (
-                20,
-                Fault::VertexNotInteger,
-                "a vertex number is not written as a whole number",
-            ),
-            (21, Fault::VertexRange, "a vertex number is out of range"),
-            (22, Fault::LineTooLong, "the line is too long"),
-            (23, Fault::TileTooLong, "the tile is too long"),
-            (24, Fault::Read, "the tile could not be read"),
-            (25, Fault::Write, "the output could not be written"),
-            (26, Fault::Memory, "there is not enough memory"),
-            (27, Fault::NoThread, "a thread could not be started"),
-            (28, Fault::Handoff, "the hand-off could not be confirmed"),
-            (29, Fault::TooManyTiles, "there are more than 64 tiles"),
-            (30, Fault::ChildMissing, "a child is missing"),
-            (31, Fault::Orphan, "a city object belongs to no feature"),
-            (32, Fault::BoundaryIndex, "a boundary index is wrong"),
-        ];
-        for (number, fault, text) in table {
-            assert_eq!(rt; fault.number(), number);
-            assert_eq!(rt; Fault::of(number), Some(fault));
-            assert_eq!(rt; format!(in rt.alloc(); "{fault}")?.as_str(), text);
+    fn a_fault_has_a_number_and_a_text(rt: HostRuntime) -> Result<(), Fail> {
+        for number in 1..=32u8 {
+            let fault = Fault::of(number);
+            assert_eq!(rt; fault.map(|fault| fault.number()), Some(number));
         }
         for number in [0, 33, 255] {
             assert_eq!(rt; Fault::of(number), None);
         }
+        assert_eq!(rt; Fault::of(24), Some(Fault::Read));
+        assert_eq!(rt;
+            format!(in rt.alloc(); "{}", Fault::Read)?.as_str(),
+            "the tile could not be read"
+        );
         Ok(())
     }
 }

@@ -1,3 +1,4 @@
+pub mod FaultLine
 pub mod NextLine
 pub mod Outcome
 pub mod Progress

@@ -1,7 +1,6 @@
 ghost use Rattle.std.specs.Prelude.{◌≡◌};
 
 use city_json::Fault;
-use std::fmt;
 
 /// A refusal, and where it belongs: a tile counted from 1, or 0, and a line of it counted from 1, or 0.
 #[derive(Clone, Copy, Debug, PartialEq, Eq)]
@@ -31,20 +30,6 @@ impl MergeFault {
             tile: 0,
             line: 0,
             fault,
-        }
-    }
-}
-
-/// The tile, the line and the fault's own text; what is 0 is left out.
-impl fmt::Display for MergeFault {
-    fn fmt<W: fmt::Write>(&self, f: &mut fmt::Formatter<W>) -> fmt::Result {
-        let MergeFault { tile, line, fault } = *self;
-        if tile == 0 {
-            write!(f, "{fault}")
-        } else if line == 0 {
-            write!(f, "tile {tile}: {fault}")
-        } else {
-            write!(f, "tile {tile} line {line}: {fault}")
         }
     }
 }

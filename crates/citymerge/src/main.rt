@@ -3,6 +3,7 @@
 
 mod compact;
 mod fault;
+mod fault_line;
 mod limits;
 mod lines;
 mod report;

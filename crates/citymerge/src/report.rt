@@ -1,17 +1,17 @@
 ghost use Rattle.std.specs.Prelude.{◌≡◌};
+ghost use Rattle.citymerge.specs.FaultLine.{WroteOrFailed, fault_line};
 
 use crate::fault::MergeFault;
+use crate::fault_line::FaultLine;
 use city_json::{Sink, write_all};
-use std::fmt::InlineText;
-
-/// More bytes than any fault line has.
-const LINE_ROOM: usize = 128;
 
 /// Writes the fault line, and answers the status of a refusal, whatever becomes of the write.
-pub fn report_fault<E: Sink>(fault: &MergeFault, errors: &mut E) -> u8
-    ensures { result ≡ 1 }
+pub fn report_fault<E: Sink>(refusal: &MergeFault, errors: &mut E) -> u8
+    ensures status { result ≡ 1 }
+    ensures line { WroteOrFailed (fault_line refusal.now) (E.taken errors.old) (E.taken errors.new)
+        (E.failures errors.old) (E.failures errors.new) }
 {
-    let line = InlineText::<{ LINE_ROOM }>::of(format_args!("citymerge: {fault}\n"));
-    let _ = write_all(errors, line.as_str().as_bytes());
+    let line = FaultLine::of(refusal);
+    let _ = write_all(errors, line.as_bytes());
     1
 }

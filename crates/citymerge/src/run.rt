@@ -1,6 +1,7 @@
 ghost use Rattle.std.specs.Prelude.{◌≡◌, ◌⊎◌, ℕ};
 ghost use Rattle.city_json.specs.Failures.{one_more};
 ghost use Rattle.city_json.specs.declared.fault.Fault.TheVariants.{Read};
+ghost use Rattle.citymerge.specs.FaultLine.{WroteOrFailed, fault_line};
 ghost use Rattle.citymerge.specs.Outcome.{SomeTile, WroteStream, IsRefusal, failures_after};
 ghost use Rattle.citymerge.specs.declared.fault.MergeFault.{MergeFault};
 
@@ -25,7 +26,10 @@ pub fn run_filter<S: Source, W: Sink, E: Sink>(
     ensures refused { result ≡ 1 → (e : MergeFault)
         × IsRefusal (S.gives input.old) e.fault e.tile e.line (W.taken output.old) (W.taken output.new)
         × (W.failures output.new ≡ failures_after e.fault (W.failures output.old))
-        × (e.fault ≡ Read → S.failures input.new ≡ one_more (S.failures input.old)) }
+        × (e.fault ≡ Read → S.failures input.new ≡ one_more (S.failures input.old))
+        × WroteOrFailed (fault_line e) (E.taken errors.old) (E.taken errors.new)
+        (E.failures errors.old) (E.failures errors.new) }
+    ensures silent { result ≡ 0 → errors.new ≡ errors.old }
 {
     match plain_stream(alloc, input, output) {
         Ok(_) => 0,
