@@ -46,6 +46,25 @@ expect 'a name twice' '1||citymerge: tile 1 line 1: a name is repeated in an obj
 head -c 129 /dev/zero | tr '\0' '[' >"$room/in"
 expect 'nested too deeply' '1||citymerge: tile 1 line 1: the JSON text is nested too deeply' "$(answer filter)"
 
+# a large text that is compact comes out as it went in
+stays() {
+    timeout 60 "$program" filter <"$room/in" >"$room/out" 2>"$room/errors"
+    expect "$1" '0||same' "$?|$(cat "$room/errors")|$(cmp "$room/in" "$room/out" && echo same)"
+}
+{ printf '"'; head -c 3000000 /dev/zero | tr '\0' a; printf '"\n'; } >"$room/in"
+stays 'a string of 3 MB'
+{ head -c 1000000 /dev/zero | tr '\0' 7; echo; } >"$room/in"
+stays 'a number of 1,000,000 digits'
+{ printf '['; yes '1,' | tr -d '\n' | head -c 1000000; printf '1]\n'; } >"$room/in"
+stays 'an array of 500,001 items'
+yes '[1]' | head -n 100000 >"$room/in"
+stays '100,000 lines'
+
+# memory for the tile and not for the text of its one line, and not even for the tile
+{ printf '['; yes '1,' | tr -d '\n' | head -c 60000000; printf '1]\n'; } >"$room/in"
+expect 'no memory at line 1' '1||citymerge: tile 1 line 1: there is not enough memory' "$(ulimit -v 120000; answer filter)"
+expect 'no memory for the tile' '1||citymerge: there is not enough memory' "$(ulimit -v 40000; answer filter)"
+
 # a directory can be opened, and cannot be read
 timeout 60 "$program" filter <"$room" >"$room/out" 2>"$room/errors"
 expect 'a read that fails' '1|citymerge: tile 1 line 1: the tile could not be read' "$?|$(cat "$room/errors")"

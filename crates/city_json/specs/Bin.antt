@@ -1,15 +1,16 @@
 -- What a contract sees of a bin.
-use Rattle.std.specs.Prelude.{◌-◌, ℕ, Bool, List, [], ◌∷◌, length, min, nat_le, if◌then◌else◌, Result, Ok, Err}
+use Rattle.std.specs.Prelude.{◌-◌, ℕ, suc, Bool, false, List, [], ◌∷◌, length, min, nat_le, if◌then◌else◌, Result, Ok, Err}
 use Rattle.city_json.specs.declared.fault.Fault.{Fault}
 use Rattle.city_json.specs.declared.fault.Fault.TheVariants.{Write}
 
 -- The bytes that it holds, how many it has room for, how many a write takes at most, whether a flush
--- fails, and how many calls failed.
+-- fails, whether all bytes were flushed, and how many calls failed.
 pub record BinState : Type 0 where
   pub bytes : List ℕ
   pub room : ℕ
   pub step : ℕ
   pub flush_fails : Bool
+  pub flushed : Bool
   pub failures : ℕ
 
 -- What a write of these bytes answers: how many it takes, or an error where there is no room left.
@@ -18,3 +19,8 @@ bin_answer bin [] = Ok 0
 bin_answer bin (first ∷ others) =
     if nat_le bin.room (length bin.bytes) then Err Write
     else Ok (min (min (length (first ∷ others)) (bin.room - length bin.bytes)) bin.step)
+
+-- whether all bytes were flushed, after a write with this answer: not where it took some
+abbrev pub flushed_after : Result ℕ Fault → Bool → Bool
+flushed_after (Ok (suc count)) flushed = false
+flushed_after other flushed = flushed

@@ -1,7 +1,7 @@
-ghost use Rattle.std.specs.Prelude.{◌≡◌, ◌≤◌, ◌↔◌, Some, [], length, IfOk, IfErr, IsErr, IsTrue};
+ghost use Rattle.std.specs.Prelude.{◌≡◌, ◌≤◌, ◌↔◌, true, Some, [], length, IfOk, IfErr, IsErr, IsTrue, OnOk, OnErr};
 ghost use Rattle.std.specs.Io.KnownBytes.{Keeps, WriteAppends};
 ghost use Rattle.city_json.specs.Failures.{after_call, after_write};
-ghost use Rattle.city_json.specs.Bin.{BinState, bin_answer};
+ghost use Rattle.city_json.specs.Bin.{BinState, bin_answer, flushed_after};
 
 use crate::fault::Fault;
 use crate::sink::Sink;
@@ -15,6 +15,7 @@ pub struct Bin {
     room: usize,
     step: usize,
     flush_fails: bool,
+    flushed: bool,
     failures: u64,
 }
 
@@ -24,7 +25,7 @@ impl Model for Bin {
 
     ghost Value = { BinState };
 
-    ghost view = { λ bin. record { bytes = bin.bytes.items; room = bin.room; step = bin.step; flush_fails = bin.flush_fails; failures = bin.failures } };
+    ghost view = { λ bin. record { bytes = bin.bytes.items; room = bin.room; step = bin.step; flush_fails = bin.flush_fails; flushed = bin.flushed; failures = bin.failures } };
 
     ghost invariant = { λ bin. (vec_len bin.bytes ≤ bin.room) × (bin.room ≤ vec_capacity bin.bytes) };
 }
@@ -36,7 +37,7 @@ impl Bin {
     ///
     /// `Fault::Memory` where there is not enough memory for `room` bytes.
     pub fn new(alloc: Global, room: usize, step: usize, flush_fails: bool) -> Result<Bin, Fault>
-        ensures made { IfOk result (λ bin. bin ≡ record { bytes = []; room = room; step = step; flush_fails = flush_fails; failures = 0 }) }
+        ensures made { IfOk result (λ bin. bin ≡ record { bytes = []; room = room; step = step; flush_fails = flush_fails; flushed = true; failures = 0 }) }
         ensures fault { IfErr result (λ fault. fault ≡ Fault.Memory) }
     {
         match Vec::with_capacity(alloc, room) {
@@ -45,6 +46,7 @@ impl Bin {
                 room,
                 step,
                 flush_fails,
+                flushed: true,
                 failures: 0,
             }),
             Err(_) => Err(Fault::Memory),
@@ -62,6 +64,8 @@ impl Bin {
 impl Sink for Bin {
     ghost taken = { λ bin. Some bin.bytes };
 
+    ghost is_flushed = { λ bin. bin.flushed ≡ true };
+
     ghost failures = { λ bin. bin.failures };
 
     fn write(&mut self, from: &[u8]) -> Result<usize, Fault>
@@ -70,9 +74,10 @@ impl Sink for Bin {
         ensures failures { self.new.failures ≡ after_write result from.now self.old.failures }
         ensures fault { IfErr result (λ fault. fault ≡ Fault.Write) }
 
-        // The whole answer; all but the bytes and the count of failures stays.
+        // The whole answer; what a bin is made with stays.
         ensures answer { result ≡ bin_answer self.old from.now }
-        ensures same { self.new ≡ record self.old { bytes = self.new.bytes; failures = self.new.failures } }
+        ensures flushed { self.new.flushed ≡ flushed_after result self.old.flushed }
+        ensures same { self.new ≡ record self.old { bytes = self.new.bytes; flushed = self.new.flushed; failures = self.new.failures } }
     {
         if from.is_empty() {
             return Ok(0);
@@ -87,23 +92,28 @@ impl Sink for Bin {
         }
         if count == 0 {
             self.failures = self.failures.saturating_add(1);
+            return Ok(0);
         }
+        self.flushed = false;
         Ok(count)
     }
 
     fn flush(&mut self) -> Result<(), Fault>
         ensures bytes { Keeps (Some self.old.bytes) (Some self.new.bytes) }
+        ensures flushed { OnOk result (self.new.flushed ≡ true) }
         ensures failures { self.new.failures ≡ after_call result self.old.failures }
         ensures fault { IfErr result (λ fault. fault ≡ Fault.Write) }
 
-        // The whole answer; all but the count of failures stays.
+        // The whole answer; all but whether it was flushed and the count of failures stays.
         ensures answer { IsErr result ↔ IsTrue self.old.flush_fails }
-        ensures same { self.new ≡ record self.old { failures = self.new.failures } }
+        ensures unflushed { OnErr result (self.new.flushed ≡ self.old.flushed) }
+        ensures same { self.new ≡ record self.old { flushed = self.new.flushed; failures = self.new.failures } }
     {
         if self.flush_fails {
             self.failures = self.failures.saturating_add(1);
             return Err(Fault::Write);
         }
+        self.flushed = true;
         Ok(())
     }
 }

@@ -49,6 +49,9 @@ impl<T: Write> Sink for Device<T> {
 
     ghost taken = { λ device. T.contents (inner_of device) };
 
+    // Of what a flush of the standard library does nothing is known.
+    ghost is_flushed = { λ _. Unit {0} };
+
     ghost failures = { failures_of };
 
     fn write(&mut self, from: &[u8]) -> Result<usize, Fault> {
@@ -108,6 +111,56 @@ mod tests {
         assert_eq!(rt; device.write(b"abc"), Err(Fault::Write));
         assert_eq!(rt; device.flush(), Err(Fault::Write));
         assert_eq!(rt; device.failures, 3);
+    }
+
+    /// Its first call fails, and the others succeed.
+    #[derive(Drop)]
+    struct FailsOnce {
+        called: bool,
+    }
+
+    impl FailsOnce {
+        fn call(&mut self) -> io::Result<()> {
+            if self.called {
+                return Ok(());
+            }
+            self.called = true;
+            Err(io::Error::from(ErrorKind::Other))
+        }
+    }
+
+    impl Read for FailsOnce {
+        fn read(&mut self, _to: &mut [u8]) -> io::Result<usize> {
+            self.call()?;
+            Ok(0)
+        }
+    }
+
+    impl Write for FailsOnce {
+        fn write(&mut self, from: &[u8]) -> io::Result<usize> {
+            self.call()?;
+            Ok(from.len())
+        }
+
+        fn flush(&mut self) -> io::Result<()> {
+            self.call()
+        }
+    }
+
+    #[test]
+    fn a_device_tries_each_call_once(rt: HostRuntime) {
+        let mut device = Device::new(FailsOnce { called: false });
+        assert_eq!(rt; device.read(&mut [0; 2]), Err(Fault::Read));
+        assert_eq!(rt; device.read(&mut [0; 2]), Ok(0));
+        assert_eq!(rt; device.failures, 1);
+        let mut device = Device::new(FailsOnce { called: false });
+        assert_eq!(rt; device.write(b"abc"), Err(Fault::Write));
+        assert_eq!(rt; device.write(b"abc"), Ok(3));
+        assert_eq!(rt; device.failures, 1);
+        let mut device = Device::new(FailsOnce { called: false });
+        assert_eq!(rt; device.flush(), Err(Fault::Write));
+        assert_eq!(rt; device.flush(), Ok(()));
+        assert_eq!(rt; device.failures, 1);
     }
 
     #[test]

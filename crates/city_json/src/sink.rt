@@ -1,4 +1,4 @@
-ghost use Rattle.std.specs.Prelude.{◌≡◌, ◌≤◌, ℕ, List, length, Option, IfOk, IfErr};
+ghost use Rattle.std.specs.Prelude.{◌≡◌, ◌≤◌, ℕ, List, length, Option, IfOk, IfErr, OnOk};
 ghost use Rattle.std.specs.Io.KnownBytes.{Keeps, WriteAppends};
 ghost use Rattle.city_json.specs.Failures.{after_call, after_write};
 
@@ -8,6 +8,9 @@ use crate::fault::Fault;
 pub trait Sink {
     // The bytes that were taken, where they are known.
     ghost taken: { Self → Option (List ℕ) };
+
+    // All that was taken was passed on, so far as that is known.
+    ghost is_flushed: { Self → Type 0 };
 
     // How many calls failed; a count that stays at 2^64 - 1 once there.
     ghost failures: { Self → ℕ };
@@ -31,6 +34,7 @@ pub trait Sink {
     /// `Fault::Write` where the flush failed.
     fn flush(&mut self) -> Result<(), Fault>
         ensures bytes { Keeps (taken self.old) (taken self.new) }
+        ensures flushed { OnOk result (is_flushed self.new) }
         ensures failures { failures self.new ≡ after_call result (failures self.old) }
         ensures fault { IfErr result (λ fault. fault ≡ Fault.Write) };
 }

@@ -22,6 +22,7 @@ pub fn run_filter<S: Source, W: Sink, E: Sink>(
     ensures status { (result ≡ 0) ⊎ (result ≡ 1) }
     ensures done { result ≡ 0 → SomeTile (S.gives input.old)
         (λ tile. (count : ℕ) × WroteStream tile count (W.taken output.old) (W.taken output.new)) }
+    ensures done_flushed { result ≡ 0 → W.is_flushed output.new }
     ensures done_failures { result ≡ 0 → W.failures output.new ≡ W.failures output.old }
     ensures refused { result ≡ 1 → (e : MergeFault)
         × IsRefusal (S.gives input.old) e.fault e.tile e.line (W.taken output.old) (W.taken output.new)

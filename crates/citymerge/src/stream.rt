@@ -1,4 +1,4 @@
-ghost use Rattle.std.specs.Prelude.{◌≡◌, IsTrue, IfOk, IfErr};
+ghost use Rattle.std.specs.Prelude.{◌≡◌, IsTrue, IfOk, IfErr, OnOk};
 ghost use Rattle.city_json.specs.Failures.{one_more};
 ghost use Rattle.citymerge.specs.Tile.{given, tile_of, stream_limits};
 ghost use Rattle.citymerge.specs.Outcome.{SomeTile, WroteStream, IsRefusal, WroteAll, IsRefused, failures_after_lines};
@@ -34,6 +34,7 @@ pub fn plain_stream<S: Source, W: Sink>(
 ) -> Result<u64, MergeFault>
     ensures ok { IfOk result (λ count. SomeTile (S.gives input.old)
         (λ tile. WroteStream tile count (W.taken output.old) (W.taken output.new))) }
+    ensures flushed { OnOk result (W.is_flushed output.new) }
     ensures refused { IfErr result (λ e. IsRefusal (S.gives input.old) e.fault e.tile e.line
         (W.taken output.old) (W.taken output.new)) }
     ensures failures { W.failures output.new ≡ failures_after_lines result (W.failures output.old) }

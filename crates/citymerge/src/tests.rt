@@ -184,14 +184,16 @@ fn a_failed_write_is_answered(rt: HostRuntime) -> Result<(), Fail> {
         line: 0,
         fault: Fault::Write,
     };
-    for (room, step, flush_fails, written) in [
-        (0usize, 9usize, false, ""),
-        (3, 2, false, "[1]"),
-        (7, 9, false, "[1]\n[2]"),
-        (9, 0, false, ""),
-        (9, 9, true, "[1]\n[2]\n"),
+    for (text, room, step, flush_fails, written) in [
+        ("[1]\n[2]", 0usize, 9usize, false, ""),
+        ("[1]\n[2]", 3, 2, false, "[1]"),
+        ("[1]\n[2]", 7, 9, false, "[1]\n[2]"),
+        ("[1]\n[2]", 9, 0, false, ""),
+        ("[1]\n[2]", 9, 9, true, "[1]\n[2]\n"),
+        ("[1]", 9, 9, true, "[1]\n"),
     ] {
-        let mut reader = Tape::new(Line::from_vec(b"[1]\n[2]".to_vec(rt.alloc())?), 3, false);
+        let text = text.as_bytes();
+        let mut reader = Tape::new(Line::from_vec(text.to_vec(rt.alloc())?), 3, false);
         let mut output = Bin::new(rt.alloc(), room, step, flush_fails)?;
         let mut errors = Bin::new(rt.alloc(), 64, 64, false)?;
         let status = run_filter(rt.alloc(), &mut reader, &mut output, &mut errors);
@@ -202,7 +204,7 @@ fn a_failed_write_is_answered(rt: HostRuntime) -> Result<(), Fail> {
             b"citymerge: the output could not be written\n".as_slice()
         );
 
-        let mut reader = Tape::new(Line::from_vec(b"[1]\n[2]".to_vec(rt.alloc())?), 3, false);
+        let mut reader = Tape::new(Line::from_vec(text.to_vec(rt.alloc())?), 3, false);
         let mut output = Bin::new(rt.alloc(), room, step, flush_fails)?;
         assert_eq!(rt;
             plain_stream(rt.alloc(), &mut reader, &mut output),
