@@ -4,7 +4,6 @@ ghost use Rattle.city_json.specs.Intake.{Stopped, after_stop};
 ghost use Rattle.city_json.specs.Source.{GivesFirst};
 
 use crate::fault::Fault;
-use crate::line::Line;
 use crate::source::Source;
 use std::alloc::{AllocError, Global};
 
@@ -27,15 +26,15 @@ pub enum Stop {
 /// The bytes that were read from a source, and why the reading stopped.
 #[derive(Debug, Drop)]
 pub struct Intake {
-    pub bytes: Line,
+    pub bytes: Vec<u8>,
     pub stop: Stop,
 }
 
 /// Reads from the source up to its end, and stops early at an error, past `limit` bytes, and where there
 /// is not enough memory. At most one byte past the limit is read.
 pub fn read_all<S: Source>(alloc: Global, source: &mut S, limit: u64) -> Intake
-    ensures stopped { Stopped result.stop (S.gives source.old) (S.gives source.new) limit result.bytes }
-    ensures length { length result.bytes ≤ limit + 1 }
+    ensures stopped { Stopped result.stop (S.gives source.old) (S.gives source.new) limit result.bytes.items }
+    ensures length { vec_len result.bytes ≤ limit + 1 }
     ensures failures { S.failures source.new ≡ after_stop result.stop (S.failures source.old) }
 {
     let mut bytes = Vec::new(alloc);
@@ -44,7 +43,7 @@ pub fn read_all<S: Source>(alloc: Global, source: &mut S, limit: u64) -> Intake
         if make_room(&mut bytes, filled, limit).is_err() {
             return intake_of(bytes, filled, Stop::Memory);
         }
-        match read_behind(source, bytes.as_mut_slice(), filled) {
+        match read_after(source, bytes.as_mut_slice(), filled) {
             Ok(0) => return intake_of(bytes, filled, Stop::End),
             Ok(count) => filled += count,
             Err(_) => return intake_of(bytes, filled, Stop::Failure),
@@ -53,7 +52,7 @@ pub fn read_all<S: Source>(alloc: Global, source: &mut S, limit: u64) -> Intake
     intake_of(bytes, filled, Stop::Limit)
 }
 
-/// Makes room for a read behind the bytes that are filled, where there is none.
+/// Makes room for a read after the bytes that are filled, where there is none.
 fn make_room(bytes: &mut Vec<u8>, filled: usize, limit: u64) -> Result<(), AllocError>
     requires filled { filled ≤ vec_len bytes.old }
     requires below { filled ≤ limit }
@@ -70,8 +69,8 @@ fn make_room(bytes: &mut Vec<u8>, filled: usize, limit: u64) -> Result<(), Alloc
     bytes.resize(filled + room, 0)
 }
 
-/// One read into what stands behind the first `filled` bytes, which stay.
-fn read_behind<S: Source>(source: &mut S, bytes: &mut [u8], filled: usize) -> Result<usize, Fault>
+/// One read into what stands after the first `filled` bytes, which stay.
+fn read_after<S: Source>(source: &mut S, bytes: &mut [u8], filled: usize) -> Result<usize, Fault>
     requires { filled < length bytes.old }
     ensures front { take filled bytes.new ≡ take filled bytes.old }
     ensures bound { IfOk result (λ count. filled + count ≤ length bytes.new) }
@@ -84,20 +83,18 @@ fn read_behind<S: Source>(source: &mut S, bytes: &mut [u8], filled: usize) -> Re
 }
 
 fn intake_of(mut bytes: Vec<u8>, filled: usize, stop: Stop) -> Intake
-    ensures bytes { result.bytes ≡ take filled bytes.items }
+    ensures bytes { result.bytes.items ≡ take filled bytes.items }
     ensures stop { result.stop ≡ stop }
 {
     bytes.truncate(filled);
-    Intake {
-        bytes: Line::from_vec(bytes),
-        stop,
-    }
+    Intake { bytes, stop }
 }
 
 #[cfg(test)]
 mod tests {
     use super::*;
     use crate::device::Device;
+    use crate::line::Line;
     use crate::tape::Tape;
     use std::test::Fail;
 
@@ -113,7 +110,7 @@ mod tests {
         ] {
             let mut tape = Tape::new(Line::from_vec(b"abcde".to_vec(rt.alloc())?), step, fails);
             let intake = read_all(rt.alloc(), &mut tape, limit);
-            assert_eq!(rt; intake.bytes.items(), bytes, "step {step}, limit {limit}");
+            assert_eq!(rt; intake.bytes.as_slice(), bytes, "step {step}, limit {limit}");
             assert_eq!(rt; intake.stop, stop, "step {step}, limit {limit}");
         }
         Ok(())
@@ -125,7 +122,7 @@ mod tests {
         let mut device = Device::new(bytes.as_slice());
         let intake = read_all(rt.alloc(), &mut device, u64::MAX);
         assert_eq!(rt; intake.stop, Stop::End);
-        assert_eq!(rt; intake.bytes.items(), bytes.as_slice());
+        assert_eq!(rt; intake.bytes.as_slice(), bytes.as_slice());
         Ok(())
     }
 }

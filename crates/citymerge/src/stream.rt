@@ -7,14 +7,14 @@ use crate::compact::compact_line;
 use crate::fault::MergeFault;
 use crate::limits::STREAM_LIMITS;
 use crate::lines::{LineFault, Lines};
-use city_json::{Fault, Intake, Line, Sink, Source, Stop, read_all, write_all};
+use city_json::{Fault, Intake, Sink, Source, Stop, read_all, write_all};
 use std::alloc::Global;
 
 /// What a source gave: its bytes up to its first end or error, and whether an error came. Of a tile past
 /// its limit these are the first bytes, more than the limit.
 #[derive(Debug, Drop)]
 struct Tile {
-    bytes: Line,
+    bytes: Vec<u8>,
     fails: bool,
 }
 
@@ -42,7 +42,7 @@ pub fn plain_stream<S: Source, W: Sink>(
         → S.failures input.new ≡ one_more (S.failures input.old)) }
 {
     let tile = read_tile(alloc, input)?;
-    let count = write_lines(alloc, tile.bytes.items(), tile.fails, output)?;
+    let count = write_lines(alloc, &tile.bytes, tile.fails, output)?;
     if count == 0 {
         return Err(MergeFault::of_line(0, Fault::NoHeader));
     }
@@ -55,7 +55,7 @@ pub fn plain_stream<S: Source, W: Sink>(
 /// Reads the whole source, or as much of it as is past the limit.
 fn read_tile<S: Source>(alloc: Global, input: &mut S) -> Result<Tile, MergeFault>
     ensures ok { IfOk result (λ tile. SomeTile (S.gives input.old)
-        (λ given_tile. given_tile ≡ given stream_limits (tile_of tile.bytes tile.fails))) }
+        (λ given_tile. given_tile ≡ given stream_limits (tile_of tile.bytes.items tile.fails))) }
     ensures failed { IfOk result (λ tile. IsTrue tile.fails
         → S.failures input.new ≡ one_more (S.failures input.old)) }
     ensures memory { IfErr result (λ e. e ≡ record { tile = 0; line = 0; fault = Fault.Memory }) }
