@@ -7,7 +7,7 @@ use Rattle.city_json.specs.declared.intake.Stop.TheVariants.{End, Failure, Limit
 
 -- A source that may give what `before` says was read, these bytes came, and it may now give what
 -- `after` says: at the end and at an error they are all that it gave; past the limit, and where memory
--- was wanting, they are the first that it gives.
+-- ran out, they are the first that it gives.
 abbrev pub Stopped : Stop → (List ℕ → Bool → Type 0) → (List ℕ → Bool → Type 0) → ℕ → List ℕ → Type 0
 Stopped End before after limit bytes = before bytes false × (length bytes ≤ limit)
 Stopped Failure before after limit bytes = before bytes true × (length bytes ≤ limit)

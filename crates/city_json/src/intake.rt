@@ -110,7 +110,11 @@ mod tests {
         ] {
             let mut tape = Tape::new(Line::from_vec(b"abcde".to_vec(rt.alloc())?), step, fails);
             let intake = read_all(rt.alloc(), &mut tape, limit);
-            assert_eq!(rt; intake.bytes.as_slice(), bytes, "step {step}, limit {limit}");
+            assert_eq!(rt;
+                intake.bytes.as_slice(),
+                bytes,
+                "step {step}, limit {limit}"
+            );
             assert_eq!(rt; intake.stop, stop, "step {step}, limit {limit}");
         }
         Ok(())

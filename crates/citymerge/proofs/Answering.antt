@@ -5,9 +5,9 @@ use Rattle.std.specs.Io.KnownBytes.{Appends, Keeps}
 use Rattle.city_json.specs.Tree.{Tree}
 use Rattle.city_json.specs.declared.fault.Fault.{Fault}
 use Rattle.city_json.specs.declared.fault.Fault.TheVariants.{NoHeader, Memory}
-use Rattle.citymerge.specs.NextLine.{nothing_given}
+use Rattle.citymerge.specs.NextLine.{nothing_left}
 use Rattle.citymerge.specs.Outcome.{IsTextOf, texts, SomeTile, WroteAll, WroteStream, WrotePart, IsRefused, IsRefusal}
-use Rattle.citymerge.specs.Tile.{Part, FaultyLine, Given}
+use Rattle.citymerge.specs.Tile.{Part, FaultyLine, TileLines}
 
 -- known bytes that grew and then stayed
 pub Appends-kept : (old mid new : Option (List ℕ)) (bytes : List ℕ) → Appends old mid bytes → Keeps mid new → Appends old new bytes
@@ -40,17 +40,17 @@ no_values [] [] read none = refl
 no_values [] (value ∷ values) read none = absurd read
 no_values (line ∷ lines) values read none = cc
 
-no_lines : (lines : List Part) → 0 ≡ length lines → lines ≡ []
-no_lines [] none = refl
-no_lines (line ∷ lines) none = absurd (omega arith)
+no_line_from_length : (lines : List Part) → 0 ≡ length lines → lines ≡ []
+no_line_from_length [] none = refl
+no_line_from_length (line ∷ lines) none = absurd (omega arith)
 
-abbrev pair : List Part → Option FaultyLine → Given
+abbrev pair : List Part → Option FaultyLine → TileLines
 pair lines fault = record { lines = lines; fault = fault }
 
-none_given : (tile : Given) → tile.lines ≡ [] → tile.fault ≡ None → tile ≡ nothing_given
-none_given tile no_line no_fault = ap (λ lines. pair lines tile.fault) no_line ∙ ap (λ fault. pair [] fault) no_fault
+is_nothing_left : (tile : TileLines) → tile.lines ≡ [] → tile.fault ≡ None → tile ≡ nothing_left
+is_nothing_left tile no_line no_fault = ap (λ lines. pair lines tile.fault) no_line ∙ ap (λ fault. pair [] fault) no_fault
 
-module _ (tile : Given) (old : Option (List ℕ)) where
+module _ (tile : TileLines) (old : Option (List ℕ)) where
   pub whole_stream : (count : ℕ) (mid new : Option (List ℕ)) → WroteAll tile count old mid → 0 < count → Keeps mid new → WroteStream tile (count - 1) old new
   whole_stream count mid new all some stayed =
       let parts = header_of tile.lines all.wrote.values all.wrote.read (omega (arith, all.counted)) in
@@ -63,11 +63,11 @@ module _ (tile : Given) (old : Option (List ℕ)) where
         written = subst (λ (values : List Tree). Appends old new (texts values)) parts.2 (Appends-kept old mid new _ all.wrote.written stayed);
       }
 
-  pub no_header : (new : Option (List ℕ)) → WroteAll tile 0 old new → (tile ≡ nothing_given) × Keeps old new
+  pub no_header : (new : Option (List ℕ)) → WroteAll tile 0 old new → (tile ≡ nothing_left) × Keeps old new
   no_header new all =
-      let none = no_lines tile.lines all.counted in
+      let none = no_line_from_length tile.lines all.counted in
       let no_texts = no_values tile.lines all.wrote.values all.wrote.read none in
-      (none_given tile none all.whole, Keeps-from_nothing old new (subst (λ (values : List Tree). Appends old new (texts values)) no_texts all.wrote.written))
+      (is_nothing_left tile none all.whole, Keeps-from_nothing old new (subst (λ (values : List Tree). Appends old new (texts values)) no_texts all.wrote.written))
 
   pub failed_flush : (count : ℕ) (mid new : Option (List ℕ)) → WroteAll tile count old mid → Keeps mid new → WrotePart tile old new
   failed_flush count mid new all stayed = record {
@@ -80,9 +80,9 @@ module _ (tile : Given) (old : Option (List ℕ)) where
     written = subst (Appends old new) (sym (take_all (length (texts all.wrote.values)) (texts all.wrote.values) (le_refl _))) (Appends-kept old mid new _ all.wrote.written stayed);
   }
 
--- what holds of what a tile gives holds of a tile that was given
-module _ (gives : List ℕ → Bool → Type 0) (tile : Given) (gave : SomeTile gives (λ other. other ≡ tile)) where
-  pub some_tile : (P : Given → Type 0) → P tile → SomeTile gives P
+-- what holds of what a tile gives holds where the tile is one that was given
+module _ (gives : List ℕ → Bool → Type 0) (tile : TileLines) (gave : SomeTile gives (λ other. other ≡ tile)) where
+  pub some_tile : (P : TileLines → Type 0) → P tile → SomeTile gives P
   some_tile P holds = (gave.0, gave.1, subst P (sym gave.2) holds)
 
   pub refusal : (fault : Fault) (number line : ℕ) (old new : Option (List ℕ)) → IsRefused tile fault number line old new → IsRefusal gives fault number line old new

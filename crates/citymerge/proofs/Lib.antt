@@ -1,7 +1,7 @@
 pub mod Answering
 pub mod Counting
-pub mod Cutting
 pub mod FailedReads
-pub mod Giving
 pub mod PastLimit
+pub mod Splitting
 pub mod Steps
+pub mod TakingLines

@@ -8,13 +8,13 @@ use Rattle.std.proofs.lemmas.List.Splits.{slice_split-cons_yes, slice_split-cons
 use Rattle.city_json.specs.declared.fault.Fault.{Fault}
 use Rattle.city_json.specs.declared.fault.Fault.TheVariants.{LineTooLong, TileTooLong}
 use Rattle.citymerge.specs.declared.limits.Limits.{Limits}
-use Rattle.citymerge.specs.Tile.{Tile, Part, tile_of, is_newline, is_blank, fault_at, fault_between, given_by, given, numbered}
-use Rattle.citymerge.proofs.Giving.{by_fault, by_blank, by_line, line_before}
+use Rattle.citymerge.specs.Tile.{Tile, Part, tile_of, is_newline, is_blank, fault_at, fault_between, lines_of_parts, tile_lines, number_parts}
+use Rattle.citymerge.proofs.TakingLines.{by_fault, by_blank, by_line, line_before}
 
 -- these bytes stand in front of the first of the parts
-abbrev behind_front : List ℕ → List (List ℕ) → List (List ℕ)
-behind_front front [] = front ∷ []
-behind_front front (part ∷ others) = (front ++ part) ∷ others
+abbrev after_front : List ℕ → List (List ℕ) → List (List ℕ)
+after_front front [] = front ∷ []
+after_front front (part ∷ others) = (front ++ part) ∷ others
 
 -- a list is split into a first part and others
 split-cons : (bytes : List ℕ) → (part : List ℕ) × (others : List (List ℕ)) × (slice_split is_newline bytes ≡ part ∷ others)
@@ -25,12 +25,12 @@ split-cons (b ∷ bytes) =
     (λ no. (b ∷ inner.0, inner.1, slice_split-cons_no is_newline b bytes no ∙ ap (onto_first b) inner.2))
     (cases_Bool (is_newline b))
 
-behind_none : (bytes : List ℕ) → behind_front [] (slice_split is_newline bytes) ≡ slice_split is_newline bytes
-behind_none bytes = let split = split-cons bytes in rw split.2 refl
+after_none : (bytes : List ℕ) → after_front [] (slice_split is_newline bytes) ≡ slice_split is_newline bytes
+after_none bytes = let split = split-cons bytes in rw split.2 refl
 
-behind_more : (front : List ℕ) (b : ℕ) (parts : List (List ℕ)) → behind_front front (onto_first b parts) ≡ behind_front (front ++ b ∷ []) parts
-behind_more front b [] = refl
-behind_more front b (part ∷ others) = ap (λ x. x ∷ others) (sym (append_assoc front (b ∷ []) part))
+after_more : (front : List ℕ) (b : ℕ) (parts : List (List ℕ)) → after_front front (onto_first b parts) ≡ after_front (front ++ b ∷ []) parts
+after_more front b [] = refl
+after_more front b (part ∷ others) = ap (λ x. x ∷ others) (sym (append_assoc front (b ∷ []) part))
 
 pub fault_cases : (fault : Option Fault) → (fault ≡ None) ⊎ ((is : Fault) × (fault ≡ Some is))
 fault_cases None = inl refl
@@ -38,8 +38,8 @@ fault_cases (Some fault) = inr (fault, refl)
 
 -- a part that both tiles refuse alike, and before parts that give the same
 same_step : (limits : Limits) (one two : Tile) (part : Part) (some more : List Part)
-    → fault_at limits one part ≡ fault_at limits two part → given_by limits one some ≡ given_by limits two more
-    → given_by limits one (part ∷ some) ≡ given_by limits two (part ∷ more)
+    → fault_at limits one part ≡ fault_at limits two part → lines_of_parts limits one some ≡ lines_of_parts limits two more
+    → lines_of_parts limits one (part ∷ some) ≡ lines_of_parts limits two (part ∷ more)
 same_step limits one two part some more same rest =
     ⊎_elim
     (λ sound. ⊎_elim
@@ -70,42 +70,42 @@ module _ (limits : Limits) (front others : List ℕ) (ends fails : Bool) (past :
   longer = omega (arith, length-append front others)
 
   abbrev some_parts : ℕ → ℕ → List ℕ → List ℕ → List Part
-  some_parts number start pre bytes = numbered number start (behind_front pre (slice_split is_newline bytes))
+  some_parts number start pre bytes = number_parts number start (after_front pre (slice_split is_newline bytes))
 
-  same_given : (bytes pre : List ℕ) (number start : ℕ) → start + length pre + length bytes ≡ length front
-      → given_by limits one (some_parts number start pre bytes) ≡ given_by limits two (some_parts number start pre (bytes ++ others))
-  same_given [] pre number start here =
+  same_lines : (bytes pre : List ℕ) (number start : ℕ) → start + length pre + length bytes ≡ length front
+      → lines_of_parts limits one (some_parts number start pre bytes) ≡ lines_of_parts limits two (some_parts number start pre (bytes ++ others))
+  same_lines [] pre number start here =
       let split = split-cons others in
       let last : Part = record { number = number; start = start; bytes = pre ++ [] } in
       let longer_last : Part = record { number = number; start = start; bytes = pre ++ split.0 } in
-      let behind = λ (at : ℕ) (xs : List (List ℕ)). numbered (number + 1) at xs in
+      let parts_from = λ (at : ℕ) (xs : List (List ℕ)). number_parts (number + 1) at xs in
       let end : start + length (pre ++ []) ≡ length front = grind (arith, common_steps) in
       let later : length front ≤ start + length (pre ++ split.0) = omega (arith, here, length-append pre split.0) in
       by_fault limits one last [] (fault_past limits start) (goes_past limits (length front) ends start (start + length (pre ++ [])) (omega arith) past)
-      ∙ sym (by_fault limits two longer_last (behind (start + length (pre ++ split.0) + 1) split.1) (fault_past limits start) (goes_past limits (length (front ++ others)) fails start (start + length (pre ++ split.0)) (omega arith) (omega (arith, longer))))
+      ∙ sym (by_fault limits two longer_last (parts_from (start + length (pre ++ split.0) + 1) split.1) (fault_past limits start) (goes_past limits (length (front ++ others)) fails start (start + length (pre ++ split.0)) (omega arith) (omega (arith, longer))))
       ∙ rw split.2 refl
-  same_given (b ∷ bytes) pre number start here =
-      let in_one = λ (xs : List (List ℕ)). given_by limits one (numbered number start xs) in
-      let in_two = λ (xs : List (List ℕ)). given_by limits two (numbered number start xs) in
+  same_lines (b ∷ bytes) pre number start here =
+      let in_one = λ (xs : List (List ℕ)). lines_of_parts limits one (number_parts number start xs) in
+      let in_two = λ (xs : List (List ℕ)). lines_of_parts limits two (number_parts number start xs) in
       let next = start + length (pre ++ []) + 1 in
       let end : next ≡ start + length pre + 1 = grind (arith, common_steps) in
       let part : Part = record { number = number; start = start; bytes = pre ++ [] } in
       ⊎_elim
       (λ yes.
-      let rest = sym (ap (λ xs. given_by limits one (numbered (number + 1) next xs)) (behind_none bytes))
-      ∙ same_given bytes [] (number + 1) next (omega (arith, here, end))
-      ∙ ap (λ xs. given_by limits two (numbered (number + 1) next xs)) (behind_none (bytes ++ others)) in
+      let rest = sym (ap (λ xs. lines_of_parts limits one (number_parts (number + 1) next xs)) (after_none bytes))
+      ∙ same_lines bytes [] (number + 1) next (omega (arith, here, end))
+      ∙ ap (λ xs. lines_of_parts limits two (number_parts (number + 1) next xs)) (after_none (bytes ++ others)) in
       let same = same_fault limits (length front) (length (front ++ others)) ends fails start (start + length (pre ++ [])) past longer (omega (arith, here, end)) in
-      ap (λ xs. in_one (behind_front pre xs)) (slice_split-cons_yes is_newline b bytes yes)
+      ap (λ xs. in_one (after_front pre xs)) (slice_split-cons_yes is_newline b bytes yes)
       ∙ same_step limits one two part _ _ same rest
-      ∙ sym (ap (λ xs. in_two (behind_front pre xs)) (slice_split-cons_yes is_newline b (bytes ++ others) yes)))
+      ∙ sym (ap (λ xs. in_two (after_front pre xs)) (slice_split-cons_yes is_newline b (bytes ++ others) yes)))
       (λ no.
-      ap (λ xs. in_one (behind_front pre xs)) (slice_split-cons_no is_newline b bytes no)
-      ∙ ap in_one (behind_more pre b (slice_split is_newline bytes))
-      ∙ same_given bytes (pre ++ b ∷ []) number start (omega (arith, here, length-append pre (b ∷ [])))
-      ∙ sym (ap in_two (behind_more pre b (slice_split is_newline (bytes ++ others))))
-      ∙ sym (ap (λ xs. in_two (behind_front pre xs)) (slice_split-cons_no is_newline b (bytes ++ others) no)))
+      ap (λ xs. in_one (after_front pre xs)) (slice_split-cons_no is_newline b bytes no)
+      ∙ ap in_one (after_more pre b (slice_split is_newline bytes))
+      ∙ same_lines bytes (pre ++ b ∷ []) number start (omega (arith, here, length-append pre (b ∷ [])))
+      ∙ sym (ap in_two (after_more pre b (slice_split is_newline (bytes ++ others))))
+      ∙ sym (ap (λ xs. in_two (after_front pre xs)) (slice_split-cons_no is_newline b (bytes ++ others) no)))
       (cases_Bool (is_newline b))
 
-  pub past_limit : given limits one ≡ given limits two
-  past_limit = sym (ap (λ xs. given_by limits one (numbered 1 0 xs)) (behind_none front)) ∙ same_given front [] 1 0 (omega arith) ∙ ap (λ xs. given_by limits two (numbered 1 0 xs)) (behind_none (front ++ others))
+  pub past_limit : tile_lines limits one ≡ tile_lines limits two
+  past_limit = sym (ap (λ xs. lines_of_parts limits one (number_parts 1 0 xs)) (after_none front)) ∙ same_lines front [] 1 0 (omega arith) ∙ ap (λ xs. lines_of_parts limits two (number_parts 1 0 xs)) (after_none (front ++ others))

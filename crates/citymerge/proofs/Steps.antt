@@ -9,20 +9,20 @@ use Rattle.city_json.specs.Refusals.{RefusesText}
 use Rattle.city_json.specs.Tree.{Tree}
 use Rattle.city_json.specs.declared.fault.Fault.{Fault}
 use Rattle.city_json.specs.declared.fault.Fault.TheVariants.{NotUtf8, Syntax, TooDeep, DuplicateName, LineTooLong, TileTooLong, Read, Memory}
-use Rattle.citymerge.specs.NextLine.{IsCutFault, GivesLine, nothing_given, only_fault}
+use Rattle.citymerge.specs.NextLine.{IsSplitFault, IsNextLine, nothing_left, only_fault}
 use Rattle.citymerge.specs.Outcome.{IsTextOf, IsCompactLine, texts, WroteTexts, WroteAll, StoppedAt, WrotePart, IsRefused, failures_after}
 use Rattle.citymerge.specs.Progress.{SoFar}
-use Rattle.citymerge.specs.Stream.{ended}
+use Rattle.citymerge.specs.Stream.{with_newline}
 use Rattle.city_json.specs.Compact.{plain}
-use Rattle.citymerge.specs.Tile.{Part, Given}
+use Rattle.citymerge.specs.Tile.{Part, TileLines}
 
 -- the line that is taken is one fewer
-pub fewer : (left after : Given) (number : ℕ) (line : List ℕ) → GivesLine left number line after → length left.lines ≡ length after.lines + 1
-fewer left after number line gives = ap (λ (given : Given). length given.lines) gives.1 ∙ sym (add-one (length after.lines))
+pub fewer : (left after : TileLines) (number : ℕ) (line : List ℕ) → IsNextLine left number line after → length left.lines ≡ length after.lines + 1
+fewer left after number line gives = ap (λ (lines : TileLines). length lines.lines) gives.1 ∙ sym (add-one (length after.lines))
 
-texts-push : (values : List Tree) (value : Tree) → texts (values ++ value ∷ []) ≡ texts values ++ ended (plain value)
+texts-push : (values : List Tree) (value : Tree) → texts (values ++ value ∷ []) ≡ texts values ++ with_newline (plain value)
 texts-push [] value = append-nil _
-texts-push (first ∷ values) value = ap (λ l. ended (plain first) ++ l) (texts-push values value) ∙ sym (append_assoc (ended (plain first)) (texts values) (ended (plain value)))
+texts-push (first ∷ values) value = ap (λ l. with_newline (plain first) ++ l) (texts-push values value) ∙ sym (append_assoc (with_newline (plain first)) (texts values) (with_newline (plain value)))
 
 read-push : (lines : List Part) (values : List Tree) (line : Part) (value : Tree) → AllZip IsTextOf lines values → IsTextOf line value → AllZip IsTextOf (lines ++ line ∷ []) (values ++ value ∷ [])
 read-push [] [] line value all one = (one, tt)
@@ -30,7 +30,7 @@ read-push [] (other ∷ values) line value all one = absurd all
 read-push (other ∷ lines) [] line value all one = absurd all
 read-push (other ∷ lines) (another ∷ values) line value all one = (all.0, read-push lines values line value all.1 one)
 
-module _ (tile : Given) (old : Option (List ℕ)) where
+module _ (tile : TileLines) (old : Option (List ℕ)) where
   pub at_start : SoFar tile tile 0 old old
   at_start = record {
     before = [];
@@ -42,11 +42,11 @@ module _ (tile : Given) (old : Option (List ℕ)) where
     written = Appends-nil old;
   }
 
-  module _ (left : Given) (count : ℕ) (new : Option (List ℕ)) (so_far : SoFar tile left count old new) where
+  module _ (left : TileLines) (count : ℕ) (new : Option (List ℕ)) (so_far : SoFar tile left count old new) where
     wrote : WroteTexts so_far.before old new
     wrote = record { values = so_far.values; read = so_far.read; written = so_far.written }
 
-    pub at_end : left ≡ nothing_given → WroteAll tile count old new
+    pub at_end : left ≡ nothing_left → WroteAll tile count old new
     at_end none =
         let all : tile.lines ≡ so_far.before = so_far.lines ∙ ap (λ g. so_far.before ++ g.lines) none ∙ append-nil so_far.before in
         let Wrote : List Part → Type 0 = λ lines. WroteTexts lines old new in
@@ -65,7 +65,7 @@ module _ (tile : Given) (old : Option (List ℕ)) where
       wrote = wrote;
     }
 
-    module _ (number : ℕ) (line : List ℕ) (after : Given) (gives : GivesLine left number line after) where
+    module _ (number : ℕ) (line : List ℕ) (after : TileLines) (gives : IsNextLine left number line after) where
       here : Part
       here = record { number = number; start = gives.0; bytes = line }
 
@@ -108,7 +108,7 @@ module _ (tile : Given) (old : Option (List ℕ)) where
           }
 
 -- a refusal of a line is one of the tile
-pub of_text : (tile : Given) (number : ℕ) (old new : Option (List ℕ)) (fault : Fault) (text : List ℕ) → RefusesText fault text → StoppedAt tile number fault old new → IsRefused tile fault 1 number old new
+pub of_text : (tile : TileLines) (number : ℕ) (old new : Option (List ℕ)) (fault : Fault) (text : List ℕ) → RefusesText fault text → StoppedAt tile number fault old new → IsRefused tile fault 1 number old new
 of_text tile number old new NotUtf8 text is stopped = (refl, stopped)
 of_text tile number old new Syntax text is stopped = (refl, stopped)
 of_text tile number old new TooDeep text is stopped = (refl, stopped)
@@ -116,15 +116,15 @@ of_text tile number old new DuplicateName text is stopped = (refl, stopped)
 of_text tile number old new Memory text is stopped = (refl, stopped)
 of_text tile number old new other text is stopped = absurd is
 
-pub of_cut : (tile : Given) (number : ℕ) (old new : Option (List ℕ)) (fault : Fault) → IsCutFault fault → StoppedAt tile number fault old new → IsRefused tile fault 1 number old new
-of_cut tile number old new LineTooLong is stopped = (refl, stopped)
-of_cut tile number old new TileTooLong is stopped = (refl, stopped)
-of_cut tile number old new Read is stopped = (refl, stopped)
-of_cut tile number old new other is stopped = absurd is
+pub of_split : (tile : TileLines) (number : ℕ) (old new : Option (List ℕ)) (fault : Fault) → IsSplitFault fault → StoppedAt tile number fault old new → IsRefused tile fault 1 number old new
+of_split tile number old new LineTooLong is stopped = (refl, stopped)
+of_split tile number old new TileTooLong is stopped = (refl, stopped)
+of_split tile number old new Read is stopped = (refl, stopped)
+of_split tile number old new other is stopped = absurd is
 
 -- such refusals are no failed writes
-pub cut_count : (fault : Fault) (count : ℕ) → IsCutFault fault → count ≡ failures_after fault count
-cut_count LineTooLong count is = refl
-cut_count TileTooLong count is = refl
-cut_count Read count is = refl
-cut_count other count is = absurd is
+pub split_count : (fault : Fault) (count : ℕ) → IsSplitFault fault → count ≡ failures_after fault count
+split_count LineTooLong count is = refl
+split_count TileTooLong count is = refl
+split_count Read count is = refl
+split_count other count is = absurd is

@@ -11,9 +11,9 @@ use Rattle.city_json.specs.Tree.{Tree}
 use Rattle.city_json.specs.declared.fault.Fault.{Fault}
 use Rattle.city_json.specs.declared.fault.Fault.TheVariants.{NoHeader, NotUtf8, Syntax, TooDeep, DuplicateName, LineTooLong, TileTooLong, Read, Write, Memory}
 use Rattle.citymerge.specs.declared.fault.MergeFault.{MergeFault}
-use Rattle.citymerge.specs.NextLine.{nothing_given}
-use Rattle.citymerge.specs.Stream.{ended, stream}
-use Rattle.citymerge.specs.Tile.{Tile, Part, FaultyLine, Given, given, stream_limits}
+use Rattle.citymerge.specs.NextLine.{nothing_left}
+use Rattle.citymerge.specs.Stream.{with_newline, stream}
+use Rattle.citymerge.specs.Tile.{Tile, Part, FaultyLine, TileLines, tile_lines, stream_limits}
 
 -- the line spells this value, which fits
 abbrev pub IsTextOf : Part → Tree → Type 0
@@ -21,11 +21,11 @@ IsTextOf line value = Spells line.bytes value × Fits value
 
 -- the compact text of a fitting value that the line spells, and one newline
 abbrev pub IsCompactLine : List ℕ → List ℕ → Type 0
-IsCompactLine line text = (value : Tree) × Spells line value × Fits value × (text ≡ ended (plain value))
+IsCompactLine line text = (value : Tree) × Spells line value × Fits value × (text ≡ with_newline (plain value))
 
 -- the compact texts of these values, each followed by one newline
 abbrev pub texts : List Tree → List ℕ
-texts values = flat_map ended (map plain values)
+texts values = flat_map with_newline (map plain values)
 
 -- Each of these lines spells a fitting value, and the compact texts of these values were written.
 pub record WroteTexts (lines : List Part) (old new : Option (List ℕ)) : Type 0 where
@@ -33,9 +33,9 @@ pub record WroteTexts (lines : List Part) (old new : Option (List ℕ)) : Type 0
   pub read : AllZip IsTextOf lines values
   pub written : Appends old new (texts values)
 
--- Nothing is wrong with the tile, its lines spell a fitting header and this many fitting values behind
+-- Nothing is wrong with the tile, its lines spell a fitting header and this many fitting values after
 -- it, and the stream of their compact texts was written.
-pub record WroteStream (tile : Given) (count : ℕ) (old new : Option (List ℕ)) : Type 0 where
+pub record WroteStream (tile : TileLines) (count : ℕ) (old new : Option (List ℕ)) : Type 0 where
   pub header : Tree
   pub features : List Tree
   pub read : AllZip IsTextOf tile.lines (header ∷ features)
@@ -43,14 +43,14 @@ pub record WroteStream (tile : Given) (count : ℕ) (old new : Option (List ℕ)
   pub counted : count ≡ length features
   pub written : Appends old new (stream (plain header) (map plain features))
 
--- `fault` is that of the first of these lines, or where there are none that of the tile behind them
+-- `fault` is that of the first of these lines, or where there are none that of the tile after them
 abbrev pub StandsFirst : List Part → Option FaultyLine → ℕ → Fault → Type 0
 StandsFirst [] None number fault = ⊥
 StandsFirst [] (Some faulty) number fault = (faulty.number ≡ number) × (faulty.fault ≡ fault)
-StandsFirst (line ∷ others) behind number fault = (line.number ≡ number) × RefusesText fault line.bytes
+StandsFirst (line ∷ others) after number fault = (line.number ≡ number) × RefusesText fault line.bytes
 
 -- The line of this number is at fault, and the compact texts of the lines before it were written, and nothing else.
-pub record StoppedAt (tile : Given) (number : ℕ) (fault : Fault) (old new : Option (List ℕ)) : Type 0 where
+pub record StoppedAt (tile : TileLines) (number : ℕ) (fault : Fault) (old new : Option (List ℕ)) : Type 0 where
   pub before : List Part
   pub others : List Part
   pub lines : tile.lines ≡ before ++ others
@@ -58,7 +58,7 @@ pub record StoppedAt (tile : Given) (number : ℕ) (fault : Fault) (old new : Op
   pub wrote : WroteTexts before old new
 
 -- The first bytes of the compact texts of some first lines were written, and nothing else.
-pub record WrotePart (tile : Given) (old new : Option (List ℕ)) : Type 0 where
+pub record WrotePart (tile : TileLines) (old new : Option (List ℕ)) : Type 0 where
   pub before : List Part
   pub others : List Part
   pub values : List Tree
@@ -68,23 +68,23 @@ pub record WrotePart (tile : Given) (old new : Option (List ℕ)) : Type 0 where
   pub written : Appends old new (take count (texts values))
 
 -- All lines of the tile, this many, and nothing else: the compact texts of the fitting values that they spell.
-pub record WroteAll (tile : Given) (count : ℕ) (old new : Option (List ℕ)) : Type 0 where
+pub record WroteAll (tile : TileLines) (count : ℕ) (old new : Option (List ℕ)) : Type 0 where
   pub wrote : WroteTexts tile.lines old new
   pub whole : tile.fault ≡ None
   pub counted : count ≡ length tile.lines
 
 -- The refusal of a line, by its fault: it names the one tile and the line, and a failed write no line.
-abbrev pub IsRefused : Given → Fault → ℕ → ℕ → Option (List ℕ) → Option (List ℕ) → Type 0
-IsRefused given NotUtf8 tile line old new = (tile ≡ 1) × StoppedAt given line NotUtf8 old new
-IsRefused given Syntax tile line old new = (tile ≡ 1) × StoppedAt given line Syntax old new
-IsRefused given TooDeep tile line old new = (tile ≡ 1) × StoppedAt given line TooDeep old new
-IsRefused given DuplicateName tile line old new = (tile ≡ 1) × StoppedAt given line DuplicateName old new
-IsRefused given LineTooLong tile line old new = (tile ≡ 1) × StoppedAt given line LineTooLong old new
-IsRefused given TileTooLong tile line old new = (tile ≡ 1) × StoppedAt given line TileTooLong old new
-IsRefused given Read tile line old new = (tile ≡ 1) × StoppedAt given line Read old new
-IsRefused given Memory tile line old new = (tile ≡ 1) × StoppedAt given line Memory old new
-IsRefused given Write tile line old new = (tile ≡ 0) × (line ≡ 0) × WrotePart given old new
-IsRefused given other tile line old new = ⊥
+abbrev pub IsRefused : TileLines → Fault → ℕ → ℕ → Option (List ℕ) → Option (List ℕ) → Type 0
+IsRefused lines NotUtf8 tile line old new = (tile ≡ 1) × StoppedAt lines line NotUtf8 old new
+IsRefused lines Syntax tile line old new = (tile ≡ 1) × StoppedAt lines line Syntax old new
+IsRefused lines TooDeep tile line old new = (tile ≡ 1) × StoppedAt lines line TooDeep old new
+IsRefused lines DuplicateName tile line old new = (tile ≡ 1) × StoppedAt lines line DuplicateName old new
+IsRefused lines LineTooLong tile line old new = (tile ≡ 1) × StoppedAt lines line LineTooLong old new
+IsRefused lines TileTooLong tile line old new = (tile ≡ 1) × StoppedAt lines line TileTooLong old new
+IsRefused lines Read tile line old new = (tile ≡ 1) × StoppedAt lines line Read old new
+IsRefused lines Memory tile line old new = (tile ≡ 1) × StoppedAt lines line Memory old new
+IsRefused lines Write tile line old new = (tile ≡ 0) × (line ≡ 0) × WrotePart lines old new
+IsRefused lines other tile line old new = ⊥
 
 -- the count of failed writes after a refusal: it grows where the refusal is that a write failed
 abbrev pub failures_after : Fault → ℕ → ℕ
@@ -96,14 +96,14 @@ failures_after_lines (Ok x) count = count
 failures_after_lines (Err refusal) count = failures_after refusal.fault count
 
 -- The reader gave a tile, and this holds of what the tile gives.
-abbrev pub SomeTile : (List ℕ → Bool → Type 0) → (Given → Type 0) → Type 0
-SomeTile gives P = (tile : Tile) × gives tile.bytes tile.fails × P (given stream_limits tile)
+abbrev pub SomeTile : (List ℕ → Bool → Type 0) → (TileLines → Type 0) → Type 0
+SomeTile gives P = (tile : Tile) × gives tile.bytes tile.fails × P (tile_lines stream_limits tile)
 
--- The answer of a whole call that is refused: a tile with no line has no header, memory may be wanting
+-- The answer of a whole call that is refused: a tile with no line has no header, memory may be out
 -- before any line is read, and all else is the refusal of a line.
 abbrev pub IsRefusal : (List ℕ → Bool → Type 0) → Fault → ℕ → ℕ → Option (List ℕ) → Option (List ℕ) → Type 0
 IsRefusal gives NoHeader tile line old new =
-    (tile ≡ 1) × (line ≡ 0) × SomeTile gives (λ tile. tile ≡ nothing_given) × Keeps old new
+    (tile ≡ 1) × (line ≡ 0) × SomeTile gives (λ tile. tile ≡ nothing_left) × Keeps old new
 IsRefusal gives Memory tile line old new =
-    ((tile ≡ 0) × (line ≡ 0) × Keeps old new) ⊎ SomeTile gives (λ given. IsRefused given Memory tile line old new)
-IsRefusal gives fault tile line old new = SomeTile gives (λ given. IsRefused given fault tile line old new)
+    ((tile ≡ 0) × (line ≡ 0) × Keeps old new) ⊎ SomeTile gives (λ lines. IsRefused lines Memory tile line old new)
+IsRefusal gives fault tile line old new = SomeTile gives (λ lines. IsRefused lines fault tile line old new)

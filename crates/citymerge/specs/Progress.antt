@@ -4,10 +4,10 @@ use Rattle.std.specs.List.{AllZip}
 use Rattle.std.specs.Io.KnownBytes.{Appends}
 use Rattle.city_json.specs.Tree.{Tree}
 use Rattle.citymerge.specs.Outcome.{IsTextOf, texts}
-use Rattle.citymerge.specs.Tile.{Part, Given}
+use Rattle.citymerge.specs.Tile.{Part, TileLines}
 
 -- Some first lines were read and their texts written, and `left` is still to come.
-pub record SoFar (tile left : Given) (count : ℕ) (old new : Option (List ℕ)) : Type 0 where
+pub record SoFar (tile left : TileLines) (count : ℕ) (old new : Option (List ℕ)) : Type 0 where
   pub before : List Part
   pub values : List Tree
   pub lines : tile.lines ≡ before ++ left.lines

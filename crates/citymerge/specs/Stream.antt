@@ -2,8 +2,8 @@
 use Rattle.std.specs.Prelude.{◌++◌, ℕ, List, [], ◌∷◌, flat_map}
 use Rattle.city_json.specs.Bytes.{newline}
 
-abbrev pub ended : List ℕ → List ℕ
-ended line = line ++ newline ∷ []
+abbrev pub with_newline : List ℕ → List ℕ
+with_newline line = line ++ newline ∷ []
 
 abbrev pub stream : List ℕ → List (List ℕ) → List ℕ
-stream header lines = flat_map ended (header ∷ lines)
+stream header lines = flat_map with_newline (header ∷ lines)

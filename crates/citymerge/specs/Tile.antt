@@ -23,11 +23,11 @@ pub record Part : Type 0 where
 abbrev pub is_newline : ℕ → Bool
 is_newline b = b == newline
 
--- each part begins behind the newline that ends the one before it
-abbrev pub numbered : ℕ → ℕ → List (List ℕ) → List Part
-numbered number start [] = []
-numbered number start (bytes ∷ others) =
-    record { number = number; start = start; bytes = bytes } ∷ numbered (number + 1) (start + length bytes + 1) others
+-- each part begins after the newline that ends the one before it
+abbrev pub number_parts : ℕ → ℕ → List (List ℕ) → List Part
+number_parts number start [] = []
+number_parts number start (bytes ∷ others) =
+    record { number = number; start = start; bytes = bytes } ∷ number_parts (number + 1) (start + length bytes + 1) others
 
 -- the limits of the streams that the program reads
 abbrev pub stream_limits : Limits
@@ -37,20 +37,20 @@ stream_limits = record { line = 2 ^ 28; tile = 2 ^ 40 }
 abbrev pub is_long_line : Limits → ℕ → ℕ → Bool
 is_long_line limits start end = nat_lt limits.line (end - start) && nat_le (start + limits.line + 1) limits.tile
 
--- No newline ends the line within the tile's limit, and the tile goes on behind that limit.
+-- No newline ends the line within the tile's limit, and the tile goes on after that limit.
 abbrev pub is_past_limit : Limits → ℕ → ℕ → Bool
 is_past_limit limits size end = nat_le limits.tile end && nat_lt limits.tile size
 
 -- The line ends where the reader failed.
-abbrev pub is_cut_off : ℕ → Bool → ℕ → Bool
-is_cut_off size fails end = fails && (end == size)
+abbrev pub is_broken_off : ℕ → Bool → ℕ → Bool
+is_broken_off size fails end = fails && (end == size)
 
 -- why a line from byte `start` to byte `end` is refused, in a tile of `size` bytes
 abbrev pub fault_between : Limits → ℕ → Bool → ℕ → ℕ → Option Fault
 fault_between limits size fails start end =
     if is_long_line limits start end then Some LineTooLong
     else (if is_past_limit limits size end then Some TileTooLong
-    else (if is_cut_off size fails end then Some Read
+    else (if is_broken_off size fails end then Some Read
     else None))
 
 abbrev pub fault_at : Limits → Tile → Part → Option Fault
@@ -73,18 +73,18 @@ first_of [] = None
 first_of (x ∷ xs) = Some x
 
 -- What a tile gives: the lines before the first part at fault, blank ones left out, and that fault, if there is one.
-pub record Given : Type 0 where
+pub record TileLines : Type 0 where
   pub lines : List Part
   pub fault : Option FaultyLine
 
-abbrev pub given_by : Limits → Tile → List Part → Given
-given_by limits tile some_parts = record {
+abbrev pub lines_of_parts : Limits → Tile → List Part → TileLines
+lines_of_parts limits tile some_parts = record {
   lines = filter (λ part. not (is_blank part.bytes)) (take_while (λ part. is_none (fault_at limits tile part)) some_parts);
   fault = first_of (filter_map (faulty_line limits tile) some_parts);
 }
 
 abbrev pub parts : Tile → List Part
-parts tile = numbered 1 0 (slice_split is_newline tile.bytes)
+parts tile = number_parts 1 0 (slice_split is_newline tile.bytes)
 
-abbrev pub given : Limits → Tile → Given
-given limits tile = given_by limits tile (parts tile)
+abbrev pub tile_lines : Limits → Tile → TileLines
+tile_lines limits tile = lines_of_parts limits tile (parts tile)

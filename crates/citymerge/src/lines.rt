@@ -1,7 +1,7 @@
 ghost use Rattle.std.specs.Prelude.{◌≡◌, ◌+◌, ◌≤◌, ◌∷◌, length, drop, slice_range, IfOk, IfErr, IfSome, IfNone, OnErr};
 ghost use Rattle.std.specs.List.{slice_split};
-ghost use Rattle.citymerge.specs.NextLine.{GivesLine, IsCutFault, nothing_given, only_fault, parts_behind};
-ghost use Rattle.citymerge.specs.Tile.{tile_of, given, fault_between, is_blank, is_newline};
+ghost use Rattle.citymerge.specs.NextLine.{IsNextLine, IsSplitFault, nothing_left, only_fault, parts_after};
+ghost use Rattle.citymerge.specs.Tile.{tile_of, tile_lines, fault_between, is_blank, is_newline};
 
 use crate::limits::Limits;
 use city_json::Fault;
@@ -34,12 +34,12 @@ pub struct Lines<'a> {
 
 impl<'a> Model for Lines<'a> {
     ghost use Rattle.std.specs.Prelude.{◌+◌, ◌≤◌, length};
-    ghost use Rattle.citymerge.specs.NextLine.{given_from};
-    ghost use Rattle.citymerge.specs.Tile.{Given, tile_of};
+    ghost use Rattle.citymerge.specs.NextLine.{lines_from};
+    ghost use Rattle.citymerge.specs.Tile.{TileLines, tile_of};
 
-    ghost Value = { Given };
+    ghost Value = { TileLines };
 
-    ghost view = { λ l. given_from l.limits (tile_of l.bytes.now l.fails) l.number l.start };
+    ghost view = { λ l. lines_from l.limits (tile_of l.bytes.now l.fails) l.number l.start };
 
     ghost invariant = { λ l. (l.start ≤ length l.bytes.now) × (l.number ≤ l.start + 1) };
 }
@@ -47,7 +47,7 @@ impl<'a> Model for Lines<'a> {
 impl<'a> Lines<'a> {
     /// The lines of what a reader gave: its bytes, and whether an error ended them.
     pub fn new(bytes: &'a [u8], fails: bool, limits: Limits) -> Lines<'a>
-        ensures given { result ≡ given limits (tile_of bytes.now fails) }
+        ensures lines { result ≡ tile_lines limits (tile_of bytes.now fails) }
         ensures bounded { length result.lines ≤ length bytes.now + 1 }
     {
         Lines {
@@ -59,14 +59,14 @@ impl<'a> Lines<'a> {
         }
     }
 
-    /// The next line that is not blank, or none behind the last. After a fault the same fault comes again.
+    /// The next line that is not blank, or none after the last. After a fault the same fault comes again.
     pub fn next(&mut self) -> Result<Option<NumberedLine<'a>>, LineFault>
         ensures line { IfOk result (λ next.
-            IfSome next (λ line. GivesLine self.old line.number line.bytes.now self.new)) }
-        ensures over { IfOk result (λ next. IfNone next (self.old ≡ nothing_given)) }
-        ensures stays_over { IfOk result (λ next. IfNone next (self.new ≡ nothing_given)) }
+            IfSome next (λ line. IsNextLine self.old line.number line.bytes.now self.new)) }
+        ensures over { IfOk result (λ next. IfNone next (self.old ≡ nothing_left)) }
+        ensures stays_over { IfOk result (λ next. IfNone next (self.new ≡ nothing_left)) }
         ensures fault { IfErr result (λ e. self.old ≡ only_fault e.line e.fault) }
-        ensures kind { IfErr result (λ e. IsCutFault e.fault) }
+        ensures kind { IfErr result (λ e. IsSplitFault e.fault) }
         ensures stays { OnErr result (self.new ≡ self.old) }
     {
         'parts: loop {
@@ -104,8 +104,8 @@ fn line_end(bytes: &[u8], start: usize) -> usize
     requires { start ≤ length bytes.now }
     ensures from { start ≤ result }
     ensures within { result ≤ length bytes.now }
-    ensures cut { slice_split is_newline (drop start bytes.now)
-        ≡ slice_range bytes.now start result ∷ parts_behind bytes.now result }
+    ensures split { slice_split is_newline (drop start bytes.now)
+        ≡ slice_range bytes.now start result ∷ parts_after bytes.now result }
 {
     match memchr(b'\n', &bytes[start..]) {
         Some(length) => start + length,
@@ -124,7 +124,7 @@ fn fault_between(
     requires order { start ≤ end }
     requires within { end ≤ size }
     ensures fault { result ≡ fault_between limits size fails start end }
-    ensures kind { IfSome result IsCutFault }
+    ensures kind { IfSome result IsSplitFault }
 {
     let Limits { line, tile } = limits;
     if (end - start) as u64 > line && start as u64 + line < tile {

@@ -1,6 +1,6 @@
 ghost use Rattle.std.specs.Prelude.{◌≡◌, IsTrue, IfOk, IfErr, OnOk};
 ghost use Rattle.city_json.specs.Failures.{one_more};
-ghost use Rattle.citymerge.specs.Tile.{given, tile_of, stream_limits};
+ghost use Rattle.citymerge.specs.Tile.{tile_lines, tile_of, stream_limits};
 ghost use Rattle.citymerge.specs.Outcome.{SomeTile, WroteStream, IsRefusal, WroteAll, IsRefused, failures_after_lines};
 
 use crate::compact::compact_line;
@@ -55,7 +55,7 @@ pub fn plain_stream<S: Source, W: Sink>(
 /// Reads the whole source, or as much of it as is past the limit.
 fn read_tile<S: Source>(alloc: Global, input: &mut S) -> Result<Tile, MergeFault>
     ensures ok { IfOk result (λ tile. SomeTile (S.gives input.old)
-        (λ given_tile. given_tile ≡ given stream_limits (tile_of tile.bytes.items tile.fails))) }
+        (λ lines. lines ≡ tile_lines stream_limits (tile_of tile.bytes.items tile.fails))) }
     ensures failed { IfOk result (λ tile. IsTrue tile.fails
         → S.failures input.new ≡ one_more (S.failures input.old)) }
     ensures memory { IfErr result (λ e. e ≡ record { tile = 0; line = 0; fault = Fault.Memory }) }
@@ -83,10 +83,10 @@ fn write_lines<W: Sink>(
     output: &mut W,
 ) -> Result<u64, MergeFault>
     ensures ok { IfOk result (λ count.
-        WroteAll (given stream_limits (tile_of bytes.now fails)) count
+        WroteAll (tile_lines stream_limits (tile_of bytes.now fails)) count
         (W.taken output.old) (W.taken output.new)) }
     ensures refused { IfErr result (λ e.
-        IsRefused (given stream_limits (tile_of bytes.now fails)) e.fault e.tile e.line
+        IsRefused (tile_lines stream_limits (tile_of bytes.now fails)) e.fault e.tile e.line
         (W.taken output.old) (W.taken output.new)) }
     ensures failures { W.failures output.new ≡ failures_after_lines result (W.failures output.old) }
     ensures failed_read { IfErr result (λ e. e.fault ≡ Fault.Read → IsTrue fails) }

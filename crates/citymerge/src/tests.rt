@@ -36,7 +36,7 @@ const COMPACT: [&str; 4] = [
     "\n",
 ];
 
-fn joined(alloc: Global, pieces: &[&str]) -> Result<Vec<u8>, AllocError> {
+fn join(alloc: Global, pieces: &[&str]) -> Result<Vec<u8>, AllocError> {
     let mut text = Vec::new(alloc);
     for piece in pieces {
         text.extend_from_slice(piece.as_bytes())?;
@@ -54,8 +54,8 @@ fn expect_run(
     said: &str,
 ) -> Result<(), Fail> {
     let step = step.max(1);
-    let text = joined(rt.alloc(), input)?;
-    let written = joined(rt.alloc(), written)?;
+    let text = join(rt.alloc(), input)?;
+    let written = join(rt.alloc(), written)?;
     let mut reader = Tape::new(Line::from_vec(text.clone()?), step, fails);
     let mut output = Bin::new(rt.alloc(), 4096, step, false)?;
     assert_eq!(rt; plain_stream(rt.alloc(), &mut reader, &mut output), answer);

@@ -1,4 +1,4 @@
--- What one write took stands behind what the earlier ones took.
+-- What one write took stands after what the earlier ones took.
 use Rattle.std.proofs.Common.{arith}
 use Rattle.std.proofs.Math.Seq.{take-add}
 use Rattle.std.proofs.KnownBytes.{Appends-trans}

@@ -1,5 +1,5 @@
 use Rattle.std.proofs.Common.{◌≤◌, ◌<◌, ◌+◌, length, sym, ◌∙◌, arith}
-use Rattle.citymerge.proofs.Giving.{at_blank, at_last_line, at_line}
+use Rattle.citymerge.proofs.TakingLines.{at_blank, at_last_line, at_line}
 use Rattle.citymerge.proofs.lines.Lines.next.Goals as goal
 
 pub returns-then-end-size-clause-line : goal.returns-then-end-size-clause-line
@@ -8,7 +8,7 @@ returns-then-end-size-clause-line c =
     let end = c.line_end-end.ensures in
     let sound = sym c.fault_between.ensures.fault ∙ c.in_default.is in
     let full = sym c.is_blank-skips.ensures ∙ c.if-skips.false in
-    let line = at_last_line s.limits s.bytes.now s.fails s.number s.start _ end.from end.within end.cut sound c.if-end-size.true full in
+    let line = at_last_line s.limits s.bytes.now s.fails s.number s.start _ end.from end.within end.split sound c.if-end-size.true full in
     (line.0, sym c.parts.invariant.left ∙ line.1)
 
 pub returns-then-not-skips-clause-line : goal.returns-then-not-skips-clause-line
@@ -18,7 +18,7 @@ returns-then-not-skips-clause-line c =
     let sound = sym c.fault_between.ensures.fault ∙ c.in_default.is in
     let full = sym c.is_blank-skips.ensures ∙ c.if-not-skips.true in
     let more : c.line_end-end.result < length s.bytes.now = omega (arith, end.within, c.if-end-size.false) in
-    let line = at_line s.limits s.bytes.now s.fails s.number s.start _ end.from end.within end.cut sound more full in
+    let line = at_line s.limits s.bytes.now s.fails s.number s.start _ end.from end.within end.split sound more full in
     (line.0, sym c.parts.invariant.left ∙ line.1)
 
 pub parts-preserved : goal.parts-preserved
@@ -32,5 +32,5 @@ parts-preserved c =
     record {
       within = omega arith;
       counted = counted;
-      left = sym (at_blank s.limits s.bytes.now s.fails s.number s.start _ end.from end.within end.cut sound more blank) ∙ c.parts.invariant.left;
+      left = sym (at_blank s.limits s.bytes.now s.fails s.number s.start _ end.from end.within end.split sound more blank) ∙ c.parts.invariant.left;
     }

@@ -1,4 +1,4 @@
--- How the first newline that `memchr` finds cuts the parts of what is left.
+-- How the first newline that `memchr` finds splits what is left into parts.
 use Rattle.std.proofs.Common.{◌≡◌, ◌<◌, ◌+◌, ℕ, true, List, [], ◌∷◌, Some, None, length, take, drop, get_or, slice_range, subst, arith, length-drop}
 use Rattle.std.specs.List.{slice_split, position_or_len}
 use Rattle.std.proofs.lemmas.Bool.{false_from_ne_true}
@@ -7,7 +7,7 @@ use Rattle.std.proofs.lemmas.List.Sums.{position_or_len_is}
 use Rattle.std.proofs.lemmas.List.Splits.{slice_split_first, slice_split_none}
 use Rattle.std.proofs.lemmas.Grind.{common_steps}
 use Rattle.memchr.specs.Find.{IsFirstByte}
-use Rattle.citymerge.specs.NextLine.{parts_behind}
+use Rattle.citymerge.specs.NextLine.{parts_after}
 use Rattle.citymerge.specs.Tile.{is_newline}
 
 -- the first newline of a list
@@ -24,17 +24,17 @@ split_at rest k found =
     let P : ℕ → Type 0 = λ n. slice_split is_newline rest ≡ take n rest ∷ slice_split is_newline (drop (n + 1) rest) in
     subst P place split
 
--- `s[start..]` is what is left behind `start`
-pub cut_at : (bytes : List ℕ) (start k : ℕ) → IsFirstByte is_newline (slice_range bytes start (length bytes)) (Some k) → slice_split is_newline (drop start bytes) ≡ slice_range bytes start (start + k) ∷ parts_behind bytes (start + k)
-cut_at bytes start k found =
+-- `s[start..]` is what is left after `start`
+pub split_line : (bytes : List ℕ) (start k : ℕ) → IsFirstByte is_newline (slice_range bytes start (length bytes)) (Some k) → slice_split is_newline (drop start bytes) ≡ slice_range bytes start (start + k) ∷ parts_after bytes (start + k)
+split_line bytes start k found =
     let Finds : List ℕ → Type 0 = λ rest. IsFirstByte is_newline rest (Some k) in
     let found_in_rest = subst Finds (take_rest bytes start) found in
     let split = split_at (drop start bytes) k found_in_rest in
     let within : start + k < length bytes = omega (arith, found_in_rest.0.high, length-drop start bytes) in
     grind (arith, common_steps, split, within)
 
-pub cut_none : (bytes : List ℕ) (start : ℕ) → IsFirstByte is_newline (slice_range bytes start (length bytes)) None → slice_split is_newline (drop start bytes) ≡ slice_range bytes start (length bytes) ∷ parts_behind bytes (length bytes)
-cut_none bytes start found =
+pub split_last_line : (bytes : List ℕ) (start : ℕ) → IsFirstByte is_newline (slice_range bytes start (length bytes)) None → slice_split is_newline (drop start bytes) ≡ slice_range bytes start (length bytes) ∷ parts_after bytes (length bytes)
+split_last_line bytes start found =
     let Finds : List ℕ → Type 0 = λ rest. IsFirstByte is_newline rest None in
     let found_in_rest = subst Finds (take_rest bytes start) found in
     let split : slice_split is_newline (drop start bytes) ≡ drop start bytes ∷ [] =
