@@ -8,7 +8,7 @@ use Rattle.city_json.proofs.NumberLaws.{digits-split}
 use Rattle.std.proofs.lemmas.List.{append_cancel_right}
 use Rattle.std.proofs.lemmas.List.Folds.{drop_split}
 use Rattle.city_json.specs.Bytes.{digit_zero, comma, open_bracket, close_bracket}
-use Rattle.city_json.specs.Compact.{plain, plain_items}
+use Rattle.city_json.specs.Compact.{compact, compact_items}
 use Rattle.city_json.specs.Compacting.{shown, Taken, TakenItems, IsScalarText, ItemsFrom}
 use Rattle.city_json.specs.Reading.{after_white, is_white}
 use Rattle.city_json.specs.Tree.{array, no_items, item}
@@ -34,7 +34,7 @@ items_close levels b behind rest before mid after taken closes is = record {
   others = no_items;
   found = items-last levels taken.value b behind rest (found_of taken) closes;
   distinct = (taken.distinct, tt);
-  is_shown = last_shown before (plain taken.value) mid after close_bracket taken.is_shown is;
+  is_shown = last_shown before (compact taken.value) mid after close_bracket taken.is_shown is;
 }
 
 pub items_more : (levels : ℕ) (b behind next rest before mid after : List ℕ) → Taken levels b behind before mid → after_white behind ≡ comma ∷ next
@@ -44,7 +44,7 @@ items_more levels b behind next rest before mid after taken goes from = record {
   others = item from.first from.others;
   found = items-next levels taken.value (item from.first from.others) b behind next rest (found_of taken) goes from.found;
   distinct = (taken.distinct, from.distinct);
-  is_shown = next_shown before (plain taken.value) (plain_items (item from.first from.others)) mid after close_bracket taken.is_shown from.is_shown;
+  is_shown = next_shown before (compact taken.value) (compact_items (item from.first from.others)) mid after close_bracket taken.is_shown from.is_shown;
 }
 
 pub items_begin : (levels : ℕ) (b rest before after : List ℕ) → ItemsFrom levels (after_white b) rest before after → TakenItems levels b rest before after
@@ -81,7 +81,7 @@ array_taken levels b b' rest before before' after some opens is taken = record {
   spells = (taken.inner, refl, taken.spells);
   within = omega (arith, taken.within);
   distinct = taken.distinct;
-  is_shown = taken.is_shown ∙ (ap (λ l. l ++ (plain_items taken.items ++ close_bracket ∷ [])) is ∙ append_assoc before (open_bracket ∷ []) (plain_items taken.items ++ close_bracket ∷ []));
+  is_shown = taken.is_shown ∙ (ap (λ l. l ++ (compact_items taken.items ++ close_bracket ∷ [])) is ∙ append_assoc before (open_bracket ∷ []) (compact_items taken.items ++ close_bracket ∷ []));
 }
 
 -- one more item: what the loop reads from `b` on is what it reads behind the comma, an item earlier

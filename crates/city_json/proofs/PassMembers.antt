@@ -4,7 +4,7 @@ use Rattle.city_json.specs.Depth.{IsDeep}
 use Rattle.city_json.proofs.DepthLaws.{nests_as_value}
 use Rattle.std.proofs.lemmas.List.{drop-append-le, take-append-le, drop_all}
 use Rattle.city_json.specs.Bytes.{comma, colon, open_brace, close_brace}
-use Rattle.city_json.specs.Compact.{quoted, plain, plain_members}
+use Rattle.city_json.specs.Compact.{quoted, compact, compact_members}
 use Rattle.city_json.specs.Compacting.{Taken, TakenMembers, TakenStart, TakenMember}
 use Rattle.city_json.specs.Fits.{most_depth, Fits, AreDistinctMembers, HasDistinctNames}
 use Rattle.city_json.specs.Grammar.{Spells}
@@ -23,7 +23,7 @@ pub record MembersFrom (levels : ℕ) (b rest before after : List ℕ) (listed :
   pub others : MemberTrees
   pub found : FoundMembers levels (member name value others) b rest
   pub distinct : AreDistinctMembers (member name value others)
-  pub is_shown : after ≡ before ++ (plain_members (member name value others) ++ close_brace ∷ [])
+  pub is_shown : after ≡ before ++ (compact_members (member name value others) ++ close_brace ∷ [])
   pub names_are : names (member name value others) ≡ listed
 
 -- the members of an object, and their names, which need not differ
@@ -53,7 +53,7 @@ member_taken levels b start rest before mid after one two three named taken same
       spells = all.spells;
       within = all.within;
       distinct = taken.distinct;
-      is_shown = member_shown before (quoted named.name) (plain taken.value) mid after named.is_shown taken.is_shown;
+      is_shown = member_shown before (quoted named.name) (compact taken.value) mid after named.is_shown taken.is_shown;
       names_are = same ∙ named.names_are;
     }
 
@@ -75,7 +75,7 @@ members_stop levels b behind rest before mid at_mark behind_mark one two taken c
   others = no_members;
   found = members-last levels taken.name taken.value b behind rest (found_member taken) closes;
   distinct = (taken.distinct, tt);
-  is_shown = last_member before (quoted taken.name) (plain taken.value) mid behind_mark close_brace taken.is_shown (is₂ ∙ ap (λ l. l ++ close_brace ∷ []) is₁);
+  is_shown = last_member before (quoted taken.name) (compact taken.value) mid behind_mark close_brace taken.is_shown (is₂ ∙ ap (λ l. l ++ close_brace ∷ []) is₁);
   names_are = refl;
 }
 
@@ -90,7 +90,7 @@ members_step levels b behind next b' rest before mid at_mark behind_mark before'
       others = member from.name from.value from.others;
       found = members-next levels taken.name taken.value (member from.name from.value from.others) b behind next rest (found_member taken) goes further;
       distinct = (taken.distinct, from.distinct);
-      is_shown = next_member before (quoted taken.name) (plain taken.value) (plain_members (member from.name from.value from.others)) mid after close_brace taken.is_shown (from.is_shown ∙ ap (λ l. l ++ (plain_members (member from.name from.value from.others) ++ close_brace ∷ [])) shows);
+      is_shown = next_member before (quoted taken.name) (compact taken.value) (compact_members (member from.name from.value from.others)) mid after close_brace taken.is_shown (from.is_shown ∙ ap (λ l. l ++ (compact_members (member from.name from.value from.others) ++ close_brace ∷ [])) shows);
       names_are = ap (λ l. taken.name ∷ l) from.names_are;
     }
 
@@ -108,7 +108,7 @@ members_start levels b b' rest before before' after done listed skips is none fr
         within = from.found.within;
         names_differ = differ;
         distinct = from.distinct;
-        is_shown = from.is_shown ∙ ap (λ l. l ++ (plain_members (member from.name from.value from.others) ++ close_brace ∷ [])) is;
+        is_shown = from.is_shown ∙ ap (λ l. l ++ (compact_members (member from.name from.value from.others) ++ close_brace ∷ [])) is;
       };
     }
 
@@ -134,7 +134,7 @@ object_taken levels b b' rest before before' after some opens is taken = record 
   spells = (taken.inner, refl, taken.spells);
   within = omega (arith, taken.within);
   distinct = (taken.names_differ, taken.distinct);
-  is_shown = taken.is_shown ∙ (ap (λ l. l ++ (plain_members taken.members ++ close_brace ∷ [])) is ∙ append_assoc before (open_brace ∷ []) (plain_members taken.members ++ close_brace ∷ []));
+  is_shown = taken.is_shown ∙ (ap (λ l. l ++ (compact_members taken.members ++ close_brace ∷ [])) is ∙ append_assoc before (open_brace ∷ []) (compact_members taken.members ++ close_brace ∷ []));
 }
 
 -- one name more behind those from `base` on
@@ -149,7 +149,7 @@ names_kept base one two three x fits is same = ap (take base) (same ∙ is) ∙ 
 
 -- ---- the whole text
 unfoldable pub text_taken : (text line : List ℕ) (at end last : ℕ) (start shown_at shown_end : List ℕ) → IsUtf8 text → start ≡ [] → shown_at ≡ start → drop at text ≡ after_white text → Taken most_depth (drop at text) (drop end text) shown_at shown_end
-    → drop last text ≡ after_white (drop end text) → length text ≤ last → line ≡ shown_end → (value : Tree) × Spells text value × Fits value × (IsDeep text → ⊥) × (line ≡ plain value)
+    → drop last text ≡ after_white (drop end text) → length text ≤ last → line ≡ shown_end → (value : Tree) × Spells text value × Fits value × (IsDeep text → ⊥) × (line ≡ compact value)
 text_taken text line at end last start shown_at shown_end utf8 empty is₁ skipped taken skipped₂ over is₂ =
     let before = after_white-splits text in
     let behind = after_white-splits (drop end text) in
@@ -157,4 +157,4 @@ text_taken text line at end last start shown_at shown_end utf8 empty is₁ skipp
     let splits : text ≡ before.white ++ (taken.text ++ behind.white) =
     before.splits ∙ ap (λ l. before.white ++ l) (sym skipped ∙ (taken.splits ∙ ap (λ l. taken.text ++ l) (behind.splits ∙ (ap (λ l. behind.white ++ l) nothing ∙ append-nil behind.white)))) in
     let spells : Spells text taken.value = (utf8, (before.white, taken.text, behind.white, splits, before.blank, taken.spells, behind.blank)) in
-    (taken.value, spells, (taken.within, taken.distinct), (nests_as_value text taken.value spells).1 taken.within, is₂ ∙ (taken.is_shown ∙ ap (λ l. l ++ plain taken.value) (is₁ ∙ empty)))
+    (taken.value, spells, (taken.within, taken.distinct), (nests_as_value text taken.value spells).1 taken.within, is₂ ∙ (taken.is_shown ∙ ap (λ l. l ++ compact taken.value) (is₁ ∙ empty)))

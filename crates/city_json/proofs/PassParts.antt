@@ -2,7 +2,7 @@
 use Rattle.std.proofs.Common.{◌≡◌, ◌++◌, ◌∙◌, ◌≤◌, ◌+◌, ℕ, List, [], ◌∷◌, length, drop, refl, ap, sym, subst, arith, append_assoc, length-append, IsUtf8}
 use Rattle.std.proofs.lemmas.List.{append_cancel_right, length_push}
 use Rattle.city_json.specs.Bytes.{comma, colon, open_brace, close_brace}
-use Rattle.city_json.specs.Compact.{quoted, plain}
+use Rattle.city_json.specs.Compact.{quoted, compact}
 use Rattle.city_json.specs.Compacting.{Taken, TakenPart, TakenParts}
 use Rattle.city_json.specs.Parts.{IsPart, AreParts}
 use Rattle.city_json.specs.Fits.{HasDistinctNames, Fits, most_depth}
@@ -24,13 +24,13 @@ pub record PartsWhole (levels : ℕ) (b rest before after : List ℕ) (listed : 
   pub names_are : names members ≡ listed
   pub whole : HasDistinctNames members → TakenParts levels b rest before after parts
 
-pub part_is : (before start after name : List ℕ) (value : Tree) (part : Part) → after ≡ before ++ (quoted name ++ colon ∷ plain value) → after ≡ start ++ plain value → part.at ≡ length before → part.value ≡ length start → part.end ≡ length after → IsPart (length before) part name value
+pub part_is : (before start after name : List ℕ) (value : Tree) (part : Part) → after ≡ before ++ (quoted name ++ colon ∷ compact value) → after ≡ start ++ compact value → part.at ≡ length before → part.value ≡ length start → part.end ≡ length after → IsPart (length before) part name value
 part_is before start after name value part is goes at_is value_is end_is =
-    let joined : before ++ (quoted name ++ colon ∷ plain value) ≡ (before ++ (quoted name ++ colon ∷ [])) ++ plain value = simp append_assoc in
-    let start_is : start ≡ before ++ (quoted name ++ colon ∷ []) = append_cancel_right start (before ++ (quoted name ++ colon ∷ [])) (plain value) (sym goes ∙ (is ∙ joined)) in
+    let joined : before ++ (quoted name ++ colon ∷ compact value) ≡ (before ++ (quoted name ++ colon ∷ [])) ++ compact value = simp append_assoc in
+    let start_is : start ≡ before ++ (quoted name ++ colon ∷ []) = append_cancel_right start (before ++ (quoted name ++ colon ∷ [])) (compact value) (sym goes ∙ (is ∙ joined)) in
     let middle : length start ≡ length before + length (quoted name ++ colon ∷ []) = ap length start_is ∙ length-append before (quoted name ++ colon ∷ []) in
-    let whole : length after ≡ length start + length (plain value) = ap length goes ∙ length-append start (plain value) in
-    (at_is, value_is ∙ middle, end_is ∙ (whole ∙ ap (λ n. n + length (plain value)) (sym value_is)))
+    let whole : length after ≡ length start + length (compact value) = ap length goes ∙ length-append start (compact value) in
+    (at_is, value_is ∙ middle, end_is ∙ (whole ∙ ap (λ n. n + length (compact value)) (sym value_is)))
 
 pub parts_start : (levels : ℕ) (b b' rest before before' after : List ℕ) (done listed : List (List ℕ)) (parts_done parts : List Part) → b' ≡ after_white b → before' ≡ before → done ≡ [] → parts_done ≡ [] → PartsFrom levels b' rest before' after listed parts
     → PartsWhole levels b rest before after (done ++ listed) (parts_done ++ parts)
@@ -62,10 +62,10 @@ parts_step levels b behind next b' rest before mid at_mark behind_mark before' a
     let shows : before' ≡ mid ++ comma ∷ [] = is₃ ∙ (is₂ ∙ ap (λ l. l ++ comma ∷ []) is₁) in
     let name = t.taken.name in
     let value = t.taken.value in
-    let joined : before ++ (quoted name ++ colon ∷ plain value) ≡ before ++ ((quoted name ++ colon ∷ []) ++ plain value) = simp append_assoc in
-    let long : length mid ≡ length before + (length (quoted name ++ colon ∷ []) + length (plain value)) =
-    ap length (t.taken.is_shown ∙ joined) ∙ (length-append before ((quoted name ++ colon ∷ []) ++ plain value) ∙ ap (λ n. length before + n) (length-append (quoted name ++ colon ∷ []) (plain value))) in
-    let ends : t.part.end ≡ t.part.value + length (plain value) = t.is_part.2 in
+    let joined : before ++ (quoted name ++ colon ∷ compact value) ≡ before ++ ((quoted name ++ colon ∷ []) ++ compact value) = simp append_assoc in
+    let long : length mid ≡ length before + (length (quoted name ++ colon ∷ []) + length (compact value)) =
+    ap length (t.taken.is_shown ∙ joined) ∙ (length-append before ((quoted name ++ colon ∷ []) ++ compact value) ∙ ap (λ n. length before + n) (length-append (quoted name ++ colon ∷ []) (compact value))) in
+    let ends : t.part.end ≡ t.part.value + length (compact value) = t.is_part.2 in
     let begins : t.part.value ≡ length before + length (quoted name ++ colon ∷ []) = t.is_part.1 in
     let count : length before' ≡ t.part.end + 1 = ap length shows ∙ (length_push mid comma ∙ omega (arith, long, ends, begins)) in
     record {
@@ -79,7 +79,7 @@ parts_more one two part parts is = sym (ap (λ l. l ++ parts) is ∙ append_asso
 
 pub whole_parts : (text line : List ℕ) (at end last : ℕ) (shown_at shown_top shown_end : List ℕ) (parts : List Part) → IsUtf8 text → shown_at ≡ [] → drop at text ≡ after_white text → drop at text ≡ open_brace ∷ drop (at + 1) text → shown_top ≡ shown_at ++ open_brace ∷ []
     → TakenParts 127 (drop (at + 1) text) (drop end text) shown_top shown_end parts → drop last text ≡ after_white (drop end text) → length text ≤ last → line ≡ shown_end
-    → (members : MemberTrees) × Spells text (object members) × Fits (object members) × (IsDeep text → ⊥) × (line ≡ plain (object members)) × AreParts 1 parts members
+    → (members : MemberTrees) × Spells text (object members) × Fits (object members) × (IsDeep text → ⊥) × (line ≡ compact (object members)) × AreParts 1 parts members
 unfolding object_taken text_taken
 whole_parts text line at end last shown_at shown_top shown_end parts utf8 empty skipped opens tops t skipped₂ over is =
     let some : (most_depth ≡ 0 → ⊥) = λ e. omega arith in

@@ -10,7 +10,7 @@ use Rattle.city_json.proofs.NumberLaws as number_laws
 use Rattle.std.proofs.lemmas.List.{take_rest, take_at, append_cancel_right}
 use Rattle.std.proofs.lemmas.List.Folds.{drop_split}
 use Rattle.city_json.specs.Bytes.{digit_zero}
-use Rattle.city_json.specs.Compact.{plain}
+use Rattle.city_json.specs.Compact.{compact}
 use Rattle.city_json.specs.Compacting.{shown, Taken, IsScalarText}
 use Rattle.city_json.specs.Fits.{depth, IsDistinct}
 use Rattle.city_json.specs.Grammar.{SpellsValue}
@@ -30,7 +30,7 @@ scalar_taken levels line text from at end order onward is = record {
   is_shown = shown_more line text from at end order (omega arith) ∙ ap (λ l. shown line text from at ++ l) (sym is.compact);
 }
 
-words : (text word : List ℕ) (at end : ℕ) (value : Tree) → slice_range text at end ≡ word → SpellsValue value word → depth value ≡ 0 → IsDistinct value → plain value ≡ word → IsScalarText text at end
+words : (text word : List ℕ) (at end : ℕ) (value : Tree) → slice_range text at end ≡ word → SpellsValue value word → depth value ≡ 0 → IsDistinct value → compact value ≡ word → IsScalarText text at end
 words text word at end value is spells flat distinct compact = record {
   value = value;
   spells = subst (SpellsValue value) (sym is) spells;

@@ -1,7 +1,7 @@
 -- What a text spells can be written.
 use Rattle.std.proofs.Common.{true, false, ℕ, List}
 use Rattle.city_json.specs.Grammar.{SpellsValue, SpellsItems, SpellsMoreItems, SpellsMembers, SpellsMoreMembers, Spells}
-use Rattle.city_json.specs.Compact.{plain}
+use Rattle.city_json.specs.Compact.{compact}
 use Rattle.city_json.specs.Tree.{Tree, null, boolean, number, string, array, object, ItemTrees, no_items, item, MemberTrees, no_members, member}
 use Rattle.city_json.specs.Writable.{IsWritable, AreWritableItems, AreWritableMembers}
 use Rattle.std.proofs.Common.{◌≡◌, subst, sym}
@@ -39,5 +39,5 @@ pub spelled_writable : (b : List ℕ) (value : Tree) → Spells b value → IsWr
 spelled_writable b value s = value_writable value s.1.1 s.1.5
 
 -- What a text that is a value's compact text was read as is that value.
-pub read_of_plain : (text : List ℕ) (value found : Tree) → IsWritable value → text ≡ plain value → Spells text found → value ≡ found
-read_of_plain text value found writable is spells = one_meaning text value found (subst (λ l. Spells l value) (sym is) (compact-spells value writable)).1 spells.1
+pub read_of_compact : (text : List ℕ) (value found : Tree) → IsWritable value → text ≡ compact value → Spells text found → value ≡ found
+read_of_compact text value found writable is spells = one_meaning text value found (subst (λ l. Spells l value) (sym is) (compact-spells value writable)).1 spells.1

@@ -2,7 +2,7 @@
 use Rattle.std.proofs.Common.{◌≡◌, ◌∙◌, ℕ, List, Some, None, Result, Ok, Err, refl, sym, subst, IfOk, IfErr, MatchResult}
 use Rattle.std.proofs.lemmas.Option.{none-some}
 use Rattle.std.specs.Str.{IsUtf8}
-use Rattle.city_json.specs.Compact.{plain}
+use Rattle.city_json.specs.Compact.{compact}
 use Rattle.city_json.specs.Depth.{IsDeep}
 use Rattle.city_json.specs.Fits.{IsDistinct, Fits}
 use Rattle.city_json.specs.Gives.{Refuses}
@@ -62,7 +62,7 @@ answers_too_deep text (Err Memory) taken refused utf8 deep = absurd (refused.1 d
 answers_too_deep text (Err _) taken refused utf8 deep = absurd refused
 
 -- What was printed of a value that fits is read again, unless memory is wanting.
-pub answers_printed : (text : List ℕ) (answer : Result Json Fault) → IfOk answer (IsTaken text) → IfErr answer (λ fault. RefusesText fault text) → (value : Tree) → IsWritable value → Fits value → text ≡ plain value
+pub answers_printed : (text : List ℕ) (answer : Result Json Fault) → IfOk answer (IsTaken text) → IfErr answer (λ fault. RefusesText fault text) → (value : Tree) → IsWritable value → Fits value → text ≡ compact value
     → MatchResult answer (λ again. tree again ≡ value) (λ fault. fault ≡ Memory)
 answers_printed text answer taken refused value writable fits printed = by_answer answer taken refused
   where

@@ -21,7 +21,7 @@ use Rattle.std.specs.Simd.Lanes.{mask_l, zip2, top}
 use Rattle.std.specs.Char.{digit_value, is_ascii_digit}
 use Rattle.std.specs.Str.Parse.{AllDigits}
 use Rattle.city_json.specs.Bytes.{digit_zero, comma, open_bracket, close_bracket}
-use Rattle.city_json.specs.Compact.{plain, plain_items, plain_more_items}
+use Rattle.city_json.specs.Compact.{compact, compact_items, compact_more_items}
 use Rattle.city_json.specs.Number.{IsNumber, IsWhole}
 use Rattle.city_json.specs.Tree.{Tree, number, array, ItemTrees, no_items, item}
 use Rattle.city_json.specs.Whole.{Stage, at_start, after_comma, after_item, in_number, IsLeft, Inside, Closes, is_place, is_wrong, begins_zero, stage_of, up, down, AreFine, StaysOpen, ups, downs, last_of, zeroed_by, IsItemsText, lag}
@@ -38,7 +38,7 @@ module _ (levels : ℕ) (text : List ℕ) (Outer : List ℕ → Type 0) where
   pub close_number : (zeroed : Bool) → Outer text → Inside levels (in_number zeroed) (close_bracket ∷ text) Outer
   close_number zeroed outer = record { items = no_items; inner = []; rest = text; splits = refl; left = ([], tt, λ _. refl, refl); within = omega arith; distinct = tt; writable = tt; outer = outer }
 
-  more_items : (items : ItemTrees) (inner : List ℕ) → IsLeft after_comma items inner → comma ∷ inner ≡ plain_more_items items
+  more_items : (items : ItemTrees) (inner : List ℕ) → IsLeft after_comma items inner → comma ∷ inner ≡ compact_more_items items
   more_items no_items inner left = absurd left
   more_items (item first others) inner left = ap (λ l. comma ∷ l) left
 
@@ -70,7 +70,7 @@ module _ (levels : ℕ) (text : List ℕ) (Outer : List ℕ → Type 0) where
   whole_number : (digits : List ℕ) → IsWhole digits → IsNumber digits
   whole_number digits is = record { minus_sign = []; whole = digits; fraction = []; exponent = []; spelled = sym (append-nil digits); is_minus = inl refl; is_whole = is; is_fraction = tt; is_exponent = tt }
 
-  first_digit : (c : ℕ) → 48 ≤ c → c ≤ 57 → Inside levels (in_number (c == digit_zero)) text Outer → (stage : Stage) → ((value : Tree) (others : ItemTrees) (inner : List ℕ) → inner ≡ plain_items (item value others) → IsLeft stage (item value others) inner) → Inside levels stage (c ∷ text) Outer
+  first_digit : (c : ℕ) → 48 ≤ c → c ≤ 57 → Inside levels (in_number (c == digit_zero)) text Outer → (stage : Stage) → ((value : Tree) (others : ItemTrees) (inner : List ℕ) → inner ≡ compact_items (item value others) → IsLeft stage (item value others) inner) → Inside levels stage (c ∷ text) Outer
   first_digit c low high i stage as_left =
       let digits = i.left.0 in record {
         items = item (number (c ∷ digits)) i.items;
@@ -96,7 +96,7 @@ module _ (levels : ℕ) (text : List ℕ) (Outer : List ℕ → Type 0) where
   opened_items : (inner more : List ℕ) → open_bracket ∷ (inner ++ close_bracket ∷ more) ≡ (open_bracket ∷ inner ++ close_bracket ∷ []) ++ more
   opened_items inner more = simp append_assoc
 
-  open_any : Inside levels at_start text (λ rest. Inside (suc levels) after_item rest Outer) → (stage : Stage) → ((value : Tree) (others : ItemTrees) (inner : List ℕ) → inner ≡ plain_items (item value others) → IsLeft stage (item value others) inner) → Inside (suc levels) stage (open_bracket ∷ text) Outer
+  open_any : Inside levels at_start text (λ rest. Inside (suc levels) after_item rest Outer) → (stage : Stage) → ((value : Tree) (others : ItemTrees) (inner : List ℕ) → inner ≡ compact_items (item value others) → IsLeft stage (item value others) inner) → Inside (suc levels) stage (open_bracket ∷ text) Outer
   open_any i stage as_left =
       let o = i.outer in record {
         items = item (array i.items) o.items;
@@ -476,13 +476,13 @@ stays_first d zero (c ∷ cs) some first within given = elim (cases_Bool (is_clo
   | inl closing ↦
       let is : c ≡ close_bracket = eqb-true c close_bracket closing in
       (some, subst (λ x. StaysOpen (d + up x - down x) cs) (sym is) (subst (λ x. StaysOpen x cs) (let e : d + 0 - 1 ≡ d + 0 - 1 = refl in e) given))
-  | inr plain ↦ absurd (let e : prefix_len (λ b. not (is_close b)) (c ∷ cs) ≡ 1 + prefix_len (λ b. not (is_close b)) cs = cond-true (not (is_close c)) _ _ (ap not plain) in omega (arith, first, e))
+  | inr clear ↦ absurd (let e : prefix_len (λ b. not (is_close b)) (c ∷ cs) ≡ 1 + prefix_len (λ b. not (is_close b)) cs = cond-true (not (is_close c)) _ _ (ap not clear) in omega (arith, first, e))
 ]
 stays_first d (suc n) (c ∷ cs) some first within given = elim (cases_Bool (is_close c)) [
   | inl closing ↦ absurd (let e : prefix_len (λ b. not (is_close b)) (c ∷ cs) ≡ 0 = cond-false (not (is_close c)) _ _ (ap not closing) in omega (arith, first, e))
-  | inr plain ↦
-      let e : prefix_len (λ b. not (is_close b)) (c ∷ cs) ≡ 1 + prefix_len (λ b. not (is_close b)) cs = cond-true (not (is_close c)) _ _ (ap not plain) in
-      let none : down c ≡ 0 = cond-false (is_close c) 1 0 plain in
+  | inr clear ↦
+      let e : prefix_len (λ b. not (is_close b)) (c ∷ cs) ≡ 1 + prefix_len (λ b. not (is_close b)) cs = cond-true (not (is_close c)) _ _ (ap not clear) in
+      let none : down c ≡ 0 = cond-false (is_close c) 1 0 clear in
       let count : count_by is_open (c ∷ take n cs) ≡ up c + count_by is_open (take n cs) = sum_by-cons (λ x. cond (is_open x) 1 0) c (take n cs) in
       let same : d + count_by is_open (c ∷ take n cs) - 1 ≡ (d + up c - down c) + count_by is_open (take n cs) - 1 = omega (arith, count, none) in
       let next : suc n + 1 ≡ suc (n + 1) = omega arith in (
@@ -536,9 +536,9 @@ round_goes d up_bits down_bits place rest some closing short is_up is_down first
         prefix_below [] some = absurd (omega arith)
         prefix_below (b ∷ bs) some = elim (cases_Bool (is_close b)) [
           | inl closing ↦ (let e : prefix_len (λ b. not (is_close b)) (b ∷ bs) ≡ 0 = cond-false (not (is_close b)) _ _ (ap not closing) in omega (arith, e))
-          | inr plain ↦
-              let e : prefix_len (λ b. not (is_close b)) (b ∷ bs) ≡ 1 + prefix_len (λ b. not (is_close b)) bs = cond-true (not (is_close b)) _ _ (ap not plain) in
-              let none : ◌≡◌ {A = ℕ} (cond (is_close b) 1 0) 0 = cond-false (is_close b) 1 0 plain in
+          | inr clear ↦
+              let e : prefix_len (λ b. not (is_close b)) (b ∷ bs) ≡ 1 + prefix_len (λ b. not (is_close b)) bs = cond-true (not (is_close b)) _ _ (ap not clear) in
+              let none : ◌≡◌ {A = ℕ} (cond (is_close b) 1 0) 0 = cond-false (is_close b) 1 0 clear in
               omega (arith, e, prefix_below bs (omega (arith, none, some)))
         ]
 
@@ -623,7 +623,7 @@ one_more_byte text further at i first within = ap (λ l. slice_range text at i +
 pub whole_items : (text : List ℕ) (at end levels : ℕ) → Closes 1 levels at_start (slice_range text at end) → IsItemsText levels text at end
 whole_items text at end levels i = record {
   items = i.items;
-  written = i.splits ∙ ap (λ l. l ++ close_bracket ∷ i.rest) i.left ∙ ap (λ l. plain_items i.items ++ close_bracket ∷ l) i.outer;
+  written = i.splits ∙ ap (λ l. l ++ close_bracket ∷ i.rest) i.left ∙ ap (λ l. compact_items i.items ++ close_bracket ∷ l) i.outer;
   within = i.within;
   distinct = i.distinct;
   writable = i.writable;
@@ -632,8 +632,8 @@ whole_items text at end levels i = record {
 pub whole_taken : (levels : ℕ) (line text : List ℕ) (from at end : ℕ) → from ≤ at → at < end → IsItemsText levels text at end → TakenItems levels (drop at text) (drop end text) (shown line text from at) (shown line text from end)
 whole_taken levels line text from at end order onward is = record {
   items = is.items;
-  inner = plain_items is.items;
-  splits = drop_split text at end (omega arith) ∙ ap (λ l. l ++ drop end text) is.written ∙ append_assoc (plain_items is.items) (close_bracket ∷ []) (drop end text);
+  inner = compact_items is.items;
+  splits = drop_split text at end (omega arith) ∙ ap (λ l. l ++ drop end text) is.written ∙ append_assoc (compact_items is.items) (close_bracket ∷ []) (drop end text);
   spells = spelled-items is.items is.writable;
   within = is.within;
   distinct = is.distinct;

@@ -22,28 +22,28 @@ abbrev pub quoted : List ℕ → List ℕ
 quoted text = quotation_mark ∷ flat_map written text ++ quotation_mark ∷ []
 
 abbrev mutual
-  pub plain : Tree → List ℕ
-  plain null = codes "null"
-  plain (boolean true) = codes "true"
-  plain (boolean false) = codes "false"
-  plain (number text) = text
-  plain (string text) = quoted text
-  plain (array items) = open_bracket ∷ plain_items items ++ close_bracket ∷ []
-  plain (object members) = open_brace ∷ plain_members members ++ close_brace ∷ []
+  pub compact : Tree → List ℕ
+  compact null = codes "null"
+  compact (boolean true) = codes "true"
+  compact (boolean false) = codes "false"
+  compact (number text) = text
+  compact (string text) = quoted text
+  compact (array items) = open_bracket ∷ compact_items items ++ close_bracket ∷ []
+  compact (object members) = open_brace ∷ compact_members members ++ close_brace ∷ []
 
-  pub plain_items : ItemTrees → List ℕ
-  plain_items no_items = []
-  plain_items (item value others) = plain value ++ plain_more_items others
+  pub compact_items : ItemTrees → List ℕ
+  compact_items no_items = []
+  compact_items (item value others) = compact value ++ compact_more_items others
 
   -- with a comma before each
-  pub plain_more_items : ItemTrees → List ℕ
-  plain_more_items no_items = []
-  plain_more_items (item value others) = comma ∷ plain value ++ plain_more_items others
+  pub compact_more_items : ItemTrees → List ℕ
+  compact_more_items no_items = []
+  compact_more_items (item value others) = comma ∷ compact value ++ compact_more_items others
 
-  pub plain_members : MemberTrees → List ℕ
-  plain_members no_members = []
-  plain_members (member name value others) = quoted name ++ colon ∷ plain value ++ plain_more_members others
+  pub compact_members : MemberTrees → List ℕ
+  compact_members no_members = []
+  compact_members (member name value others) = quoted name ++ colon ∷ compact value ++ compact_more_members others
 
-  pub plain_more_members : MemberTrees → List ℕ
-  plain_more_members no_members = []
-  plain_more_members (member name value others) = comma ∷ quoted name ++ colon ∷ plain value ++ plain_more_members others
+  pub compact_more_members : MemberTrees → List ℕ
+  compact_more_members no_members = []
+  compact_more_members (member name value others) = comma ∷ quoted name ++ colon ∷ compact value ++ compact_more_members others

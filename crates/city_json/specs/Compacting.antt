@@ -2,7 +2,7 @@
 use Rattle.std.specs.Prelude.{◌≡◌, ◌++◌, ◌≤◌, ℕ, suc, List, [], ◌∷◌, Some, length, drop, slice_range, slice_index}
 use Rattle.std.specs.List.{flat_map}
 use Rattle.city_json.specs.Bytes.{comma, close_bracket, close_brace, colon, quotation_mark}
-use Rattle.city_json.specs.Compact.{written, quoted, plain, plain_items, plain_members}
+use Rattle.city_json.specs.Compact.{written, quoted, compact, compact_items, compact_members}
 use Rattle.city_json.specs.Fits.{depth, items_depth, members_depth, IsDistinct, AreDistinctItems, AreDistinctMembers, HasDistinctNames}
 use Rattle.city_json.specs.Grammar.{SpellsValue, SpellsItems, SpellsMoreItems, SpellsMembers, SpellsMember, IsBlank}
 use Rattle.city_json.specs.Reading.{after_white}
@@ -24,7 +24,7 @@ pub record Taken (levels : ℕ) (b rest before after : List ℕ) : Type 0 where
   pub spells : SpellsValue value text
   pub within : depth value ≤ levels
   pub distinct : IsDistinct value
-  pub is_shown : after ≡ before ++ plain value
+  pub is_shown : after ≡ before ++ compact value
 
 -- the same after the opening bracket of an array
 pub record TakenItems (levels : ℕ) (b rest before after : List ℕ) : Type 0 where
@@ -34,7 +34,7 @@ pub record TakenItems (levels : ℕ) (b rest before after : List ℕ) : Type 0 w
   pub spells : SpellsItems items inner
   pub within : items_depth items ≤ levels
   pub distinct : AreDistinctItems items
-  pub is_shown : after ≡ before ++ (plain_items items ++ close_bracket ∷ [])
+  pub is_shown : after ≡ before ++ (compact_items items ++ close_bracket ∷ [])
 
 -- the same after the opening brace of an object
 pub record TakenMembers (levels : ℕ) (b rest before after : List ℕ) : Type 0 where
@@ -45,7 +45,7 @@ pub record TakenMembers (levels : ℕ) (b rest before after : List ℕ) : Type 0
   pub within : members_depth members ≤ levels
   pub names_differ : HasDistinctNames members
   pub distinct : AreDistinctMembers members
-  pub is_shown : after ≡ before ++ (plain_members members ++ close_brace ∷ [])
+  pub is_shown : after ≡ before ++ (compact_members members ++ close_brace ∷ [])
 
 -- `b` is a string and then `rest`, and the string's one spelling was written after `before`
 pub record TakenString (content b rest before after : List ℕ) : Type 0 where
@@ -82,7 +82,7 @@ pub record TakenMember (levels : ℕ) (b rest before after : List ℕ) (names_be
   pub spells : SpellsMember name (SpellsValue value) text
   pub within : depth value ≤ levels
   pub distinct : IsDistinct value
-  pub is_shown : after ≡ before ++ (quoted name ++ colon ∷ plain value)
+  pub is_shown : after ≡ before ++ (quoted name ++ colon ∷ compact value)
   pub names_are : names_after ≡ names_before ++ name ∷ []
 
 -- a scalar that stands in its compact spelling between two places
@@ -91,7 +91,7 @@ pub record IsScalarText (text : List ℕ) (at end : ℕ) : Type 0 where
   pub spells : SpellsValue value (slice_range text at end)
   pub flat : depth value ≡ 0
   pub distinct : IsDistinct value
-  pub compact : plain value ≡ slice_range text at end
+  pub compact : compact value ≡ slice_range text at end
 
 -- a string without escapes, whose opening mark stands before `at` and whose closing one is at `close`
 pub record IsPlainString (text : List ℕ) (at close : ℕ) : Type 0 where
@@ -114,7 +114,7 @@ pub record ItemsFrom (levels : ℕ) (b rest before after : List ℕ) : Type 0 wh
   pub others : ItemTrees
   pub found : FoundItems levels (item first others) b rest
   pub distinct : AreDistinctItems (item first others)
-  pub is_shown : after ≡ before ++ (plain_items (item first others) ++ close_bracket ∷ [])
+  pub is_shown : after ≡ before ++ (compact_items (item first others) ++ close_bracket ∷ [])
 
 -- From `at` to `end` stand whole numbers, each with a comma after it: items that are read from `end` on are read from
 -- `at` on with these before them.

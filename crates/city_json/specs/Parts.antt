@@ -1,13 +1,13 @@
 -- Where the members of an object lie in its compact text, and an object with the value of one member exchanged.
 use Rattle.std.specs.Prelude.{◌≡◌, ◌++◌, ◌+◌, ℕ, zero, suc, List, [], ◌∷◌, length, take, drop}
 use Rattle.city_json.specs.Bytes.{colon}
-use Rattle.city_json.specs.Compact.{quoted, plain}
+use Rattle.city_json.specs.Compact.{quoted, compact}
 use Rattle.city_json.specs.Tree.{Tree, MemberTrees, no_members, member}
 use Rattle.city_json.specs.declared.compacting.parts.Part.{Part}
 
 -- in a text in which `front` bytes stand before the member, it lies there
 abbrev pub IsPart : ℕ → Part → List ℕ → Tree → Type 0
-IsPart front part name value = (part.at ≡ front) × (part.value ≡ front + length (quoted name ++ colon ∷ [])) × (part.end ≡ part.value + length (plain value))
+IsPart front part name value = (part.at ≡ front) × (part.value ≡ front + length (quoted name ++ colon ∷ [])) × (part.end ≡ part.value + length (compact value))
 
 -- the same of members with a comma between them
 abbrev pub AreParts : ℕ → List Part → MemberTrees → Type 0

@@ -3,7 +3,7 @@ use Rattle.std.specs.Prelude.{◌≡◌, ◌++◌, ◌+◌, ◌-◌, ◌<◌, �
 use Rattle.std.specs.Char.{is_ascii_digit}
 use Rattle.std.specs.Str.Parse.{AllDigits}
 use Rattle.city_json.specs.Bytes.{digit_zero, comma, open_bracket, close_bracket}
-use Rattle.city_json.specs.Compact.{plain_items, plain_more_items}
+use Rattle.city_json.specs.Compact.{compact_items, compact_more_items}
 use Rattle.city_json.specs.Fits.{items_depth, AreDistinctItems}
 use Rattle.city_json.specs.Tree.{ItemTrees, no_items, item}
 use Rattle.city_json.specs.Writable.{AreWritableItems}
@@ -18,11 +18,11 @@ pub data Stage : Type 0 where
 -- how what is left of an array's inner text looks, where these items are still to come; a number that began with a zero
 -- has no further digits
 abbrev pub IsLeft : Stage → ItemTrees → List ℕ → Type 0
-IsLeft at_start items inner = inner ≡ plain_items items
+IsLeft at_start items inner = inner ≡ compact_items items
 IsLeft after_comma no_items inner = ⊥
-IsLeft after_comma (item first others) inner = inner ≡ plain_items (item first others)
-IsLeft after_item items inner = inner ≡ plain_more_items items
-IsLeft (in_number zeroed) items inner = (digits : List ℕ) × AllDigits 10 digits × (zeroed ≡ true → digits ≡ []) × (inner ≡ digits ++ plain_more_items items)
+IsLeft after_comma (item first others) inner = inner ≡ compact_items (item first others)
+IsLeft after_item items inner = inner ≡ compact_more_items items
+IsLeft (in_number zeroed) items inner = (digits : List ℕ) × AllDigits 10 digits × (zeroed ≡ true → digits ≡ []) × (inner ≡ digits ++ compact_more_items items)
 
 -- the rest of an array, its bracket, and what is left of those around it
 pub record Inside (levels : ℕ) (stage : Stage) (text : List ℕ) (Outer : List ℕ → Type 0) : Type 0 where
@@ -94,7 +94,7 @@ zeroed_by p z (c ∷ cs) = zeroed_by c (begins_zero p c) cs
 -- after an opening bracket stand, up to its closing one, items in their compact text
 pub record IsItemsText (levels : ℕ) (text : List ℕ) (at end : ℕ) : Type 0 where
   pub items : ItemTrees
-  pub written : slice_range text at end ≡ plain_items items ++ close_bracket ∷ []
+  pub written : slice_range text at end ≡ compact_items items ++ close_bracket ∷ []
   pub within : items_depth items ≤ levels
   pub distinct : AreDistinctItems items
   pub writable : AreWritableItems items

@@ -4,7 +4,7 @@
 //! already: it copies. It answers for the common spellings only, and says nothing of any other text and of no fault, so
 //! that it decides no refusal. Whoever calls it goes on with [`crate::read`] and [`crate::print`] where it is silent.
 ghost use Rattle.std.specs.Prelude.{◌≡◌, IfSome};
-ghost use Rattle.city_json.specs.Compact.{plain};
+ghost use Rattle.city_json.specs.Compact.{compact};
 ghost use Rattle.city_json.specs.Depth.{IsDeep};
 ghost use Rattle.city_json.specs.Fits.{Fits};
 ghost use Rattle.city_json.specs.Grammar.{Spells};
@@ -34,7 +34,7 @@ use values::value;
 /// None says nothing of the text: [`crate::read`] tells what is the matter with it.
 pub fn compact(alloc: Global, text: &[u8], line: Line) -> Option<Line>
     ensures { IfSome result (λ line. (value : Tree)
-        × Spells text.now value × Fits value × (¬ IsDeep text.now) × (line ≡ plain value)) }
+        × Spells text.now value × Fits value × (¬ IsDeep text.now) × (line ≡ compact value)) }
 {
     if !simdutf8::is_utf8(text) {
         return None;

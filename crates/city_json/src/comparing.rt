@@ -1,6 +1,6 @@
 //! Whether two values are the same.
 ghost use Rattle.std.specs.Prelude.{◌≡◌, ◌↔◌, IsTrue, IsUtf8};
-ghost use Rattle.city_json.specs.Compact.{plain};
+ghost use Rattle.city_json.specs.Compact.{compact};
 ghost use Rattle.city_json.specs.Tree.{tree, named_tree, items_tree, members_tree};
 ghost use Rattle.city_json.specs.Writable.{IsWritable, AreWritableItems, AreWritableMembers};
 
@@ -9,7 +9,7 @@ use crate::json::{Json, Member};
 /// Whether the compact texts of two values are equal: the same kinds, members in the same order, numbers as
 /// they were written.
 pub fn same(a: &Json, b: &Json) -> bool
-    ensures { IsTrue result ↔ (plain (tree a.now) ≡ plain (tree b.now)) }
+    ensures { IsTrue result ↔ (compact (tree a.now) ≡ compact (tree b.now)) }
 {
     if equal(a, b) {
         return true;

@@ -1,7 +1,7 @@
 //! Laws of the definitions alone: each is the contract of a function that does nothing.
 ghost use Rattle.std.specs.Prelude.{◌≡◌, ◌≢◌, ◌↔◌, ◌≤◌, ◌<◌, ℕ, List, All, length, slice_index_or};
 ghost use Rattle.city_json.specs.Bytes.{newline};
-ghost use Rattle.city_json.specs.Compact.{plain};
+ghost use Rattle.city_json.specs.Compact.{compact};
 ghost use Rattle.city_json.specs.Depth.{IsDeep};
 ghost use Rattle.city_json.specs.Fits.{depth, most_depth};
 ghost use Rattle.city_json.specs.Grammar.{Spells};
@@ -17,12 +17,12 @@ pub fn a_text_has_one_meaning()
 
 /// The compact text of a value spells that value.
 pub fn compact_text_spells_its_value()
-    ensures { (value : Tree) → IsWritable value → Spells (plain value) value }
+    ensures { (value : Tree) → IsWritable value → Spells (compact value) value }
 {}
 
 /// No byte of a compact text is a newline, so that it is one line.
 pub fn compact_text_is_one_line()
-    ensures { (value : Tree) → IsWritable value → All (λ b. b ≢ newline) (plain value) }
+    ensures { (value : Tree) → IsWritable value → All (λ b. b ≢ newline) (compact value) }
 {}
 
 /// A text nests too deeply exactly where the value that it spells does.
@@ -32,7 +32,7 @@ pub fn texts_nest_as_their_values()
 
 /// Different values have different compact texts.
 pub fn compact_text_tells_its_value()
-    ensures { (a b : Tree) → IsWritable a → IsWritable b → plain a ≡ plain b → a ≡ b }
+    ensures { (a b : Tree) → IsWritable a → IsWritable b → compact a ≡ compact b → a ≡ b }
 {}
 
 /// What a text spells can be written: its numbers are numbers, its texts and names UTF-8.
@@ -42,7 +42,7 @@ pub fn spelled_value_is_writable()
 
 /// A compact text spells no value but its own.
 pub fn compact_text_is_read_as_its_value()
-    ensures { (value found : Tree) → IsWritable value → Spells (plain value) found → value ≡ found }
+    ensures { (value found : Tree) → IsWritable value → Spells (compact value) found → value ≡ found }
 {}
 
 /// To exchange the text of one member's value, where it lies in the compact text of an object, is to exchange the
@@ -50,6 +50,6 @@ pub fn compact_text_is_read_as_its_value()
 pub fn exchanged_text_is_exchanged_value()
     ensures { (members : MemberTrees) (parts : List Part) (k : ℕ) (part : Part) (value : Tree)
         → AreParts 1 parts members → k < length parts
-        → with_value (plain (object members)) (slice_index_or parts k part) (plain value)
-        ≡ plain (object (replaced k value members)) }
+        → with_value (compact (object members)) (slice_index_or parts k part) (compact value)
+        ≡ compact (object (replaced k value members)) }
 {}

@@ -3,7 +3,7 @@ ghost use Rattle.std.specs.Prelude.{◌≡◌, ◌++◌, ◌∷◌, ◌<◌, ◌
 ghost use Rattle.std.specs.Char.{digit_char};
 ghost use Rattle.std.specs.List.{flat_map};
 ghost use Rattle.city_json.specs.Bytes.{colon, comma};
-ghost use Rattle.city_json.specs.Compact.{written, quoted, plain, plain_items, plain_members};
+ghost use Rattle.city_json.specs.Compact.{written, quoted, compact, compact_items, compact_members};
 ghost use Rattle.city_json.specs.Tree.{tree, named_tree, items_tree, members_tree};
 ghost use Rattle.city_json.specs.Writable.{IsWritable, AreWritableItems, AreWritableMembers};
 
@@ -15,7 +15,7 @@ use crate::plain::plain_len;
 /// Appends the compact text of `value` to `line`. Where memory is wanting the line is as before, and the
 /// answer is [`Fault::Memory`].
 pub fn print(value: &Json, line: &mut Line) -> Result<(), Fault>
-    ensures ok { OnOk result (line.new ≡ line.old ++ plain (tree value.now)) }
+    ensures ok { OnOk result (line.new ≡ line.old ++ compact (tree value.now)) }
     ensures err { OnErr result (line.new ≡ line.old) }
     ensures writable { OnOk result (IsWritable (tree value.now)) }
     ensures fault { IfErr result (λ fault. fault ≡ Fault.Memory) }
@@ -30,7 +30,7 @@ pub fn print(value: &Json, line: &mut Line) -> Result<(), Fault>
 
 #[cycle(put)]
 fn put_value(line: &mut Line, value: &Json) -> Result<(), Fault>
-    ensures ok { OnOk result (line.new ≡ line.old ++ plain (tree value.now)) }
+    ensures ok { OnOk result (line.new ≡ line.old ++ compact (tree value.now)) }
     ensures front { take (length line.old) line.new ≡ line.old }
     ensures writable { OnOk result (IsWritable (tree value.now)) }
     ensures fault { IfErr result (λ fault. fault ≡ Fault.Memory) }
@@ -56,7 +56,7 @@ fn put_value(line: &mut Line, value: &Json) -> Result<(), Fault>
 
 #[cycle(put)]
 fn put_items(line: &mut Line, items: &[Json]) -> Result<(), Fault>
-    ensures ok { OnOk result (line.new ≡ line.old ++ plain_items (items_tree items.now)) }
+    ensures ok { OnOk result (line.new ≡ line.old ++ compact_items (items_tree items.now)) }
     ensures front { take (length line.old) line.new ≡ line.old }
     ensures writable { OnOk result (AreWritableItems (items_tree items.now)) }
     ensures fault { IfErr result (λ fault. fault ≡ Fault.Memory) }
@@ -73,7 +73,7 @@ fn put_items(line: &mut Line, items: &[Json]) -> Result<(), Fault>
 
 #[cycle(put)]
 fn put_next_item(line: &mut Line, item: &Json) -> Result<(), Fault>
-    ensures ok { OnOk result (line.new ≡ line.old ++ comma ∷ plain (tree item.now)) }
+    ensures ok { OnOk result (line.new ≡ line.old ++ comma ∷ compact (tree item.now)) }
     ensures front { take (length line.old) line.new ≡ line.old }
     ensures writable { OnOk result (IsWritable (tree item.now)) }
     ensures fault { IfErr result (λ fault. fault ≡ Fault.Memory) }
@@ -84,7 +84,7 @@ fn put_next_item(line: &mut Line, item: &Json) -> Result<(), Fault>
 
 #[cycle(put)]
 fn put_members(line: &mut Line, members: &[Member]) -> Result<(), Fault>
-    ensures ok { OnOk result (line.new ≡ line.old ++ plain_members (members_tree members.now)) }
+    ensures ok { OnOk result (line.new ≡ line.old ++ compact_members (members_tree members.now)) }
     ensures front { take (length line.old) line.new ≡ line.old }
     ensures writable { OnOk result (AreWritableMembers (members_tree members.now)) }
     ensures fault { IfErr result (λ fault. fault ≡ Fault.Memory) }
@@ -101,7 +101,7 @@ fn put_members(line: &mut Line, members: &[Member]) -> Result<(), Fault>
 
 #[cycle(put)]
 fn put_next_member(line: &mut Line, member: &Member) -> Result<(), Fault>
-    ensures ok { OnOk result (line.new ≡ line.old ++ comma ∷ quoted (named_tree member.now).0 ++ colon ∷ plain (named_tree member.now).1) }
+    ensures ok { OnOk result (line.new ≡ line.old ++ comma ∷ quoted (named_tree member.now).0 ++ colon ∷ compact (named_tree member.now).1) }
     ensures front { take (length line.old) line.new ≡ line.old }
     ensures writable { OnOk result (IsUtf8 (named_tree member.now).0 × IsWritable (named_tree member.now).1) }
     ensures fault { IfErr result (λ fault. fault ≡ Fault.Memory) }
@@ -112,7 +112,7 @@ fn put_next_member(line: &mut Line, member: &Member) -> Result<(), Fault>
 
 #[cycle(put)]
 fn put_member(line: &mut Line, member: &Member) -> Result<(), Fault>
-    ensures ok { OnOk result (line.new ≡ line.old ++ quoted (named_tree member.now).0 ++ colon ∷ plain (named_tree member.now).1) }
+    ensures ok { OnOk result (line.new ≡ line.old ++ quoted (named_tree member.now).0 ++ colon ∷ compact (named_tree member.now).1) }
     ensures front { take (length line.old) line.new ≡ line.old }
     ensures writable { OnOk result (IsUtf8 (named_tree member.now).0 × IsWritable (named_tree member.now).1) }
     ensures fault { IfErr result (λ fault. fault ≡ Fault.Memory) }

@@ -1,5 +1,5 @@
 ghost use Rattle.std.specs.Prelude.{◌≡◌, ◌<◌, option_map, length, IfOk, IfErr, IsUtf8, MatchResult};
-ghost use Rattle.city_json.specs.Compact.{plain};
+ghost use Rattle.city_json.specs.Compact.{compact};
 ghost use Rattle.city_json.specs.Depth.{IsDeep};
 ghost use Rattle.city_json.specs.Fits.{Fits};
 ghost use Rattle.city_json.specs.Gives.{Gives};
@@ -260,7 +260,7 @@ pub fn read(alloc: Global, bytes: &[u8]) -> Result<Json, Fault>
     ensures not_utf8 { (¬ IsUtf8 bytes.now) → result ≡ Err Fault.NotUtf8 }
     ensures too_deep { IsUtf8 bytes.now → IsDeep bytes.now → result ≡ Err Fault.TooDeep }
     // What was printed of a value is read again as that value.
-    ensures printed { (value : Tree) → IsWritable value → Fits value → bytes.now ≡ plain value →
+    ensures printed { (value : Tree) → IsWritable value → Fits value → bytes.now ≡ compact value →
         MatchResult result (λ again. tree again ≡ value) (λ fault. fault ≡ Fault.Memory) }
 {
     value_of(alloc, bytes)

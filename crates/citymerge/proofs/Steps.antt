@@ -13,16 +13,16 @@ use Rattle.citymerge.specs.NextLine.{IsSplitFault, IsNextLine, nothing_left, onl
 use Rattle.citymerge.specs.Outcome.{IsTextOf, IsCompactLine, texts, WroteTexts, WroteAll, StoppedAt, WrotePart, IsRefused, failures_after}
 use Rattle.citymerge.specs.Progress.{SoFar}
 use Rattle.citymerge.specs.Stream.{with_newline}
-use Rattle.city_json.specs.Compact.{plain}
+use Rattle.city_json.specs.Compact.{compact}
 use Rattle.citymerge.specs.Tile.{Part, TileLines}
 
 -- the line that is taken is one fewer
 pub fewer : (left after : TileLines) (number : ℕ) (line : List ℕ) → IsNextLine left number line after → length left.lines ≡ length after.lines + 1
 fewer left after number line gives = ap (λ (lines : TileLines). length lines.lines) gives.1 ∙ sym (add-one (length after.lines))
 
-texts-push : (values : List Tree) (value : Tree) → texts (values ++ value ∷ []) ≡ texts values ++ with_newline (plain value)
+texts-push : (values : List Tree) (value : Tree) → texts (values ++ value ∷ []) ≡ texts values ++ with_newline (compact value)
 texts-push [] value = append-nil _
-texts-push (first ∷ values) value = ap (λ l. with_newline (plain first) ++ l) (texts-push values value) ∙ sym (append_assoc (with_newline (plain first)) (texts values) (with_newline (plain value)))
+texts-push (first ∷ values) value = ap (λ l. with_newline (compact first) ++ l) (texts-push values value) ∙ sym (append_assoc (with_newline (compact first)) (texts values) (with_newline (compact value)))
 
 read-push : (lines : List Part) (values : List Tree) (line : Part) (value : Tree) → AllZip IsTextOf lines values → IsTextOf line value → AllZip IsTextOf (lines ++ line ∷ []) (values ++ value ∷ [])
 read-push [] [] line value all one = (one, tt)

@@ -2,7 +2,7 @@
 use Rattle.std.specs.Prelude.{◌≡◌, ◌⊎◌, ◌++◌, ℕ, Bool, List, [], ◌∷◌, Option, Some, None, length, map, take, flat_map, Result, Ok, Err}
 use Rattle.std.specs.List.{AllZip}
 use Rattle.std.specs.Io.KnownBytes.{Appends, Keeps}
-use Rattle.city_json.specs.Compact.{plain}
+use Rattle.city_json.specs.Compact.{compact}
 use Rattle.city_json.specs.Failures.{one_more}
 use Rattle.city_json.specs.Fits.{Fits}
 use Rattle.city_json.specs.Grammar.{Spells}
@@ -21,11 +21,11 @@ IsTextOf line value = Spells line.bytes value × Fits value
 
 -- the compact text of a fitting value that the line spells, and one newline
 abbrev pub IsCompactLine : List ℕ → List ℕ → Type 0
-IsCompactLine line text = (value : Tree) × Spells line value × Fits value × (text ≡ with_newline (plain value))
+IsCompactLine line text = (value : Tree) × Spells line value × Fits value × (text ≡ with_newline (compact value))
 
 -- the compact texts of these values, each followed by one newline
 abbrev pub texts : List Tree → List ℕ
-texts values = flat_map with_newline (map plain values)
+texts values = flat_map with_newline (map compact values)
 
 -- Each of these lines spells a fitting value, and the compact texts of these values were written.
 pub record WroteTexts (lines : List Part) (old new : Option (List ℕ)) : Type 0 where
@@ -41,7 +41,7 @@ pub record WroteStream (tile : TileLines) (count : ℕ) (old new : Option (List 
   pub read : AllZip IsTextOf tile.lines (header ∷ features)
   pub whole : tile.fault ≡ None
   pub counted : count ≡ length features
-  pub written : Appends old new (stream (plain header) (map plain features))
+  pub written : Appends old new (stream (compact header) (map compact features))
 
 -- `fault` is that of the first of these lines, or where there are none that of the tile after them
 abbrev pub StandsFirst : List Part → Option FaultyLine → ℕ → Fault → Type 0

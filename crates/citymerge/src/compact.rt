@@ -1,5 +1,5 @@
 ghost use Rattle.std.specs.Prelude.{◌≡◌, IfOk, IfErr};
-ghost use Rattle.city_json.specs.Compact.{plain};
+ghost use Rattle.city_json.specs.Compact.{compact};
 ghost use Rattle.city_json.specs.Depth.{IsDeep};
 ghost use Rattle.city_json.specs.Fits.{Fits};
 ghost use Rattle.city_json.specs.Grammar.{Spells};
@@ -30,7 +30,7 @@ pub fn compact_line(alloc: Global, line: &[u8], text: Vec<u8>) -> Result<Vec<u8>
 /// The compact text of the value that the line spells: in one pass, or where that says nothing by way of the value.
 fn text_of(alloc: Global, line: &[u8], text: Line) -> Result<Line, Fault>
     ensures ok { IfOk result (λ text. (value : Tree)
-        × Spells line.now value × Fits value × (¬ IsDeep line.now) × (text ≡ plain value)) }
+        × Spells line.now value × Fits value × (¬ IsDeep line.now) × (text ≡ compact value)) }
     ensures refused { IfErr result (λ fault. RefusesText fault line.now) }
 {
     if let Some(text) = compact(alloc, line, text) {

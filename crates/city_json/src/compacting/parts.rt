@@ -1,6 +1,6 @@
 //! The compact text of an object, and where its members lie in it.
 ghost use Rattle.std.specs.Prelude.{◌≡◌, ◌++◌, ◌<◌, ◌≤◌, ◌∷◌, [], length, drop, IfSome, OnSome, IsUtf8};
-ghost use Rattle.city_json.specs.Compact.{plain};
+ghost use Rattle.city_json.specs.Compact.{compact};
 ghost use Rattle.city_json.specs.Compacting.{shown, TakenPart, TakenParts};
 ghost use Rattle.city_json.specs.Depth.{IsDeep};
 ghost use Rattle.city_json.specs.Fits.{Fits};
@@ -39,7 +39,7 @@ pub struct Compacted {
 pub fn compact_parts(alloc: Global, text: &[u8], line: Line) -> Option<Compacted>
     ensures { IfSome result (λ found. (members : MemberTrees)
         × Spells text.now (object members) × Fits (object members) × (¬ IsDeep text.now)
-        × (found.line ≡ plain (object members)) × AreParts 1 found.parts.items members) }
+        × (found.line ≡ compact (object members)) × AreParts 1 found.parts.items members) }
 {
     if !simdutf8::is_utf8(text) {
         return None;
