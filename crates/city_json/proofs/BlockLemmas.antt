@@ -14,7 +14,7 @@ use Rattle.std.proofs.lemmas.Nat.Bits.{bit_at_and, bit_at_xor, bit_at_ones, bit_
 use Rattle.std.proofs.lemmas.Simd.{bitmask_splat, zip2_splat, zip2-map, map-map, mask_l-mod, ones-mask_l, ones-mask_l_cons, bit_mask_l, leading_from_mask_l, trailing_mask_l}
 use Rattle.city_json.specs.Bytes.{quotation_mark, backslash}
 use Rattle.city_json.specs.Depth.{Place, outside, inside, escaped, unquoted, place_after, is_opening, is_closing}
-use Rattle.city_json.specs.Runs.{place_of, is_outside, outside_behind, IsRun}
+use Rattle.city_json.specs.BracketRun.{place_of, is_outside, outside_after, IsBracketRun}
 use Rattle.city_json.proofs.ParityLemmas.{ones_below}
 
 -- one of the two bytes
@@ -128,7 +128,7 @@ last_flip false true = refl
 last_flip false false = refl
 
 outside_bit : (bytes : List ℕ) (in_string : Bool) (i : ℕ) → HasNoBackslash bytes → i < length bytes →
-    cond (get_or (outside_behind (place_of in_string) bytes) i false) 1 0 ≡ (cond in_string 0 1 + count_by is_quote (take (i + 1) bytes)) % 2
+    cond (get_or (outside_after (place_of in_string) bytes) i false) 1 0 ≡ (cond in_string 0 1 + count_by is_quote (take (i + 1) bytes)) % 2
 outside_bit [] in_string i plain within = absurd (omega arith)
 outside_bit (b ∷ bytes) in_string zero plain within =
     rw (next_place in_string b plain.0, count_more is_quote b []) (last_flip in_string (b == quotation_mark))
@@ -138,9 +138,9 @@ outside_bit (b ∷ bytes) in_string (suc i) plain within =
     (outside_bit bytes (flips in_string (b == quotation_mark)) i plain.1 (omega arith)
     ∙ one_flip in_string (b == quotation_mark) (count_by is_quote (take (i + 1) bytes)))
 
-length-outside_behind : (bytes : List ℕ) (place : Place) → length (outside_behind place bytes) ≡ length bytes
-length-outside_behind [] place = refl
-length-outside_behind (b ∷ bytes) place = ap suc (length-outside_behind bytes (place_after place b))
+length-outside_after : (bytes : List ℕ) (place : Place) → length (outside_after place bytes) ≡ length bytes
+length-outside_after [] place = refl
+length-outside_after (b ∷ bytes) place = ap suc (length-outside_after bytes (place_after place b))
 
 ones-zero : ones 0 ≡ 0
 unfolding ones
@@ -168,7 +168,7 @@ mark_step true false false bracket = refl
 
 -- the brackets outside strings are those that are marked among the bytes that lead outside
 shown_count : (p : ℕ → Bool) → p quotation_mark ≡ false → (n : ℕ) (block : List ℕ) (in_string : Bool) → HasNoBackslash (take n block) →
-    ones (mask_l (zip2 (λ x y. x && y) (map p block) (outside_behind (place_of in_string) (take n block)))) ≡ count_by p (unquoted (place_of in_string) (take n block))
+    ones (mask_l (zip2 (λ x y. x && y) (map p block) (outside_after (place_of in_string) (take n block)))) ≡ count_by p (unquoted (place_of in_string) (take n block))
 shown_count p bracket zero [] in_string plain = ones-zero
 shown_count p bracket zero (b ∷ block) in_string plain = ones-zero
 shown_count p bracket (suc n) [] in_string plain = ones-zero
@@ -198,8 +198,8 @@ and_masks xs ys = same_from_bits _ _ (λ i.
     bit_at_and (mask_l xs) (mask_l ys) i ∙ rw (bit_mask_l xs i, bit_mask_l ys i, bit_mask_l (zip2 (λ x y. x && y) xs ys) i) (sym (get_or-both xs ys i)))
 
 pub count_outside : (p : ℕ → Bool) → p quotation_mark ≡ false → (n : ℕ) (block : List ℕ) (in_string : Bool) → HasNoBackslash (take n block) →
-    ones (bit_and (mask_l (map p block)) (mask_l (outside_behind (place_of in_string) (take n block)))) ≡ count_by p (unquoted (place_of in_string) (take n block))
-count_outside p bracket n block in_string plain = ap ones (and_masks (map p block) (outside_behind (place_of in_string) (take n block))) ∙ shown_count p bracket n block in_string plain
+    ones (bit_and (mask_l (map p block)) (mask_l (outside_after (place_of in_string) (take n block)))) ≡ count_by p (unquoted (place_of in_string) (take n block))
+count_outside p bracket n block in_string plain = ap ones (and_masks (map p block) (outside_after (place_of in_string) (take n block))) ∙ shown_count p bracket n block in_string plain
 
 in_string-place : (in_string : Bool) → not (is_outside (place_of in_string)) ≡ in_string
 in_string-place true = refl
@@ -207,7 +207,7 @@ in_string-place false = refl
 
 -- what follows begins in a string unless the last byte leads outside
 pub goes_on : (front back : List ℕ) (n : ℕ) (in_string : Bool) → length front ≡ suc n → HasNoBackslash front →
-    unquoted (place_of in_string) (front ++ back) ≡ unquoted (place_of in_string) front ++ unquoted (place_of (not (get_or (outside_behind (place_of in_string) front) n false))) back
+    unquoted (place_of in_string) (front ++ back) ≡ unquoted (place_of in_string) front ++ unquoted (place_of (not (get_or (outside_after (place_of in_string) front) n false))) back
 goes_on [] back n in_string long plain = absurd (omega arith)
 goes_on (b ∷ []) back (suc n) in_string long plain = absurd (omega arith)
 goes_on (b ∷ []) back zero in_string long plain =
@@ -222,7 +222,7 @@ goes_on (b ∷ (c ∷ front)) back zero in_string long plain = absurd (omega ari
 goes_on (b ∷ (c ∷ front)) back (suc n) in_string long plain =
     let behind = flips in_string (b == quotation_mark) in
     let shown : List ℕ = cond in_string [] (b ∷ []) in
-    let tail = λ (place : Place). unquoted (place_of (not (get_or (outside_behind place (c ∷ front)) n false))) back in
+    let tail = λ (place : Place). unquoted (place_of (not (get_or (outside_after place (c ∷ front)) n false))) back in
     unquoted_step in_string b (c ∷ (front ++ back)) plain.0
     ∙ (ap (λ xs. shown ++ xs) (goes_on (c ∷ front) back n behind (omega arith) plain.1)
     ∙ (sym (append_assoc shown (unquoted (place_of behind) (c ∷ front)) (tail (place_of behind)))
@@ -241,13 +241,13 @@ quotes_below block i =
 -- the marks as they are computed
 pub outside_marks_are : (block : List ℕ) (n sums : ℕ) (in_string : Bool) → length block ≡ 64 → n ≤ 64 → HasNoBackslash (take n block)
     → ((i : ℕ) → i < 64 → bit_at sums i ≡ ones_below (mask_l (map is_quote block)) (i + 1) % 2)
-    → bit_and (bit_xor sums (if (not in_string) then 2 ^ 64 - 1 else 0)) ((2 ^ 64 - 1) / 2 ^ (64 - n)) ≡ mask_l (outside_behind (place_of in_string) (take n block))
+    → bit_and (bit_xor sums (if (not in_string) then 2 ^ 64 - 1 else 0)) ((2 ^ 64 - 1) / 2 ^ (64 - n)) ≡ mask_l (outside_after (place_of in_string) (take n block))
 outside_marks_are block n sums in_string long within plain parities =
     let front : (2 ^ 64 - 1) / 2 ^ (64 - n) ≡ 2 ^ n - 1 =
     let whole : 64 - (64 - n) ≡ n = omega arith in ones_shr 64 (64 - n) (omega arith) ∙ ap (λ k. 2 ^ k - 1) whole in
     let flip : ℕ = if (not in_string) then 2 ^ 64 - 1 else 0 in
     let count : length (take n block) ≡ n = omega (arith, length-take n block) in
-    let marks : List Bool = outside_behind (place_of in_string) (take n block) in
+    let marks : List Bool = outside_after (place_of in_string) (take n block) in
     same_from_bits _ _ (λ i.
     rw (front, bit_at_and (bit_xor sums flip) (2 ^ n - 1) i, bit_at_xor sums flip i, bit_mask_l marks i) (elim (cases_lt i n) [
       | inl below ↦
@@ -255,7 +255,7 @@ outside_marks_are block n sums in_string long within plain parities =
           rw (bit_at_ones n i below, flipped in_string i (omega arith), parities i (omega arith), quotes_below block i, outside_bit (take n block) in_string i plain (omega arith), same)
           (omega arith)
       | inr above ↦
-          rw (bit_at_ones_above n i above, get_or_past marks i false (omega (arith, length-outside_behind (take n block) (place_of in_string)))) (omega arith)
+          rw (bit_at_ones_above n i above, get_or_past marks i false (omega (arith, length-outside_after (take n block) (place_of in_string)))) (omega arith)
     ]))
 
 pub length-unquoted : (bytes : List ℕ) (place : Place) → length (unquoted place bytes) ≤ length bytes
@@ -275,14 +275,14 @@ is_zero_bit false = refl
 pub last_mark : (marks : List Bool) (n : ℕ) → (bit_and (mask_l marks / 2 ^ n) 1 == 0) ≡ not (get_or marks n false)
 last_mark marks n = rw (shr_and_one (mask_l marks) n, bit_mask_l marks n) (is_zero_bit (get_or marks n false))
 
-pub IsRun-block : (block back : List ℕ) (n openings closings outside_marks : ℕ) (in_string : Bool) → length block ≡ 64 → 0 < n → n ≤ 64 → HasNoBackslash (take n block)
+pub IsBracketRun-block : (block back : List ℕ) (n openings closings outside_marks : ℕ) (in_string : Bool) → length block ≡ 64 → 0 < n → n ≤ 64 → HasNoBackslash (take n block)
     → openings ≡ mask_l (map is_opening block) → closings ≡ mask_l (map is_closing block)
-    → outside_marks ≡ mask_l (outside_behind (place_of in_string) (take n block))
-    → IsRun in_string (take n block) back (ones (bit_and openings outside_marks)) (ones (bit_and closings outside_marks)) (bit_and (outside_marks / 2 ^ (n - 1)) 1 == 0)
-IsRun-block block back n openings closings outside_marks in_string long some within plain opening closing marks =
+    → outside_marks ≡ mask_l (outside_after (place_of in_string) (take n block))
+    → IsBracketRun in_string (take n block) back (ones (bit_and openings outside_marks)) (ones (bit_and closings outside_marks)) (bit_and (outside_marks / 2 ^ (n - 1)) 1 == 0)
+IsBracketRun-block block back n openings closings outside_marks in_string long some within plain opening closing marks =
     let count : length (take n block) ≡ suc (n - 1) = omega (arith, length-take n block) in
     rw (opening, closing, marks) (record {
       opened_is = count_outside is_opening refl n block in_string plain;
       closed_is = count_outside is_closing refl n block in_string plain;
-      goes_on = rw (last_mark (outside_behind (place_of in_string) (take n block)) (n - 1)) (goes_on (take n block) back (n - 1) in_string count plain);
+      goes_on = rw (last_mark (outside_after (place_of in_string) (take n block)) (n - 1)) (goes_on (take n block) back (n - 1) in_string count plain);
     })

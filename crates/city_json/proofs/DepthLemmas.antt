@@ -5,7 +5,7 @@ use Rattle.std.proofs.lemmas.Bool.{le-ltb, lt-ltb, ltb-true, cases_lt, or_cases,
 use Rattle.std.proofs.lemmas.List.Sums.{sum_by-cons}
 use Rattle.city_json.specs.Depth.{IsDeep, is_opening, is_closing, outside, unquoted}
 use Rattle.city_json.specs.Fits.{most_depth}
-use Rattle.city_json.specs.Runs.{IsRun, place_of}
+use Rattle.city_json.specs.BracketRun.{IsBracketRun, place_of}
 use Rattle.city_json.proofs.BlockLemmas.{length-unquoted, count_by-unquoted}
 
 -- Whether at some place of `bytes` too many brackets are open, where so many were opened and closed before it.
@@ -90,7 +90,7 @@ deep_from-short (b ∷ []) more opened closed short few =
 
 -- the step of the loop
 pub deep_from-run : (bytes : List ℕ) (n opened closed opening closing : ℕ) (in_string ends_in_string : Bool)
-    → IsRun in_string (take n bytes) (drop n bytes) opening closing ends_in_string
+    → IsBracketRun in_string (take n bytes) (drop n bytes) opening closing ends_in_string
     → opened ≤ closed + most_depth → (closed + most_depth - opened < opening → n ≡ 1)
     → deep_from (opened + opening) (closed + closing) (unquoted (place_of ends_in_string) (drop n bytes)) ≡ deep_from opened closed (unquoted (place_of in_string) bytes)
 deep_from-run bytes n opened closed opening closing in_string ends_in_string run few short =
@@ -104,9 +104,9 @@ deep_from-run bytes n opened closed opening closing in_string ends_in_string run
     ] in
     rw (run.opened_is, run.closed_is) (sym (ap (deep_from opened closed) split ∙ step))
 
-pub IsRun-few : (bytes back : List ℕ) (n opened closed : ℕ) (in_string ends_in_string : Bool)
-    → IsRun in_string (take n bytes) back opened closed ends_in_string → (opened ≤ n) × (closed ≤ n)
-IsRun-few bytes back n opened closed in_string ends_in_string run = (
+pub IsBracketRun-few : (bytes back : List ℕ) (n opened closed : ℕ) (in_string ends_in_string : Bool)
+    → IsBracketRun in_string (take n bytes) back opened closed ends_in_string → (opened ≤ n) × (closed ≤ n)
+IsBracketRun-few bytes back n opened closed in_string ends_in_string run = (
   omega (arith, run.opened_is, count_by-unquoted is_opening (take n bytes) (place_of in_string), length-take n bytes),
   omega (arith, run.closed_is, count_by-unquoted is_closing (take n bytes) (place_of in_string), length-take n bytes),
 )

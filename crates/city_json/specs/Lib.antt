@@ -19,11 +19,11 @@ pub mod NumberAt
 pub mod ReadString
 pub mod Reading
 pub mod Refusals
-pub mod Run
+pub mod PlainRun
 pub mod ShortBytes
 pub mod Source
 pub mod Parts
-pub mod Runs
+pub mod BracketRun
 pub mod Strings
 pub mod Tape
 pub mod Tree

@@ -4,7 +4,7 @@ ghost use Rattle.std.specs.List.{position_or_len};
 ghost use Rattle.std.specs.Simd.Lanes.{mask_l};
 ghost use Rattle.city_json.specs.Bytes.{backslash};
 ghost use Rattle.city_json.specs.Depth.{IsDeep};
-ghost use Rattle.city_json.specs.Runs.{IsRun, outside_behind, place_of};
+ghost use Rattle.city_json.specs.BracketRun.{IsBracketRun, outside_after, place_of};
 
 use std::simd::prelude::*;
 
@@ -50,7 +50,7 @@ struct Run {
 #[inline(always)]
 fn next_run(bytes: &[u8], in_string: bool, room: usize) -> Run
     requires { 0 < length bytes.now }
-    ensures run { IsRun in_string (take result.len bytes.now) (drop result.len bytes.now)
+    ensures run { IsBracketRun in_string (take result.len bytes.now) (drop result.len bytes.now)
         result.opened result.closed result.in_string }
     ensures some { 0 < result.len }
     ensures within { result.len ≤ length bytes.now }
@@ -69,7 +69,7 @@ fn next_run(bytes: &[u8], in_string: bool, room: usize) -> Run
 /// The first byte, with the byte that it escapes.
 fn run_of_byte(bytes: &[u8], in_string: bool) -> Run
     requires { 0 < length bytes.now }
-    ensures run { IsRun in_string (take result.len bytes.now) (drop result.len bytes.now)
+    ensures run { IsBracketRun in_string (take result.len bytes.now) (drop result.len bytes.now)
         result.opened result.closed result.in_string }
     ensures some { 0 < result.len }
     ensures within { result.len ≤ length bytes.now }
@@ -97,7 +97,7 @@ fn run_of_byte(bytes: &[u8], in_string: bool) -> Run
 fn run_of_block(block: u8x64, len: usize, in_string: bool) -> Run
     requires some { 0 < len }
     requires plain { len ≤ position_or_len (λ b. b == backslash) block }
-    ensures run { (back : List ℕ) → IsRun in_string (take len block) back
+    ensures run { (back : List ℕ) → IsBracketRun in_string (take len block) back
         result.opened result.closed result.in_string }
     ensures len { result.len ≡ len }
     ensures few { result.opened ≤ len }
@@ -118,7 +118,7 @@ fn run_of_block(block: u8x64, len: usize, in_string: bool) -> Run
 fn outside_marks(block: u8x64, len: usize, in_string: bool) -> u64
     requires some { 0 < len }
     requires plain { len ≤ position_or_len (λ b. b == backslash) block }
-    ensures { result ≡ mask_l (outside_behind (place_of in_string) (take len block)) }
+    ensures { result ≡ mask_l (outside_after (place_of in_string) (take len block)) }
 {
     let ends = parities(marks_of(block, b'"'));
     (ends ^ all_or_none(!in_string)) & (u64::MAX >> (BLOCK - len))

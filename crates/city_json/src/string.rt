@@ -4,7 +4,7 @@ ghost use Rattle.std.specs.Char.{digit_value};
 ghost use Rattle.city_json.specs.Gives.{Gives};
 ghost use Rattle.city_json.specs.ReadString.{is_high_surrogate, unit_at, pair_at, escape_at, checked, string_at};
 ghost use Rattle.city_json.specs.Strings.{letter_meaning};
-ghost use Rattle.city_json.specs.Run.{IsRun};
+ghost use Rattle.city_json.specs.PlainRun.{IsPlainRun};
 
 use crate::fault::Fault;
 use crate::plain::plain_len;
@@ -58,7 +58,7 @@ fn escaped_string(alloc: Global, bytes: &[u8]) -> Result<(Str, &[u8]), Fault>
 /// The bytes at the front that stand for themselves, what they end at, and what follows that.
 #[tactic(auto, using(crate::proofs::StringSteps::runs))]
 fn split_run(bytes: &[u8]) -> (&[u8], End, &[u8])
-    ensures { IsRun bytes.now result.0.now result.1 result.2.now }
+    ensures { IsPlainRun bytes.now result.0.now result.1 result.2.now }
 {
     let at = plain_len(bytes);
     if at == bytes.len() {

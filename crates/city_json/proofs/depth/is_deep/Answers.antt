@@ -2,8 +2,8 @@ use Rattle.std.proofs.Common.{length, [], ◌≡◌, ◌+◌, ◌∙◌, sym, ap
 use Rattle.std.proofs.lemmas.Bool.Decides.{nat_tests}
 use Rattle.std.proofs.lemmas.List.{drop_all, take_rest}
 use Rattle.city_json.specs.Depth.{outside, unquoted}
-use Rattle.city_json.specs.Runs.{place_of}
-use Rattle.city_json.proofs.DepthLemmas.{deep_from, deep_from_over, deep_from_end, deep_from-run, IsRun-few, IsDeep_from}
+use Rattle.city_json.specs.BracketRun.{place_of}
+use Rattle.city_json.proofs.DepthLemmas.{deep_from, deep_from_over, deep_from_end, deep_from-run, IsBracketRun-few, IsDeep_from}
 use Rattle.city_json.proofs.depth.is_deep.Goals as goal
 
 pub loop-opened-preserved : goal.loop-opened-preserved
@@ -11,7 +11,7 @@ loop-opened-preserved c =
     let old = c.loop-opened in
     let run = c.next_run-run.result in
     let told = c.next_run-run.ensures in
-    let few = IsRun-few old.rest.now (drop run.len old.rest.now) run.len run.opened run.closed old.in_string run.in_string told.run in
+    let few = IsBracketRun-few old.rest.now (drop run.len old.rest.now) run.len run.opened run.closed old.in_string run.in_string told.run in
     let rest = take_rest old.rest.now run.len in
     record {
       so_far =
@@ -38,4 +38,4 @@ pub overflow_add-closed-in-loop-opened-2 : goal.overflow_add-closed-in-loop-open
 overflow_add-closed-in-loop-opened-2 c =
     let old = c.loop-opened in
     let run = c.next_run-run.result in
-    omega (arith, (IsRun-few old.rest.now (drop run.len old.rest.now) run.len run.opened run.closed old.in_string run.in_string c.next_run-run.ensures.run).1)
+    omega (arith, (IsBracketRun-few old.rest.now (drop run.len old.rest.now) run.len run.opened run.closed old.in_string run.in_string c.next_run-run.ensures.run).1)

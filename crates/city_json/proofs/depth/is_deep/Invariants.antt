@@ -1,6 +1,6 @@
 use Rattle.std.proofs.Common.{◌≡◌, ◌≤◌, ◌+◌, length}
 use Rattle.city_json.specs.Depth.{outside, unquoted}
-use Rattle.city_json.specs.Runs.{place_of}
+use Rattle.city_json.specs.BracketRun.{place_of}
 use Rattle.city_json.proofs.DepthLemmas.{deep_from}
 use Rattle.city_json.proofs.depth.is_deep.Given as goal
 
