@@ -3,7 +3,7 @@ use Rattle.std.specs.Prelude.{◌≡◌, ◌++◌, ◌+◌, ◌<◌, ◌==◌, �
 use Rattle.city_json.specs.Bytes.{quotation_mark, backslash, open_bracket, close_bracket, open_brace, close_brace}
 use Rattle.city_json.specs.Fits.{most_depth}
 
--- where a byte stands: outside strings, in one, or in one behind a backslash
+-- where a byte stands: outside strings, in one, or in one after a backslash
 pub data Place : Type 0 where
   outside : Place
   inside : Place
@@ -15,7 +15,7 @@ is_opening b = (b == open_bracket) || (b == open_brace)
 abbrev pub is_closing : ℕ → Bool
 is_closing b = (b == close_bracket) || (b == close_brace)
 
--- the place behind a byte
+-- the place after a byte
 abbrev pub place_after : Place → ℕ → Place
 place_after outside b = if b == quotation_mark then inside else outside
 place_after inside b = if b == quotation_mark then outside else (if b == backslash then escaped else inside)

@@ -1,7 +1,7 @@
 -- What a run of bytes that stand for themselves ends at.
 use Rattle.std.specs.Prelude.{◌≡◌, ◌<◌, ℕ, List, ◌∷◌, Some, None, length}
-use Rattle.city_json.specs.declared.string.End.{End}
-use Rattle.city_json.specs.declared.string.End.TheVariants.{Closing, Escape, Broken}
+use Rattle.city_json.specs.declared.reading.strings.End.{End}
+use Rattle.city_json.specs.declared.reading.strings.End.TheVariants.{Closing, Escape, Broken}
 use Rattle.city_json.specs.Bytes.{backslash}
 use Rattle.city_json.specs.ReadString.{decoded, prepend}
 

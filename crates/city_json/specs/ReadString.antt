@@ -26,12 +26,12 @@ unit_at (a ∷ b ∷ c ∷ d ∷ rest) =
     if list_all (λ digit. is_digit digit 16) digits then Some (digits_value 16 digits, rest) else None
 unit_at _ = None
 
--- a high surrogate and the unit behind it, as the character that they are together
+-- a high surrogate and the unit after it, as the character that they are together
 abbrev pub paired : ℕ → ℕ × List ℕ → Option (ℕ × List ℕ)
 paired high low =
     if is_low_surrogate low.0 then Some (0x10000 + (high - 0xd800) * 0x400 + (low.0 - 0xdc00), low.1) else None
 
--- what stands behind a high surrogate: at once a second escape, with which it is one character
+-- what stands after a high surrogate: at once a second escape, with which it is one character
 unfoldable pub pair_at : ℕ → List ℕ → Option (ℕ × List ℕ)
 pair_at high (a ∷ b ∷ rest) =
     if (a == backslash) && (b == small_u) then option_and_then (paired high) (unit_at rest) else None
@@ -43,7 +43,7 @@ completed unit =
     if is_high_surrogate unit.0 then pair_at unit.0 unit.1
     else (if is_low_surrogate unit.0 then None else Some unit)
 
--- what stands behind a backslash, as its character and what is left
+-- what stands after a backslash, as its character and what is left
 unfoldable pub escape_at : List ℕ → Option (ℕ × List ℕ)
 escape_at [] = None
 escape_at (letter ∷ rest) =

@@ -1,5 +1,5 @@
 -- Reading as functions on lists, one for each function of the code: what each finds at the front of the bytes, and the
--- bytes behind it. That these agree with the grammar is proved in `proofs/`, in both directions.
+-- bytes after it. That these agree with the grammar is proved in `proofs/`, in both directions.
 use Rattle.std.specs.Prelude.{◌==◌, ◌||◌, ◌&&◌, ℕ, zero, suc, Bool, true, false, List, [], ◌∷◌, Option, Some, None, option_and_then, codes, length, drop, nat_eq, nat_le, if◌then◌else◌}
 use Rattle.std.specs.List.{starts_with}
 use Rattle.city_json.specs.Bytes.{space, tab, newline, carriage_return, open_bracket, close_bracket, open_brace, close_brace, comma, colon, quotation_mark, minus, digit_zero, digit_nine, small_n, small_t, small_f}
@@ -19,7 +19,7 @@ o >>= f = option_and_then f o
 abbrev pub is_white : ℕ → Bool
 is_white b = (b == space) || (b == tab) || (b == newline) || (b == carriage_return)
 
--- the bytes behind white space
+-- the bytes after white space
 abbrev pub after_white : List ℕ → List ℕ
 after_white [] = []
 after_white (b ∷ bytes) = if is_white b then after_white bytes else b ∷ bytes
@@ -46,7 +46,7 @@ number_value_at bytes = do
   found ← number_at bytes
   Some (number found.0, found.1)
 
--- `bytes` lie behind the quotation mark
+-- `bytes` lie after the quotation mark
 abbrev pub string_value_at : List ℕ → Option (Tree × List ℕ)
 string_value_at bytes = do
   found ← string_at bytes
@@ -60,12 +60,12 @@ mark_at close (b ∷ bytes) =
     else (if b == close then (mark.Close, bytes)
     else (mark.Neither, b ∷ bytes))
 
--- the bytes behind this byte, where they begin with it
+-- the bytes after this byte, where they begin with it
 abbrev pub after_byte : ℕ → List ℕ → Option (List ℕ)
 after_byte wanted [] = None
 after_byte wanted (b ∷ bytes) = if b == wanted then Some bytes else None
 
--- the items behind a first one, by what stands behind it: `more` reads the further ones
+-- the items after a first one, by what stands after it: `more` reads the further ones
 abbrev pub items_after : (List ℕ → Option (ItemTrees × List ℕ)) → Tree → Mark × List ℕ → Option (ItemTrees × List ℕ)
 items_after more value (mark.Comma, bytes) = do
   others ← more (after_white bytes)
@@ -80,14 +80,14 @@ items_at value (suc count) bytes = do
   first ← value bytes
   items_after (items_at value count) first.0 (mark_at close_bracket (after_white first.1))
 
--- an array, by what stands behind its closing byte where it is empty
+-- an array, by what stands after its closing byte where it is empty
 abbrev pub array_from : (List ℕ → Option (Tree × List ℕ)) → Option (List ℕ) → List ℕ → Option (Tree × List ℕ)
 array_from value (Some rest) bytes = Some (array no_items, rest)
 array_from value None bytes = do
   found ← items_at value (length bytes) bytes
   Some (array found.0, found.1)
 
--- behind an opening bracket
+-- after an opening bracket
 abbrev pub array_at : (List ℕ → Option (Tree × List ℕ)) → List ℕ → Option (Tree × List ℕ)
 array_at value bytes = array_from value (after_byte close_bracket (after_white bytes)) (after_white bytes)
 
@@ -96,8 +96,8 @@ abbrev pub member_at : (List ℕ → Option (Tree × List ℕ)) → List ℕ →
 member_at value bytes = do
   text ← after_byte quotation_mark bytes
   name ← string_at text
-  behind ← after_byte colon (after_white name.1)
-  found ← value (after_white behind)
+  after ← after_byte colon (after_white name.1)
+  found ← value (after_white after)
   Some ((name.0, found.0), found.1)
 
 abbrev pub members_after : (List ℕ → Option (MemberTrees × List ℕ)) → List ℕ × Tree → Mark × List ℕ → Option (MemberTrees × List ℕ)
@@ -114,14 +114,14 @@ members_at value (suc count) bytes = do
   first ← member_at value bytes
   members_after (members_at value count) first.0 (mark_at close_brace (after_white first.1))
 
--- an object, by what stands behind its closing byte where it is empty
+-- an object, by what stands after its closing byte where it is empty
 abbrev pub object_from : (List ℕ → Option (Tree × List ℕ)) → Option (List ℕ) → List ℕ → Option (Tree × List ℕ)
 object_from value (Some rest) bytes = Some (object no_members, rest)
 object_from value None bytes = do
   found ← members_at value (length bytes) bytes
   Some (object found.0, found.1)
 
--- behind an opening brace
+-- after an opening brace
 abbrev pub object_at : (List ℕ → Option (Tree × List ℕ)) → List ℕ → Option (Tree × List ℕ)
 object_at value bytes = object_from value (after_byte close_brace (after_white bytes)) (after_white bytes)
 

@@ -8,7 +8,7 @@ use Rattle.city_json.specs.Bytes.{quotation_mark, backslash, slash, small_b, sma
 abbrev pub IsUnescaped : ℕ → Type 0
 IsUnescaped c = IsScalar c × (space ≤ c) × (c ≢ quotation_mark) × (c ≢ backslash)
 
--- the character that a letter behind a backslash stands for
+-- the character that a letter after a backslash stands for
 abbrev pub letter_meaning : ℕ → Option ℕ
 letter_meaning letter =
     if letter == quotation_mark then Some quotation_mark

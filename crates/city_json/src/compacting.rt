@@ -22,7 +22,7 @@ mod tests;
 mod values;
 mod whole_arrays;
 
-use crate::depth::MOST_DEPTH;
+use crate::reading::depth::MOST_DEPTH;
 use crate::line::Line;
 use draft::{begun, copy_to, skip_white};
 pub use parts::{Compacted, Part, compact_parts};

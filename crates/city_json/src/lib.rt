@@ -5,20 +5,15 @@
 mod bin;
 mod compacting;
 mod comparing;
-mod depth;
 mod device;
-mod distinct;
 mod fault;
 mod intake;
 mod json;
 mod laws;
 mod line;
 mod memory;
-mod names;
-mod number;
 mod number_parts;
 mod output;
-mod plain;
 mod printing;
 mod reading;
 #[cfg(test)]
@@ -27,7 +22,6 @@ mod sequence;
 mod short;
 mod sink;
 mod source;
-mod string;
 mod tape;
 #[cfg(test)]
 mod test_texts;

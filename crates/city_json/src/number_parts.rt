@@ -5,7 +5,7 @@ ghost use Rattle.city_json.specs.Bytes.{minus, point};
 ghost use Rattle.city_json.specs.Number.{IsNumber};
 ghost use Rattle.city_json.specs.NumberAt.{past_digits, split_before};
 
-use crate::number::{past_digits, past_minus};
+use crate::reading::numbers::{past_digits, past_minus};
 
 /// A number's text, taken apart.
 #[derive(Clone, Copy, Debug)]

@@ -10,7 +10,7 @@ ghost use Rattle.city_json.specs.Writable.{IsWritable, AreWritableItems, AreWrit
 use crate::fault::Fault;
 use crate::json::{Json, Member};
 use crate::line::Line;
-use crate::plain::plain_len;
+use crate::reading::plain::plain_len;
 
 /// Appends the compact text of `value` to `line`. Where memory is wanting the line is as before, and the
 /// answer is [`Fault::Memory`].

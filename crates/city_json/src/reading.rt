@@ -1,3 +1,9 @@
+//! Reading of JSON texts (RFC 8259), on three floors.
+//!
+//! The grammar (`specs/Grammar.antt`) relates whole texts to values and says nothing of how to read. Functions on lists
+//! (`specs/Reading.antt`) say what stands at the front of the bytes, and what is left after it. The functions here are
+//! those, on slices: each has the one clause that its answer is the list function's, unless memory was out. Laws on
+//! lists alone join the second floor to the first, in both directions.
 ghost use Rattle.std.specs.Prelude.{◌≡◌, ◌<◌, option_map, length, IfOk, IfErr, IsUtf8, MatchResult};
 ghost use Rattle.city_json.specs.Compact.{compact};
 ghost use Rattle.city_json.specs.Depth.{IsDeep};
@@ -9,14 +15,23 @@ ghost use Rattle.city_json.specs.Refusals.{RefusesText};
 ghost use Rattle.city_json.specs.Tree.{Tree, tree, named_tree, items_tree, members_tree};
 ghost use Rattle.city_json.specs.Writable.{IsWritable};
 
-use crate::depth::{MOST_DEPTH, is_deep};
-use crate::distinct::is_distinct;
+pub(crate) mod depth;
+mod distinct;
+pub(crate) mod names;
+pub(crate) mod numbers;
+pub(crate) mod plain;
+pub(crate) mod strings;
+#[cfg(test)]
+mod tests;
+
 use crate::fault::Fault;
 use crate::json::{Items, Json, Member, Members};
 use crate::memory::push;
-use crate::string::string;
 use crate::text::NumText;
+use depth::{MOST_DEPTH, is_deep};
+use distinct::is_distinct;
 use std::alloc::Global;
+use strings::string;
 
 /// What kind of value a first byte begins.
 #[derive(Clone, Copy)]
@@ -83,7 +98,7 @@ fn after_byte(wanted: u8, bytes: &[u8]) -> Option<&[u8]>
     }
 }
 
-fn word<'a>(word: &[u8], value: Json, bytes: &'a [u8]) -> Result<(Json, &'a [u8]), Fault>
+fn read_word<'a>(word: &[u8], value: Json, bytes: &'a [u8]) -> Result<(Json, &'a [u8]), Fault>
     ensures { Gives (λ p. (tree p.0, p.1.now)) result (word_at word.now (tree value) bytes.now) }
 {
     if bytes.starts_with(word) {
@@ -93,36 +108,36 @@ fn word<'a>(word: &[u8], value: Json, bytes: &'a [u8]) -> Result<(Json, &'a [u8]
     }
 }
 
-fn number_value(alloc: Global, bytes: &[u8]) -> Result<(Json, &[u8]), Fault>
+fn read_number(alloc: Global, bytes: &[u8]) -> Result<(Json, &[u8]), Fault>
     ensures { Gives (λ p. (tree p.0, p.1.now)) result (number_value_at bytes.now) }
 {
     let (number, rest) = NumText::front(alloc, bytes)?;
     Ok((Json::Num(number), rest))
 }
 
-fn string_value(alloc: Global, bytes: &[u8]) -> Result<(Json, &[u8]), Fault>
+fn read_string(alloc: Global, bytes: &[u8]) -> Result<(Json, &[u8]), Fault>
     ensures { Gives (λ p. (tree p.0, p.1.now)) result (string_value_at bytes.now) }
 {
     let (text, rest) = string(alloc, bytes)?;
     Ok((Json::Text(text), rest))
 }
 
-fn scalar(alloc: Global, start: Start, bytes: &[u8]) -> Result<(Json, &[u8]), Fault>
+fn read_scalar(alloc: Global, start: Start, bytes: &[u8]) -> Result<(Json, &[u8]), Fault>
     requires { 0 < length bytes.now }
     ensures { Gives (λ p. (tree p.0, p.1.now)) result (scalar_at start bytes.now) }
 {
     match start {
-        Start::Null => word(b"null", Json::Null, bytes),
-        Start::True => word(b"true", Json::Bool(true), bytes),
-        Start::False => word(b"false", Json::Bool(false), bytes),
-        Start::Number => number_value(alloc, bytes),
-        Start::Text => string_value(alloc, &bytes[1..]),
+        Start::Null => read_word(b"null", Json::Null, bytes),
+        Start::True => read_word(b"true", Json::Bool(true), bytes),
+        Start::False => read_word(b"false", Json::Bool(false), bytes),
+        Start::Number => read_number(alloc, bytes),
+        Start::Text => read_string(alloc, &bytes[1..]),
         Start::List | Start::Map | Start::Other => Err(Fault::Syntax),
     }
 }
 
 #[cycle(value)]
-fn value(alloc: Global, levels: usize, bytes: &[u8]) -> Result<(Json, &[u8]), Fault>
+fn read_value(alloc: Global, levels: usize, bytes: &[u8]) -> Result<(Json, &[u8]), Fault>
     ensures { Gives (λ p. (tree p.0, p.1.now)) result (value_at levels bytes.now) }
 {
     let Some(first) = bytes.first() else {
@@ -130,40 +145,40 @@ fn value(alloc: Global, levels: usize, bytes: &[u8]) -> Result<(Json, &[u8]), Fa
     };
     let start = start_of(*first);
     if levels == 0 {
-        return scalar(alloc, start, bytes);
+        return read_scalar(alloc, start, bytes);
     }
     match start {
-        Start::List => array(alloc, levels - 1, &bytes[1..]),
-        Start::Map => object(alloc, levels - 1, &bytes[1..]),
-        _ => scalar(alloc, start, bytes),
+        Start::List => read_array(alloc, levels - 1, &bytes[1..]),
+        Start::Map => read_object(alloc, levels - 1, &bytes[1..]),
+        _ => read_scalar(alloc, start, bytes),
     }
 }
 
 #[cycle(value)]
-fn array(alloc: Global, levels: usize, bytes: &[u8]) -> Result<(Json, &[u8]), Fault>
+fn read_array(alloc: Global, levels: usize, bytes: &[u8]) -> Result<(Json, &[u8]), Fault>
     ensures { Gives (λ p. (tree p.0, p.1.now)) result (array_at (value_at levels) bytes.now) }
 {
     let bytes = after_white(bytes);
     if let Some(rest) = after_byte(b']', bytes) {
         return Ok((Json::List(Vec::new(alloc)), rest));
     }
-    let (items, rest) = items(alloc, levels, bytes)?;
+    let (items, rest) = read_items(alloc, levels, bytes)?;
     Ok((Json::List(items), rest))
 }
 
 #[cycle(value)]
-fn items(alloc: Global, levels: usize, bytes: &[u8]) -> Result<(Items, &[u8]), Fault>
+fn read_items(alloc: Global, levels: usize, bytes: &[u8]) -> Result<(Items, &[u8]), Fault>
     ensures { Gives (λ p. (items_tree p.0.items, p.1.now)) result (items_at (value_at levels) (length bytes.now) bytes.now) }
 {
     let mut items = Vec::new(alloc);
     let mut rest = bytes;
     for _ in 0..bytes.len() {
-        let (item, behind) = value(alloc, levels, rest)?;
+        let (item, after) = read_value(alloc, levels, rest)?;
         push(&mut items, item)?;
-        let (mark, behind) = mark_at(b']', after_white(behind));
+        let (mark, after) = mark_at(b']', after_white(after));
         match mark {
-            Mark::Comma => rest = after_white(behind),
-            Mark::Close => return Ok((items, behind)),
+            Mark::Comma => rest = after_white(after),
+            Mark::Close => return Ok((items, after)),
             Mark::Neither => return Err(Fault::Syntax),
         }
     }
@@ -171,30 +186,30 @@ fn items(alloc: Global, levels: usize, bytes: &[u8]) -> Result<(Items, &[u8]), F
 }
 
 #[cycle(value)]
-fn object(alloc: Global, levels: usize, bytes: &[u8]) -> Result<(Json, &[u8]), Fault>
+fn read_object(alloc: Global, levels: usize, bytes: &[u8]) -> Result<(Json, &[u8]), Fault>
     ensures { Gives (λ p. (tree p.0, p.1.now)) result (object_at (value_at levels) bytes.now) }
 {
     let bytes = after_white(bytes);
     if let Some(rest) = after_byte(b'}', bytes) {
         return Ok((Json::Map(Vec::new(alloc)), rest));
     }
-    let (members, rest) = members(alloc, levels, bytes)?;
+    let (members, rest) = read_members(alloc, levels, bytes)?;
     Ok((Json::Map(members), rest))
 }
 
 #[cycle(value)]
-fn members(alloc: Global, levels: usize, bytes: &[u8]) -> Result<(Members, &[u8]), Fault>
+fn read_members(alloc: Global, levels: usize, bytes: &[u8]) -> Result<(Members, &[u8]), Fault>
     ensures { Gives (λ p. (members_tree p.0.items, p.1.now)) result (members_at (value_at levels) (length bytes.now) bytes.now) }
 {
     let mut members = Vec::new(alloc);
     let mut rest = bytes;
     for _ in 0..bytes.len() {
-        let (member, behind) = member(alloc, levels, rest)?;
+        let (member, after) = read_member(alloc, levels, rest)?;
         push(&mut members, member)?;
-        let (mark, behind) = mark_at(b'}', after_white(behind));
+        let (mark, after) = mark_at(b'}', after_white(after));
         match mark {
-            Mark::Comma => rest = after_white(behind),
-            Mark::Close => return Ok((members, behind)),
+            Mark::Comma => rest = after_white(after),
+            Mark::Close => return Ok((members, after)),
             Mark::Neither => return Err(Fault::Syntax),
         }
     }
@@ -202,24 +217,24 @@ fn members(alloc: Global, levels: usize, bytes: &[u8]) -> Result<(Members, &[u8]
 }
 
 #[cycle(value)]
-fn member(alloc: Global, levels: usize, bytes: &[u8]) -> Result<(Member, &[u8]), Fault>
+fn read_member(alloc: Global, levels: usize, bytes: &[u8]) -> Result<(Member, &[u8]), Fault>
     ensures { Gives (λ p. (named_tree p.0, p.1.now)) result (member_at (value_at levels) bytes.now) }
 {
     let Some(text) = after_byte(b'"', bytes) else {
         return Err(Fault::Syntax);
     };
-    let (name, behind) = string(alloc, text)?;
-    let Some(behind) = after_byte(b':', after_white(behind)) else {
+    let (name, after) = string(alloc, text)?;
+    let Some(after) = after_byte(b':', after_white(after)) else {
         return Err(Fault::Syntax);
     };
-    let (value, rest) = value(alloc, levels, after_white(behind))?;
+    let (value, rest) = read_value(alloc, levels, after_white(after))?;
     Ok((Member { name, value }, rest))
 }
 
-fn text(alloc: Global, bytes: &[u8]) -> Result<Json, Fault>
+fn read_text(alloc: Global, bytes: &[u8]) -> Result<Json, Fault>
     ensures { Gives tree result (text_at bytes.now) }
 {
-    let (value, rest) = value(alloc, MOST_DEPTH, after_white(bytes))?;
+    let (value, rest) = read_value(alloc, MOST_DEPTH, after_white(bytes))?;
     if after_white(rest).is_empty() {
         Ok(value)
     } else {
@@ -238,7 +253,7 @@ fn value_of(alloc: Global, bytes: &[u8]) -> Result<Json, Fault>
     if is_deep(bytes) {
         return Err(Fault::TooDeep);
     }
-    let value = text(alloc, bytes)?;
+    let value = read_text(alloc, bytes)?;
     if is_distinct(alloc, &value)? {
         Ok(value)
     } else {
@@ -265,6 +280,3 @@ pub fn read(alloc: Global, bytes: &[u8]) -> Result<Json, Fault>
 {
     value_of(alloc, bytes)
 }
-
-#[cfg(test)]
-mod tests;

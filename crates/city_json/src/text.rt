@@ -6,7 +6,7 @@ ghost use Rattle.city_json.specs.Number.{IsNumber};
 ghost use Rattle.city_json.specs.NumberAt.{number_at};
 
 use crate::fault::Fault;
-use crate::number::{is_number, number};
+use crate::reading::numbers::{is_number, number};
 use crate::number_parts::{NumberParts, number_parts};
 use crate::short::ShortBytes;
 use std::alloc::Global;

@@ -7,7 +7,7 @@ ghost use Rattle.city_json.specs.NamePrint.{print_of, short_print_of};
 ghost use Rattle.city_json.specs.Tree.{MemberTrees};
 
 use super::name::Name;
-use crate::names::{MOST_COMPARED, are_apart_when_sorted};
+use crate::reading::names::{MOST_COMPARED, are_apart_when_sorted};
 use std::alloc::Global;
 use std::marker::Model;
 

@@ -5,8 +5,8 @@ ghost use Rattle.city_json.specs.Compacting.{IsScalarText, IsPlainString};
 ghost use Rattle.city_json.specs.Reading.{after_white};
 
 use super::digits::digits_end;
-use crate::number::number;
-use crate::plain::plain_len;
+use crate::reading::numbers::number;
+use crate::reading::plain::plain_len;
 
 /// The closing mark of the string whose opening mark stands before `at`, where it has no escapes.
 #[inline(always)]

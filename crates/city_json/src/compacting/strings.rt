@@ -7,7 +7,7 @@ use super::draft::{Draft, copy_to, skip};
 use super::name::Name;
 use super::scalars::plain_string;
 use crate::printing::put_string;
-use crate::string::string;
+use crate::reading::strings::string;
 use crate::text::Str;
 
 /// A string whose opening mark is at `at`: where it ends.

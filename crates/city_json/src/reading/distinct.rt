@@ -1,0 +1,124 @@
+//! Repeated names anywhere in a value.
+ghost use Rattle.std.specs.Prelude.{◌≡◌, ◌↔◌, false, IsTrue, MatchResult};
+ghost use Rattle.city_json.specs.Fits.{IsDistinct, AreDistinctItems, AreDistinctMembers};
+ghost use Rattle.city_json.specs.Nested.{holds_values};
+ghost use Rattle.city_json.specs.Tree.{tree, items_tree, members_tree};
+
+use crate::fault::Fault;
+use crate::json::{Json, Member};
+use crate::reading::names::names_differ;
+use std::alloc::Global;
+
+/// Whether no object in the value repeats a name. Memory is taken for large objects only. The only fault is
+/// [`Fault::Memory`].
+#[cycle(distinct)]
+pub(crate) fn is_distinct(alloc: Global, value: &Json) -> Result<bool, Fault>
+    ensures { MatchResult result (λ distinct. IsTrue distinct ↔ IsDistinct (tree value.now)) (λ fault. fault ≡ Fault.Memory) }
+{
+    match value {
+        Json::List(items) => are_distinct_items(alloc, items),
+        Json::Map(members) => {
+            if !names_differ(alloc, members)? {
+                return Ok(false);
+            }
+            are_distinct_members(alloc, members)
+        }
+        Json::Null | Json::Bool(_) | Json::Num(_) | Json::Text(_) => Ok(true),
+    }
+}
+
+#[cycle(distinct)]
+fn are_distinct_items(alloc: Global, items: &[Json]) -> Result<bool, Fault>
+    ensures { MatchResult result (λ distinct. IsTrue distinct ↔ AreDistinctItems (items_tree items.now)) (λ fault. fault ≡ Fault.Memory) }
+{
+    for item in items {
+        if holds_values(item) && !is_distinct(alloc, item)? {
+            return Ok(false);
+        }
+    }
+    Ok(true)
+}
+
+#[cycle(distinct)]
+fn are_distinct_members(alloc: Global, members: &[Member]) -> Result<bool, Fault>
+    ensures { MatchResult result (λ distinct. IsTrue distinct ↔ AreDistinctMembers (members_tree members.now)) (λ fault. fault ≡ Fault.Memory) }
+{
+    for member in members {
+        if holds_values(&member.value) && !is_distinct(alloc, &member.value)? {
+            return Ok(false);
+        }
+    }
+    Ok(true)
+}
+
+/// Whether the value is an array or an object. Any other holds no name.
+#[inline(always)]
+fn holds_values(value: &Json) -> bool
+    ensures holds { result ≡ holds_values (tree value.now) }
+    ensures distinct { result ≡ false → IsDistinct (tree value.now) }
+{
+    matches!(value, Json::List(_) | Json::Map(_))
+}
+
+#[cfg(test)]
+mod tests {
+    use super::*;
+    use crate::text::Str;
+    use std::test::Fail;
+
+    fn object(alloc: Global, names: [&str; 2]) -> Result<Json, Fail> {
+        let mut members = Vec::new(alloc);
+        for name in names {
+            let name = Str::read(alloc, name)?;
+            members.push(Member {
+                name,
+                value: Json::Null,
+            })?;
+        }
+        Ok(Json::Map(members))
+    }
+
+    fn within(alloc: Global, levels: u32, inner: Json) -> Result<Json, Fail> {
+        let mut value = inner;
+        for _ in 0..levels {
+            let mut items = Vec::new(alloc);
+            items.push(Json::Null)?;
+            items.push(value)?;
+            value = Json::List(items);
+        }
+        Ok(value)
+    }
+
+    #[test]
+    fn a_repeated_name_is_found_at_any_depth(rt: HostRuntime) -> Result<(), Fail> {
+        for levels in [0, 1, 127] {
+            let value = within(rt.alloc(), levels, object(rt.alloc(), ["a", "a"])?)?;
+            assert_eq!(rt; is_distinct(rt.alloc(), &value), Ok(false), "{levels}");
+            let value = within(rt.alloc(), levels, object(rt.alloc(), ["a", "b"])?)?;
+            assert_eq!(rt; is_distinct(rt.alloc(), &value), Ok(true), "{levels}");
+        }
+        Ok(())
+    }
+
+    #[test]
+    fn objects_may_share_names(rt: HostRuntime) -> Result<(), Fail> {
+        let mut members = Vec::new(rt.alloc());
+        for name in ["a", "b"] {
+            let name = Str::read(rt.alloc(), name)?;
+            let value = object(rt.alloc(), ["a", "b"])?;
+            members.push(Member { name, value })?;
+        }
+        assert_eq!(rt; is_distinct(rt.alloc(), &Json::Map(members)), Ok(true));
+        Ok(())
+    }
+
+    #[test]
+    fn a_repeated_name_is_found_in_a_member(rt: HostRuntime) -> Result<(), Fail> {
+        let mut members = Vec::new(rt.alloc());
+        let name = Str::read(rt.alloc(), "a")?;
+        let value = object(rt.alloc(), ["b", "b"])?;
+        members.push(Member { name, value })?;
+        assert_eq!(rt; is_distinct(rt.alloc(), &Json::Map(members)), Ok(false));
+        Ok(())
+    }
+}

@@ -1,0 +1,303 @@
+//! Reading of strings (RFC 8259, section 7).
+ghost use Rattle.std.specs.Prelude.{◌≡◌, ◌++◌, ◌<◌, option_map, IfSome, IsTrue, MatchResult, SomeIff};
+ghost use Rattle.std.specs.Char.{digit_value};
+ghost use Rattle.city_json.specs.Gives.{Gives};
+ghost use Rattle.city_json.specs.ReadString.{is_high_surrogate, unit_at, pair_at, escape_at, checked, string_at};
+ghost use Rattle.city_json.specs.Strings.{letter_meaning};
+ghost use Rattle.city_json.specs.PlainRun.{IsPlainRun};
+
+use crate::fault::Fault;
+use crate::reading::plain::plain_len;
+use crate::text::Str;
+use std::alloc::Global;
+
+/// What a run of bytes that stand for themselves ends at.
+#[derive(Clone, Copy)]
+enum End {
+    Closing,
+    Escape,
+    Broken,
+}
+
+/// The string whose opening quotation mark stands before the bytes, and what follows its closing one.
+pub(crate) fn string(alloc: Global, bytes: &[u8]) -> Result<(Str, &[u8]), Fault>
+    ensures { Gives (λ p. (p.0, p.1.now)) result (string_at bytes.now) }
+{
+    let (run, end, rest) = split_run(bytes);
+    match end {
+        End::Closing => finished(alloc, run, rest),
+        End::Escape => escaped_string(alloc, bytes),
+        End::Broken => Err(Fault::Syntax),
+    }
+}
+
+/// The same where an escape stands in the string.
+#[tactic(auto, using(crate::proofs::StringSteps::escapes))]
+fn escaped_string(alloc: Global, bytes: &[u8]) -> Result<(Str, &[u8]), Fault>
+    ensures { Gives (λ p. (p.0, p.1.now)) result (string_at bytes.now) }
+{
+    let mut text = Vec::new(alloc);
+    let mut rest = bytes;
+    loop {
+        let (run, end, after) = split_run(rest);
+        append(&mut text, run)?;
+        match end {
+            End::Closing => return finished(alloc, &text, after),
+            End::Escape => {
+                let Some((c, after)) = escape(after) else {
+                    return Err(Fault::Syntax);
+                };
+                append(&mut text, c.encode_utf8(&mut [0; 4]).as_bytes())?;
+                rest = after;
+            }
+            End::Broken => return Err(Fault::Syntax),
+        }
+    }
+}
+
+/// The bytes at the front that stand for themselves, what they end at, and what follows that.
+#[tactic(auto, using(crate::proofs::StringSteps::runs))]
+fn split_run(bytes: &[u8]) -> (&[u8], End, &[u8])
+    ensures { IsPlainRun bytes.now result.0.now result.1 result.2.now }
+{
+    let at = plain_len(bytes);
+    if at == bytes.len() {
+        return (bytes, End::Broken, &[]);
+    }
+    let (run, rest) = (&bytes[..at], &bytes[at + 1..]);
+    match bytes[at] {
+        b'"' => (run, End::Closing, rest),
+        b'\\' => (run, End::Escape, rest),
+        _ => (run, End::Broken, rest),
+    }
+}
+
+fn append(text: &mut Vec<u8>, bytes: &[u8]) -> Result<(), Fault>
+    ensures { MatchResult result
+        (λ _. text.new.items ≡ text.old.items ++ bytes.now)
+        (λ fault. fault ≡ Fault.Memory) }
+{
+    text.extend_from_slice(bytes).map_err(|_| Fault::Memory)
+}
+
+/// The text of these bytes, where they are UTF-8, beside what follows its string.
+#[tactic(auto, using(crate::proofs::StringSteps::checking))]
+fn finished<'a>(alloc: Global, text: &[u8], rest: &'a [u8]) -> Result<(Str, &'a [u8]), Fault>
+    ensures { Gives (λ p. (p.0, p.1.now)) result (checked text.now rest.now) }
+{
+    match simdutf8::basic::from_utf8(text) {
+        Ok(text) => Ok((Str::read(alloc, text)?, rest)),
+        Err(_) => Err(Fault::Syntax),
+    }
+}
+
+/// The character that the bytes after a backslash stand for, and what follows.
+#[tactic(auto, unfolding(crate::specs::ReadString::escape_at))]
+fn escape(bytes: &[u8]) -> Option<(char, &[u8])>
+    ensures { option_map (λ p. (p.0, p.1.now)) result ≡ escape_at bytes.now }
+{
+    match bytes {
+        [b'u', digits @ ..] => {
+            let (unit, rest) = unit(digits)?;
+            if matches!(unit, 0xd800..0xdc00) {
+                pair(unit, rest)
+            } else {
+                Some((char::from_u32(unit)?, rest))
+            }
+        }
+        [letter, rest @ ..] => Some((letter_meaning(*letter)? as char, rest)),
+        [] => None,
+    }
+}
+
+/// The character that a high surrogate and the escape after it are together, and what follows.
+#[tactic(auto, unfolding(crate::specs::ReadString::pair_at))]
+fn pair(high: u32, bytes: &[u8]) -> Option<(char, &[u8])>
+    requires { IsTrue (is_high_surrogate high) }
+    ensures { option_map (λ p. (p.0, p.1.now)) result ≡ pair_at high bytes.now }
+{
+    let [b'\\', b'u', digits @ ..] = bytes else {
+        return None;
+    };
+    let (low, rest) = unit(digits)?;
+    if !matches!(low, 0xdc00..0xe000) {
+        return None;
+    }
+    let c = char::from_u32(0x10000 + (high - 0xd800) * 0x400 + (low - 0xdc00))?;
+    Some((c, rest))
+}
+
+/// The value of four hexadecimal digits, and what follows.
+#[tactic(auto, unfolding(crate::specs::ReadString::unit_at))]
+fn unit(bytes: &[u8]) -> Option<(u32, &[u8])>
+    ensures read { option_map (λ p. (p.0, p.1.now)) result ≡ unit_at bytes.now }
+    ensures short { IfSome result (λ p. p.0 < 0x10000) }
+{
+    let [a, b, c, d, rest @ ..] = bytes else {
+        return None;
+    };
+    let value = ((hex(*a)? * 16 + hex(*b)?) * 16 + hex(*c)?) * 16 + hex(*d)?;
+    Some((value, rest))
+}
+
+/// The value of a hexadecimal digit of either case.
+fn hex(digit: u8) -> Option<u32>
+    ensures { SomeIff result (digit_value digit < 16) (digit_value digit) }
+{
+    (digit as char).to_digit(16)
+}
+
+/// What a letter after a backslash stands for.
+fn letter_meaning(letter: u8) -> Option<u8>
+    ensures { result ≡ letter_meaning letter }
+{
+    match letter {
+        b'"' | b'\\' | b'/' => Some(letter),
+        b'b' => Some(8),
+        b'f' => Some(12),
+        b'n' => Some(b'\n'),
+        b'r' => Some(b'\r'),
+        b't' => Some(b'\t'),
+        _ => None,
+    }
+}
+
+#[cfg(test)]
+mod tests {
+    use super::*;
+    use std::test::Fail;
+
+    fn refusal(alloc: Global, bytes: &[u8]) -> Option<Fault> {
+        string(alloc, bytes).err()
+    }
+
+    #[test]
+    fn stops_after_the_closing_mark(rt: HostRuntime) -> Result<(), Fail> {
+        let (text, rest) = string(rt.alloc(), b"type\":\"CityJSON\"}")?;
+        assert_eq!(rt; text.as_str(), "type");
+        assert_eq!(rt; rest, b":\"CityJSON\"}".as_slice());
+        let (text, rest) = string(rt.alloc(), b"\"")?;
+        assert_eq!(rt; text.as_str(), "");
+        assert_eq!(rt; rest, b"".as_slice());
+        Ok(())
+    }
+
+    #[test]
+    fn reads_unit_escapes(rt: HostRuntime) -> Result<(), Fail> {
+        let (text, _) = string(rt.alloc(), b"\\u0041\\/\"")?;
+        assert_eq!(rt; text.as_str(), "A/");
+        let (text, _) = string(rt.alloc(), b"\\u0022\\u005c\"")?;
+        assert_eq!(rt; text.as_str(), "\"\\");
+        let (text, _) = string(rt.alloc(), b"\\u000a\\u0008\"")?;
+        assert_eq!(rt; text.as_str().as_bytes(), [0x0a, 0x08].as_slice());
+        let (text, _) = string(rt.alloc(), b"\\u001F\"")?;
+        assert_eq!(rt; text.as_str().as_bytes(), [0x1f].as_slice());
+        let (text, _) = string(rt.alloc(), b"\\u007f\"")?;
+        assert_eq!(rt; text.as_str().as_bytes(), [0x7f].as_slice());
+        let (text, _) = string(rt.alloc(), b"\\u0000\"")?;
+        assert_eq!(rt; text.as_str().as_bytes(), [0].as_slice());
+        let (text, _) = string(rt.alloc(), b"\\u20aC\"")?;
+        assert_eq!(rt; text.as_str().as_bytes(), [0xe2, 0x82, 0xac].as_slice());
+        Ok(())
+    }
+
+    #[test]
+    fn reads_letter_escapes(rt: HostRuntime) -> Result<(), Fail> {
+        let (text, rest) = string(rt.alloc(), b"\\\"\\\\\\/\\b\\f\\n\\r\\t\",")?;
+        assert_eq!(rt;
+            text.as_str().as_bytes(),
+            [34, 92, 47, 8, 12, 10, 13, 9].as_slice()
+        );
+        assert_eq!(rt; rest, b",".as_slice());
+        Ok(())
+    }
+
+    #[test]
+    fn reads_pairs(rt: HostRuntime) -> Result<(), Fail> {
+        let (text, rest) = string(rt.alloc(), b"\\uD83D\\uDE00\"]")?;
+        assert_eq!(rt;
+            text.as_str().as_bytes(),
+            [0xf0, 0x9f, 0x98, 0x80].as_slice()
+        );
+        assert_eq!(rt; rest, b"]".as_slice());
+        let (text, _) = string(rt.alloc(), b"\\ud800\\udc00\\uDBFF\\uDFFF\"")?;
+        assert_eq!(rt;
+            text.as_str().as_bytes(),
+            [0xf0, 0x90, 0x80, 0x80, 0xf4, 0x8f, 0xbf, 0xbf].as_slice()
+        );
+        Ok(())
+    }
+
+    #[test]
+    fn reads_what_needs_no_escape(rt: HostRuntime) -> Result<(), Fail> {
+        let (text, _) = string(
+            rt.alloc(),
+            "\u{1F600}\u{1F3D9}\u{10FFFF}\u{10000}\"".as_bytes(),
+        )?;
+        assert_eq!(rt; text.as_str(), "\u{1F600}\u{1F3D9}\u{10FFFF}\u{10000}");
+        let (text, _) = string(rt.alloc(), b"\x20!#[]~\x7f/\"")?;
+        assert_eq!(rt; text.as_str().as_bytes(), b"\x20!#[]~\x7f/".as_slice());
+        let (text, _) = string(
+            rt.alloc(),
+            "Stra\u{df}e \\u00e9 \u{20ac}\\n\u{1F600}\"".as_bytes(),
+        )?;
+        assert_eq!(rt; text.as_str(), "Stra\u{df}e \u{e9} \u{20ac}\n\u{1F600}");
+        Ok(())
+    }
+
+    #[test]
+    fn reads_long_runs(rt: HostRuntime) -> Result<(), Fail> {
+        for len in [15usize, 16, 17, 31, 32, 33, 64, 1000] {
+            let mut bytes = Vec::new(rt.alloc());
+            for _ in 0..len {
+                bytes.push(b'x')?;
+            }
+            bytes.push(b'"')?;
+            let (text, rest) = string(rt.alloc(), &bytes)?;
+            assert_eq!(rt; text.as_str().len(), len);
+            assert_eq!(rt; rest.len(), 0);
+            bytes.insert(0, b'n')?;
+            bytes.insert(0, b'\\')?;
+            let (text, _) = string(rt.alloc(), &bytes)?;
+            assert_eq!(rt; text.as_str().len(), len + 1);
+        }
+        Ok(())
+    }
+
+    #[test]
+    fn refuses_lone_surrogates(rt: HostRuntime) {
+        assert_eq!(rt; refusal(rt.alloc(), b"\\ud83d\""), Some(Fault::Syntax));
+        assert_eq!(rt; refusal(rt.alloc(), b"\\ude00\""), Some(Fault::Syntax));
+        assert_eq!(rt;
+            refusal(rt.alloc(), b"\\ude00\\ud83d\""),
+            Some(Fault::Syntax)
+        );
+        assert_eq!(rt;
+            refusal(rt.alloc(), b"\\ud83d\\ud83d\""),
+            Some(Fault::Syntax)
+        );
+        assert_eq!(rt;
+            refusal(rt.alloc(), b"\\ud83dx\\ude00\""),
+            Some(Fault::Syntax)
+        );
+        assert_eq!(rt; refusal(rt.alloc(), b"\\ud83d\\n\""), Some(Fault::Syntax));
+    }
+
+    #[test]
+    fn refuses_what_spells_no_string(rt: HostRuntime) {
+        assert_eq!(rt; refusal(rt.alloc(), b"\\x\""), Some(Fault::Syntax));
+        assert_eq!(rt; refusal(rt.alloc(), b"\\u12\""), Some(Fault::Syntax));
+        assert_eq!(rt; refusal(rt.alloc(), b"\\u12"), Some(Fault::Syntax));
+        assert_eq!(rt; refusal(rt.alloc(), b"\\U0041\""), Some(Fault::Syntax));
+        assert_eq!(rt; refusal(rt.alloc(), b"\\u00g0\""), Some(Fault::Syntax));
+        assert_eq!(rt; refusal(rt.alloc(), b"\\"), Some(Fault::Syntax));
+        assert_eq!(rt; refusal(rt.alloc(), b"\\\""), Some(Fault::Syntax));
+        assert_eq!(rt; refusal(rt.alloc(), b"a\tb\""), Some(Fault::Syntax));
+        assert_eq!(rt; refusal(rt.alloc(), b"\\na\x1f\""), Some(Fault::Syntax));
+        assert_eq!(rt; refusal(rt.alloc(), b""), Some(Fault::Syntax));
+        assert_eq!(rt; refusal(rt.alloc(), b"open"), Some(Fault::Syntax));
+        assert_eq!(rt; refusal(rt.alloc(), b"\xff\""), Some(Fault::Syntax));
+        assert_eq!(rt; refusal(rt.alloc(), b"\\n\xc3\""), Some(Fault::Syntax));
+        assert_eq!(rt; refusal(rt.alloc(), b"\xed\xa0\x80\""), Some(Fault::Syntax));
+    }
+}
