@@ -1,11 +1,12 @@
 # The short commands. `make` alone prints them.
 
-.PHONY: help build demo test program-test docs-test bench clean
+.PHONY: help build check demo test program-test docs-test bench clean
 
 help:
 	@echo 'citymerge: compacts streams of 3D city features (CityJSONSeq)'
 	@echo
 	@echo '  make build   prove the program and build it: build/citymerge'
+	@echo '  make check   prove what has changed, in all crates (in one: CRATE=city_json; one function of it: ONLY=reading::read)'
 	@echo '  make demo    build it, run it on the tiles in examples/ and show what came out'
 	@echo '  make test    all that has to hold: the documents, the built program at its edges, then the gate'
 	@echo '               (every proof from nothing, the edits that must fail, the tests); takes long'
@@ -19,6 +20,11 @@ RTFLAGS =
 
 build:
 	@tools/build.sh $(RTFLAGS)
+
+# All crates, or the crate CRATE, or in it the function or module ONLY and what it calls.
+check:
+	@tools/need.sh rt
+	@$(if $(CRATE),cd crates/$(CRATE) && rt check $(if $(ONLY),--only $(ONLY)),rt all check) $(RTFLAGS)
 
 demo: build
 	@tools/demo.sh
