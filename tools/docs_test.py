@@ -1,8 +1,10 @@
 #!/usr/bin/env python3
 """What the documents say of the code must be so.
 
-The clauses that docs/CONTRACTS.md quotes stand in the code, docs/DEFINITIONS.md names each file of
-specs/, files that are named are there, the README's table of faults is that of the code, and links lead somewhere.
+docs/CONTRACTS.md quotes contracts whole. docs/DEFINITIONS.md tells each file of specs/ and each name in a public
+clause, and sets apart exactly the files that no public promise needs. The clauses that README.md and
+docs/PROVED.md name are there. docs/FAULTS.md has the table of faults of the code. Files and links that are named
+are there.
 """
 
 import glob
@@ -10,62 +12,115 @@ import os
 import re
 import sys
 
+sys.dont_write_bytecode = True
 os.chdir(os.path.dirname(os.path.dirname(os.path.abspath(__file__))))
-wrong = []
+
+from sources import contracts, flat, needed_names, public_names, read
+
+FAULTS = "crates/city_json/src/fault.rt"
+CONTRACTS = contracts()
+DOCUMENTS = ["README.md", *sorted(glob.glob("docs/*.md"))]
 
 
-def read(path):
-    with open(path, encoding="utf-8") as file:
-        return file.read()
+def specs():
+    """The files of definitions, by their names: `Grammar.antt`."""
+    paths = sorted(glob.glob("crates/*/specs/**/*.antt", recursive=True))
+    return {os.path.basename(path): path for path in paths if os.path.basename(path) != "Lib.antt"}
 
 
-def flat(text):
-    """The text on one line, without comments and with single spaces."""
-    lines = [line for line in text.splitlines() if not line.strip().startswith("//")]
-    return re.sub(r"\s+", " ", " ".join(lines)).strip()
+def words_in_code(text):
+    """The words that a document writes as code."""
+    return set(re.findall(r"\w+", " ".join(re.findall(r"`([^`\n]*)`", text))))
 
 
-def quoted_clauses():
-    code = flat("\n".join(read(path) for path in sorted(glob.glob("crates/*/src/**/*.rt", recursive=True))))
+def quoted_contracts():
+    whole = {contract.text for contract in CONTRACTS}
     for block in re.findall(r"```\n(.*?)```", read("docs/CONTRACTS.md"), re.DOTALL):
-        for clause in re.split(r"\n(?=\s*(?:pub fn|requires|ensures))|\n\n", block):
-            if flat(clause) not in code:
-                wrong.append("docs/CONTRACTS.md quotes what is not in the code: " + flat(clause))
+        for quote in re.split(r"\n(?=pub fn |fn )", block):
+            if flat(quote) not in whole:
+                yield "docs/CONTRACTS.md: no contract reads, as a whole: " + flat(quote)
 
 
-def named_definitions():
-    told = read("docs/DEFINITIONS.md")
-    for path in sorted(glob.glob("crates/*/specs/**/*.antt", recursive=True)):
-        name = os.path.basename(path)
-        if name != "Lib.antt" and "`%s`" % name not in told:
-            wrong.append("docs/DEFINITIONS.md does not tell " + path)
+def told_definitions():
+    told = words_in_code(read("docs/DEFINITIONS.md"))
+    for path, name in sorted(public_names()):
+        if name not in told:
+            yield "docs/DEFINITIONS.md does not tell %s of %s, which a public clause names" % (name, path)
+
+
+def told_files():
+    """Each file is told, in the last section where no public promise needs it and only then."""
+    promised, private = read("docs/DEFINITIONS.md").split("## 6. ")
+    needed = {path for path, _ in needed_names()}
+    for name, path in specs().items():
+        is_private = "`%s`" % name in private
+        if is_private == ("`%s`" % name in promised):
+            yield "docs/DEFINITIONS.md should tell %s once, in section 6 or above it" % path
+        elif is_private == (path in needed):
+            where = "a public promise needs it" if is_private else "no public promise needs it"
+            yield "docs/DEFINITIONS.md tells %s in the wrong place: %s" % (path, where)
 
 
 def named_files():
     there = {os.path.basename(path) for path in glob.glob("crates/*/*/**/*.antt", recursive=True)}
-    for path in sorted(glob.glob("docs/*.md")):
+    for path in DOCUMENTS:
         for name in sorted(set(re.findall(r"`(?:\w+/)*(\w+\.antt)`", read(path)))):
             if name not in there:
-                wrong.append("%s tells of %s, which is not there" % (path, name))
+                yield "%s tells of %s, which is not there" % (path, name)
+
+
+def clauses_of(call):
+    """The clauses of a call, or of all the calls of a type; None where there is no such call."""
+    owner, _, name = call.rpartition("::")
+    found = [c.clauses() for c in CONTRACTS if call == c.owner or (name == c.name and owner in ("", c.owner))]
+    return set().union(*found) if found else None
+
+
+def named_clauses():
+    """The rows of docs/PROVED.md, call | text | clauses, where an empty call is that of the row above."""
+    calls = ""
+    for row in re.findall(r"^\|(.*)\|$", read("docs/PROVED.md"), re.MULTILINE):
+        cells = [cell.strip() for cell in row.split("|")]
+        calls = cells[0] or calls
+        yield from missing_clauses("docs/PROVED.md", calls, cells[-1])
+    for call, clauses in re.findall(r"\((`[\w:]+`), clauses? (.*?)\)", read("README.md")):
+        yield from missing_clauses("README.md", call, clauses)
+
+
+def missing_clauses(document, calls, clauses):
+    there = set()
+    for call in re.findall(r"`([\w:]+)`", calls):
+        found = clauses_of(call)
+        if found is None:
+            yield "%s names the call %s, which is not there" % (document, call)
+        there |= found or set()
+    for clause in re.findall(r"`(\w+)`", clauses):
+        if clause not in there:
+            yield "%s names the clause %s of %s, which is not there" % (document, clause, calls)
 
 
 def fault_table():
-    code = re.findall(r'^text_of \w+ = codes "(.*?)"$', read("crates/city_json/specs/Faults.antt"), re.MULTILINE)
-    table = re.findall(r"^\| (\d+) \| `(.*?)` \|", read("README.md"), re.MULTILINE)
+    code = re.findall(r'#\[error\("(.*?)"\)\]', read(FAULTS))
+    table = re.findall(r"^\| (\d+) \| `(.*?)` \|", read("docs/FAULTS.md"), re.MULTILINE)
     if table != [(str(number), text) for number, text in enumerate(code, 1)]:
-        wrong.append("the README's table of faults is not that of crates/city_json/specs/Faults.antt")
+        yield "the table of docs/FAULTS.md is not that of " + FAULTS
 
 
 def links():
-    for path in ["README.md", *sorted(glob.glob("docs/*.md"))]:
+    for path in DOCUMENTS:
         for target in re.findall(r"\]\(([^)#:]+)\)", read(path)):
             if not os.path.exists(os.path.join(os.path.dirname(path), target)):
-                wrong.append("%s: no such file: %s" % (path, target))
+                yield "%s: no such file: %s" % (path, target)
 
 
-for test in (quoted_clauses, named_definitions, named_files, fault_table, links):
-    test()
-for line in wrong:
-    print("FAILED: " + line)
-print("The documents: %s" % ("%d wrong" % len(wrong) if wrong else "as the code is"))
-sys.exit(1 if wrong else 0)
+def main():
+    tests = (quoted_contracts, told_definitions, told_files, named_files, named_clauses, fault_table, links)
+    wrong = [line for test in tests for line in test()]
+    for line in wrong:
+        print("FAILED: " + line)
+    print("The documents: %s" % ("%d wrong" % len(wrong) if wrong else "as the code is"))
+    return 1 if wrong else 0
+
+
+if __name__ == "__main__":
+    sys.exit(main())
