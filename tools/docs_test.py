@@ -62,10 +62,11 @@ def told_files():
 
 
 def named_files():
-    there = {os.path.basename(path) for path in glob.glob("crates/*/*/**/*.antt", recursive=True)}
+    folders = ("crates/*/src", "crates/*/specs", "crates/*/proofs", "tools", "bench")
+    there = [path for folder in folders for path in glob.glob(folder + "/**/*", recursive=True)]
     for path in DOCUMENTS:
-        for name in sorted(set(re.findall(r"`(?:\w+/)*(\w+\.antt)`", read(path)))):
-            if name not in there:
+        for name in sorted(set(re.findall(r"`([\w+/]+\.(?:antt|rt|py|sh|edit))`", read(path)))):
+            if not any(("/" + file).endswith("/" + name) for file in there):
                 yield "%s tells of %s, which is not there" % (path, name)
 
 
