@@ -22,10 +22,22 @@ CONTRACTS = contracts()
 DOCUMENTS = ["README.md", *sorted(glob.glob("docs/*.md"))]
 
 
+def crate_of(path):
+    return path.split("/")[1]
+
+
 def specs():
-    """The files of definitions, by their names: `Grammar.antt`."""
+    """The files of definitions."""
     paths = sorted(glob.glob("crates/*/specs/**/*.antt", recursive=True))
-    return {os.path.basename(path): path for path in paths if os.path.basename(path) != "Lib.antt"}
+    return [path for path in paths if os.path.basename(path) != "Lib.antt"]
+
+
+def told_of(crate):
+    """What docs/DEFINITIONS.md tells of a crate: its sections, and its rows of the table in the last one."""
+    sections = re.split(r"^## ", read("docs/DEFINITIONS.md"), flags=re.MULTILINE)
+    public = [section for section in sections if "`crates/%s/specs`" % crate in section.split("\n")[0]]
+    private = re.findall(r"^\| `%s` \|.*$" % crate, sections[-1], re.MULTILINE)
+    return "\n".join(public), "\n".join(private)
 
 
 def words_in_code(text):
@@ -42,23 +54,23 @@ def quoted_contracts():
 
 
 def told_definitions():
-    told = words_in_code(read("docs/DEFINITIONS.md"))
     for path, name in sorted(public_names()):
-        if name not in told:
+        if name not in words_in_code(told_of(crate_of(path))[0]):
             yield "docs/DEFINITIONS.md does not tell %s of %s, which a public clause names" % (name, path)
 
 
 def told_files():
-    """Each file is told, in the last section where no public promise needs it and only then."""
-    promised, private = read("docs/DEFINITIONS.md").split("## 6. ")
+    """Each file is told: in the last section where no public promise needs it, and only there then."""
     needed = {path for path, _ in needed_names()}
-    for name, path in specs().items():
-        is_private = "`%s`" % name in private
-        if is_private == ("`%s`" % name in promised):
-            yield "docs/DEFINITIONS.md should tell %s once, in section 6 or above it" % path
-        elif is_private == (path in needed):
-            where = "a public promise needs it" if is_private else "no public promise needs it"
-            yield "docs/DEFINITIONS.md tells %s in the wrong place: %s" % (path, where)
+    for path in specs():
+        name = "`%s`" % os.path.basename(path)
+        public, private = told_of(crate_of(path))
+        if path in needed and name not in public:
+            yield "docs/DEFINITIONS.md does not tell %s, which a public promise needs" % path
+        if path in needed and name in private:
+            yield "docs/DEFINITIONS.md tells %s in section 6, and a public promise needs it" % path
+        if path not in needed and (name in public or name not in private):
+            yield "docs/DEFINITIONS.md should tell %s in section 6 only: no public promise needs it" % path
 
 
 def named_files():
