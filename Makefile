@@ -6,7 +6,8 @@ help:
 	@echo 'citymerge: compacts streams of 3D city features (CityJSONSeq)'
 	@echo
 	@echo '  make build   prove the program and build it: build/citymerge'
-	@echo '  make check   prove what has changed, in all crates (in one: CRATE=city_json; one function of it: ONLY=reading::read)'
+	@echo '  make check   prove what has changed, in all crates; in one with CRATE=city_json, and of that'
+	@echo '               one function or module with ONLY=reading::read'
 	@echo '  make demo    build it, run it on the tiles in examples/ and show what came out'
 	@echo '  make test    all that has to hold: the documents, the built program at its edges, then the gate'
 	@echo '               (every proof from nothing, the edits that must fail, the tests); takes long'

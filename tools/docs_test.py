@@ -85,7 +85,7 @@ def named_files():
 def clauses_of(call):
     """The clauses of a call, or of all the calls of a type; None where there is no such call."""
     owner, _, name = call.rpartition("::")
-    found = [c.clauses() for c in CONTRACTS if call == c.owner or (name == c.name and owner in ("", c.owner))]
+    found = [c.clauses() for c in CONTRACTS if call == c.owner or (owner, name) == (c.owner, c.name)]
     return set().union(*found) if found else None
 
 
