@@ -22,8 +22,8 @@ mod tests;
 mod values;
 mod whole_arrays;
 
-use crate::reading::depth::MOST_DEPTH;
 use crate::line::Line;
+use crate::reading::depth::MOST_DEPTH;
 use draft::{begun, copy_to, skip_white};
 pub use parts::{Compacted, Part, compact_parts};
 use std::alloc::Global;

@@ -33,7 +33,8 @@ pub struct Intake {
 /// Reads from the source up to its end, and stops early at an error, past `limit` bytes, and where there
 /// is not enough memory. At most one byte past the limit is read.
 pub fn read_all<S: Source>(alloc: Global, source: &mut S, limit: u64) -> Intake
-    ensures stopped { Stopped result.stop (S.gives source.old) (S.gives source.new) limit result.bytes.items }
+    ensures stopped { Stopped result.stop (S.gives source.old) (S.gives source.new)
+        limit result.bytes.items }
     ensures length { vec_len result.bytes ≤ limit + 1 }
     ensures failures { S.failures source.new ≡ after_stop result.stop (S.failures source.old) }
 {
@@ -74,7 +75,8 @@ fn read_after<S: Source>(source: &mut S, bytes: &mut [u8], filled: usize) -> Res
     requires { filled < length bytes.old }
     ensures front { take filled bytes.new ≡ take filled bytes.old }
     ensures bound { IfOk result (λ count. filled + count ≤ length bytes.new) }
-    ensures given { IfOk result (λ count. GivesFirst (S.gives source.old) (S.gives source.new) (take count (drop filled bytes.new))) }
+    ensures given { IfOk result (λ count. GivesFirst (S.gives source.old) (S.gives source.new)
+        (take count (drop filled bytes.new))) }
     ensures end { IfOk result (λ count. count ≡ 0 → S.gives source.old [] false) }
     ensures failure { OnErr result (S.gives source.old [] true) }
     ensures failures { S.failures source.new ≡ after_call result (S.failures source.old) }

@@ -27,7 +27,8 @@ pub fn compact_text_is_one_line()
 
 /// A text nests too deeply exactly where the value that it spells does.
 pub fn texts_nest_as_their_values()
-    ensures { (text : List ℕ) (value : Tree) → Spells text value → ((¬ IsDeep text) ↔ (depth value ≤ most_depth)) }
+    ensures { (text : List ℕ) (value : Tree) → Spells text value
+        → ((¬ IsDeep text) ↔ (depth value ≤ most_depth)) }
 {}
 
 /// Different values have different compact texts.
@@ -42,7 +43,8 @@ pub fn spelled_value_is_writable()
 
 /// A compact text spells no value but its own.
 pub fn compact_text_is_read_as_its_value()
-    ensures { (value found : Tree) → IsWritable value → Spells (compact value) found → value ≡ found }
+    ensures { (value found : Tree) → IsWritable value → Spells (compact value) found
+        → value ≡ found }
 {}
 
 /// To exchange the text of one member's value, where it lies in the compact text of an object, is to exchange the

@@ -13,7 +13,8 @@ use crate::sink::Sink;
 /// taken then.
 pub fn write_all<W: Sink>(sink: &mut W, bytes: &[u8]) -> Result<(), Fault>
     ensures all { OnOk result (Appends (W.taken sink.old) (W.taken sink.new) bytes.now) }
-    ensures some { OnErr result ((count : ℕ) × Appends (W.taken sink.old) (W.taken sink.new) (take count bytes.now)) }
+    ensures some { OnErr result ((count : ℕ)
+        × Appends (W.taken sink.old) (W.taken sink.new) (take count bytes.now)) }
     ensures failures { W.failures sink.new ≡ after_call result (W.failures sink.old) }
     ensures fault { IfErr result (λ fault. fault ≡ Fault.Write) }
 {

@@ -101,9 +101,11 @@ fn put_members(line: &mut Line, members: &[Member]) -> Result<(), Fault>
 
 #[cycle(put)]
 fn put_next_member(line: &mut Line, member: &Member) -> Result<(), Fault>
-    ensures ok { OnOk result (line.new ≡ line.old ++ comma ∷ quoted (named_tree member.now).0 ++ colon ∷ compact (named_tree member.now).1) }
+    ensures ok { OnOk result (line.new ≡ line.old ++ comma
+        ∷ quoted (named_tree member.now).0 ++ colon ∷ compact (named_tree member.now).1) }
     ensures front { take (length line.old) line.new ≡ line.old }
-    ensures writable { OnOk result (IsUtf8 (named_tree member.now).0 × IsWritable (named_tree member.now).1) }
+    ensures writable { OnOk result (IsUtf8 (named_tree member.now).0
+        × IsWritable (named_tree member.now).1) }
     ensures fault { IfErr result (λ fault. fault ≡ Fault.Memory) }
 {
     line.append(b",")?;
@@ -112,9 +114,11 @@ fn put_next_member(line: &mut Line, member: &Member) -> Result<(), Fault>
 
 #[cycle(put)]
 fn put_member(line: &mut Line, member: &Member) -> Result<(), Fault>
-    ensures ok { OnOk result (line.new ≡ line.old ++ quoted (named_tree member.now).0 ++ colon ∷ compact (named_tree member.now).1) }
+    ensures ok { OnOk result (line.new ≡ line.old ++ quoted (named_tree member.now).0 ++ colon
+        ∷ compact (named_tree member.now).1) }
     ensures front { take (length line.old) line.new ≡ line.old }
-    ensures writable { OnOk result (IsUtf8 (named_tree member.now).0 × IsWritable (named_tree member.now).1) }
+    ensures writable { OnOk result (IsUtf8 (named_tree member.now).0
+        × IsWritable (named_tree member.now).1) }
     ensures fault { IfErr result (λ fault. fault ≡ Fault.Memory) }
 {
     put_string(line, member.name.as_str())?;
@@ -148,7 +152,8 @@ fn put_characters(line: &mut Line, text: &[u8]) -> Result<(), Fault>
 /// left of `text`.
 fn put_run<'a>(line: &mut Line, text: &'a [u8]) -> Result<&'a [u8], Fault>
     requires { 0 < length text.now }
-    ensures ok { IfOk result (λ rest. line.new ++ flat_map written rest.now ≡ line.old ++ flat_map written text.now) }
+    ensures ok { IfOk result (λ rest. line.new ++ flat_map written rest.now
+        ≡ line.old ++ flat_map written text.now) }
     ensures shorter { IfOk result (λ rest. length rest.now < length text.now) }
     ensures front { take (length line.old) line.new ≡ line.old }
     ensures fault { IfErr result (λ fault. fault ≡ Fault.Memory) }
@@ -166,7 +171,8 @@ fn put_run<'a>(line: &mut Line, text: &'a [u8]) -> Result<&'a [u8], Fault>
 #[tactic(auto, using(crate::proofs::CompactText::written_run))]
 fn run_length(text: &[u8]) -> usize
     ensures within { result ≤ length text.now }
-    ensures run { take result text.now ++ flat_map written (drop result text.now) ≡ flat_map written text.now }
+    ensures run { take result text.now ++ flat_map written (drop result text.now)
+        ≡ flat_map written text.now }
 {
     plain_len(text)
 }

@@ -168,7 +168,8 @@ fn read_array(alloc: Global, levels: usize, bytes: &[u8]) -> Result<(Json, &[u8]
 
 #[cycle(value)]
 fn read_items(alloc: Global, levels: usize, bytes: &[u8]) -> Result<(Items, &[u8]), Fault>
-    ensures { Gives (λ p. (items_tree p.0.items, p.1.now)) result (items_at (value_at levels) (length bytes.now) bytes.now) }
+    ensures { Gives (λ p. (items_tree p.0.items, p.1.now))
+        result (items_at (value_at levels) (length bytes.now) bytes.now) }
 {
     let mut items = Vec::new(alloc);
     let mut rest = bytes;
@@ -199,7 +200,8 @@ fn read_object(alloc: Global, levels: usize, bytes: &[u8]) -> Result<(Json, &[u8
 
 #[cycle(value)]
 fn read_members(alloc: Global, levels: usize, bytes: &[u8]) -> Result<(Members, &[u8]), Fault>
-    ensures { Gives (λ p. (members_tree p.0.items, p.1.now)) result (members_at (value_at levels) (length bytes.now) bytes.now) }
+    ensures { Gives (λ p. (members_tree p.0.items, p.1.now))
+        result (members_at (value_at levels) (length bytes.now) bytes.now) }
 {
     let mut members = Vec::new(alloc);
     let mut rest = bytes;
@@ -218,7 +220,8 @@ fn read_members(alloc: Global, levels: usize, bytes: &[u8]) -> Result<(Members, 
 
 #[cycle(value)]
 fn read_member(alloc: Global, levels: usize, bytes: &[u8]) -> Result<(Member, &[u8]), Fault>
-    ensures { Gives (λ p. (named_tree p.0, p.1.now)) result (member_at (value_at levels) bytes.now) }
+    ensures { Gives (λ p. (named_tree p.0, p.1.now))
+        result (member_at (value_at levels) bytes.now) }
 {
     let Some(text) = after_byte(b'"', bytes) else {
         return Err(Fault::Syntax);
@@ -244,7 +247,8 @@ fn read_text(alloc: Global, bytes: &[u8]) -> Result<Json, Fault>
 
 /// The value that the bytes spell, or why it is not taken.
 fn value_of(alloc: Global, bytes: &[u8]) -> Result<Json, Fault>
-    ensures value { IfOk result (λ value. Spells bytes.now (tree value) × Fits (tree value) × ¬ IsDeep bytes.now) }
+    ensures value { IfOk result (λ value. Spells bytes.now (tree value) × Fits (tree value)
+        × ¬ IsDeep bytes.now) }
     ensures refused { IfErr result (λ fault. RefusesText fault bytes.now) }
 {
     if !simdutf8::is_utf8(bytes) {
@@ -270,7 +274,8 @@ fn value_of(alloc: Global, bytes: &[u8]) -> Result<Json, Fault>
 /// object has a name twice. The first two come before any memory is asked for. [`Fault::Memory`] may stand in place of
 /// the last two, and of a value.
 pub fn read(alloc: Global, bytes: &[u8]) -> Result<Json, Fault>
-    ensures value { IfOk result (λ value. Spells bytes.now (tree value) × Fits (tree value) × ¬ IsDeep bytes.now) }
+    ensures value { IfOk result (λ value. Spells bytes.now (tree value) × Fits (tree value)
+        × ¬ IsDeep bytes.now) }
     ensures refused { IfErr result (λ fault. RefusesText fault bytes.now) }
     ensures not_utf8 { (¬ IsUtf8 bytes.now) → result ≡ Err Fault.NotUtf8 }
     ensures too_deep { IsUtf8 bytes.now → IsDeep bytes.now → result ≡ Err Fault.TooDeep }

@@ -47,7 +47,8 @@ impl ShortBytes {
     /// A copy of the first `size` bytes. The only fault is [`Fault::Memory`].
     pub(crate) fn front_of(alloc: Global, bytes: &[u8], size: usize) -> Result<ShortBytes, Fault>
         requires { size ≤ length bytes.now }
-        ensures { MatchResult result (λ copy. copy ≡ take size bytes.now) (λ fault. fault ≡ Fault.Memory) }
+        ensures { MatchResult result (λ copy. copy ≡ take size bytes.now)
+            (λ fault. fault ≡ Fault.Memory) }
     {
         if size > MOST_INLINE {
             return ShortBytes::on_heap(alloc, &bytes[..size]);

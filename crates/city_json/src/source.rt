@@ -20,8 +20,10 @@ pub trait Source {
     /// `Fault::Read` where the read failed.
     fn read(&mut self, to: &mut [u8]) -> Result<usize, Fault>
         ensures bound { IfOk result (λ count. count ≤ length to.new) }
-        ensures bytes { IfOk result (λ count. GivesFirst (gives self.old) (gives self.new) (take count to.new)) }
-        ensures end { IfOk result (λ count. count ≡ 0 → 0 < length to.new → gives self.old [] false) }
+        ensures bytes { IfOk result (λ count. GivesFirst (gives self.old) (gives self.new)
+            (take count to.new)) }
+        ensures end { IfOk result (λ count. count ≡ 0 → 0 < length to.new
+            → gives self.old [] false) }
         ensures failure { OnErr result (gives self.old [] true) }
         ensures failures { failures self.new ≡ after_call result (failures self.old) }
         ensures fault { IfErr result (λ fault. fault ≡ Fault.Read) };

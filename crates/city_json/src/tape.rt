@@ -54,17 +54,22 @@ impl Source for Tape {
 
     fn read(&mut self, to: &mut [u8]) -> Result<usize, Fault>
         ensures bound { IfOk result (λ count. count ≤ length to.new) }
-        ensures bytes { IfOk result (λ count. GivesFirst (PlaysOut self.old) (PlaysOut self.new) (take count to.new)) }
-        ensures end { IfOk result (λ count. count ≡ 0 → 0 < length to.new → PlaysOut self.old [] false) }
+        ensures bytes { IfOk result (λ count. GivesFirst (PlaysOut self.old) (PlaysOut self.new)
+            (take count to.new)) }
+        ensures end { IfOk result (λ count. count ≡ 0 → 0 < length to.new
+            → PlaysOut self.old [] false) }
         ensures failure { OnErr result (PlaysOut self.old [] true) }
         ensures failures { self.new.failures ≡ after_call result self.old.failures }
         ensures fault { IfErr result (λ fault. fault ≡ Fault.Read) }
 
         // The whole answer.
         ensures answer { result ≡ tape_answer self.old (length to.old) }
-        ensures copied { IfOk result (λ count. to.new ≡ take count self.old.left ++ drop count to.old) }
-        ensures moved { IfOk result (λ count. self.new ≡ record self.old { left = drop count self.old.left }) }
-        ensures failed { OnErr result (self.new ≡ record self.old { failures = one_more self.old.failures }) }
+        ensures copied { IfOk result (λ count. to.new
+            ≡ take count self.old.left ++ drop count to.old) }
+        ensures moved { IfOk result (λ count. self.new
+            ≡ record self.old { left = drop count self.old.left }) }
+        ensures failed { OnErr result (self.new
+            ≡ record self.old { failures = one_more self.old.failures }) }
         ensures untouched { OnErr result (to.new ≡ to.old) }
     {
         let left = &self.bytes.items()[self.at..];

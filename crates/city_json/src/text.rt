@@ -6,8 +6,8 @@ ghost use Rattle.city_json.specs.Number.{IsNumber};
 ghost use Rattle.city_json.specs.NumberAt.{number_at};
 
 use crate::fault::Fault;
-use crate::reading::numbers::{is_number, number};
 use crate::number_parts::{NumberParts, number_parts};
+use crate::reading::numbers::{is_number, number};
 use crate::short::ShortBytes;
 use std::alloc::Global;
 use std::marker::Model;
@@ -90,7 +90,8 @@ impl NumText {
     /// From the bytes of a number.
     pub(crate) fn of(alloc: Global, bytes: &[u8]) -> Result<NumText, Fault>
         requires { IsNumber bytes.now }
-        ensures { MatchResult result (λ number. number ≡ bytes.now) (λ fault. fault ≡ Fault.Memory) }
+        ensures { MatchResult result (λ number. number ≡ bytes.now)
+            (λ fault. fault ≡ Fault.Memory) }
     {
         let text = ShortBytes::copy_of(alloc, bytes)?;
         Ok(NumText { text })

@@ -44,7 +44,8 @@ pub(super) fn copy_to<'a>(
     requires copied { draft.old.from ≤ at }
     requires order { at ≤ next }
     requires within { next ≤ length text.now }
-    ensures line { OnSome result (draft.new.line ≡ shown draft.old.line text.now draft.old.from at) }
+    ensures line { OnSome result (draft.new.line
+        ≡ shown draft.old.line text.now draft.old.from at) }
     ensures from { OnSome result (draft.new.from ≡ next) }
     ensures names { OnSome result (draft.new.names ≡ draft.old.names) }
 {
@@ -63,8 +64,10 @@ pub(super) fn skip<'a>(text: &'a [u8], at: usize, draft: &mut Draft<'a>) -> usiz
     ensures within { result ≤ length text.now }
     ensures onward { result < length text.now → at ≤ result }
     ensures copied { result < length text.now → draft.new.from ≤ result }
-    ensures skipped { result < length text.now → drop result text.now ≡ after_white (drop at text.now) }
-    ensures is_shown { result < length text.now → shown draft.new.line text.now draft.new.from result
+    ensures skipped { result < length text.now
+        → drop result text.now ≡ after_white (drop at text.now) }
+    ensures is_shown { result < length text.now
+        → shown draft.new.line text.now draft.new.from result
         ≡ shown draft.old.line text.now draft.old.from at }
     ensures names { result < length text.now → draft.new.names ≡ draft.old.names }
 {
@@ -82,8 +85,10 @@ fn skip_or_end<'a>(text: &'a [u8], at: usize, draft: &mut Draft<'a>) -> usize
     ensures within { result ≤ length text.now }
     ensures onward { result < length text.now → at ≤ result }
     ensures copied { result < length text.now → draft.new.from ≤ result }
-    ensures skipped { result < length text.now → drop result text.now ≡ after_white (drop at text.now) }
-    ensures is_shown { result < length text.now → shown draft.new.line text.now draft.new.from result
+    ensures skipped { result < length text.now
+        → drop result text.now ≡ after_white (drop at text.now) }
+    ensures is_shown { result < length text.now
+        → shown draft.new.line text.now draft.new.from result
         ≡ shown draft.old.line text.now draft.old.from at }
     ensures names { result < length text.now → draft.new.names ≡ draft.old.names }
 {

@@ -65,7 +65,8 @@ impl<'a> Names<'a> {
     /// The time is near linear in the names' bytes, whatever they are.
     pub(super) fn are_apart_from(&self, alloc: Global, base: usize) -> bool
         requires { base ≤ length self.now }
-        ensures { IsTrue result → (members : MemberTrees) → names members ≡ drop base self.now → HasDistinctNames members }
+        ensures { IsTrue result → (members : MemberTrees) → names members ≡ drop base self.now
+            → HasDistinctNames members }
     {
         let listed = &self.listed[base..];
         if listed.len() <= MOST_COMPARED {
@@ -78,7 +79,8 @@ impl<'a> Names<'a> {
 
 /// The same for few names, each compared with each.
 fn few_are_apart(listed: &[Name<'_>]) -> bool
-    ensures { IsTrue result → (members : MemberTrees) → names members ≡ map name_bytes listed.now → HasDistinctNames members }
+    ensures { IsTrue result → (members : MemberTrees) → names members ≡ map name_bytes listed.now
+        → HasDistinctNames members }
 {
     let mut rest = listed;
     while let [first, others @ ..] = rest {
@@ -92,7 +94,8 @@ fn few_are_apart(listed: &[Name<'_>]) -> bool
 
 /// Whether the name is none of these.
 fn is_new(name: &[u8], listed: &[Name<'_>]) -> bool
-    ensures { IsTrue result → (members : MemberTrees) → names members ≡ map name_bytes listed.now → IsNewName name.now members }
+    ensures { IsTrue result → (members : MemberTrees) → names members ≡ map name_bytes listed.now
+        → IsNewName name.now members }
 {
     for other in listed {
         if other.bytes() == name {
@@ -104,7 +107,8 @@ fn is_new(name: &[u8], listed: &[Name<'_>]) -> bool
 
 /// The same for many names: by their prints, and where two of these are equal by the names themselves.
 fn many_are_apart(alloc: Global, listed: &[Name<'_>]) -> bool
-    ensures { IsTrue result → (members : MemberTrees) → names members ≡ map name_bytes listed.now → HasDistinctNames members }
+    ensures { IsTrue result → (members : MemberTrees) → names members ≡ map name_bytes listed.now
+        → HasDistinctNames members }
 {
     let Some(prints) = prints_of(alloc, listed) else {
         return false;
@@ -119,7 +123,8 @@ fn many_are_apart(alloc: Global, listed: &[Name<'_>]) -> bool
 }
 
 fn prints_of(alloc: Global, listed: &[Name<'_>]) -> Option<Vec<u64>>
-    ensures { IfSome result (λ prints. prints.items ≡ map (λ name. print_of (name_bytes name)) listed.now) }
+    ensures { IfSome result (λ prints. prints.items ≡ map
+        (λ name. print_of (name_bytes name)) listed.now) }
 {
     let Ok(mut prints) = Vec::with_capacity(alloc, listed.len()) else {
         return None;
@@ -144,7 +149,8 @@ fn bytes_of<'b>(alloc: Global, listed: &'b [Name<'_>]) -> Option<Vec<&'b [u8]>>
 
 /// Whether each print is above the one before it once they are sorted, so that no two are equal.
 fn rise_when_sorted(prints: Vec<u64>) -> bool
-    ensures { IsTrue result → (members : MemberTrees) → map print_of (names members) ≡ prints.items → HasDistinctNames members }
+    ensures { IsTrue result → (members : MemberTrees) → map print_of (names members) ≡ prints.items
+        → HasDistinctNames members }
 {
     let mut prints = prints;
     prints.sort_unstable();

@@ -12,8 +12,8 @@ ghost use Rattle.city_json.specs.declared.compacting.parts.Part.{Part};
 use super::draft::{Draft, begun, copy_to, skip, skip_white, written_len};
 use super::strings::name_and_colon;
 use super::values::member_value;
-use crate::reading::depth::MOST_DEPTH;
 use crate::line::Line;
+use crate::reading::depth::MOST_DEPTH;
 use std::alloc::Global;
 
 /// Where a member lies in the compact text of an object, in bytes from its beginning: its name from `at` on, a colon
@@ -79,7 +79,8 @@ fn members<'a>(
     ensures within { IfSome result (λ end. end ≤ length text.now) }
     ensures copied { IfSome result (λ end. draft.new.from ≤ end) }
     ensures taken { IfSome result (λ end. TakenParts levels (drop at text.now) (drop end text.now)
-        (shown draft.old.line text.now draft.old.from at) (shown draft.new.line text.now draft.new.from end)
+        (shown draft.old.line text.now draft.old.from at)
+        (shown draft.new.line text.now draft.new.from end)
         parts.new.items) }
 {
     let mut i = skip(text, at, draft);
@@ -126,7 +127,8 @@ fn member<'a>(
     ensures within { IfSome result (λ end. end ≤ length text.now) }
     ensures copied { IfSome result (λ end. draft.new.from ≤ end) }
     ensures taken { IfSome result (λ end. TakenPart levels (drop at text.now) (drop end text.now)
-        (shown draft.old.line text.now draft.old.from at) (shown draft.new.line text.now draft.new.from end)
+        (shown draft.old.line text.now draft.old.from at)
+        (shown draft.new.line text.now draft.new.from end)
         draft.old.names draft.new.names parts.old.items parts.new.items) }
 {
     let named = written_len(text, at, draft)?;

@@ -27,7 +27,8 @@ pub(super) fn text_value<'a>(
     ensures copied { IfSome result (λ end. draft.new.from ≤ end) }
     ensures names { OnSome result (draft.new.names ≡ draft.old.names) }
     ensures taken { IfSome result (λ end. Taken levels (drop at text.now) (drop end text.now)
-        (shown draft.old.line text.now draft.old.from at) (shown draft.new.line text.now draft.new.from end)) }
+        (shown draft.old.line text.now draft.old.from at)
+        (shown draft.new.line text.now draft.new.from end)) }
 {
     match plain_string(text, at + 1) {
         Some(close) => Some(close + 1),
@@ -49,7 +50,8 @@ fn respelled<'a>(text: &'a [u8], at: usize, draft: &mut Draft<'a>) -> Option<(St
     ensures copied { IfSome result (λ p. draft.new.from ≤ p.1) }
     ensures names { OnSome result (draft.new.names ≡ draft.old.names) }
     ensures taken { IfSome result (λ p. TakenString p.0 (drop at text.now) (drop p.1 text.now)
-        (shown draft.old.line text.now draft.old.from at) (shown draft.new.line text.now draft.new.from p.1)) }
+        (shown draft.old.line text.now draft.old.from at)
+        (shown draft.new.line text.now draft.new.from p.1)) }
 {
     let Ok((content, rest)) = string(draft.alloc, &text[at + 1..]) else {
         return None;
@@ -73,7 +75,8 @@ fn name<'a>(text: &'a [u8], at: usize, draft: &mut Draft<'a>) -> Option<usize>
     ensures within { IfSome result (λ end. end ≤ length text.now) }
     ensures copied { IfSome result (λ end. draft.new.from ≤ end) }
     ensures taken { IfSome result (λ end. TakenName (drop at text.now) (drop end text.now)
-        (shown draft.old.line text.now draft.old.from at) (shown draft.new.line text.now draft.new.from end)
+        (shown draft.old.line text.now draft.old.from at)
+        (shown draft.new.line text.now draft.new.from end)
         draft.old.names draft.new.names) }
 {
     match plain_string(text, at + 1) {
@@ -99,7 +102,8 @@ pub(super) fn name_and_colon<'a>(text: &'a [u8], at: usize, draft: &mut Draft<'a
     ensures within { IfSome result (λ start. start < length text.now) }
     ensures copied { IfSome result (λ start. draft.new.from ≤ start) }
     ensures taken { IfSome result (λ start. TakenStart (drop at text.now) (drop start text.now)
-        (shown draft.old.line text.now draft.old.from at) (shown draft.new.line text.now draft.new.from start)
+        (shown draft.old.line text.now draft.old.from at)
+        (shown draft.new.line text.now draft.new.from start)
         draft.old.names draft.new.names) }
 {
     if at == text.len() || text[at] != b'"' {

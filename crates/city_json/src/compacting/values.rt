@@ -31,7 +31,8 @@ pub(super) fn member_value<'a>(
     ensures copied { IfSome result (λ end. draft.new.from ≤ end) }
     ensures names { OnSome result (draft.new.names ≡ draft.old.names) }
     ensures taken { IfSome result (λ end. Taken levels (drop at text.now) (drop end text.now)
-        (shown draft.old.line text.now draft.old.from at) (shown draft.new.line text.now draft.new.from end)) }
+        (shown draft.old.line text.now draft.old.from at)
+        (shown draft.new.line text.now draft.new.from end)) }
 {
     let end = integer_end(text, at);
     if at < end && may_end(text, end) {
@@ -56,7 +57,8 @@ pub(super) fn value<'a>(
     ensures copied { IfSome result (λ end. draft.new.from ≤ end) }
     ensures names { OnSome result (draft.new.names ≡ draft.old.names) }
     ensures taken { IfSome result (λ end. Taken levels (drop at text.now) (drop end text.now)
-        (shown draft.old.line text.now draft.old.from at) (shown draft.new.line text.now draft.new.from end)) }
+        (shown draft.old.line text.now draft.old.from at)
+        (shown draft.new.line text.now draft.new.from end)) }
 {
     if at == text.len() {
         return None;
@@ -90,7 +92,8 @@ fn array<'a>(text: &'a [u8], at: usize, levels: usize, draft: &mut Draft<'a>) ->
     ensures copied { IfSome result (λ end. draft.new.from ≤ end) }
     ensures names { OnSome result (draft.new.names ≡ draft.old.names) }
     ensures taken { IfSome result (λ end. TakenItems levels (drop at text.now) (drop end text.now)
-        (shown draft.old.line text.now draft.old.from at) (shown draft.new.line text.now draft.new.from end)) }
+        (shown draft.old.line text.now draft.old.from at)
+        (shown draft.new.line text.now draft.new.from end)) }
 {
     let whole = whole_from(text, at, levels);
     if at < whole {
@@ -116,8 +119,10 @@ fn items<'a>(text: &'a [u8], at: usize, levels: usize, draft: &mut Draft<'a>) ->
     ensures within { IfSome result (λ end. end ≤ length text.now) }
     ensures copied { IfSome result (λ end. draft.new.from ≤ end) }
     ensures names { OnSome result (draft.new.names ≡ draft.old.names) }
-    ensures taken { IfSome result (λ end. ItemsFrom levels (after_white (drop at text.now)) (drop end text.now)
-        (shown draft.old.line text.now draft.old.from at) (shown draft.new.line text.now draft.new.from end)) }
+    ensures taken { IfSome result (λ end. ItemsFrom levels (after_white (drop at text.now))
+        (drop end text.now)
+        (shown draft.old.line text.now draft.old.from at)
+        (shown draft.new.line text.now draft.new.from end)) }
 {
     let mut i = at;
     'items: loop {
@@ -161,7 +166,8 @@ fn object<'a>(text: &'a [u8], at: usize, levels: usize, draft: &mut Draft<'a>) -
     ensures copied { IfSome result (λ end. draft.new.from ≤ end) }
     ensures names { OnSome result (draft.new.names ≡ draft.old.names) }
     ensures taken { IfSome result (λ end. TakenMembers levels (drop at text.now) (drop end text.now)
-        (shown draft.old.line text.now draft.old.from at) (shown draft.new.line text.now draft.new.from end)) }
+        (shown draft.old.line text.now draft.old.from at)
+        (shown draft.new.line text.now draft.new.from end)) }
 {
     let base = draft.names.len();
     let mut i = skip(text, at, draft);
@@ -204,7 +210,8 @@ fn member<'a>(text: &'a [u8], at: usize, levels: usize, draft: &mut Draft<'a>) -
     ensures within { IfSome result (λ end. end ≤ length text.now) }
     ensures copied { IfSome result (λ end. draft.new.from ≤ end) }
     ensures taken { IfSome result (λ end. TakenMember levels (drop at text.now) (drop end text.now)
-        (shown draft.old.line text.now draft.old.from at) (shown draft.new.line text.now draft.new.from end)
+        (shown draft.old.line text.now draft.old.from at)
+        (shown draft.new.line text.now draft.new.from end)
         draft.old.names draft.new.names) }
 {
     let start = name_and_colon(text, at, draft)?;

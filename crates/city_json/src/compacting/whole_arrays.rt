@@ -50,7 +50,8 @@ fn leads_item(byte: u8) -> bool
 /// Each bit one place up, after a first one.
 #[inline(always)]
 fn lag(mask: u64, first: bool) -> u64
-    ensures { (marks : List Bool) → length marks ≡ 64 → mask ≡ mask_l marks → result ≡ mask_l (lag first marks) }
+    ensures { (marks : List Bool) → length marks ≡ 64 → mask ≡ mask_l marks
+        → result ≡ mask_l (lag first marks) }
 {
     (mask << 1) + one_if(first)
 }
@@ -59,8 +60,10 @@ fn lag(mask: u64, first: bool) -> u64
 #[inline(always)]
 fn brackets_of(block: u8x64, before: u8, zeroed: bool) -> Option<Brackets>
     ensures fine { IfSome result (λ found. AreFine before zeroed block) }
-    ensures opens { IfSome result (λ found. found.opens ≡ mask_l (map (λ b. b == open_bracket) block)) }
-    ensures closes { IfSome result (λ found. found.closes ≡ mask_l (map (λ b. b == close_bracket) block)) }
+    ensures opens { IfSome result (λ found. found.opens
+        ≡ mask_l (map (λ b. b == open_bracket) block)) }
+    ensures closes { IfSome result
+        (λ found. found.closes ≡ mask_l (map (λ b. b == close_bracket) block)) }
     ensures zeroed { IfSome result (λ found. found.zeroed ≡ zeroed_by before zeroed block) }
 {
     let digits = digit_marks(block);
@@ -97,7 +100,9 @@ fn brackets_of(block: u8x64, before: u8, zeroed: bool) -> Option<Brackets>
 #[inline(always)]
 fn stays_open(depth: usize, opens: u64, closes: u64) -> bool
     requires { depth ≤ 1000 }
-    ensures { IsTrue result → (bytes : List ℕ) → length bytes ≤ 64 → opens ≡ mask_l (map (λ b. b == open_bracket) bytes) → closes ≡ mask_l (map (λ b. b == close_bracket) bytes) → StaysOpen depth bytes }
+    ensures { IsTrue result → (bytes : List ℕ) → length bytes ≤ 64
+        → opens ≡ mask_l (map (λ b. b == open_bracket) bytes)
+        → closes ≡ mask_l (map (λ b. b == close_bracket) bytes) → StaysOpen depth bytes }
 {
     let mut left = depth;
     let mut up = opens;

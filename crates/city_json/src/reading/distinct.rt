@@ -13,7 +13,8 @@ use std::alloc::Global;
 /// [`Fault::Memory`].
 #[cycle(distinct)]
 pub(crate) fn is_distinct(alloc: Global, value: &Json) -> Result<bool, Fault>
-    ensures { MatchResult result (λ distinct. IsTrue distinct ↔ IsDistinct (tree value.now)) (λ fault. fault ≡ Fault.Memory) }
+    ensures { MatchResult result (λ distinct. IsTrue distinct ↔ IsDistinct (tree value.now))
+        (λ fault. fault ≡ Fault.Memory) }
 {
     match value {
         Json::List(items) => are_distinct_items(alloc, items),
@@ -29,7 +30,8 @@ pub(crate) fn is_distinct(alloc: Global, value: &Json) -> Result<bool, Fault>
 
 #[cycle(distinct)]
 fn are_distinct_items(alloc: Global, items: &[Json]) -> Result<bool, Fault>
-    ensures { MatchResult result (λ distinct. IsTrue distinct ↔ AreDistinctItems (items_tree items.now)) (λ fault. fault ≡ Fault.Memory) }
+    ensures { MatchResult result (λ distinct. IsTrue distinct
+        ↔ AreDistinctItems (items_tree items.now)) (λ fault. fault ≡ Fault.Memory) }
 {
     for item in items {
         if holds_values(item) && !is_distinct(alloc, item)? {
@@ -41,7 +43,8 @@ fn are_distinct_items(alloc: Global, items: &[Json]) -> Result<bool, Fault>
 
 #[cycle(distinct)]
 fn are_distinct_members(alloc: Global, members: &[Member]) -> Result<bool, Fault>
-    ensures { MatchResult result (λ distinct. IsTrue distinct ↔ AreDistinctMembers (members_tree members.now)) (λ fault. fault ≡ Fault.Memory) }
+    ensures { MatchResult result (λ distinct. IsTrue distinct
+        ↔ AreDistinctMembers (members_tree members.now)) (λ fault. fault ≡ Fault.Memory) }
 {
     for member in members {
         if holds_values(&member.value) && !is_distinct(alloc, &member.value)? {

@@ -14,7 +14,8 @@ pub(crate) const MOST_COMPARED: usize = 16;
 /// Whether no two members have the same name. The time is near linear in the names' bytes, whatever they are.
 /// Memory is taken for more than [`MOST_COMPARED`] members only. The only fault is [`Fault::Memory`].
 pub(crate) fn names_differ(alloc: Global, members: &[Member]) -> Result<bool, Fault>
-    ensures { MatchResult result (λ differ. IsTrue differ ↔ HasDistinctNames (members_tree members.now)) (λ fault. fault ≡ Fault.Memory) }
+    ensures { MatchResult result (λ differ. IsTrue differ
+        ↔ HasDistinctNames (members_tree members.now)) (λ fault. fault ≡ Fault.Memory) }
 {
     if members.len() <= MOST_COMPARED {
         Ok(few_names_differ(members))
@@ -48,7 +49,8 @@ fn is_new_name(name: &str, members: &[Member]) -> bool
 }
 
 fn many_names_differ(alloc: Global, members: &[Member]) -> Result<bool, Fault>
-    ensures { MatchResult result (λ differ. IsTrue differ ↔ HasDistinctNames (members_tree members.now)) (λ fault. fault ≡ Fault.Memory) }
+    ensures { MatchResult result (λ differ. IsTrue differ
+        ↔ HasDistinctNames (members_tree members.now)) (λ fault. fault ≡ Fault.Memory) }
 {
     let names = names_of(alloc, members)?;
     Ok(are_apart_when_sorted(names))
