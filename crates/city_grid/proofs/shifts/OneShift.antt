@@ -14,10 +14,6 @@ module _ (tile base : Grid) (above_zero : IsAboveZero base.scale) (steps : Tripl
   shift_found None given = tt
   shift_found (Some k) given = subst (λ k. IsShift tile base k) (sym given.1) shift
 
-  pub shift_in_range : (found : Option Triple) → SomeIff found (IsInRange steps) steps → IfOk (ok_or found ShiftRange) IsInRange
-  shift_in_range None given = tt
-  shift_in_range (Some k) given = subst IsInRange (sym given.1) given.0
-
   pub shift_refused : (found : Option Triple) → SomeIff found (IsInRange steps) steps → IfErr (ok_or found ShiftRange) (λ fault. RefusesShift fault tile base)
   shift_refused None given = (steps, shift, given)
   shift_refused (Some k) given = tt

@@ -17,10 +17,6 @@ module _ (value : Tree) (scale translate : Texts) (grid : Grid) (shape : HasNumb
   transform_of None given = tt
   transform_of (Some t) given = subst (IsTransform value) (sym given.1) (scale, translate, shape, units)
 
-  pub above_zero_of : (found : Option Grid) → SomeIff found (IsAboveZero grid.scale) grid → IfOk (ok_or found ScaleNotPositive) (λ t. IsAboveZero t.scale)
-  above_zero_of None given = tt
-  above_zero_of (Some t) given = subst (λ g. IsAboveZero g.scale) (sym given.1) given.0
-
   pub transform_refused : (found : Option Grid) → SomeIff found (IsAboveZero grid.scale) grid → IfErr (ok_or found ScaleNotPositive) (λ fault. RefusesTransform fault value)
   transform_refused None given = (grid, (scale, translate, shape, units), given)
   transform_refused (Some t) given = tt
