@@ -117,7 +117,7 @@ plain-written : (c : ℕ) → is_plain c ≡ true → written c ≡ c ∷ []
 plain-written c is = grind (arith, nat_tests)
 
 run-step : (c : ℕ) (b : List ℕ) (t : Bool) → is_plain c ≡ t → take (prefix_len is_plain b) b ++ flat_map written (drop (prefix_len is_plain b) b) ≡ flat_map written b →
-    take (cond compact (1 + prefix_len is_plain b) 0) (c ∷ b) ++ flat_map written (drop (cond compact (1 + prefix_len is_plain b) 0) (c ∷ b)) ≡ flat_map written (c ∷ b)
+    take (cond t (1 + prefix_len is_plain b) 0) (c ∷ b) ++ flat_map written (drop (cond t (1 + prefix_len is_plain b) 0) (c ∷ b)) ≡ flat_map written (c ∷ b)
 run-step c b true is rest = rw (plain-written c is, add_comm 1 (prefix_len is_plain b), add-one) (ap (λ l. c ∷ l) rest)
 run-step c b false is rest = refl
 

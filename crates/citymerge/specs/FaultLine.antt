@@ -2,7 +2,7 @@
 use Rattle.std.specs.Prelude.{◌≡◌, ◌⊎◌, ◌++◌, ◌==◌, ℕ, List, [], ◌∷◌, Option, take, codes, decimal, if◌then◌else◌}
 use Rattle.std.specs.Io.KnownBytes.{Appends}
 use Rattle.city_json.specs.Bytes.{newline}
-use Rattle.city_json.specs.Failures.{one_more}
+use Rattle.city_json.specs.Streams.Failures.{one_more}
 use Rattle.city_json.specs.Faults.{text_of}
 use Rattle.citymerge.specs.declared.fault.MergeFault.{MergeFault}
 

@@ -1,5 +1,5 @@
 ghost use Rattle.std.specs.Prelude.{◌≡◌, ◌⊎◌, ℕ};
-ghost use Rattle.city_json.specs.Failures.{one_more};
+ghost use Rattle.city_json.specs.Streams.Failures.{one_more};
 ghost use Rattle.city_json.specs.declared.fault.Fault.TheVariants.{Read};
 ghost use Rattle.citymerge.specs.FaultLine.{WroteOrFailed, fault_line};
 ghost use Rattle.citymerge.specs.Outcome.{SomeTile, WroteStream, IsRefusal, failures_after};

@@ -1,5 +1,5 @@
 ghost use Rattle.std.specs.Prelude.{◌≡◌, IsTrue, IfOk, IfErr, OnOk};
-ghost use Rattle.city_json.specs.Failures.{one_more};
+ghost use Rattle.city_json.specs.Streams.Failures.{one_more};
 ghost use Rattle.citymerge.specs.Tile.{tile_lines, tile_of, stream_limits};
 ghost use Rattle.citymerge.specs.Outcome.{SomeTile, WroteStream, IsRefusal, WroteAll, IsRefused, failures_after_lines};
 

@@ -1,7 +1,7 @@
 -- Writing all of the fault line is done, or failed after some first bytes.
 use Rattle.std.proofs.Common.{◌≡◌, ℕ, List, Option, Result, Ok, Err, OnOk, OnErr, take, inl, inr}
 use Rattle.std.specs.Io.KnownBytes.{Appends}
-use Rattle.city_json.specs.Failures.{after_call}
+use Rattle.city_json.specs.Streams.Failures.{after_call}
 use Rattle.citymerge.specs.FaultLine.{WroteOrFailed, fault_line}
 use Rattle.citymerge.proofs.report.report_fault.Goals as goal
 

@@ -1,10 +1,10 @@
 ghost use Rattle.std.specs.Prelude.{◌≡◌, ◌≤◌, ◌↔◌, true, Some, [], length, IfOk, IfErr, IsErr, IsTrue, OnOk, OnErr};
 ghost use Rattle.std.specs.Io.KnownBytes.{Keeps, WriteAppends};
-ghost use Rattle.city_json.specs.Failures.{after_call, after_write};
-ghost use Rattle.city_json.specs.Bin.{BinState, bin_answer, flushed_after};
+ghost use Rattle.city_json.specs.Streams.Failures.{after_call, after_write};
+ghost use Rattle.city_json.specs.Streams.Bin.{BinState, bin_answer, flushed_after};
 
 use crate::fault::Fault;
-use crate::sink::Sink;
+use crate::streams::sink::Sink;
 use std::alloc::Global;
 use std::marker::Model;
 
@@ -21,7 +21,7 @@ pub struct Bin {
 
 impl Model for Bin {
     ghost use Rattle.std.specs.Prelude.{◌≤◌, vec_len, vec_capacity};
-    ghost use Rattle.city_json.specs.Bin.{BinState};
+    ghost use Rattle.city_json.specs.Streams.Bin.{BinState};
 
     ghost Value = { BinState };
 

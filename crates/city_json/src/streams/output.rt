@@ -1,9 +1,9 @@
 ghost use Rattle.std.specs.Prelude.{◌≡◌, ℕ, take, OnOk, OnErr, IfErr};
 ghost use Rattle.std.specs.Io.KnownBytes.{Appends};
-ghost use Rattle.city_json.specs.Failures.{after_call};
+ghost use Rattle.city_json.specs.Streams.Failures.{after_call};
 
 use crate::fault::Fault;
-use crate::sink::Sink;
+use crate::streams::sink::Sink;
 
 /// Writes all bytes to the sink.
 ///
@@ -32,7 +32,7 @@ pub fn write_all<W: Sink>(sink: &mut W, bytes: &[u8]) -> Result<(), Fault>
 #[cfg(test)]
 mod tests {
     use super::*;
-    use crate::bin::Bin;
+    use crate::streams::bin::Bin;
     use std::test::Fail;
 
     #[test]

@@ -1,6 +1,6 @@
 ghost use Rattle.std.specs.Prelude.{◌≡◌, ◌≤◌, ℕ, List, length, Option, IfOk, IfErr, OnOk};
 ghost use Rattle.std.specs.Io.KnownBytes.{Keeps, WriteAppends};
-ghost use Rattle.city_json.specs.Failures.{after_call, after_write};
+ghost use Rattle.city_json.specs.Streams.Failures.{after_call, after_write};
 
 use crate::fault::Fault;
 

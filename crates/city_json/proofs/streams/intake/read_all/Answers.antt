@@ -2,7 +2,7 @@
 use Rattle.std.proofs.Common.{◌≡◌, ◌+◌, ◌++◌, ℕ, List, length, take, drop, refl, append_assoc, arith}
 use Rattle.std.proofs.Math.Seq.{take-add}
 use Rattle.std.proofs.lemmas.Grind.{common_steps}
-use Rattle.city_json.proofs.intake.read_all.Goals as goal
+use Rattle.city_json.proofs.streams.intake.read_all.Goals as goal
 
 -- the front of a list whose first `filled` items are those of another, once `count` more are counted to it
 front_grown : (filled count room : ℕ) (new rest before : List ℕ) → length new ≡ room → take filled new ≡ take filled before

@@ -1,10 +1,10 @@
 ghost use Rattle.std.specs.Prelude.{◌≡◌, ◌≤◌, ◌<◌, ◌+◌, true, false, [], length, take, drop, vec_len, IfOk, OnOk, OnErr};
-ghost use Rattle.city_json.specs.Failures.{after_call};
-ghost use Rattle.city_json.specs.Intake.{Stopped, after_stop};
-ghost use Rattle.city_json.specs.Source.{GivesFirst};
+ghost use Rattle.city_json.specs.Streams.Failures.{after_call};
+ghost use Rattle.city_json.specs.Streams.Intake.{Stopped, after_stop};
+ghost use Rattle.city_json.specs.Streams.Source.{GivesFirst};
 
 use crate::fault::Fault;
-use crate::source::Source;
+use crate::streams::source::Source;
 use std::alloc::{AllocError, Global};
 
 /// How many bytes are asked of a source at once.
@@ -95,9 +95,9 @@ fn intake_of(mut bytes: Vec<u8>, filled: usize, stop: Stop) -> Intake
 #[cfg(test)]
 mod tests {
     use super::*;
-    use crate::device::Device;
     use crate::line::Line;
-    use crate::tape::Tape;
+    use crate::streams::device::Device;
+    use crate::streams::tape::Tape;
     use std::test::Fail;
 
     #[test]

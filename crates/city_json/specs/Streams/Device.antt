@@ -1,6 +1,6 @@
 -- What a contract sees of a device.
 use Rattle.std.specs.Prelude.{ℕ}
-use Rattle.city_json.specs.declared.device.Device.{Device}
+use Rattle.city_json.specs.declared.streams.device.Device.{Device}
 
 -- the reader or writer in it
 abbrev pub inner_of : {T : Type 0} → Device T → T

@@ -1,6 +1,6 @@
 use Rattle.std.proofs.Common.{◌≡◌, ◌≤◌, ◌-◌, ◌+◌, take, vec_len}
-use Rattle.city_json.specs.Source.{GivesFirst}
-use Rattle.city_json.proofs.intake.read_all.Given as goal
+use Rattle.city_json.specs.Streams.Source.{GivesFirst}
+use Rattle.city_json.proofs.streams.intake.read_all.Given as goal
 
 -- the bytes that are filled were given, and no read failed
 abbrev pub invariant-pieces : goal.invariant-pieces

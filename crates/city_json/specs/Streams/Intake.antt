@@ -1,9 +1,9 @@
 -- How a reading of all bytes may stop.
 use Rattle.std.specs.Prelude.{ℕ, ◌≤◌, ◌<◌, Bool, true, false, List, length}
-use Rattle.city_json.specs.Failures.{one_more}
-use Rattle.city_json.specs.Source.{GivesFirst}
-use Rattle.city_json.specs.declared.intake.Stop.{Stop}
-use Rattle.city_json.specs.declared.intake.Stop.TheVariants.{End, Failure, Limit, Memory}
+use Rattle.city_json.specs.Streams.Failures.{one_more}
+use Rattle.city_json.specs.Streams.Source.{GivesFirst}
+use Rattle.city_json.specs.declared.streams.intake.Stop.{Stop}
+use Rattle.city_json.specs.declared.streams.intake.Stop.TheVariants.{End, Failure, Limit, Memory}
 
 -- A source that may give what `before` says was read, these bytes came, and it may now give what
 -- `after` says: at the end and at an error they are all that it gave; past the limit, and where memory

@@ -1,11 +1,11 @@
 ghost use Rattle.std.specs.Prelude.{◌≡◌, ◌≤◌, ◌<◌, ◌++◌, true, false, [], length, take, drop, IfOk, IfErr, OnErr, refl};
-ghost use Rattle.city_json.specs.Failures.{after_call, one_more};
-ghost use Rattle.city_json.specs.Source.{GivesFirst};
-ghost use Rattle.city_json.specs.Tape.{PlaysOut, tape_answer};
+ghost use Rattle.city_json.specs.Streams.Failures.{after_call, one_more};
+ghost use Rattle.city_json.specs.Streams.Source.{GivesFirst};
+ghost use Rattle.city_json.specs.Streams.Tape.{PlaysOut, tape_answer};
 
 use crate::fault::Fault;
 use crate::line::Line;
-use crate::source::Source;
+use crate::streams::source::Source;
 use std::marker::Model;
 
 /// A source over bytes in memory, for tests: it gives at most `step` bytes a read, and after the last
@@ -21,7 +21,7 @@ pub struct Tape {
 
 impl Model for Tape {
     ghost use Rattle.std.specs.Prelude.{◌≤◌, drop, length};
-    ghost use Rattle.city_json.specs.Tape.{TapeState};
+    ghost use Rattle.city_json.specs.Streams.Tape.{TapeState};
 
     ghost Value = { TapeState };
 

@@ -1,6 +1,6 @@
 use Rattle.std.proofs.Common.{◌≡◌, ◌≤◌, ◌-◌, length, take}
 use Rattle.std.specs.Io.KnownBytes.{Appends}
-use Rattle.city_json.proofs.output.write_all.Given as goal
+use Rattle.city_json.proofs.streams.output.write_all.Given as goal
 
 -- the bytes up to `written` were taken, and no call failed
 abbrev pub invariant-pieces : goal.invariant-pieces

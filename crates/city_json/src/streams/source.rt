@@ -1,6 +1,6 @@
 ghost use Rattle.std.specs.Prelude.{◌≡◌, ◌≤◌, ◌<◌, ℕ, Bool, true, false, List, [], length, take, IfOk, IfErr, OnErr};
-ghost use Rattle.city_json.specs.Failures.{after_call};
-ghost use Rattle.city_json.specs.Source.{GivesFirst};
+ghost use Rattle.city_json.specs.Streams.Failures.{after_call};
+ghost use Rattle.city_json.specs.Streams.Source.{GivesFirst};
 
 use crate::fault::Fault;
 

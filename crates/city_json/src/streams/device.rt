@@ -1,8 +1,8 @@
 ghost use Rattle.std.specs.Prelude.{◌≡◌};
 
 use crate::fault::Fault;
-use crate::sink::Sink;
-use crate::source::Source;
+use crate::streams::sink::Sink;
+use crate::streams::source::Source;
 use std::io::{Read, Write};
 
 /// A source or a sink made of any reader or writer of the standard library.
@@ -13,7 +13,7 @@ pub struct Device<T> {
 }
 
 impl<T> Device<T> {
-    ghost use Rattle.city_json.specs.Device.{inner_of, failures_of};
+    ghost use Rattle.city_json.specs.Streams.Device.{inner_of, failures_of};
 
     pub fn new(inner: T) -> Device<T>
         ensures inner { inner_of result ≡ inner }
@@ -24,8 +24,8 @@ impl<T> Device<T> {
 }
 
 impl<T: Read> Source for Device<T> {
-    ghost use Rattle.city_json.specs.Device.{inner_of, failures_of};
-    ghost use Rattle.city_json.specs.Source.{MayGive, gives_something as gives_known};
+    ghost use Rattle.city_json.specs.Streams.Device.{inner_of, failures_of};
+    ghost use Rattle.city_json.specs.Streams.Source.{MayGive, gives_something as gives_known};
 
     ghost gives = { λ device. MayGive (T.remaining (inner_of device)) };
 
@@ -45,7 +45,7 @@ impl<T: Read> Source for Device<T> {
 }
 
 impl<T: Write> Sink for Device<T> {
-    ghost use Rattle.city_json.specs.Device.{inner_of, failures_of};
+    ghost use Rattle.city_json.specs.Streams.Device.{inner_of, failures_of};
 
     ghost taken = { λ device. T.contents (inner_of device) };
 

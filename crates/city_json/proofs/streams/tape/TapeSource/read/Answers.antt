@@ -2,7 +2,7 @@
 use Rattle.std.proofs.Common.{◌≡◌, ◌≤◌, ◌++◌, ◌∙◌, sym, ℕ, List, length, take, drop, arith}
 use Rattle.std.proofs.lemmas.Grind.{common_steps}
 use Rattle.std.proofs.lemmas.List.{take-append-drop, drop-drop}
-use Rattle.city_json.proofs.tape.TapeSource.read.Goals as goal
+use Rattle.city_json.proofs.streams.tape.TapeSource.read.Goals as goal
 
 -- the front of a list, written over the start of another, and the rest of it
 front_and_rest : (n : ℕ) (left tail others : List ℕ) → n ≤ length left → others ≡ drop n left → take n (take n left ++ tail) ++ others ≡ left
