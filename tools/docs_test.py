@@ -17,7 +17,7 @@ os.chdir(os.path.dirname(os.path.dirname(os.path.abspath(__file__))))
 
 from sources import contracts, flat, needed_names, public_names, read
 
-FAULTS = "crates/city_json/src/fault.rt"
+FAULTS = "crates/city_json/specs/Faults.antt"
 CONTRACTS = contracts()
 DOCUMENTS = ["README.md", *sorted(glob.glob("docs/*.md"))]
 
@@ -113,9 +113,11 @@ def missing_clauses(document, calls, clauses):
 
 
 def fault_table():
-    code = re.findall(r'#\[error\("(.*?)"\)\]', read(FAULTS))
+    code = read(FAULTS)
+    numbers = dict(re.findall(r"^number_of (\w+) = (\d+)$", code, re.MULTILINE))
+    texts = re.findall(r'^text_of (\w+) = codes "(.*?)"$', code, re.MULTILINE)
     table = re.findall(r"^\| (\d+) \| `(.*?)` \|", read("docs/FAULTS.md"), re.MULTILINE)
-    if table != [(str(number), text) for number, text in enumerate(code, 1)]:
+    if not texts or table != [(numbers.get(name), text) for name, text in texts]:
         yield "the table of docs/FAULTS.md is not that of " + FAULTS
 
 
