@@ -21,6 +21,7 @@ written b =
 abbrev pub quoted : List ℕ → List ℕ
 quoted text = quotation_mark ∷ flat_map written text ++ quotation_mark ∷ []
 
+-- no white space, items and members in their order, numbers as they are written
 abbrev mutual
   pub compact : Tree → List ℕ
   compact null = codes "null"

@@ -24,7 +24,7 @@ abbrev mutual
   members_depth no_members = 0
   members_depth (member name value others) = max (depth value) (members_depth others)
 
--- none of the members has this name
+-- None of the members has this name. A tree has names as decoded, so that `a` and its escape `\u0061` are one name.
 abbrev pub IsNewName : List ℕ → MemberTrees → Type 0
 IsNewName name no_members = Unit {0}
 IsNewName name (member other value others) = (name ≢ other) × IsNewName name others

@@ -56,7 +56,7 @@ fault_between limits size fails start end =
 abbrev pub fault_at : Limits → Tile → Part → Option Fault
 fault_at limits tile part = fault_between limits (length tile.bytes) tile.fails part.start (part.start + length part.bytes)
 
--- spaces, tabs and carriage returns, or nothing
+-- A blank line has only spaces, tabs and carriage returns, or nothing. The carriage return of CR LF belongs to the line.
 abbrev pub is_blank : List ℕ → Bool
 is_blank line = list_all (λ b. (b == space) || (b == tab) || (b == carriage_return)) line
 
