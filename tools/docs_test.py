@@ -27,15 +27,15 @@ def crate_of(path):
 
 
 def specs():
-    """The files of definitions."""
+    """The files of definitions. `Lib.antt`, and a file beside a folder of its name, only list others."""
     paths = sorted(glob.glob("crates/*/specs/**/*.antt", recursive=True))
-    return [path for path in paths if os.path.basename(path) != "Lib.antt"]
+    return [path for path in paths if os.path.basename(path) != "Lib.antt" and not os.path.isdir(path[:-5])]
 
 
 def told_of(crate):
     """What docs/DEFINITIONS.md tells of a crate: its sections, and its rows of the table in the last one."""
     sections = re.split(r"^## ", read("docs/DEFINITIONS.md"), flags=re.MULTILINE)
-    public = [section for section in sections if "`crates/%s/specs`" % crate in section.split("\n")[0]]
+    public = [section for section in sections if "`crates/%s/specs" % crate in section.split("\n")[0]]
     private = re.findall(r"^\| `%s` \|.*$" % crate, sections[-1], re.MULTILINE)
     return "\n".join(public), "\n".join(private)
 
