@@ -114,7 +114,7 @@ pub members-none : (value : List ℕ → Option (Tree × List ℕ)) (front : Lis
 unfolding members_at
 members-none value front n bytes none = rw none refl
 
--- want of memory, or nothing, is what it was of a part
+-- out of memory, or nothing, is what it was of a part
 pub refused : {Y Z : Type 0} (fault : Fault) (part : Option Y) (whole : Option Z) → (part ≡ None → whole ≡ None) → Refuses fault part → Refuses fault whole
 refused Memory part whole none fact = tt
 refused Syntax part whole none fact = none fact

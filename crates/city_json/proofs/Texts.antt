@@ -61,7 +61,7 @@ answers_too_deep text (Err DuplicateName) taken refused utf8 deep = absurd (refu
 answers_too_deep text (Err Memory) taken refused utf8 deep = absurd (refused.1 deep)
 answers_too_deep text (Err _) taken refused utf8 deep = absurd refused
 
--- What was printed of a value that fits is read again, unless memory is wanting.
+-- What was printed of a value that fits is read again, unless memory is out.
 pub answers_printed : (text : List ℕ) (answer : Result Json Fault) → IfOk answer (IsTaken text) → IfErr answer (λ fault. RefusesText fault text) → (value : Tree) → IsWritable value → Fits value → text ≡ compact value
     → MatchResult answer (λ again. tree again ≡ value) (λ fault. fault ≡ Memory)
 answers_printed text answer taken refused value writable fits printed = by_answer answer taken refused

@@ -10,12 +10,12 @@ Refuses Memory read = Unit {0}
 Refuses Syntax read = read ≡ None
 Refuses other read = ⊥
 
--- What was returned, seen by `view`, is what reading gives, unless memory was wanting.
+-- What was returned, seen by `view`, is what reading gives, unless memory was out.
 abbrev pub Gives : {X Y : Type 0} → (X → Y) → Result X Fault → Option Y → Type 0
 Gives view (Ok x) read = read ≡ Some (view x)
 Gives view (Err fault) read = Refuses fault read
 
--- A text that is to be a number is refused where it is none, and where memory is wanting for one.
+-- A text that is to be a number is refused where it is none, and where there is no memory for one.
 abbrev pub RefusesNumber : Fault → List ℕ → Type 0
 RefusesNumber Syntax text = ¬ IsNumber text
 RefusesNumber Memory text = IsNumber text

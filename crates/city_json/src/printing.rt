@@ -12,7 +12,7 @@ use crate::json::{Json, Member};
 use crate::line::Line;
 use crate::reading::plain::plain_len;
 
-/// Appends the compact text of `value` to `line`. Where memory is wanting the line is as before, and the
+/// Appends the compact text of `value` to `line`. Out of memory, the line is as before, and the
 /// answer is [`Fault::Memory`].
 pub fn print(value: &Json, line: &mut Line) -> Result<(), Fault>
     ensures ok { OnOk result (line.new ≡ line.old ++ compact (tree value.now)) }

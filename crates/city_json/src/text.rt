@@ -75,7 +75,7 @@ impl NumText {
     /// # Errors
     ///
     /// [`Fault::Syntax`] where they are no number (RFC 8259, section 6), before any memory is asked for, and else
-    /// [`Fault::Memory`] where it is wanting.
+    /// [`Fault::Memory`] where there is not enough.
     pub fn read(alloc: Global, bytes: &[u8]) -> Result<NumText, Fault>
         ensures ok { IfOk result (λ number. (number ≡ bytes.now) × IsNumber bytes.now) }
         ensures fault { IfErr result (λ fault. RefusesNumber fault bytes.now) }
