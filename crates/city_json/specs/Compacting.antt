@@ -116,11 +116,6 @@ pub record ItemsFrom (levels : ℕ) (b rest before after : List ℕ) : Type 0 wh
   pub distinct : AreDistinctItems (item first others)
   pub is_shown : after ≡ before ++ (compact_items (item first others) ++ close_bracket ∷ [])
 
--- From `at` to `end` stand whole numbers, each with a comma after it: items that are read from `end` on are read from
--- `at` on with these before them.
-abbrev pub AreIntegers : List ℕ → ℕ → ℕ → Type 0
-AreIntegers text at end = (levels from : ℕ) (line rest after : List ℕ) → from ≤ at → ItemsFrom levels (after_white (drop end text)) rest (shown line text from end) after → ItemsFrom levels (after_white (drop at text)) rest (shown line text from at) after
-
 -- a member and its part, which was put after the parts
 pub record TakenPart (levels : ℕ) (b rest before after : List ℕ) (names_before names_after : List (List ℕ)) (parts_before parts_after : List Part) : Type 0 where
   pub taken : TakenMember levels b rest before after names_before names_after

@@ -5,7 +5,7 @@ ghost use Rattle.std.specs.Simd.Lanes.{mask_l};
 ghost use Rattle.city_json.specs.Bytes.{open_bracket, close_bracket, comma};
 ghost use Rattle.city_json.specs.Whole.{AreFine, StaysOpen, Closes, IsItemsText, stage_of, is_wrong, begins_zero, zeroed_by, is_place, lag};
 
-use crate::reading::depth::{marks_of, marks_of_either};
+use crate::reading::depth::marks_of;
 use std::simd::prelude::*;
 
 /// The brackets of a block, and whether it ends with a zero that begins a number.

@@ -169,7 +169,7 @@ pub(crate) fn marks_of(block: u8x64, byte: u8) -> u64
 
 /// A bit for each byte: whether it is one of the two.
 #[inline(always)]
-pub(crate) fn marks_of_either(block: u8x64, one: u8, other: u8) -> u64
+fn marks_of_either(block: u8x64, one: u8, other: u8) -> u64
     ensures { result ≡ mask_l (map (λ b. (b == one) || (b == other)) block) }
 {
     (block.simd_eq(u8x64::splat(one)) | block.simd_eq(u8x64::splat(other))).to_bitmask()
