@@ -4,7 +4,7 @@ ghost use Rattle.city_json.specs.Tree.{tree, named_tree, items_tree, members_tre
 
 use crate::fault::Fault;
 use crate::text::{NumText, Str};
-use std::alloc::Global;
+use std::alloc::{AllocError, Global};
 
 /// The items of an array, in order.
 pub type Items = Vec<Json>;
@@ -50,56 +50,57 @@ impl Json {
     }
 
     /// An equal value that shares no memory with this one. The only fault is [`Fault::Memory`].
-    #[cycle(copy)]
     pub fn copy(&self, alloc: Global) -> Result<Json, Fault>
         ensures ok { IfOk result (λ copy. tree copy ≡ tree self.now) }
         ensures fault { IfErr result (λ fault. fault ≡ Fault.Memory) }
     {
-        Ok(match self {
-            Json::Null => Json::Null,
-            Json::Bool(truth) => Json::Bool(*truth),
-            Json::Num(number) => Json::Num(number.copy(alloc)?),
-            Json::Text(text) => Json::Text(text.copy(alloc)?),
-            Json::List(items) => Json::List(copy_items(alloc, items)?),
-            Json::Map(members) => Json::Map(copy_members(alloc, members)?),
-        })
+        Ok(copy_value(alloc, self)?)
     }
 }
 
 #[cycle(copy)]
-fn copy_items(alloc: Global, items: &[Json]) -> Result<Items, Fault>
-    ensures ok { IfOk result (λ copies. items_tree copies.items ≡ items_tree items.now) }
-    ensures fault { IfErr result (λ fault. fault ≡ Fault.Memory) }
+fn copy_value(alloc: Global, value: &Json) -> Result<Json, AllocError>
+    ensures { IfOk result (λ copy. tree copy ≡ tree value.now) }
 {
-    let mut copies = Vec::with_capacity(alloc, items.len()).map_err(|_| Fault::Memory)?;
+    Ok(match value {
+        Json::Null => Json::Null,
+        Json::Bool(truth) => Json::Bool(*truth),
+        Json::Num(number) => Json::Num(number.copy(alloc)?),
+        Json::Text(text) => Json::Text(text.copy(alloc)?),
+        Json::List(items) => Json::List(copy_items(alloc, items)?),
+        Json::Map(members) => Json::Map(copy_members(alloc, members)?),
+    })
+}
+
+#[cycle(copy)]
+fn copy_items(alloc: Global, items: &[Json]) -> Result<Items, AllocError>
+    ensures { IfOk result (λ copies. items_tree copies.items ≡ items_tree items.now) }
+{
+    let mut copies = Vec::with_capacity(alloc, items.len())?;
     for item in items {
-        copies.push(item.copy(alloc)?).map_err(|_| Fault::Memory)?;
+        copies.push(copy_value(alloc, item)?)?;
     }
     Ok(copies)
 }
 
 #[cycle(copy)]
-fn copy_members(alloc: Global, members: &[Member]) -> Result<Members, Fault>
-    ensures ok { IfOk result (λ copies. members_tree copies.items ≡ members_tree members.now) }
-    ensures fault { IfErr result (λ fault. fault ≡ Fault.Memory) }
+fn copy_members(alloc: Global, members: &[Member]) -> Result<Members, AllocError>
+    ensures { IfOk result (λ copies. members_tree copies.items ≡ members_tree members.now) }
 {
-    let mut copies = Vec::with_capacity(alloc, members.len()).map_err(|_| Fault::Memory)?;
+    let mut copies = Vec::with_capacity(alloc, members.len())?;
     for member in members {
-        copies
-            .push(copy_member(alloc, member)?)
-            .map_err(|_| Fault::Memory)?;
+        copies.push(copy_member(alloc, member)?)?;
     }
     Ok(copies)
 }
 
 #[cycle(copy)]
-fn copy_member(alloc: Global, member: &Member) -> Result<Member, Fault>
-    ensures ok { IfOk result (λ copy. named_tree copy ≡ named_tree member.now) }
-    ensures fault { IfErr result (λ fault. fault ≡ Fault.Memory) }
+fn copy_member(alloc: Global, member: &Member) -> Result<Member, AllocError>
+    ensures { IfOk result (λ copy. named_tree copy ≡ named_tree member.now) }
 {
     Ok(Member {
         name: member.name.copy(alloc)?,
-        value: member.value.copy(alloc)?,
+        value: copy_value(alloc, &member.value)?,
     })
 }
 

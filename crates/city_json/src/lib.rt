@@ -9,7 +9,6 @@ mod fault;
 mod json;
 mod laws;
 mod line;
-mod memory;
 mod number_parts;
 mod printing;
 mod reading;

@@ -1,7 +1,6 @@
-ghost use Rattle.std.specs.Prelude.{◌≡◌, ◌++◌, [], take, OnOk, OnErr, IfErr};
+ghost use Rattle.std.specs.Prelude.{◌≡◌, ◌++◌, [], take, OnOk, OnErr};
 
-use crate::fault::Fault;
-use std::alloc::Global;
+use std::alloc::{AllocError, Global};
 use std::marker::Model;
 
 /// The bytes of a line, or of any text that grows at its end.
@@ -47,14 +46,11 @@ impl Line {
     }
 
     /// Adds the bytes at the end. Out of memory, the line is as before.
-    pub(crate) fn append(&mut self, bytes: &[u8]) -> Result<(), Fault>
+    pub(crate) fn append(&mut self, bytes: &[u8]) -> Result<(), AllocError>
         ensures ok { OnOk result (self.new ≡ self.old ++ bytes.now) }
         ensures err { OnErr result (self.new ≡ self.old) }
-        ensures fault { IfErr result (λ fault. fault ≡ Fault.Memory) }
     {
-        self.bytes
-            .extend_from_slice(bytes)
-            .map_err(|_| Fault::Memory)
+        self.bytes.extend_from_slice(bytes)
     }
 
     pub(crate) fn truncate(&mut self, len: usize)

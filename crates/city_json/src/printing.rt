@@ -11,6 +11,7 @@ use crate::fault::Fault;
 use crate::json::{Json, Member};
 use crate::line::Line;
 use crate::reading::plain::plain_len;
+use std::alloc::AllocError;
 
 /// Appends the compact text of `value` to `line`. Out of memory, the line is as before, and the
 /// answer is [`Fault::Memory`].
@@ -25,15 +26,14 @@ pub fn print(value: &Json, line: &mut Line) -> Result<(), Fault>
     if printed.is_err() {
         line.truncate(before);
     }
-    printed
+    Ok(printed?)
 }
 
 #[cycle(put)]
-fn put_value(line: &mut Line, value: &Json) -> Result<(), Fault>
+fn put_value(line: &mut Line, value: &Json) -> Result<(), AllocError>
     ensures ok { OnOk result (line.new ≡ line.old ++ compact (tree value.now)) }
     ensures front { take (length line.old) line.new ≡ line.old }
     ensures writable { OnOk result (IsWritable (tree value.now)) }
-    ensures fault { IfErr result (λ fault. fault ≡ Fault.Memory) }
 {
     match value {
         Json::Null => line.append(b"null"),
@@ -55,11 +55,10 @@ fn put_value(line: &mut Line, value: &Json) -> Result<(), Fault>
 }
 
 #[cycle(put)]
-fn put_items(line: &mut Line, items: &[Json]) -> Result<(), Fault>
+fn put_items(line: &mut Line, items: &[Json]) -> Result<(), AllocError>
     ensures ok { OnOk result (line.new ≡ line.old ++ compact_items (items_tree items.now)) }
     ensures front { take (length line.old) line.new ≡ line.old }
     ensures writable { OnOk result (AreWritableItems (items_tree items.now)) }
-    ensures fault { IfErr result (λ fault. fault ≡ Fault.Memory) }
 {
     let [first, others @ ..] = items else {
         return Ok(());
@@ -72,22 +71,20 @@ fn put_items(line: &mut Line, items: &[Json]) -> Result<(), Fault>
 }
 
 #[cycle(put)]
-fn put_next_item(line: &mut Line, item: &Json) -> Result<(), Fault>
+fn put_next_item(line: &mut Line, item: &Json) -> Result<(), AllocError>
     ensures ok { OnOk result (line.new ≡ line.old ++ comma ∷ compact (tree item.now)) }
     ensures front { take (length line.old) line.new ≡ line.old }
     ensures writable { OnOk result (IsWritable (tree item.now)) }
-    ensures fault { IfErr result (λ fault. fault ≡ Fault.Memory) }
 {
     line.append(b",")?;
     put_value(line, item)
 }
 
 #[cycle(put)]
-fn put_members(line: &mut Line, members: &[Member]) -> Result<(), Fault>
+fn put_members(line: &mut Line, members: &[Member]) -> Result<(), AllocError>
     ensures ok { OnOk result (line.new ≡ line.old ++ compact_members (members_tree members.now)) }
     ensures front { take (length line.old) line.new ≡ line.old }
     ensures writable { OnOk result (AreWritableMembers (members_tree members.now)) }
-    ensures fault { IfErr result (λ fault. fault ≡ Fault.Memory) }
 {
     let [first, others @ ..] = members else {
         return Ok(());
@@ -100,46 +97,42 @@ fn put_members(line: &mut Line, members: &[Member]) -> Result<(), Fault>
 }
 
 #[cycle(put)]
-fn put_next_member(line: &mut Line, member: &Member) -> Result<(), Fault>
+fn put_next_member(line: &mut Line, member: &Member) -> Result<(), AllocError>
     ensures ok { OnOk result (line.new ≡ line.old ++ comma
         ∷ quoted (named_tree member.now).0 ++ colon ∷ compact (named_tree member.now).1) }
     ensures front { take (length line.old) line.new ≡ line.old }
     ensures writable { OnOk result (IsUtf8 (named_tree member.now).0
         × IsWritable (named_tree member.now).1) }
-    ensures fault { IfErr result (λ fault. fault ≡ Fault.Memory) }
 {
     line.append(b",")?;
     put_member(line, member)
 }
 
 #[cycle(put)]
-fn put_member(line: &mut Line, member: &Member) -> Result<(), Fault>
+fn put_member(line: &mut Line, member: &Member) -> Result<(), AllocError>
     ensures ok { OnOk result (line.new ≡ line.old ++ quoted (named_tree member.now).0 ++ colon
         ∷ compact (named_tree member.now).1) }
     ensures front { take (length line.old) line.new ≡ line.old }
     ensures writable { OnOk result (IsUtf8 (named_tree member.now).0
         × IsWritable (named_tree member.now).1) }
-    ensures fault { IfErr result (λ fault. fault ≡ Fault.Memory) }
 {
     put_string(line, member.name.as_str())?;
     line.append(b":")?;
     put_value(line, &member.value)
 }
 
-pub(crate) fn put_string(line: &mut Line, text: &str) -> Result<(), Fault>
+pub(crate) fn put_string(line: &mut Line, text: &str) -> Result<(), AllocError>
     ensures ok { OnOk result (line.new ≡ line.old ++ quoted text.now) }
     ensures front { take (length line.old) line.new ≡ line.old }
-    ensures fault { IfErr result (λ fault. fault ≡ Fault.Memory) }
 {
     line.append(b"\"")?;
     put_characters(line, text.as_bytes())?;
     line.append(b"\"")
 }
 
-fn put_characters(line: &mut Line, text: &[u8]) -> Result<(), Fault>
+fn put_characters(line: &mut Line, text: &[u8]) -> Result<(), AllocError>
     ensures ok { OnOk result (line.new ≡ line.old ++ flat_map written text.now) }
     ensures front { take (length line.old) line.new ≡ line.old }
-    ensures fault { IfErr result (λ fault. fault ≡ Fault.Memory) }
 {
     let mut rest = text;
     while !rest.is_empty() {
@@ -150,13 +143,12 @@ fn put_characters(line: &mut Line, text: &[u8]) -> Result<(), Fault>
 
 /// Appends the first bytes of `text`, up to one that needs an escape and that one too. The answer is what is
 /// left of `text`.
-fn put_run<'a>(line: &mut Line, text: &'a [u8]) -> Result<&'a [u8], Fault>
+fn put_run<'a>(line: &mut Line, text: &'a [u8]) -> Result<&'a [u8], AllocError>
     requires { 0 < length text.now }
     ensures ok { IfOk result (λ rest. line.new ++ flat_map written rest.now
         ≡ line.old ++ flat_map written text.now) }
     ensures shorter { IfOk result (λ rest. length rest.now < length text.now) }
     ensures front { take (length line.old) line.new ≡ line.old }
-    ensures fault { IfErr result (λ fault. fault ≡ Fault.Memory) }
 {
     let run = run_length(text);
     line.append(&text[..run])?;
@@ -177,10 +169,9 @@ fn run_length(text: &[u8]) -> usize
     plain_len(text)
 }
 
-fn put_escape(line: &mut Line, byte: u8) -> Result<(), Fault>
+fn put_escape(line: &mut Line, byte: u8) -> Result<(), AllocError>
     ensures ok { OnOk result (line.new ≡ line.old ++ written byte) }
     ensures front { take (length line.old) line.new ≡ line.old }
-    ensures fault { IfErr result (λ fault. fault ≡ Fault.Memory) }
 {
     match byte {
         b'"' => line.append(b"\\\""),

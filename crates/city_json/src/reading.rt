@@ -26,7 +26,6 @@ mod tests;
 
 use crate::fault::Fault;
 use crate::json::{Items, Json, Member, Members};
-use crate::memory::push;
 use crate::text::NumText;
 use depth::{MOST_DEPTH, is_deep};
 use distinct::is_distinct;
@@ -175,7 +174,7 @@ fn read_items(alloc: Global, levels: usize, bytes: &[u8]) -> Result<(Items, &[u8
     let mut rest = bytes;
     for _ in 0..bytes.len() {
         let (item, after) = read_value(alloc, levels, rest)?;
-        push(&mut items, item)?;
+        items.push(item)?;
         let (mark, after) = mark_at(b']', after_white(after));
         match mark {
             Mark::Comma => rest = after_white(after),
@@ -207,7 +206,7 @@ fn read_members(alloc: Global, levels: usize, bytes: &[u8]) -> Result<(Members, 
     let mut rest = bytes;
     for _ in 0..bytes.len() {
         let (member, after) = read_member(alloc, levels, rest)?;
-        push(&mut members, member)?;
+        members.push(member)?;
         let (mark, after) = mark_at(b'}', after_white(after));
         match mark {
             Mark::Comma => rest = after_white(after),

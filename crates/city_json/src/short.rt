@@ -1,8 +1,7 @@
 //! Bytes that lie in the value itself where they are few.
-ghost use Rattle.std.specs.Prelude.{◌≡◌, ◌≤◌, MatchResult, length, take};
+ghost use Rattle.std.specs.Prelude.{◌≡◌, ◌≤◌, IfOk, length, take};
 
-use crate::fault::Fault;
-use std::alloc::Global;
+use std::alloc::{AllocError, Global};
 use std::fmt;
 use std::marker::Model;
 use std::mem::size_of;
@@ -37,18 +36,21 @@ impl Model for ShortBytes {
 }
 
 impl ShortBytes {
-    /// A copy of the bytes. The only fault is [`Fault::Memory`].
-    pub(crate) fn copy_of(alloc: Global, bytes: &[u8]) -> Result<ShortBytes, Fault>
-        ensures { MatchResult result (λ copy. copy ≡ bytes.now) (λ fault. fault ≡ Fault.Memory) }
+    /// A copy of the bytes.
+    pub(crate) fn copy_of(alloc: Global, bytes: &[u8]) -> Result<ShortBytes, AllocError>
+        ensures { IfOk result (λ copy. copy ≡ bytes.now) }
     {
         ShortBytes::front_of(alloc, bytes, bytes.len())
     }
 
-    /// A copy of the first `size` bytes. The only fault is [`Fault::Memory`].
-    pub(crate) fn front_of(alloc: Global, bytes: &[u8], size: usize) -> Result<ShortBytes, Fault>
+    /// A copy of the first `size` bytes.
+    pub(crate) fn front_of(
+        alloc: Global,
+        bytes: &[u8],
+        size: usize,
+    ) -> Result<ShortBytes, AllocError>
         requires { size ≤ length bytes.now }
-        ensures { MatchResult result (λ copy. copy ≡ take size bytes.now)
-            (λ fault. fault ≡ Fault.Memory) }
+        ensures { IfOk result (λ copy. copy ≡ take size bytes.now) }
     {
         if size > MOST_INLINE {
             return ShortBytes::on_heap(alloc, &bytes[..size]);
@@ -60,11 +62,11 @@ impl ShortBytes {
         Ok(ShortBytes { form })
     }
 
-    fn on_heap(alloc: Global, bytes: &[u8]) -> Result<ShortBytes, Fault>
-        ensures { MatchResult result (λ copy. copy ≡ bytes.now) (λ fault. fault ≡ Fault.Memory) }
+    fn on_heap(alloc: Global, bytes: &[u8]) -> Result<ShortBytes, AllocError>
+        ensures { IfOk result (λ copy. copy ≡ bytes.now) }
     {
-        let items = bytes.to_vec(alloc).map_err(|_| Fault::Memory)?;
-        let boxed = Box::new(alloc, items).map_err(|_| Fault::Memory)?;
+        let items = bytes.to_vec(alloc)?;
+        let boxed = Box::new(alloc, items)?;
         Ok(ShortBytes {
             form: Form::Heap(boxed),
         })

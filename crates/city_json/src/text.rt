@@ -1,4 +1,4 @@
-ghost use Rattle.std.specs.Prelude.{◌≡◌, [], ◌∷◌, drop, if◌then◌else◌, IfOk, IfErr, MatchResult};
+ghost use Rattle.std.specs.Prelude.{◌≡◌, [], ◌∷◌, drop, if◌then◌else◌, IfOk, IfErr};
 ghost use Rattle.std.specs.Str.Parse.{AllDigits, without_leading_sign};
 ghost use Rattle.city_json.specs.Bytes.{minus};
 ghost use Rattle.city_json.specs.Gives.{Gives, RefusesNumber};
@@ -9,7 +9,7 @@ use crate::fault::Fault;
 use crate::number_parts::{NumberParts, number_parts};
 use crate::reading::numbers::{is_number, number};
 use crate::short::ShortBytes;
-use std::alloc::Global;
+use std::alloc::{AllocError, Global};
 use std::marker::Model;
 
 /// A text in UTF-8.
@@ -32,17 +32,20 @@ impl Str {
         ensures ok { IfOk result (λ read. read ≡ text.now) }
         ensures fault { IfErr result (λ fault. fault ≡ Fault.Memory) }
     {
-        match String::from_str(alloc, text) {
-            Ok(text) => Ok(Str { text }),
-            Err(_) => Err(Fault::Memory),
-        }
+        Ok(Str::of(alloc, text)?)
     }
 
-    pub(crate) fn copy(&self, alloc: Global) -> Result<Str, Fault>
-        ensures ok { IfOk result (λ copy. copy ≡ self.now) }
-        ensures fault { IfErr result (λ fault. fault ≡ Fault.Memory) }
+    pub(crate) fn of(alloc: Global, text: &str) -> Result<Str, AllocError>
+        ensures { IfOk result (λ copy. copy ≡ text.now) }
     {
-        Str::read(alloc, self.as_str())
+        let text = String::from_str(alloc, text)?;
+        Ok(Str { text })
+    }
+
+    pub(crate) fn copy(&self, alloc: Global) -> Result<Str, AllocError>
+        ensures { IfOk result (λ copy. copy ≡ self.now) }
+    {
+        Str::of(alloc, self.as_str())
     }
 
     pub fn as_str(&self) -> &str
@@ -81,17 +84,16 @@ impl NumText {
         ensures fault { IfErr result (λ fault. RefusesNumber fault bytes.now) }
     {
         if is_number(bytes) {
-            NumText::of(alloc, bytes)
+            Ok(NumText::of(alloc, bytes)?)
         } else {
             Err(Fault::Syntax)
         }
     }
 
     /// From the bytes of a number.
-    pub(crate) fn of(alloc: Global, bytes: &[u8]) -> Result<NumText, Fault>
+    pub(crate) fn of(alloc: Global, bytes: &[u8]) -> Result<NumText, AllocError>
         requires { IsNumber bytes.now }
-        ensures { MatchResult result (λ number. number ≡ bytes.now)
-            (λ fault. fault ≡ Fault.Memory) }
+        ensures { IfOk result (λ number. number ≡ bytes.now) }
     {
         let text = ShortBytes::copy_of(alloc, bytes)?;
         Ok(NumText { text })
@@ -109,9 +111,8 @@ impl NumText {
         Ok((NumText { text }, rest))
     }
 
-    pub(crate) fn copy(&self, alloc: Global) -> Result<NumText, Fault>
-        ensures ok { IfOk result (λ copy. copy ≡ self.now) }
-        ensures fault { IfErr result (λ fault. fault ≡ Fault.Memory) }
+    pub(crate) fn copy(&self, alloc: Global) -> Result<NumText, AllocError>
+        ensures { IfOk result (λ copy. copy ≡ self.now) }
     {
         let text = ShortBytes::copy_of(alloc, self.text.items())?;
         Ok(NumText { text })

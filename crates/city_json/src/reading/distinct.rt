@@ -1,20 +1,17 @@
 //! Repeated names anywhere in a value.
-ghost use Rattle.std.specs.Prelude.{◌≡◌, ◌↔◌, false, IsTrue, MatchResult};
+ghost use Rattle.std.specs.Prelude.{◌≡◌, ◌↔◌, false, IsTrue, IfOk};
 ghost use Rattle.city_json.specs.Fits.{IsDistinct, AreDistinctItems, AreDistinctMembers};
 ghost use Rattle.city_json.specs.Nested.{holds_values};
 ghost use Rattle.city_json.specs.Tree.{tree, items_tree, members_tree};
 
-use crate::fault::Fault;
 use crate::json::{Json, Member};
 use crate::reading::names::names_differ;
-use std::alloc::Global;
+use std::alloc::{AllocError, Global};
 
-/// Whether no object in the value repeats a name. Memory is taken for large objects only. The only fault is
-/// [`Fault::Memory`].
+/// Whether no object in the value repeats a name. Memory is taken for large objects only.
 #[cycle(distinct)]
-pub(crate) fn is_distinct(alloc: Global, value: &Json) -> Result<bool, Fault>
-    ensures { MatchResult result (λ distinct. IsTrue distinct ↔ IsDistinct (tree value.now))
-        (λ fault. fault ≡ Fault.Memory) }
+pub(crate) fn is_distinct(alloc: Global, value: &Json) -> Result<bool, AllocError>
+    ensures { IfOk result (λ distinct. IsTrue distinct ↔ IsDistinct (tree value.now)) }
 {
     match value {
         Json::List(items) => are_distinct_items(alloc, items),
@@ -29,9 +26,9 @@ pub(crate) fn is_distinct(alloc: Global, value: &Json) -> Result<bool, Fault>
 }
 
 #[cycle(distinct)]
-fn are_distinct_items(alloc: Global, items: &[Json]) -> Result<bool, Fault>
-    ensures { MatchResult result (λ distinct. IsTrue distinct
-        ↔ AreDistinctItems (items_tree items.now)) (λ fault. fault ≡ Fault.Memory) }
+fn are_distinct_items(alloc: Global, items: &[Json]) -> Result<bool, AllocError>
+    ensures { IfOk result (λ distinct. IsTrue distinct
+        ↔ AreDistinctItems (items_tree items.now)) }
 {
     for item in items {
         if holds_values(item) && !is_distinct(alloc, item)? {
@@ -42,9 +39,9 @@ fn are_distinct_items(alloc: Global, items: &[Json]) -> Result<bool, Fault>
 }
 
 #[cycle(distinct)]
-fn are_distinct_members(alloc: Global, members: &[Member]) -> Result<bool, Fault>
-    ensures { MatchResult result (λ distinct. IsTrue distinct
-        ↔ AreDistinctMembers (members_tree members.now)) (λ fault. fault ≡ Fault.Memory) }
+fn are_distinct_members(alloc: Global, members: &[Member]) -> Result<bool, AllocError>
+    ensures { IfOk result (λ distinct. IsTrue distinct
+        ↔ AreDistinctMembers (members_tree members.now)) }
 {
     for member in members {
         if holds_values(&member.value) && !is_distinct(alloc, &member.value)? {

@@ -1,21 +1,20 @@
 //! Repeated names of an object's members.
-ghost use Rattle.std.specs.Prelude.{◌≡◌, ◌↔◌, IsTrue, MatchResult, map};
+ghost use Rattle.std.specs.Prelude.{◌≡◌, ◌↔◌, IsTrue, IfOk, map};
 ghost use Rattle.city_json.specs.Fits.{IsNewName, HasDistinctNames};
 ghost use Rattle.city_json.specs.Members.{names};
 ghost use Rattle.city_json.specs.Tree.{MemberTrees, named_tree, members_tree};
 
-use crate::fault::Fault;
 use crate::json::Member;
-use std::alloc::Global;
+use std::alloc::{AllocError, Global};
 
 /// The most members whose names are compared with one another. Past it sorting the names is faster.
 pub(crate) const MOST_COMPARED: usize = 16;
 
 /// Whether no two members have the same name. The time is near linear in the names' bytes, whatever they are.
-/// Memory is taken for more than [`MOST_COMPARED`] members only. The only fault is [`Fault::Memory`].
-pub(crate) fn names_differ(alloc: Global, members: &[Member]) -> Result<bool, Fault>
-    ensures { MatchResult result (λ differ. IsTrue differ
-        ↔ HasDistinctNames (members_tree members.now)) (λ fault. fault ≡ Fault.Memory) }
+/// Memory is taken for more than [`MOST_COMPARED`] members only.
+pub(crate) fn names_differ(alloc: Global, members: &[Member]) -> Result<bool, AllocError>
+    ensures { IfOk result (λ differ. IsTrue differ
+        ↔ HasDistinctNames (members_tree members.now)) }
 {
     if members.len() <= MOST_COMPARED {
         Ok(few_names_differ(members))
@@ -48,9 +47,9 @@ fn is_new_name(name: &str, members: &[Member]) -> bool
     true
 }
 
-fn many_names_differ(alloc: Global, members: &[Member]) -> Result<bool, Fault>
-    ensures { MatchResult result (λ differ. IsTrue differ
-        ↔ HasDistinctNames (members_tree members.now)) (λ fault. fault ≡ Fault.Memory) }
+fn many_names_differ(alloc: Global, members: &[Member]) -> Result<bool, AllocError>
+    ensures { IfOk result (λ differ. IsTrue differ
+        ↔ HasDistinctNames (members_tree members.now)) }
 {
     let names = names_of(alloc, members)?;
     Ok(are_apart_when_sorted(names))
@@ -66,12 +65,11 @@ pub(crate) fn are_apart_when_sorted(listed: Vec<&[u8]>) -> bool
     listed.is_sorted_by(|first, second| first.cmp(second).is_lt())
 }
 
-fn names_of(alloc: Global, members: &[Member]) -> Result<Vec<&[u8]>, Fault>
-    ensures { MatchResult result
-        (λ listed. map (λ name. name.now) listed.items ≡ names (members_tree members.now))
-        (λ fault. fault ≡ Fault.Memory) }
+fn names_of(alloc: Global, members: &[Member]) -> Result<Vec<&[u8]>, AllocError>
+    ensures { IfOk result
+        (λ listed. map (λ name. name.now) listed.items ≡ names (members_tree members.now)) }
 {
-    let mut listed = Vec::with_capacity(alloc, members.len()).map_err(|_| Fault::Memory)?;
+    let mut listed = Vec::with_capacity(alloc, members.len())?;
     for member in members {
         listed.push_reserved(name_of(member).as_bytes());
     }
@@ -91,9 +89,9 @@ mod tests {
     use crate::text::Str;
     use std::test::Fail;
 
-    fn named(alloc: Global, name: &str) -> Result<Member, Fault> {
+    fn named(alloc: Global, name: &str) -> Result<Member, AllocError> {
         Ok(Member {
-            name: Str::read(alloc, name)?,
+            name: Str::of(alloc, name)?,
             value: Json::Null,
         })
     }

@@ -1,5 +1,5 @@
 //! Reading of strings (RFC 8259, section 7).
-ghost use Rattle.std.specs.Prelude.{◌≡◌, ◌++◌, ◌<◌, option_map, IfSome, IsTrue, MatchResult, SomeIff};
+ghost use Rattle.std.specs.Prelude.{◌≡◌, ◌<◌, option_map, IfSome, IsTrue, SomeIff};
 ghost use Rattle.std.specs.Char.{digit_value};
 ghost use Rattle.city_json.specs.Gives.{Gives};
 ghost use Rattle.city_json.specs.ReadString.{is_high_surrogate, unit_at, pair_at, escape_at, checked, string_at};
@@ -40,14 +40,14 @@ fn escaped_string(alloc: Global, bytes: &[u8]) -> Result<(Str, &[u8]), Fault>
     let mut rest = bytes;
     loop {
         let (run, end, after) = split_run(rest);
-        append(&mut text, run)?;
+        text.extend_from_slice(run)?;
         match end {
             End::Closing => return finished(alloc, &text, after),
             End::Escape => {
                 let Some((c, after)) = escape(after) else {
                     return Err(Fault::Syntax);
                 };
-                append(&mut text, c.encode_utf8(&mut [0; 4]).as_bytes())?;
+                text.extend_from_slice(c.encode_utf8(&mut [0; 4]).as_bytes())?;
                 rest = after;
             }
             End::Broken => return Err(Fault::Syntax),
@@ -72,21 +72,13 @@ fn split_run(bytes: &[u8]) -> (&[u8], End, &[u8])
     }
 }
 
-fn append(text: &mut Vec<u8>, bytes: &[u8]) -> Result<(), Fault>
-    ensures { MatchResult result
-        (λ _. text.new.items ≡ text.old.items ++ bytes.now)
-        (λ fault. fault ≡ Fault.Memory) }
-{
-    text.extend_from_slice(bytes).map_err(|_| Fault::Memory)
-}
-
 /// The text of these bytes, where they are UTF-8, beside what follows its string.
 #[tactic(auto, using(crate::proofs::StringSteps::checking))]
 fn finished<'a>(alloc: Global, text: &[u8], rest: &'a [u8]) -> Result<(Str, &'a [u8]), Fault>
     ensures { Gives (λ p. (p.0, p.1.now)) result (checked text.now rest.now) }
 {
     match simdutf8::basic::from_utf8(text) {
-        Ok(text) => Ok((Str::read(alloc, text)?, rest)),
+        Ok(text) => Ok((Str::of(alloc, text)?, rest)),
         Err(_) => Err(Fault::Syntax),
     }
 }

@@ -40,17 +40,14 @@ impl Bin {
         ensures made { IfOk result (λ bin. bin ≡ record { bytes = []; room = room; step = step; flush_fails = flush_fails; flushed = true; failures = 0 }) }
         ensures fault { IfErr result (λ fault. fault ≡ Fault.Memory) }
     {
-        match Vec::with_capacity(alloc, room) {
-            Ok(bytes) => Ok(Bin {
-                bytes,
-                room,
-                step,
-                flush_fails,
-                flushed: true,
-                failures: 0,
-            }),
-            Err(_) => Err(Fault::Memory),
-        }
+        Ok(Bin {
+            bytes: Vec::with_capacity(alloc, room)?,
+            room,
+            step,
+            flush_fails,
+            flushed: true,
+            failures: 0,
+        })
     }
 
     /// The bytes that were taken.

@@ -13,18 +13,18 @@ read_items-returns-in_err-item t c =
 
 pub read_items-returns-in-Close : goal.read_items-returns-in-Close
 read_items-returns-in-Close t c =
-    items-close (value_at c.args.levels) c.loop.items.items c.push.new.list.items c.in_ok-item.item (length c.args.bytes.now - c.loop.counter) (length c.args.bytes.now - (c.loop.counter + 1))
-    c.loop.rest.now c.in_ok-item.after.now c.after_white.result.now c.mark_at-mark.result.1.now c.mark_at-mark.result.0 _ (omega arith) c.in_ok-item.ensures c.after_white.ensures c.mark_at-mark.ensures c.loop.invariant c.in_ok-push.ensures c.in-Close.is
+    items-close (value_at c.args.levels) c.loop.items.items c.push.new.self.items c.in_ok-item.item (length c.args.bytes.now - c.loop.counter) (length c.args.bytes.now - (c.loop.counter + 1))
+    c.loop.rest.now c.in_ok-item.after.now c.after_white.result.now c.mark_at-mark.result.1.now c.mark_at-mark.result.0 _ (omega arith) c.in_ok-item.ensures c.after_white.ensures c.mark_at-mark.ensures c.loop.invariant c.in_ok-push.ensures.items c.in-Close.is
 
 pub read_items-returns-in-Neither : goal.read_items-returns-in-Neither
 read_items-returns-in-Neither t c =
-    items-neither (value_at c.args.levels) c.loop.items.items c.push.new.list.items c.in_ok-item.item (length c.args.bytes.now - c.loop.counter) (length c.args.bytes.now - (c.loop.counter + 1))
-    c.loop.rest.now c.in_ok-item.after.now c.after_white.result.now c.mark_at-mark.result.1.now c.mark_at-mark.result.0 _ (omega arith) c.in_ok-item.ensures c.after_white.ensures c.mark_at-mark.ensures c.loop.invariant c.in_ok-push.ensures c.in-Neither.is
+    items-neither (value_at c.args.levels) c.loop.items.items c.push.new.self.items c.in_ok-item.item (length c.args.bytes.now - c.loop.counter) (length c.args.bytes.now - (c.loop.counter + 1))
+    c.loop.rest.now c.in_ok-item.after.now c.after_white.result.now c.mark_at-mark.result.1.now c.mark_at-mark.result.0 _ (omega arith) c.in_ok-item.ensures c.after_white.ensures c.mark_at-mark.ensures c.loop.invariant c.in_ok-push.ensures.items c.in-Neither.is
 
 pub read_items-loop-preserved : goal.read_items-loop-preserved
 read_items-loop-preserved t c =
-    items-comma (value_at c.args.levels) c.loop.items.items c.push.new.list.items c.in_ok-item.item (length c.args.bytes.now - c.loop.counter) (length c.args.bytes.now - (c.loop.counter + 1))
-    c.loop.rest.now c.in_ok-item.after.now c.after_white.result.now c.mark_at-mark.result.1.now c.mark_at-mark.result.0 _ (omega arith) c.in_ok-item.ensures c.after_white.ensures c.mark_at-mark.ensures c.loop.invariant c.in_ok-push.ensures c.in-Comma.is c.after_white-rest.result.now c.after_white-rest.ensures
+    items-comma (value_at c.args.levels) c.loop.items.items c.push.new.self.items c.in_ok-item.item (length c.args.bytes.now - c.loop.counter) (length c.args.bytes.now - (c.loop.counter + 1))
+    c.loop.rest.now c.in_ok-item.after.now c.after_white.result.now c.mark_at-mark.result.1.now c.mark_at-mark.result.0 _ (omega arith) c.in_ok-item.ensures c.after_white.ensures c.mark_at-mark.ensures c.loop.invariant c.in_ok-push.ensures.items c.in-Comma.is c.after_white-rest.result.now c.after_white-rest.ensures
 
 pub read_members-returns-in_err-member : goal.read_members-returns-in_err-member
 read_members-returns-in_err-member t c =
@@ -33,18 +33,18 @@ read_members-returns-in_err-member t c =
 
 pub read_members-returns-in-Close : goal.read_members-returns-in-Close
 read_members-returns-in-Close t c =
-    members-close (value_at c.args.levels) c.loop.members.items c.push.new.list.items c.in_ok-member.member (length c.args.bytes.now - c.loop.counter) (length c.args.bytes.now - (c.loop.counter + 1))
-    c.loop.rest.now c.in_ok-member.after.now c.after_white.result.now c.mark_at-mark.result.1.now c.mark_at-mark.result.0 _ (omega arith) c.in_ok-member.ensures c.after_white.ensures c.mark_at-mark.ensures c.loop.invariant c.in_ok-push.ensures c.in-Close.is
+    members-close (value_at c.args.levels) c.loop.members.items c.push.new.self.items c.in_ok-member.member (length c.args.bytes.now - c.loop.counter) (length c.args.bytes.now - (c.loop.counter + 1))
+    c.loop.rest.now c.in_ok-member.after.now c.after_white.result.now c.mark_at-mark.result.1.now c.mark_at-mark.result.0 _ (omega arith) c.in_ok-member.ensures c.after_white.ensures c.mark_at-mark.ensures c.loop.invariant c.in_ok-push.ensures.items c.in-Close.is
 
 pub read_members-returns-in-Neither : goal.read_members-returns-in-Neither
 read_members-returns-in-Neither t c =
-    members-neither (value_at c.args.levels) c.loop.members.items c.push.new.list.items c.in_ok-member.member (length c.args.bytes.now - c.loop.counter) (length c.args.bytes.now - (c.loop.counter + 1))
-    c.loop.rest.now c.in_ok-member.after.now c.after_white.result.now c.mark_at-mark.result.1.now c.mark_at-mark.result.0 _ (omega arith) c.in_ok-member.ensures c.after_white.ensures c.mark_at-mark.ensures c.loop.invariant c.in_ok-push.ensures c.in-Neither.is
+    members-neither (value_at c.args.levels) c.loop.members.items c.push.new.self.items c.in_ok-member.member (length c.args.bytes.now - c.loop.counter) (length c.args.bytes.now - (c.loop.counter + 1))
+    c.loop.rest.now c.in_ok-member.after.now c.after_white.result.now c.mark_at-mark.result.1.now c.mark_at-mark.result.0 _ (omega arith) c.in_ok-member.ensures c.after_white.ensures c.mark_at-mark.ensures c.loop.invariant c.in_ok-push.ensures.items c.in-Neither.is
 
 pub read_members-loop-preserved : goal.read_members-loop-preserved
 read_members-loop-preserved t c =
-    members-comma (value_at c.args.levels) c.loop.members.items c.push.new.list.items c.in_ok-member.member (length c.args.bytes.now - c.loop.counter) (length c.args.bytes.now - (c.loop.counter + 1))
-    c.loop.rest.now c.in_ok-member.after.now c.after_white.result.now c.mark_at-mark.result.1.now c.mark_at-mark.result.0 _ (omega arith) c.in_ok-member.ensures c.after_white.ensures c.mark_at-mark.ensures c.loop.invariant c.in_ok-push.ensures c.in-Comma.is c.after_white-rest.result.now c.after_white-rest.ensures
+    members-comma (value_at c.args.levels) c.loop.members.items c.push.new.self.items c.in_ok-member.member (length c.args.bytes.now - c.loop.counter) (length c.args.bytes.now - (c.loop.counter + 1))
+    c.loop.rest.now c.in_ok-member.after.now c.after_white.result.now c.mark_at-mark.result.1.now c.mark_at-mark.result.0 _ (omega arith) c.in_ok-member.ensures c.after_white.ensures c.mark_at-mark.ensures c.loop.invariant c.in_ok-push.ensures.items c.in-Comma.is c.after_white-rest.result.now c.after_white-rest.ensures
 
 pub read_items-returns : goal.read_items-returns
 read_items-returns t c = sym c.loop.invariant ∙ items-none (value_at c.args.levels) (map tree c.loop.items.items) (length c.args.bytes.now - c.loop.counter) c.loop.rest.now (omega arith)
