@@ -108,31 +108,19 @@ fn copy_member(alloc: Global, member: &Member) -> Result<Member, AllocError>
 mod tests {
     use super::*;
     use crate::comparing::same;
-    use crate::sample::{member, number, text};
+    use crate::reading::read;
     use std::test::Fail;
 
-    fn sample(alloc: Global, last: &str) -> Result<Json, Fault> {
-        let items = vec![in alloc;
-            Json::Null,
-            Json::Bool(true),
-            number(alloc, b"1.50e+3")?,
-        ].map_err(|_| Fault::Memory)?;
-        let members = vec![in alloc;
-            member(alloc, "k", text(alloc, "caf\u{e9} / \u{1f600}")?)?,
-            member(alloc, "n", Json::List(items))?,
-            member(alloc, "k", text(alloc, last)?)?,
-        ]
-        .map_err(|_| Fault::Memory)?;
-        Ok(Json::Map(members))
-    }
+    const SAMPLE: &[u8] =
+        b"{\"k\":\"caf\xc3\xa9 / \xf0\x9f\x98\x80\",\"n\":[null,true,1.50e+3],\"m\":\"last\"}";
 
     #[test]
-    fn the_first_member_of_a_name_is_found(rt: HostRuntime) -> Result<(), Fail> {
-        let value = sample(rt.alloc(), "last")?;
-        let Some(Json::Text(first)) = value.get("k") else {
+    fn a_member_is_found_by_its_name(rt: HostRuntime) -> Result<(), Fail> {
+        let value = read(rt.alloc(), SAMPLE)?;
+        let Some(Json::Text(text)) = value.get("k") else {
             return Err("no text".into());
         };
-        assert_eq!(rt; first.as_str(), "caf\u{e9} / \u{1f600}");
+        assert_eq!(rt; text.as_str(), "caf\u{e9} / \u{1f600}");
         assert!(rt; value.get("K").is_none());
         assert!(rt; value.get("n").is_some_and(|items| items.get("k").is_none()));
         Ok(())
@@ -140,27 +128,22 @@ mod tests {
 
     #[test]
     fn a_copy_is_the_same(rt: HostRuntime) -> Result<(), Fail> {
-        let value = sample(rt.alloc(), "last")?;
-        let copy = value.copy(rt.alloc())?;
-        assert!(rt; same(&value, &copy));
-        assert!(rt; !same(&value, &sample(rt.alloc(), "other")?));
+        let value = read(rt.alloc(), SAMPLE)?;
+        assert!(rt; same(&value, &value.copy(rt.alloc())?));
         Ok(())
     }
 
     #[test]
-    fn order_and_spelling_count(rt: HostRuntime) -> Result<(), Fail> {
-        let alloc = rt.alloc();
-        let one = Json::Map(vec![in alloc;
-            member(alloc, "a", Json::Null)?,
-            member(alloc, "b", Json::Null)?,
-        ]?);
-        let other = Json::Map(vec![in alloc;
-            member(alloc, "b", Json::Null)?,
-            member(alloc, "a", Json::Null)?,
-        ]?);
-        assert!(rt; !same(&one, &other));
-        assert!(rt; !same(&number(alloc, b"1.0")?, &number(alloc, b"1.00")?));
-        assert!(rt; !same(&Json::List(Vec::new(alloc)), &Json::Map(Vec::new(alloc))));
+    fn unequal_values_are_not_the_same(rt: HostRuntime) -> Result<(), Fail> {
+        let pairs: [(&[u8], &[u8]); 4] = [
+            (b"{\"a\":null,\"b\":null}", b"{\"b\":null,\"a\":null}"),
+            (b"1.0", b"1.00"),
+            (b"[]", b"{}"),
+            (b"[[1,\"last\"]]", b"[[1,\"other\"]]"),
+        ];
+        for (one, other) in pairs {
+            assert!(rt; !same(&read(rt.alloc(), one)?, &read(rt.alloc(), other)?));
+        }
         Ok(())
     }
 

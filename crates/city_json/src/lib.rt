@@ -12,8 +12,6 @@ mod line;
 mod number_parts;
 mod printing;
 mod reading;
-#[cfg(test)]
-mod sample;
 mod sequence;
 mod short;
 mod streams;

@@ -63,62 +63,41 @@ fn holds_values(value: &Json) -> bool
 #[cfg(test)]
 mod tests {
     use super::*;
-    use crate::text::Str;
+    use crate::reading::read_text;
+    use crate::test_texts::repeated;
     use std::test::Fail;
 
-    fn object(alloc: Global, names: [&str; 2]) -> Result<Json, Fail> {
-        let mut members = Vec::new(alloc);
-        for name in names {
-            let name = Str::read(alloc, name)?;
-            members.push(Member {
-                name,
-                value: Json::Null,
-            })?;
-        }
-        Ok(Json::Map(members))
-    }
-
-    fn within(alloc: Global, levels: u32, inner: Json) -> Result<Json, Fail> {
-        let mut value = inner;
-        for _ in 0..levels {
-            let mut items = Vec::new(alloc);
-            items.push(Json::Null)?;
-            items.push(value)?;
-            value = Json::List(items);
-        }
-        Ok(value)
+    fn spells_distinct(alloc: Global, text: &[u8]) -> Result<bool, Fail> {
+        Ok(is_distinct(alloc, &read_text(alloc, text)?)?)
     }
 
     #[test]
     fn a_repeated_name_is_found_at_any_depth(rt: HostRuntime) -> Result<(), Fail> {
+        let objects: [(&[u8], bool); 2] = [
+            (b"{\"a\":1,\"a\":1}", false),
+            (b"{\"a\":1,\"b\":1}", true),
+        ];
         for levels in [0, 1, 127] {
-            let value = within(rt.alloc(), levels, object(rt.alloc(), ["a", "a"])?)?;
-            assert_eq!(rt; is_distinct(rt.alloc(), &value), Ok(false), "{levels}");
-            let value = within(rt.alloc(), levels, object(rt.alloc(), ["a", "b"])?)?;
-            assert_eq!(rt; is_distinct(rt.alloc(), &value), Ok(true), "{levels}");
+            for (object, distinct) in objects {
+                let mut text = repeated(rt.alloc(), b"[null,", levels)?;
+                text.extend_from_slice(object)?;
+                text.extend_from_slice(repeated(rt.alloc(), b"]", levels)?.as_slice())?;
+                assert_eq!(rt; spells_distinct(rt.alloc(), &text)?, distinct, "{levels}");
+            }
         }
         Ok(())
     }
 
     #[test]
     fn objects_may_share_names(rt: HostRuntime) -> Result<(), Fail> {
-        let mut members = Vec::new(rt.alloc());
-        for name in ["a", "b"] {
-            let name = Str::read(rt.alloc(), name)?;
-            let value = object(rt.alloc(), ["a", "b"])?;
-            members.push(Member { name, value })?;
-        }
-        assert_eq!(rt; is_distinct(rt.alloc(), &Json::Map(members)), Ok(true));
+        let text = b"{\"a\":{\"a\":1,\"b\":1},\"b\":{\"a\":1,\"b\":1}}";
+        assert!(rt; spells_distinct(rt.alloc(), text)?);
         Ok(())
     }
 
     #[test]
     fn a_repeated_name_is_found_in_a_member(rt: HostRuntime) -> Result<(), Fail> {
-        let mut members = Vec::new(rt.alloc());
-        let name = Str::read(rt.alloc(), "a")?;
-        let value = object(rt.alloc(), ["b", "b"])?;
-        members.push(Member { name, value })?;
-        assert_eq!(rt; is_distinct(rt.alloc(), &Json::Map(members)), Ok(false));
+        assert!(rt; !spells_distinct(rt.alloc(), b"{\"a\":{\"b\":1,\"b\":1}}")?);
         Ok(())
     }
 }
