@@ -26,8 +26,5 @@ pub fn vertex_json(alloc: Global, vertex: &Vertex) -> Result<Json, Fault>
     let x = integer_json(alloc, steps.x)?;
     let y = integer_json(alloc, steps.y)?;
     let z = integer_json(alloc, steps.z)?;
-    match Vec::from_array(alloc, [x, y, z]) {
-        Ok(items) => Ok(Json::List(items)),
-        Err(_) => Err(Fault::Memory),
-    }
+    Ok(Json::List(Vec::from_array(alloc, [x, y, z])?))
 }
