@@ -102,10 +102,9 @@ impl Queues {
         ensures empty { IfOk result (λ queues. queues ≡ empty_queues tiles capacity) }
         ensures memory { IfErr result (λ fault. fault ≡ Fault.Memory) }
     {
-        let mut queues = Vec::with_capacity(alloc, tiles as usize).map_err(out_of_memory)?;
+        let mut queues = Vec::with_capacity(alloc, tiles as usize)?;
         for _tile in 0..tiles {
-            let tile = Tile::new(alloc, capacity).map_err(out_of_memory)?;
-            queues.push_reserved(tile);
+            queues.push_reserved(Tile::new(alloc, capacity)?);
         }
         Ok(Queues {
             capacity,
@@ -248,10 +247,4 @@ pub(crate) fn took_of(note: Note) -> Took
         Note::Line(line) => Took::Line(line),
         Note::End(end) => Took::End(end),
     }
-}
-
-fn out_of_memory(_: AllocError) -> Fault
-    ensures { result ≡ Fault.Memory }
-{
-    Fault::Memory
 }

@@ -52,9 +52,7 @@ impl Row {
         ensures memory { IfErr result (λ fault. fault ≡ Fault.Memory) }
     {
         let queues = Queues::new(alloc, tiles, capacity)?;
-        let Ok(taken) = vec![in alloc; 0; tiles as usize] else {
-            return Err(Fault::Memory);
-        };
+        let taken = vec![in alloc; 0; tiles as usize]?;
         Ok(Row {
             queues,
             taken,
@@ -127,9 +125,7 @@ impl Row {
             kind: Kind::Take,
             number: self.taken[t as usize],
         };
-        if self.marks.push(mark).is_err() {
-            return Err(Fault::Memory);
-        }
+        self.marks.push(mark)?;
         self.taken[t as usize] += 1;
         Ok(took_of(self.queues.fetch(t)))
     }

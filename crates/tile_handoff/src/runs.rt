@@ -42,9 +42,7 @@ pub fn run(alloc: Global, tiles: u32, capacity: u32, events: Events) -> Result<R
     let mut replies = Vec::new(alloc);
     for event in events.into_vec() {
         let reply = apply(&mut row, event)?;
-        if replies.push(reply).is_err() {
-            return Err(Fault::Memory);
-        }
+        replies.push(reply)?;
     }
     let replies = Replies::from_vec(replies);
     Ok(Run { replies, row })

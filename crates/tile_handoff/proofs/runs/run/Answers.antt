@@ -1,5 +1,5 @@
 -- The events so far are those of the list, and each reply makes the history longer.
-use Rattle.std.proofs.Common.{◌≡◌, ◌+◌, List, [], ◌∷◌, ◌++◌, length, cond, sym, ◌∙◌, ap, subst, arith, length-append}
+use Rattle.std.proofs.Common.{◌≡◌, ◌+◌, List, [], ◌∷◌, ◌++◌, length, sym, ◌∙◌, ap, subst, arith, length-append}
 use Rattle.std.proofs.lemmas.List.{length-replicate, map-id}
 use Rattle.std.proofs.lemmas.Iterator.Adapters.{YieldsList-from_vec}
 use Rattle.std.proofs.lemmas.Iterator.Consumers.{YieldsList-turn, YieldsList-end}
@@ -36,7 +36,7 @@ loop-event-init c =
 pub loop-event-preserved : goal.loop-event-preserved
 loop-event-preserved c =
     let before = c.loop-event in
-    let grown : c.push.new.self.items ≡ c.loop-event.replies.items ++ c.in_ok-reply.reply ∷ [] = c.push.ensures.items ∙ ap (λ b. cond b (before.replies.items ++ c.in_ok-reply.reply ∷ []) before.replies.items) c.if-is_err.ensures.negation in
+    let grown = c.in_ok-push.ensures.items in
     let longer = reflects_push c.args.capacity before.row c.apply.new.row before.yielded before.replies.items c.push.new.self.items c.in-Some.event c.in_ok-reply.reply before.invariant.capacity before.invariant.answered grown before.invariant.legal before.invariant.reflects c.in_ok-reply.ensures.answer in
     record {
       can_next = tt;
