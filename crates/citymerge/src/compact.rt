@@ -21,10 +21,8 @@ pub fn compact_line(alloc: Global, line: &[u8], text: Vec<u8>) -> Result<Vec<u8>
     ensures refused { IfErr result (λ fault. RefusesText fault line.now) }
 {
     let mut text = text_of(alloc, line, Line::from_vec(text))?.into_vec();
-    match text.push(b'\n') {
-        Ok(()) => Ok(text),
-        Err(_) => Err(Fault::Memory),
-    }
+    text.push(b'\n')?;
+    Ok(text)
 }
 
 /// The compact text of the value that the line spells: in one pass, or where that says nothing by way of the value.
