@@ -1,0 +1,94 @@
+-- What one cut does to what may be left.
+use Rattle.std.proofs.Common.{◌≡◌, ◌≤◌, ◌+◌, ◌++◌, ℕ, Bool, true, false, List, [], ◌∷◌, Option, Some, None, length, refl, sym, ap, subst, ◌∙◌, arith, ⊎_elim, ◌⊎◌, inl, inr}
+use Rattle.std.specs.List.{slice_split}
+use Rattle.std.proofs.lemmas.Bool.{cases_Bool}
+use Rattle.city_json.specs.Bytes.{newline}
+use Rattle.city_json.specs.declared.fault.Fault.{Fault}
+use Rattle.city_json.specs.declared.fault.Fault.TheVariants.{LineTooLong, TileTooLong, Read, Memory}
+use Rattle.tile_merge.specs.declared.limits.Limits.{Limits}
+use Rattle.tile_merge.specs.Ahead.{Ahead, MayCome}
+use Rattle.tile_merge.specs.Taking.{HasNoNewline, IsFineFront, IsFineLine, IsRefusal}
+use Rattle.tile_merge.specs.Unread.{Unread, Leaves, part_before, IsRefused, BeginsFrom}
+use Rattle.tile_merge.specs.Tile.{TileLines, part_of, number_parts, is_newline, is_blank, fault_at, lines_of_parts, lines_from, line_before, nothing_left, only_fault}
+use Rattle.tile_merge.proofs.FirstParts.{by_fault, by_blank, by_line, whole_blank, whole_line, last_blank, last_line}
+
+part_blank : (number start : ℕ) (bytes : List ℕ) (left : TileLines) → is_blank bytes ≡ true → part_before (part_of number start bytes) left ≡ left
+part_blank number start bytes left blank = rw blank refl
+
+part_full : (number start : ℕ) (bytes : List ℕ) (left : TileLines) → is_blank bytes ≡ false → part_before (part_of number start bytes) left ≡ line_before (part_of number start bytes) left
+part_full number start bytes left full = rw full refl
+
+fault_cases : (fault : Option Fault) → (fault ≡ None) ⊎ ((is : Fault) × (fault ≡ Some is))
+fault_cases None = inl refl
+fault_cases (Some fault) = inr (fault, refl)
+
+abbrev Begins : ℕ → TileLines → Type 0
+Begins from left = BeginsFrom from left.lines left.fault
+
+-- what is given from a line on bears its number or one above it
+begins : (limits : Limits) (size : ℕ) (fails : Bool) (from number start : ℕ) (parts : List (List ℕ)) → from ≤ number → Begins from (lines_of_parts limits size fails (number_parts number start parts))
+begins limits size fails from number start [] low = tt
+begins limits size fails from number start (bytes ∷ others) low =
+    let part = part_of number start bytes in
+    let after = number_parts (number + 1) (start + length bytes + 1) others in
+    ⊎_elim
+    (λ fine. ⊎_elim
+    (λ blank. subst (Begins from) (sym (by_blank limits size fails part after fine blank)) (begins limits size fails from (number + 1) (start + length bytes + 1) others (omega arith)))
+    (λ full. subst (Begins from) (sym (by_line limits size fails part after fine full)) low)
+    (cases_Bool (is_blank bytes)))
+    (λ faulty. subst (Begins from) (sym (by_fault limits size fails part after faulty.0 faulty.1)) low)
+    (fault_cases (fault_at limits size fails part))
+
+module _ {R : Type 0} (gives : R → List ℕ → Bool → Type 0) (limits : Limits) (number start : ℕ) (before : Ahead R) where
+  abbrev unread : Ahead R → ℕ → ℕ → Unread R
+  unread ahead number start = record { ahead = ahead; limits = limits; number = number; start = start; ended = None }
+
+  pub by_ended : (line : List ℕ) (after : Ahead R) (next : ℕ) → next ≡ start + length line + 1 → HasNoNewline line → IsFineLine limits start line
+      → ((bytes : List ℕ) (fails : Bool) → MayCome gives after bytes fails → MayCome gives before (line ++ newline ∷ bytes) fails)
+      → (left : TileLines) → Leaves gives (unread after (number + 1) next) left → Leaves gives (unread before number start) (part_before (part_of number start line) left)
+  by_ended line after next place none fine follows left leaves =
+      let bytes = leaves.0 in
+      let fails = leaves.1 in
+      let is = leaves.3 ∙ ap (λ at. lines_from limits (number + 1) at bytes fails) place in (
+        line ++ newline ∷ bytes,
+        fails,
+        follows bytes fails leaves.2,
+        ⊎_elim
+            (λ blank. part_blank number start line left blank ∙ is ∙ sym (whole_blank limits number start line none fine bytes fails blank))
+            (λ full. part_full number start line left full ∙ ap (line_before (part_of number start line)) is ∙ sym (whole_line limits number start line none fine bytes fails full))
+            (cases_Bool (is_blank line)),
+      )
+
+  pub by_last_blank : (line : List ℕ) → HasNoNewline line → IsFineFront limits start line → MayCome gives before line false → is_blank line ≡ true → Leaves gives (unread before number start) nothing_left
+  by_last_blank line none fine comes blank = (line, false, comes, sym (last_blank limits number start line none fine blank))
+
+  pub by_last : (line : List ℕ) → HasNoNewline line → IsFineFront limits start line → MayCome gives before line false → is_blank line ≡ false
+      → (left : TileLines) → left ≡ nothing_left → Leaves gives (unread before number start) (part_before (part_of number start line) left)
+  by_last line none fine comes full left is =
+      (line, false, comes, part_full number start line left full ∙ ap (line_before (part_of number start line)) is ∙ sym (last_line limits number start line none fine full))
+
+  pub by_refusal : (fault : Fault) → IsRefusal fault limits start (MayCome gives before) → IsRefused fault number (Leaves gives (unread before number start))
+  by_refusal Memory is =
+      let bytes = is.0 in
+      let fails = is.1 in
+      let left = lines_from limits number start bytes fails in
+      (left, (bytes, fails, is.2, refl), begins limits (start + length bytes) fails number number start (slice_split is_newline bytes) (omega arith))
+  by_refusal LineTooLong is = (is.0, is.1, is.2, sym (is.3 number))
+  by_refusal TileTooLong is = (is.0, is.1, is.2, sym (is.3 number))
+  by_refusal Read is = (is.0, is.1, is.2, sym (is.3 number))
+  by_refusal other is = absurd is
+
+-- a line that was refused before is refused again
+pub by_kept : (fault : Fault) (line : ℕ) → IsRefused fault line (λ left. left ≡ only_fault line fault)
+by_kept Memory line = (only_fault line Memory, refl, omega arith)
+by_kept other line = refl
+
+-- Something may be left, since each reader gives something.
+something_if : {R : Type 0} (gives : R → List ℕ → Bool → Type 0) → ((reader : R) → (bytes : List ℕ) × ((fails : Bool) × gives reader bytes fails)) → (ended : Option TileLines) (lines : Unread R) → lines.ended ≡ ended → (left : TileLines) × Leaves gives lines left
+something_if gives some (Some known) lines is = rw is (known, refl)
+something_if gives some None lines is =
+    let rest = some lines.ahead.reader in
+    rw is (_, (lines.ahead.held ++ rest.0, rest.1.0, (rest.0, rest.1.1, refl), refl))
+
+pub something_left : {R : Type 0} (gives : R → List ℕ → Bool → Type 0) → ((reader : R) → (bytes : List ℕ) × ((fails : Bool) × gives reader bytes fails)) → (lines : Unread R) → (left : TileLines) × Leaves gives lines left
+something_left gives some lines = something_if gives some lines.ended lines refl

@@ -1,0 +1,4 @@
+pub mod Coming
+pub mod FirstParts
+pub mod Leaving
+pub mod TapeLaw

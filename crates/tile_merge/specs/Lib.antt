@@ -1,0 +1,5 @@
+pub mod Ahead
+pub mod Taking
+pub mod TapeLines
+pub mod Tile
+pub mod Unread
