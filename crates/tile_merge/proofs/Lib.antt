@@ -1,4 +1,3 @@
 pub mod Coming
 pub mod FirstParts
 pub mod Leaving
-pub mod TapeLaw

@@ -23,13 +23,13 @@ IsFillFault Memory = Unit {0}
 IsFillFault other = ⊥
 
 -- the count of failed reads after a call that was refused for this
-abbrev pub failures_after : Fault → ℕ → ℕ
-failures_after Read count = one_more count
-failures_after other count = count
+abbrev pub failed_reads_after : Fault → ℕ → ℕ
+failed_reads_after Read count = one_more count
+failed_reads_after other count = count
 
-abbrev pub failures_after_call : {X : Type 0} → Result X Fault → ℕ → ℕ
-failures_after_call (Ok x) count = count
-failures_after_call (Err fault) count = failures_after fault count
+abbrev pub failed_reads_after_call : {X : Type 0} → Result X Fault → ℕ → ℕ
+failed_reads_after_call (Ok x) count = count
+failed_reads_after_call (Err fault) count = failed_reads_after fault count
 
 abbrev pub HasNoNewline : List ℕ → Type 0
 HasNoNewline line = All (λ b. is_newline b ≡ false) line

@@ -104,9 +104,9 @@ abbrev pub has_failed : {R : Type 0} → Unread R → Bool
 has_failed lines = has_failed_if lines.ended
 
 -- the count of failed reads: one more once a failed read is what is left
-abbrev pub failures_between : Bool → Bool → ℕ → ℕ
-failures_between false true count = one_more count
-failures_between before after count = count
+abbrev pub failed_reads_between : Bool → Bool → ℕ → ℕ
+failed_reads_between false true count = one_more count
+failed_reads_between before after count = count
 
 -- Once no more is read, each call answers the same: the fault, or none.
 abbrev pub answer_again : {X : Type 0} → Option FaultyLine → Result (Option X) LineFault

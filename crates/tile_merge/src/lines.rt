@@ -1,6 +1,6 @@
 ghost use Rattle.std.specs.Prelude.{◌≡◌, ◌≤◌, ◌<◌, ◌+◌, ◌^◌, ◌↔◌, false, Some, None, IfOk, IfErr, IfSome, IfNone};
 ghost use Rattle.tile_merge.specs.Tile.{TileLines, nothing_left, only_fault, limits_of, stream_limits};
-ghost use Rattle.tile_merge.specs.Unread.{Leaves, IsOfTile, GivesPart, GivesLine, IsRefused, IsLineFault, IsAgain, most_left, has_failed, failures_between};
+ghost use Rattle.tile_merge.specs.Unread.{Leaves, IsOfTile, GivesPart, GivesLine, IsRefused, IsLineFault, IsAgain, most_left, has_failed, failed_reads_between};
 
 mod part;
 mod read_ahead;
@@ -12,13 +12,12 @@ mod tests;
 use crate::limits::{Limits, STREAM_LIMITS};
 use crate::lines::part::NextPart;
 use crate::lines::read_ahead::ReadAhead;
+pub use crate::lines::state::LineFault;
 use crate::lines::state::State;
 use crate::lines::taking::{is_blank, take_part};
 use city_json::{Line, Source};
 use std::alloc::Global;
 use std::marker::Model;
-
-pub use crate::lines::state::LineFault;
 
 /// A line that is not blank, and its number in its tile, counted from 1.
 #[derive(Debug, Drop)]
@@ -83,13 +82,6 @@ impl<R: Source> Lines<R> {
         }
     }
 
-    /// The reader as it stands: what it gave and is not taken yet is held here.
-    pub fn reader(&self) -> &R
-        ensures { result.now ≡ self.now.ahead.reader }
-    {
-        self.ahead.reader()
-    }
-
     /// The next line that is not blank, or none after the last. It reads on only where no newline that
     /// ends the line stands among the bytes that it holds.
     ///
@@ -114,7 +106,7 @@ impl<R: Source> Lines<R> {
         ensures some { (left : TileLines) × Leaves R.gives self.new left }
         ensures had_not_failed { IfOk result (λ next. has_failed self.old ≡ false) }
         ensures not_failed { IfOk result (λ next. has_failed self.new ≡ false) }
-        ensures failures { R.failures self.new.ahead.reader ≡ failures_between (has_failed self.old)
+        ensures failures { R.failures self.new.ahead.reader ≡ failed_reads_between (has_failed self.old)
             (has_failed self.new) (R.failures self.old.ahead.reader) }
     {
         'parts: loop {
@@ -148,7 +140,7 @@ impl<R: Source> Lines<R> {
             most_left self.new < most_left self.old)) }
         ensures had_not_failed { IfOk result (λ next. has_failed self.old ≡ false) }
         ensures not_failed { IfOk result (λ next. has_failed self.new ≡ false) }
-        ensures failures { R.failures self.new.ahead.reader ≡ failures_between (has_failed self.old)
+        ensures failures { R.failures self.new.ahead.reader ≡ failed_reads_between (has_failed self.old)
             (has_failed self.new) (R.failures self.old.ahead.reader) }
     {
         match self.state {

@@ -1,6 +1,6 @@
 ghost use Rattle.std.specs.Prelude.{◌≡◌, ◌≤◌, true, false, [], length, drop, IfOk, IfErr};
 ghost use Rattle.city_json.specs.Streams.Source.{GivesFirst};
-ghost use Rattle.tile_merge.specs.Taking.{IsFillFault, failures_after_call};
+ghost use Rattle.tile_merge.specs.Taking.{IsFillFault, failed_reads_after_call};
 
 use city_json::{Fault, Source};
 use std::alloc::Global;
@@ -49,12 +49,6 @@ impl<R: Source> ReadAhead<R> {
         &self.piece[self.at..self.filled]
     }
 
-    pub fn reader(&self) -> &R
-        ensures { result.now ≡ self.now.reader }
-    {
-        &self.reader
-    }
-
     /// Takes the first of the bytes that are held.
     pub fn skip(&mut self, count: usize)
         requires { count ≤ length self.old.held }
@@ -78,7 +72,7 @@ impl<R: Source> ReadAhead<R> {
             → R.gives self.old.reader [] true) }
         ensures kind { IfErr result IsFillFault }
         ensures failures { R.failures self.new.reader
-            ≡ failures_after_call result (R.failures self.old.reader) }
+            ≡ failed_reads_after_call result (R.failures self.old.reader) }
     {
         if self.piece.is_empty() && self.piece.resize(PIECE, 0).is_err() {
             return Err(Fault::Memory);

@@ -1,6 +1,6 @@
 ghost use Rattle.std.specs.Prelude.{◌≡◌, ◌≤◌, ◌+◌, ◌^◌, false, IfOk, IfErr, IfSome};
 ghost use Rattle.tile_merge.specs.Ahead.{MayCome};
-ghost use Rattle.tile_merge.specs.Taking.{IsTaken, IsRefusal, IsLimitFault, failures_after_call};
+ghost use Rattle.tile_merge.specs.Taking.{IsTaken, IsRefusal, IsLimitFault, failed_reads_after_call};
 ghost use Rattle.tile_merge.specs.Tile.{fault_between, is_blank};
 
 use crate::limits::Limits;
@@ -24,7 +24,7 @@ pub fn take_part<R: Source>(
         (MayCome R.gives ahead.new)) }
     ensures refused { IfErr result (λ fault. IsRefusal fault limits start (MayCome R.gives ahead.old)) }
     ensures failures { R.failures ahead.new.reader
-        ≡ failures_after_call result (R.failures ahead.old.reader) }
+        ≡ failed_reads_after_call result (R.failures ahead.old.reader) }
 {
     let mut line = Vec::new(alloc);
     'pieces: loop {
