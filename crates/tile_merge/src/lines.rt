@@ -26,8 +26,8 @@ pub struct NumberedLine {
     pub bytes: Line,
 }
 
-/// The lines of a tile, taken from its reader while it is read: of the tile it holds one piece of 64 KiB
-/// and the line that it is at.
+/// The lines of a tile, taken from its reader while it is read. Of the tile it holds one piece of
+/// 64 KiB and the line that it is at.
 #[derive(Debug, Drop)]
 pub struct Lines<R> {
     alloc: Global,
@@ -44,9 +44,16 @@ impl<R> Model for Lines<R> {
 
     ghost Value = { Unread R };
 
-    ghost view = { λ l. record { ahead = l.ahead; limits = l.limits; number = l.number; start = l.start; ended = ended_by l.state } };
+    ghost view = { λ l. record {
+      ahead = l.ahead;
+      limits = l.limits;
+      number = l.number;
+      start = l.start;
+      ended = ended_by l.state;
+    } };
 
-    ghost invariant = { λ l. (l.limits.tile ≤ 2 ^ 40) × (l.start ≤ l.limits.tile) × (l.number ≤ l.start + 1) × IsKeptFrom l.number l.state };
+    ghost invariant = { λ l. (l.limits.tile ≤ 2 ^ 40) × (l.start ≤ l.limits.tile)
+        × (l.number ≤ l.start + 1) × IsKeptFrom l.number l.state };
 }
 
 impl<R: Source> Lines<R> {
@@ -62,7 +69,8 @@ impl<R: Source> Lines<R> {
         Lines::with_limits(alloc, reader, STREAM_LIMITS.line, STREAM_LIMITS.tile)
     }
 
-    /// The lines of what the reader gives, of at most `line` bytes each in a tile of at most `tile`.
+    /// The lines of what the reader gives, of at most `line` bytes each in a tile of at most
+    /// `tile`.
     pub fn with_limits(alloc: Global, reader: R, line: u64, tile: u64) -> Lines<R>
         requires { tile ≤ 2 ^ 40 }
         ensures tile { (left : TileLines) → Leaves R.gives result left
@@ -82,8 +90,8 @@ impl<R: Source> Lines<R> {
         }
     }
 
-    /// The next line that is not blank, or none after the last. It reads on only where no newline that
-    /// ends the line stands among the bytes that it holds.
+    /// The next line that is not blank, or none after the last. It reads on only where no newline
+    /// that ends the line stands among the bytes that it holds.
     ///
     /// # Errors
     ///
@@ -93,7 +101,8 @@ impl<R: Source> Lines<R> {
         ensures line { IfOk result (λ next. IfSome next (λ line.
             GivesLine (Leaves R.gives self.old) (Leaves R.gives self.new) line.number line.bytes)) }
         ensures over { IfOk result (λ next. IfNone next (Leaves R.gives self.old nothing_left)) }
-        ensures stays_over { IfOk result (λ next. IfNone next (self.new.ended ≡ Some nothing_left)) }
+        ensures stays_over { IfOk result (λ next. IfNone next
+            (self.new.ended ≡ Some nothing_left)) }
         ensures refused { IfErr result (λ e. IsRefused e.fault e.line (Leaves R.gives self.old)) }
         ensures kind { IfErr result (λ e. IsLineFault e.fault) }
         ensures stays { IfErr result (λ e. self.new.ended ≡ Some (only_fault e.line e.fault)) }
@@ -106,8 +115,8 @@ impl<R: Source> Lines<R> {
         ensures some { (left : TileLines) × Leaves R.gives self.new left }
         ensures had_not_failed { IfOk result (λ next. has_failed self.old ≡ false) }
         ensures not_failed { IfOk result (λ next. has_failed self.new ≡ false) }
-        ensures failures { R.failures self.new.ahead.reader ≡ failed_reads_between (has_failed self.old)
-            (has_failed self.new) (R.failures self.old.ahead.reader) }
+        ensures failures { R.failures self.new.ahead.reader ≡ failed_reads_between
+            (has_failed self.old) (has_failed self.new) (R.failures self.old.ahead.reader) }
     {
         'parts: loop {
             match self.next_part() {
@@ -127,7 +136,8 @@ impl<R: Source> Lines<R> {
         ensures part { IfOk result (λ next. IfSome next (λ line.
             GivesPart (Leaves R.gives self.old) (Leaves R.gives self.new) line.number line.bytes)) }
         ensures over { IfOk result (λ next. IfNone next (Leaves R.gives self.old nothing_left)) }
-        ensures stays_over { IfOk result (λ next. IfNone next (self.new.ended ≡ Some nothing_left)) }
+        ensures stays_over { IfOk result (λ next. IfNone next
+            (self.new.ended ≡ Some nothing_left)) }
         ensures refused { IfErr result (λ e. IsRefused e.fault e.line (Leaves R.gives self.old)) }
         ensures kind { IfErr result (λ e. IsLineFault e.fault) }
         ensures stays { IfErr result (λ e. self.new.ended ≡ Some (only_fault e.line e.fault)) }
@@ -140,8 +150,8 @@ impl<R: Source> Lines<R> {
             most_left self.new < most_left self.old)) }
         ensures had_not_failed { IfOk result (λ next. has_failed self.old ≡ false) }
         ensures not_failed { IfOk result (λ next. has_failed self.new ≡ false) }
-        ensures failures { R.failures self.new.ahead.reader ≡ failed_reads_between (has_failed self.old)
-            (has_failed self.new) (R.failures self.old.ahead.reader) }
+        ensures failures { R.failures self.new.ahead.reader ≡ failed_reads_between
+            (has_failed self.old) (has_failed self.new) (R.failures self.old.ahead.reader) }
     {
         match self.state {
             State::Open => {}

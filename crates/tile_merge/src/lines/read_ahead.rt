@@ -24,7 +24,10 @@ impl<R> Model for ReadAhead<R> {
 
     ghost Value = { Ahead R };
 
-    ghost view = { λ a. record { reader = a.reader; held = slice_range a.piece.items a.at a.filled } };
+    ghost view = { λ a. record {
+      reader = a.reader;
+      held = slice_range a.piece.items a.at a.filled;
+    } };
 
     ghost invariant = { λ a. (a.at ≤ a.filled) × (a.filled ≤ vec_len a.piece) };
 }

@@ -22,7 +22,8 @@ pub fn take_part<R: Source>(
     requires tile { limits.tile ≤ 2 ^ 40 }
     ensures taken { IfOk result (λ part. IsTaken part limits start (MayCome R.gives ahead.old)
         (MayCome R.gives ahead.new)) }
-    ensures refused { IfErr result (λ fault. IsRefusal fault limits start (MayCome R.gives ahead.old)) }
+    ensures refused { IfErr result (λ fault. IsRefusal fault limits start
+        (MayCome R.gives ahead.old)) }
     ensures failures { R.failures ahead.new.reader
         ≡ failed_reads_after_call result (R.failures ahead.old.reader) }
 {

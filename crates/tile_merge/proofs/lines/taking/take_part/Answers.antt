@@ -1,4 +1,4 @@
-use Rattle.std.proofs.Common.{◌≡◌, ◌+◌, ◌++◌, false, length, take, sym, ap, ◌∙◌, arith}
+use Rattle.std.proofs.Common.{◌≡◌, ◌+◌, ◌++◌, false, length, take, ap, ◌∙◌, arith}
 use Rattle.std.proofs.lemmas.Grind.{common_steps}
 use Rattle.city_json.specs.declared.fault.Fault.TheVariants.{Read}
 use Rattle.tile_merge.specs.Ahead.{MayCome}
@@ -26,7 +26,7 @@ returns-in-Some-clause-taken g c =
     let text = c.pieces.line.items ++ take c.in-Some.count now.held in
     let is : c.from_vec.result ≡ text = grind (arith, common_steps, c.held-held.ensures) in
     let end : c.args.start + (c.len.result + c.in-Some.count) ≡ c.args.start + length text = grind (arith, common_steps, found) in
-    let fine = ends c.args.limits c.args.start _ text _ end (sym c.in_default.is ∙ c.fault_between.ensures.fault) in
+    let fine = ends c.args.limits c.args.start _ text _ end c.fault_between.ensures.fault ∙ c.in_default.is in
     let follows = whole g.R.Source.gives c.args.ahead.now now c.pieces.line.items c.pieces.invariant.follows c.in-Some.count found c.skip.new.self c.skip.ensures in
     rw is (no_newline c.pieces.line.items _ c.pieces.invariant.begun (none_before now.held c.in-Some.count found), fine, follows)
 
@@ -50,7 +50,7 @@ pieces-preserved g c =
     let text = c.pieces.line.items ++ now.held in
     let is : c.extend_from_slice-in-None.new.self.items ≡ text = grind (arith, common_steps, c.held-held.ensures) in
     let end : c.args.start + (c.len-in-None.result + length c.held-held.result.now) ≡ c.args.start + length text = grind (arith, common_steps, c.held-held.ensures) in
-    let fine = goes_on c.args.limits c.args.start _ text _ end (sym c.in_default-fault_between.is ∙ c.fault_between-in-None.ensures.fault) in
+    let fine = goes_on c.args.limits c.args.start _ text _ end c.fault_between-in-None.ensures.fault ∙ c.in_default-fault_between.is in
     let reader = ap (λ ahead. ahead.reader) c.skip-in-None.ensures in
     rw is (record {
       begun = no_newline c.pieces.line.items now.held c.pieces.invariant.begun (none_found now.held found);
@@ -66,7 +66,7 @@ returns-in-Ok-eq0-clause-taken g c =
     let text = c.pieces.line.items ++ now.held in
     let is : c.from_vec-in-Ok-eq0.result ≡ text = grind (arith, common_steps, c.held-held.ensures) in
     let end : c.args.start + (c.len-in-None.result + length c.held-held.result.now) ≡ c.args.start + length text = grind (arith, common_steps, c.held-held.ensures) in
-    let fine = goes_on c.args.limits c.args.start _ text _ end (sym c.in_default-fault_between.is ∙ c.fault_between-in-None.ensures.fault) in
+    let fine = goes_on c.args.limits c.args.start _ text _ end c.fault_between-in-None.ensures.fault ∙ c.in_default-fault_between.is in
     let reader = ap (λ ahead. ahead.reader) c.skip-in-None.ensures in
     rw is (
       no_newline c.pieces.line.items now.held c.pieces.invariant.begun (none_found now.held found),
@@ -80,7 +80,7 @@ returns-in-Err-clause-refused g c =
     let found = rw c.held-held.ensures at c.in-None.ensures in
     let text = c.pieces.line.items ++ now.held in
     let end : c.args.start + (c.len-in-None.result + length c.held-held.result.now) ≡ c.args.start + length text = grind (arith, common_steps, c.held-held.ensures) in
-    let fine = goes_on c.args.limits c.args.start _ text _ end (sym c.in_default-fault_between.is ∙ c.fault_between-in-None.ensures.fault) in
+    let fine = goes_on c.args.limits c.args.start _ text _ end c.fault_between-in-None.ensures.fault ∙ c.in_default-fault_between.is in
     let reader = ap (λ ahead. ahead.reader) c.skip-in-None.ensures in
     let failed : c.in-Err.fault ≡ Read → IsRefusedLine Read c.args.limits c.args.start (MayCome g.R.Source.gives c.args.ahead.now) =
     λ is. end_refused g.R.Source.gives c.args.ahead.now now c.pieces.line.items c.pieces.invariant.follows found c.pieces.invariant.begun c.args.limits c.args.start c.skip-in-None.new.self reader (c.in-Err.ensures.failed is) fine in
