@@ -1,3 +1,4 @@
+pub mod Ending
 pub mod Histories
 pub mod Queueing
 pub mod Reflecting

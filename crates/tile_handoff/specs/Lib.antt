@@ -1,3 +1,4 @@
+pub mod Ends
 pub mod History
 pub mod Kept
 pub mod KeptQueues

@@ -9,6 +9,7 @@ mod mark;
 mod note;
 mod outcome;
 mod queues;
+mod ring;
 mod row;
 mod runs;
 #[cfg(test)]
@@ -20,5 +21,6 @@ pub use mark::{Kind, Mark, Marks};
 pub use note::{End, Note};
 pub use outcome::{NoClose, NoPut, Took};
 pub use queues::{MAX_CAPACITY, MAX_TILES, Queues};
+pub use ring::{Closed, Receiver, Sender, Whole, ends};
 pub use row::Row;
 pub use runs::run;

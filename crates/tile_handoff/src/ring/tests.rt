@@ -1,0 +1,218 @@
+ghost use Rattle.std.specs.Prelude.{◌≡◌, ◌<◌, ◌≤◌, [], ◌∷◌, ◌++◌, map, IfOk};
+ghost use Rattle.tile_handoff.specs.Ends.{notes_put, notes_carried, notes_taken, IsSameSender, IsSameReceiver, EndedIn};
+ghost use Rattle.tile_handoff.specs.declared.note.End.{End};
+ghost use Rattle.tile_handoff.specs.declared.note.Note.{Note};
+
+use crate::ring::{Closed, Receiver, Sender, Whole, ends};
+use crate::{End, MAX_CAPACITY, Note};
+use city_json::{Fault, Line};
+use std::alloc::{AllocError, Global};
+use std::snapshot::Snapshot;
+use std::sync::Wait;
+use std::test::Fail;
+use std::thread;
+use std::thread::{Promise, Threads};
+
+const END: End = End {
+    count: 2,
+    line: 7,
+    number: 3,
+};
+
+fn line(alloc: Global, text: &str) -> Result<Line, AllocError> {
+    let bytes = Vec::from_slice(alloc, text.as_bytes())?;
+    Ok(Line::from_vec(bytes))
+}
+
+fn is_line(line: &Line, text: &str) -> bool {
+    line.items() == text.as_bytes()
+}
+
+fn is_note(note: &Option<Note>, text: &str) -> bool {
+    matches!(note, Some(Note::Line(line)) if is_line(line, text))
+}
+
+fn is_end_note(note: &Option<Note>) -> bool {
+    matches!(note, Some(Note::End(end)) if *end == END)
+}
+
+fn ended(sender: Sender) -> Result<Closed, Fail> {
+    sender
+        .try_end(END)
+        .map_err(|_| Fail::new("the ring is full"))
+}
+
+#[test]
+fn a_tile_is_put_ended_taken_and_confirmed(rt: HostRuntime) -> Result<(), Fail> {
+    let alloc = rt.alloc();
+    let (mut sender, mut receiver) = ends(alloc, 1)?;
+    assert!(rt; sender.try_put(line(alloc, "x")?).is_ok());
+    assert!(rt; matches!(&sender.try_put(line(alloc, "y")?), Err(back) if is_line(back, "y")));
+    let Err((sender, end)) = sender.try_end(END) else {
+        return Err(Fail::new("a full ring took the end note"));
+    };
+    assert_eq!(rt; end, END);
+    assert!(rt; is_note(&receiver.try_take(), "x"));
+    let closed = ended(sender)?;
+    assert!(rt; is_end_note(&receiver.try_take()));
+    assert!(rt; receiver.try_take().is_none());
+    assert_eq!(rt; receiver.confirm(closed)?, Whole { left: 0 });
+    Ok(())
+}
+
+#[test]
+fn what_is_left_is_counted(rt: HostRuntime) -> Result<(), Fail> {
+    let alloc = rt.alloc();
+    for (capacity, puts, takes, left) in [(4, 2, 1, 2), (4, 2, 0, 3), (1, 0, 0, 1)] {
+        let (mut sender, mut receiver) = ends(alloc, capacity)?;
+        for _put in 0..puts {
+            assert!(rt; sender.try_put(line(alloc, "x")?).is_ok());
+        }
+        let closed = ended(sender)?;
+        for _take in 0..takes {
+            assert!(rt; is_note(&receiver.try_take(), "x"));
+        }
+        assert_eq!(rt; receiver.confirm(closed)?.left, left);
+    }
+    Ok(())
+}
+
+// Waits until the line is put.
+fn put(rt: &impl Wait, sender: &mut Sender, line: Line)
+    ensures same { IsSameSender sender.old sender.new }
+    ensures put { notes_put sender.new ≡ notes_put sender.old ++ Note.Line line ∷ [] }
+{
+    let mut line = line;
+    'full: for _ in rt.forever() {
+        match sender.try_put(line) {
+            Ok(()) => return,
+            Err(back) => line = back,
+        }
+        thread::yield_now();
+    }
+    unreachable!()
+}
+
+// Waits until the end note is put.
+fn end(rt: &impl Wait, sender: Sender, end: End) -> Closed
+    ensures own { EndedIn sender result }
+    ensures put { notes_carried result ≡ notes_put sender ++ Note.End end ∷ [] }
+{
+    let mut sender = sender;
+    'full: for _ in rt.forever() {
+        match sender.try_end(end) {
+            Ok(closed) => return closed,
+            Err((back, _)) => sender = back,
+        }
+        thread::yield_now();
+    }
+    unreachable!()
+}
+
+// Puts all the lines, and then the end note.
+fn feed(rt: &impl Wait, lines: Vec<Line>, sender: Sender) -> Closed
+    ensures own { EndedIn sender result }
+    ensures put { notes_carried result ≡
+        notes_put sender ++ map (λ line. Note.Line line) lines.items ++ Note.End END ∷ [] }
+{
+    let mut sender = sender;
+    'feeding: for line in lines {
+        put(rt, &mut sender, line);
+    }
+    end(rt, sender, END)
+}
+
+// Waits for a note.
+fn take(rt: &impl Wait, receiver: &mut Receiver) -> Note
+    ensures same { IsSameReceiver receiver.old receiver.new }
+    ensures taken { notes_taken receiver.new ≡ notes_taken receiver.old ++ result ∷ [] }
+{
+    'empty: for _ in rt.forever() {
+        if let Some(note) = receiver.try_take() {
+            return note;
+        }
+        thread::yield_now();
+    }
+    unreachable!()
+}
+
+// Takes lines up to the end note.
+fn drain(rt: &impl Wait, alloc: Global, receiver: &mut Receiver) -> Result<Vec<Line>, AllocError>
+    ensures same { IsSameReceiver receiver.old receiver.new }
+    ensures taken { IfOk result (λ lines. (end : End) × (notes_taken receiver.new ≡
+        notes_taken receiver.old ++ map (λ line. Note.Line line) lines.items ++ Note.End end ∷ [])) }
+{
+    let mut lines = Vec::new(alloc);
+    'draining: for _ in rt.forever() {
+        match take(rt, receiver) {
+            Note::Line(line) => lines.push(line)?,
+            Note::End(_) => return Ok(lines),
+        }
+    }
+    unreachable!()
+}
+
+// What the feeding thread promises: all the lines and then the end note went through its sender.
+#[derive(Drop)]
+struct Feeds {
+    lines: Snapshot<Vec<Line>>,
+    sender: Snapshot<Sender>,
+}
+
+impl Promise<Closed> for Feeds {
+    ghost kept_by = { λ feeds closed. EndedIn feeds.sender.value closed
+        × (notes_carried closed ≡ notes_put feeds.sender.value
+        ++ map (λ line. Note.Line line) feeds.lines.value.items ++ Note.End END ∷ []) };
+}
+
+// What comes out of the ring in this thread is what another put into it, in order, whatever the schedule.
+fn pass<R: Threads + Wait + Copy + Send + 'static>(
+    rt: &R,
+    alloc: Global,
+    capacity: u32,
+    lines: Vec<Line>,
+) -> Result<(Vec<Line>, Whole), Fault>
+    requires { (0 < capacity) × (capacity ≤ MAX_CAPACITY) }
+    ensures { IfOk result (λ passed. (passed.0.items ≡ lines.items) × (passed.1.left ≡ 0)) }
+{
+    let (sender, mut receiver) = ends(alloc, capacity)?;
+    let handle = *rt;
+    let feeds = Feeds {
+        lines: Snapshot::of(&lines),
+        sender: Snapshot::of(&sender),
+    };
+    let Ok(feeder) = thread::spawn_with(rt, feeds, move || feed(&handle, lines, sender)) else {
+        return Err(Fault::NoThread);
+    };
+    let Ok(passed) = drain(rt, alloc, &mut receiver) else {
+        return Err(Fault::Memory);
+    };
+    let whole = receiver.confirm(feeder.join(rt))?;
+    Ok((passed, whole))
+}
+
+#[test]
+fn two_threads(rt: HostRuntime) -> Result<(), Fail> {
+    let alloc = rt.alloc();
+    for capacity in [1, 64] {
+        let mut lines = Vec::new(alloc);
+        for number in 0..10_000u32 {
+            lines.push(numbered(alloc, number)?)?;
+        }
+        let (passed, whole) = pass(&rt, alloc, capacity, lines)?;
+        assert_eq!(rt; whole.left, 0);
+        assert_eq!(rt; passed.len(), 10_000);
+        for (number, line) in (0..10_000u32).zip(&passed) {
+            assert!(rt;
+                line.items() == number.to_le_bytes().as_slice(),
+                "line {number}"
+            );
+        }
+    }
+    Ok(())
+}
+
+fn numbered(alloc: Global, number: u32) -> Result<Line, AllocError> {
+    let bytes = Vec::from_slice(alloc, &number.to_le_bytes())?;
+    Ok(Line::from_vec(bytes))
+}
