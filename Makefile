@@ -1,6 +1,6 @@
 # The short commands. `make` alone prints them.
 
-.PHONY: help build check demo test program-test docs-test bench clean
+.PHONY: help build check demo test program-test docs-test compile-test bench clean
 
 help:
 	@echo 'citymerge: compacts streams of 3D city features (CityJSONSeq)'
@@ -9,7 +9,7 @@ help:
 	@echo '  make check   prove what has changed, in all crates; in one with CRATE=city_json, and of that'
 	@echo '               one function or module with ONLY=reading::read'
 	@echo '  make demo    build it, run it on the tiles in examples/ and show what came out'
-	@echo '  make test    all that has to hold: the documents, the built program at its edges, then the gate'
+	@echo '  make test    all that has to hold: the documents, the built program at its edges, what must not compile, then the gate'
 	@echo '               (every proof from nothing, the edits that must fail, the tests); takes long'
 	@echo '  make bench   how fast it is, beside its plain path and jq (BENCH="--help" lists the options)'
 	@echo '  make clean   remove what was built and what the proofs kept'
@@ -37,8 +37,12 @@ docs-test:
 	@tools/need.sh python3
 	@python3 tools/docs_test.py
 
+compile-test:
+	@tools/need.sh rt python3
+	@python3 tools/must_not_compile.py
+
 # The gate comes last, and so does its closing line.
-test: docs-test program-test
+test: docs-test program-test compile-test
 	@echo 'The gate: every proof from nothing, the edits that must fail, the tests.'
 	@tools/at_work.sh 'the gate' rt ci
 

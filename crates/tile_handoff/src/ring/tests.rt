@@ -36,10 +36,13 @@ fn is_end_note(note: &Option<Note>) -> bool {
     matches!(note, Some(Note::End(end)) if *end == END)
 }
 
-fn ended(sender: Sender) -> Result<Closed, Fail> {
-    sender
-        .try_end(END)
-        .map_err(|_| Fail::new("the ring is full"))
+fn ended(sender: Sender) -> Result<Closed, Fail>
+    ensures { IfOk result (EndedIn sender) }
+{
+    match sender.try_end(END) {
+        Ok(closed) => Ok(closed),
+        Err(_) => Err(Fail::new("the ring is full")),
+    }
 }
 
 #[test]
@@ -63,17 +66,20 @@ fn a_tile_is_put_ended_taken_and_confirmed(rt: HostRuntime) -> Result<(), Fail> 
 #[test]
 fn what_is_left_is_counted(rt: HostRuntime) -> Result<(), Fail> {
     let alloc = rt.alloc();
-    for (capacity, puts, takes, left) in [(4, 2, 1, 2), (4, 2, 0, 3), (1, 0, 0, 1)] {
-        let (mut sender, mut receiver) = ends(alloc, capacity)?;
-        for _put in 0..puts {
-            assert!(rt; sender.try_put(line(alloc, "x")?).is_ok());
-        }
-        let closed = ended(sender)?;
-        for _take in 0..takes {
-            assert!(rt; is_note(&receiver.try_take(), "x"));
-        }
-        assert_eq!(rt; receiver.confirm(closed)?.left, left);
-    }
+    let (mut sender, mut receiver) = ends(alloc, 4)?;
+    assert!(rt; sender.try_put(line(alloc, "x")?).is_ok());
+    assert!(rt; sender.try_put(line(alloc, "y")?).is_ok());
+    let closed = ended(sender)?;
+    assert!(rt; is_note(&receiver.try_take(), "x"));
+    assert_eq!(rt; receiver.confirm(closed)?.left, 2);
+
+    let (mut sender, receiver) = ends(alloc, 4)?;
+    assert!(rt; sender.try_put(line(alloc, "x")?).is_ok());
+    assert!(rt; sender.try_put(line(alloc, "y")?).is_ok());
+    assert_eq!(rt; receiver.confirm(ended(sender)?)?.left, 3);
+
+    let (sender, receiver) = ends(alloc, 1)?;
+    assert_eq!(rt; receiver.confirm(ended(sender)?)?.left, 1);
     Ok(())
 }
 
