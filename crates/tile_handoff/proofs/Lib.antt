@@ -1,4 +1,5 @@
 pub mod Ending
+pub mod Passing
 pub mod Histories
 pub mod Queueing
 pub mod Reflecting

@@ -166,6 +166,8 @@ struct Feeds {
 }
 
 impl Promise<Closed> for Feeds {
+    ghost use Rattle.tile_handoff.specs.declared.ring.tests.TheConstants.{END};
+
     ghost kept_by = { λ feeds closed. EndedIn feeds.sender.value closed
         × (notes_carried closed ≡ notes_put feeds.sender.value
         ++ map (λ line. Note.Line line) feeds.lines.value.items ++ Note.End END ∷ []) };
