@@ -1,5 +1,5 @@
 -- All that was put was taken: the end note was, so nothing is left.
-use Rattle.std.proofs.Common.{◌≡◌, ap, ◌∙◌}
+use Rattle.std.proofs.Common.{ap, ◌∙◌}
 use Rattle.tile_handoff.specs.Ends.{notes_put, notes_carried, notes_taken}
 use Rattle.tile_handoff.specs.declared.ring.tests.TheConstants.{END}
 use Rattle.tile_handoff.proofs.Passing.{end_taken, passed_are}

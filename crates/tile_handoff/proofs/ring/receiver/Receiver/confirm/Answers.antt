@@ -1,4 +1,4 @@
-use Rattle.std.proofs.Common.{◌≡◌, true, ◌++◌, sym, ap, ◌∙◌}
+use Rattle.std.proofs.Common.{◌++◌, sym, ap, ◌∙◌}
 use Rattle.rtrb.specs.Ring.{known_items}
 use Rattle.tile_handoff.specs.Notes.{are_ended}
 use Rattle.tile_handoff.proofs.Ending.{nothing_after_end}

@@ -1,5 +1,3 @@
-use Rattle.std.proofs.Common.{◌≡◌, true}
-use Rattle.tile_handoff.specs.Notes.{are_ended}
 use Rattle.tile_handoff.proofs.Ending.{are_ended-push}
 use Rattle.tile_handoff.proofs.ring.sender.Sender.try_end.Goals as goal
 
