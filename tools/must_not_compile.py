@@ -1,9 +1,9 @@
 #!/usr/bin/env python3
-"""What nobody can write with the two ends of a ring: the borrow checker refuses it, before any proof.
+"""What nobody can write with the two ends of a ring: the borrow checker refuses it.
 
-Each case is a function with one place in it. A copy of the crate in which each has the right text there is built and
-its tests are run; one in which each has the wrong text must be refused, with the borrow checker's own error at each
-of these places, and with no other error.
+Each case is a function with one place in it. A copy of the crate in which each has the right text
+there is built and its tests are run. One in which each has the wrong text must be refused, with
+the borrow checker's own error at each of these places, and with no other error. Nothing is proved.
 """
 
 import os
@@ -20,7 +20,8 @@ CRATE = "tile_handoff"
 FILE = "crates/tile_handoff/src/ring.rt"
 PLACE = "HERE"
 
-# What it shows, the function, the right and the wrong text at its place, and the error that the wrong one must get.
+# What it shows, the function, the right and the wrong text at its place, and the error that the
+# wrong one must get.
 Case = namedtuple("Case", "shows function right wrong error")
 
 CASES = [
@@ -129,7 +130,8 @@ def copy_crates(room):
             taken.add(name)
             todo += crates[name]
             for folder in ("src", "specs", "proofs"):
-                shutil.copytree("crates/%s/%s" % (name, folder), "%s/crates/%s/%s" % (room, name, folder))
+                path = "crates/%s/%s" % (name, folder)
+                shutil.copytree(path, "%s/%s" % (room, path))
     shutil.copy("HANDLES", room)
     with open(room + "/crates.txt", "w", encoding="utf-8") as file:
         for name in sorted(taken):
@@ -137,13 +139,13 @@ def copy_crates(room):
 
 
 def run(room, functions):
-    """Builds the crate with these functions at the end of the file, and runs its tests; proves nothing."""
+    """Builds the crate with these functions at the end of the file, and runs its tests."""
     with open(FILE, encoding="utf-8") as file:
         code = file.read() + "".join(functions)
     with open("%s/%s" % (room, FILE), "w", encoding="utf-8") as file:
         file.write(code)
-    words = ["rt", "try", "--test"]
-    done = subprocess.run(words, cwd="%s/crates/%s" % (room, CRATE), capture_output=True, text=True)
+    folder = "%s/crates/%s" % (room, CRATE)
+    done = subprocess.run(["rt", "try", "--test"], cwd=folder, capture_output=True, text=True)
     return code, done.returncode, done.stdout + done.stderr
 
 
@@ -175,7 +177,8 @@ def main():
         wrong = list(wrong_answers(room))
     for line in wrong:
         print("FAILED: " + line)
-    print("What must not compile: %d cases, %s" % (len(CASES), "wrong" if wrong else "each refused"))
+    outcome = "wrong" if wrong else "each refused"
+    print("What must not compile: %d cases, %s" % (len(CASES), outcome))
     return 1 if wrong else 0
 
 

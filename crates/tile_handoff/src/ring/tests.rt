@@ -146,7 +146,8 @@ fn take(rt: &impl Wait, receiver: &mut Receiver) -> Note
 fn drain(rt: &impl Wait, alloc: Global, receiver: &mut Receiver) -> Result<Vec<Line>, AllocError>
     ensures same { IsSameReceiver receiver.old receiver.new }
     ensures taken { IfOk result (λ lines. (end : End) × (notes_taken receiver.new ≡
-        notes_taken receiver.old ++ map (λ line. Note.Line line) lines.items ++ Note.End end ∷ [])) }
+        notes_taken receiver.old ++ map (λ line. Note.Line line) lines.items
+            ++ Note.End end ∷ [])) }
 {
     let mut lines = Vec::new(alloc);
     'draining: for _ in rt.forever() {
@@ -173,7 +174,8 @@ impl Promise<Closed> for Feeds {
         ++ map (λ line. Note.Line line) feeds.lines.value.items ++ Note.End END ∷ []) };
 }
 
-// What comes out of the ring in this thread is what another put into it, in order, whatever the schedule.
+// What comes out of the ring in this thread is what another put into it, in order, whatever the
+// schedule.
 fn pass<R: Threads + Wait + Copy + Send + 'static>(
     rt: &R,
     alloc: Global,
