@@ -147,7 +147,7 @@ fn drain(rt: &impl Wait, alloc: Global, receiver: &mut Receiver) -> Result<Vec<L
     ensures same { IsSameReceiver receiver.old receiver.new }
     ensures taken { IfOk result (λ lines. (end : End) × (notes_taken receiver.new ≡
         notes_taken receiver.old ++ map (λ line. Note.Line line) lines.items
-            ++ Note.End end ∷ [])) }
+        ++ Note.End end ∷ [])) }
 {
     let mut lines = Vec::new(alloc);
     'draining: for _ in rt.forever() {
