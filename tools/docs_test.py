@@ -68,9 +68,9 @@ def told_files():
         if path in needed and name not in public:
             yield "docs/DEFINITIONS.md does not tell %s, which a public promise needs" % path
         if path in needed and name in private:
-            yield "docs/DEFINITIONS.md tells %s in section 6, and a public promise needs it" % path
+            yield "docs/DEFINITIONS.md tells %s in its last section, and a public promise needs it" % path
         if path not in needed and (name in public or name not in private):
-            yield "docs/DEFINITIONS.md should tell %s in section 6 only: no public promise needs it" % path
+            yield "docs/DEFINITIONS.md should tell %s in its last section only: no public promise needs it" % path
 
 
 def named_files():

@@ -125,6 +125,9 @@ def definitions(path):
     for piece in re.split(r"(?m)^(?= *(?:abbrev |unfoldable )?pub )", text)[1:]:
         for name in re.findall(r"pub (?:data |record )?(\w+)|^ +(\w+) :", piece, re.MULTILINE):
             found[name[0] or name[1]] = piece
+    # A record is made of what its fields are.
+    for piece, name in re.findall(r"(?m)^(pub record (\w+).*\n(?:  .*\n?)*)", text):
+        found[name] = piece
     return found
 
 

@@ -1,3 +1,4 @@
 pub mod DecimalIntegers
 pub mod IntegerTexts
 pub mod OneVertex
+pub mod WrittenVertex

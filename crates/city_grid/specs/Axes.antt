@@ -1,6 +1,7 @@
 -- Three of a kind, one for each axis.
 use Rattle.std.specs.Prelude.{◌≤◌, ℕ, ℤ, ◌+ℤ◌, List, unsigned_abs}
 use Rattle.std.specs.Borrow.{Bor}
+use Rattle.std.specs.Int.{int_min}
 use Rattle.city_json.specs.Tree.{Tree, number, array, no_items, item}
 use Rattle.city_grid.specs.declared.axes.Axes.{Axes}
 
@@ -30,6 +31,10 @@ Each Reads texts numbers =
 
 abbrev pub sum : Triple → Triple → Triple
 sum p q = record { x = p.x +ℤ q.x; y = p.y +ℤ q.y; z = p.z +ℤ q.z }
+
+-- in each component the lesser of the two
+abbrev pub least : Triple → Triple → Triple
+least p q = record { x = int_min p.x q.x; y = int_min p.y q.y; z = int_min p.z q.z }
 
 -- 2^53 - 1, up to which a number in floating point is exact
 abbrev pub most_steps : ℕ

@@ -10,14 +10,14 @@ mod steps;
 mod transforms;
 mod vertices;
 
-pub use axes::Axes;
+pub use axes::{Axes, three_numbers};
 pub use decimals::Decimal;
 pub use decimals::reader::decimal;
 pub use shifts::{Shift, shift_of};
-pub use transforms::Transform;
 pub use transforms::reader::transform;
+pub use transforms::{Transform, least_of};
 pub use vertices::reader::vertex;
-pub use vertices::writer::vertex_json;
+pub use vertices::writer::{vertex_json, write_vertex};
 pub use vertices::{Vertex, moved};
 
 #[cfg(test)]

@@ -1,5 +1,6 @@
 use crate::{
-    Decimal, Shift, Transform, Vertex, decimal, moved, shift_of, transform, vertex, vertex_json,
+    Decimal, Shift, Transform, Vertex, decimal, least_of, moved, shift_of, three_numbers, transform,
+    vertex, vertex_json, write_vertex,
 };
 use city_json::{Fault, Line, NumText, print, read};
 use std::alloc::Global;
@@ -207,6 +208,52 @@ fn shifts_are_whole_steps(rt: HostRuntime) -> Result<(), Fail> {
 }
 
 #[test]
+fn the_lesser_translation_is_taken_on_each_axis(rt: HostRuntime) -> Result<(), Fail> {
+    let (one, other) = ("[0.001, 1, 2]", "[3, 4, 5]");
+    let rows: [(&str, &str, &str); 4] = [
+        (
+            "[84710.1, -3, 0.50]",
+            "[84800.35, -3.0, 0.5]",
+            "[84710.1, -3, 0.5]",
+        ),
+        ("[1, 5, -9]", "[1.5, -2, -7]", "[1, -2, -9]"),
+        (
+            "[-1, 5, 9]",
+            "[-999999999999, 5.001, 1e-24]",
+            "[-999999999999, 5, 1e-24]",
+        ),
+        (
+            "[0, 0, 999999999999]",
+            "[1e-24, -1e-24, -0.0]",
+            "[0, -1e-24, 0]",
+        ),
+    ];
+    for (a, b, want) in rows {
+        let a = transform_of(rt.alloc(), one, a)??;
+        let b = transform_of(rt.alloc(), other, b)??;
+        let want_a = transform_of(rt.alloc(), one, want)??;
+        let want_b = transform_of(rt.alloc(), other, want)??;
+        assert_eq!(rt; least_of(&a, &b), want_a, "{want}");
+        assert_eq!(rt; least_of(&b, &a), want_b, "{want}");
+    }
+    Ok(())
+}
+
+#[test]
+fn three_numbers_are_as_written(rt: HostRuntime) -> Result<(), Fail> {
+    let value = read(rt.alloc(), b"[1.50, -0, 2e+3]")?;
+    let numbers = three_numbers(&value).ok_or(Fault::VertexShape)?;
+    assert_eq!(rt; numbers.x.as_bytes(), b"1.50".as_slice());
+    assert_eq!(rt; numbers.y.as_bytes(), b"-0".as_slice());
+    assert_eq!(rt; numbers.z.as_bytes(), b"2e+3".as_slice());
+    for text in ["[1, 2]", "[1, 2, 3, 4]", "[1, \"2\", 3]", "{}", "3"] {
+        let other = read(rt.alloc(), text.as_bytes())?;
+        assert!(rt; three_numbers(&other).is_none(), "{text}");
+    }
+    Ok(())
+}
+
+#[test]
 fn vertices_are_read(rt: HostRuntime) -> Result<(), Fail> {
     let most = 9_007_199_254_740_991;
     let rows: [(&str, Result<Option<Vertex>, Fault>); 12] = [
@@ -267,5 +314,32 @@ fn vertices_are_written(rt: HostRuntime) -> Result<(), Fail> {
         line.items(),
         b"[9007199254740990,0,-9007199254740991]".as_slice()
     );
+    Ok(())
+}
+
+#[test]
+fn a_vertex_takes_the_place_of_any_value(rt: HostRuntime) -> Result<(), Fail> {
+    let alloc = rt.alloc();
+    let Some(vertex) = Vertex::new(-9_007_199_254_740_991, 0, 17) else {
+        return Err("no vertex".into());
+    };
+    for before in [
+        "[1,2,3]",
+        "[-0,12345678901234567890123,1.5]",
+        "[]",
+        "[1,[2],3,4,5]",
+        "{\"a\":1}",
+        "null",
+    ] {
+        let mut value = read(alloc, before.as_bytes())?;
+        write_vertex(alloc, &vertex, &mut value)?;
+        let mut line = Line::new(alloc);
+        print(&value, &mut line)?;
+        assert_eq!(rt;
+            line.items(),
+            b"[-9007199254740991,0,17]".as_slice(),
+            "{before}"
+        );
+    }
     Ok(())
 }

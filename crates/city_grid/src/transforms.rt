@@ -1,5 +1,7 @@
 ghost use Rattle.std.specs.Prelude.{◌≡◌, ◌↔◌, IsTrue, pos, ◌<ℤ◌};
+ghost use Rattle.std.specs.Int.{int_min};
 ghost use Rattle.std.specs.Option.{SomeIff};
+ghost use Rattle.city_grid.specs.Axes.{least};
 ghost use Rattle.city_grid.specs.Transform.{IsAboveZero};
 
 pub(crate) mod reader;
@@ -58,5 +60,28 @@ impl Transform {
         ensures { result ≡ self.now.translate }
     {
         self.translate
+    }
+}
+
+/// The lesser of two decimals.
+fn lesser(a: Decimal, b: Decimal) -> Decimal
+    ensures { result ≡ int_min a b }
+{
+    if b.units() < a.units() { b } else { a }
+}
+
+/// The scale of `a`, and in each component the lesser translation of the two.
+pub fn least_of(a: &Transform, b: &Transform) -> Transform
+    ensures scale { result.scale ≡ a.now.scale }
+    ensures translate { result.translate ≡ least a.now.translate b.now.translate }
+{
+    let (of_a, of_b) = (a.translate(), b.translate());
+    Transform {
+        scale: a.scale(),
+        translate: Axes {
+            x: lesser(of_a.x, of_b.x),
+            y: lesser(of_a.y, of_b.y),
+            z: lesser(of_a.z, of_b.z),
+        },
     }
 }

@@ -1,10 +1,11 @@
-ghost use Rattle.std.specs.Prelude.{◌≡◌, IfOk, IfErr};
+ghost use Rattle.std.specs.Prelude.{◌≡◌, ◌++◌, ◌∷◌, [], IfOk, IfErr, OnOk, map};
 ghost use Rattle.std.specs.Fmt.{signed_decimal};
-ghost use Rattle.city_json.specs.Tree.{tree, number};
-ghost use Rattle.city_grid.specs.Vertex.{vertex_tree};
+ghost use Rattle.city_json.specs.Tree.{array, items_tree, number, tree};
+ghost use Rattle.city_grid.specs.Axes.{IsInRange};
+ghost use Rattle.city_grid.specs.Vertex.{IsVertex, vertex_tree};
 
 use crate::vertices::Vertex;
-use city_json::{Fault, Json, NumText};
+use city_json::{Fault, Items, Json, NumText};
 use itoa::Buffer;
 use std::alloc::Global;
 
@@ -27,4 +28,41 @@ pub fn vertex_json(alloc: Global, vertex: &Vertex) -> Result<Json, Fault>
     let y = integer_json(alloc, steps.y)?;
     let z = integer_json(alloc, steps.z)?;
     Ok(Json::List(Vec::from_array(alloc, [x, y, z])?))
+}
+
+/// Adds a component as an integer in decimal.
+fn push_integer(alloc: Global, numbers: &mut Items, component: i64) -> Result<(), Fault>
+    ensures ok { OnOk result (map tree numbers.new.items
+        ≡ map tree numbers.old.items ++ number (signed_decimal component) ∷ []) }
+    ensures fault { IfErr result (λ fault. fault ≡ Fault.Memory) }
+{
+    let number = integer_json(alloc, component)?;
+    numbers.push(number).map_err(|_| Fault::Memory)
+}
+
+/// Puts the vertex in place of the numbers.
+fn write_numbers(alloc: Global, numbers: &mut Items, vertex: &Vertex) -> Result<(), Fault>
+    ensures ok { OnOk result (array (items_tree numbers.new.items) ≡ vertex_tree vertex.now) }
+    ensures fault { IfErr result (λ fault. fault ≡ Fault.Memory) }
+{
+    let steps = vertex.steps();
+    numbers.clear();
+    push_integer(alloc, numbers, steps.x)?;
+    push_integer(alloc, numbers, steps.y)?;
+    push_integer(alloc, numbers, steps.z)
+}
+
+/// Makes the value the array of the vertex's three integers in decimal. An array keeps its memory,
+/// so that one of three numbers takes no more. The only fault is [`Fault::Memory`].
+pub fn write_vertex(alloc: Global, vertex: &Vertex, value: &mut Json) -> Result<(), Fault>
+    ensures ok { OnOk result (tree value.new ≡ vertex_tree vertex.now) }
+    ensures vertex { IsVertex (vertex_tree vertex.now) vertex.now × IsInRange vertex.now }
+    ensures fault { IfErr result (λ fault. fault ≡ Fault.Memory) }
+{
+    let _ = vertex.steps();
+    let Json::List(numbers) = value else {
+        *value = vertex_json(alloc, vertex)?;
+        return Ok(());
+    };
+    write_numbers(alloc, numbers, vertex)
 }

@@ -1,0 +1,6 @@
+pub mod Extensions
+pub mod FirstLeast
+pub mod Forward
+pub mod JoinedTiles
+pub mod LentMembers
+pub mod NamedMembers

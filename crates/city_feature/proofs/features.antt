@@ -1,0 +1,4 @@
+pub mod FeatureVertices
+pub mod InPlace
+pub mod MovedLines
+pub mod StillFeature

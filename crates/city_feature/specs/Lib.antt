@@ -1,0 +1,11 @@
+pub mod Area
+pub mod Changes
+pub mod Choice
+pub mod Extent
+pub mod Feature
+pub mod FeatureLine
+pub mod Header
+pub mod Joined
+pub mod Origin
+pub mod Shapes
+pub mod Values

@@ -1,0 +1,261 @@
+//! Objects of which one member is changed.
+ghost use Rattle.std.specs.Prelude.{◌≡◌, ◌++◌, [], ◌∷◌, IfOk, IfErr, OnOk, bytes_eq, map, position};
+ghost use Rattle.city_json.specs.Tree.{tree, named_tree, members_tree};
+ghost use Rattle.city_feature.specs.Changes.{with_named, without_named, changed_named};
+ghost use Rattle.city_feature.specs.Changes.{with_member, without_member, changed_member};
+
+use city_json::{Fault, Json, Member, Members, Str};
+use std::alloc::Global;
+
+fn has_name(member: &Member, name: &str) -> bool
+    ensures { result ≡ bytes_eq (named_tree member.now).0 name.now }
+{
+    member.name.as_str() == name
+}
+
+/// Where the first member of this name stands.
+fn place_of(members: &[Member], name: &str) -> Option<usize>
+    ensures { result ≡ position (λ member. bytes_eq (named_tree member).0 name.now) members.now }
+{
+    members.iter().position(|member| has_name(member, name))
+}
+
+fn set_value(member: &mut Member, value: Json)
+    ensures { named_tree member.new ≡ ((named_tree member.old).0, tree value) }
+{
+    member.value = value;
+}
+
+fn drop_named(members: &mut Members, name: &str)
+    ensures { members_tree members.new.items
+        ≡ without_named name.now (members_tree members.old.items) }
+{
+    if let Some(place) = place_of(members, name) {
+        members.remove(place);
+    }
+}
+
+fn set_named(alloc: Global, members: &mut Members, name: &str, value: Json) -> Result<(), Fault>
+    ensures ok { OnOk result (members_tree members.new.items
+        ≡ with_named name.now (tree value) (members_tree members.old.items)) }
+    ensures fault { IfErr result (λ fault. fault ≡ Fault.Memory) }
+{
+    if let Some(place) = place_of(members, name) {
+        set_value(&mut members[place], value);
+        return Ok(());
+    }
+    push_named(alloc, members, name, value)
+}
+
+fn push_named(alloc: Global, members: &mut Members, name: &str, value: Json) -> Result<(), Fault>
+    ensures ok { OnOk result (map named_tree members.new.items
+        ≡ map named_tree members.old.items ++ (name.now, tree value) ∷ []) }
+    ensures fault { IfErr result (λ fault. fault ≡ Fault.Memory) }
+{
+    let member = named(alloc, name, value)?;
+    if members.push(member).is_err() {
+        return Err(Fault::Memory);
+    }
+    Ok(())
+}
+
+fn named(alloc: Global, name: &str, value: Json) -> Result<Member, Fault>
+    ensures ok { IfOk result (λ member. named_tree member ≡ (name.now, tree value)) }
+    ensures fault { IfErr result (λ fault. fault ≡ Fault.Memory) }
+{
+    let name = Str::read(alloc, name)?;
+    Ok(Member { name, value })
+}
+
+/// Drops the first member of this name from an object.
+pub(crate) fn drop_member(object: &mut Json, name: &str)
+    ensures { tree object.new ≡ without_member name.now (tree object.old) }
+{
+    if let Json::Map(members) = object {
+        drop_named(members, name);
+    }
+}
+
+/// Gives the first member of this name in an object the value, or adds such a member as the last.
+/// The only fault is [`Fault::Memory`].
+pub(crate) fn set_member(
+    alloc: Global,
+    object: &mut Json,
+    name: &str,
+    value: Json,
+) -> Result<(), Fault>
+    ensures ok { OnOk result (tree object.new
+        ≡ with_member name.now (tree value) (tree object.old)) }
+    ensures fault { IfErr result (λ fault. fault ≡ Fault.Memory) }
+{
+    match object {
+        Json::Map(members) => set_named(alloc, members, name, value),
+        _ => Ok(()),
+    }
+}
+
+/// Drops a member of the object that is the first member of the outer name.
+pub(crate) fn drop_inner_member(object: &mut Json, outer: &str, inner: &str)
+    ensures { tree object.new
+        ≡ changed_member outer.now (without_member inner.now) (tree object.old) }
+{
+    if let Json::Map(members) = object {
+        drop_named_in(members, outer, inner);
+    }
+}
+
+fn drop_named_in(members: &mut Members, outer: &str, inner: &str)
+    ensures { members_tree members.new.items
+        ≡ changed_named outer.now (without_member inner.now) (members_tree members.old.items) }
+{
+    if let Some(place) = place_of(members, outer) {
+        drop_in(&mut members[place], inner);
+    }
+}
+
+fn drop_in(member: &mut Member, name: &str)
+    ensures { named_tree member.new
+        ≡ ((named_tree member.old).0, without_member name.now (named_tree member.old).1) }
+{
+    drop_member(&mut member.value, name);
+}
+
+/// Sets a member of the object that is the first member of the outer name, as [`set_member`] does.
+/// The only fault is [`Fault::Memory`].
+pub(crate) fn set_inner_member(
+    alloc: Global,
+    object: &mut Json,
+    outer: &str,
+    inner: &str,
+    value: Json,
+) -> Result<(), Fault>
+    ensures ok { OnOk result (tree object.new
+        ≡ changed_member outer.now (with_member inner.now (tree value)) (tree object.old)) }
+    ensures fault { IfErr result (λ fault. fault ≡ Fault.Memory) }
+{
+    match object {
+        Json::Map(members) => set_named_in(alloc, members, outer, inner, value),
+        _ => Ok(()),
+    }
+}
+
+fn set_named_in(
+    alloc: Global,
+    members: &mut Members,
+    outer: &str,
+    inner: &str,
+    value: Json,
+) -> Result<(), Fault>
+    ensures ok { OnOk result (members_tree members.new.items
+        ≡ changed_named outer.now (with_member inner.now (tree value))
+        (members_tree members.old.items)) }
+    ensures fault { IfErr result (λ fault. fault ≡ Fault.Memory) }
+{
+    if let Some(place) = place_of(members, outer) {
+        return set_in(alloc, &mut members[place], inner, value);
+    }
+    Ok(())
+}
+
+fn set_in(alloc: Global, member: &mut Member, name: &str, value: Json) -> Result<(), Fault>
+    ensures ok { OnOk result (named_tree member.new
+        ≡ (
+          (named_tree member.old).0,
+          with_member name.now (tree value) (named_tree member.old).1,
+        )) }
+    ensures fault { IfErr result (λ fault. fault ≡ Fault.Memory) }
+{
+    set_member(alloc, &mut member.value, name, value)
+}
+
+#[cfg(test)]
+mod tests {
+    use super::*;
+    use city_json::{Line, print, read};
+    use std::test::Fail;
+
+    fn shown(alloc: Global, value: &Json) -> Result<Line, Fault> {
+        let mut line = Line::new(alloc);
+        print(value, &mut line)?;
+        Ok(line)
+    }
+
+    #[test]
+    fn the_first_of_a_name_is_dropped(rt: HostRuntime) -> Result<(), Fail> {
+        let alloc = rt.alloc();
+        let rows: [(&str, &str); 7] = [
+            (r#"{"a":1}"#, "{}"),
+            (r#"{"a":1,"b":2,"c":3}"#, r#"{"b":2,"c":3}"#),
+            (r#"{"b":2,"a":1,"c":3}"#, r#"{"b":2,"c":3}"#),
+            (r#"{"b":2,"c":3,"a":1}"#, r#"{"b":2,"c":3}"#),
+            (r#"{"b":{"a":1},"A":2}"#, r#"{"b":{"a":1},"A":2}"#),
+            ("{}", "{}"),
+            (r#"["a"]"#, r#"["a"]"#),
+        ];
+        for (text, want) in rows {
+            let mut value = read(alloc, text.as_bytes())?;
+            drop_member(&mut value, "a");
+            assert_eq!(rt; shown(alloc, &value)?.items(), want.as_bytes(), "{text}");
+        }
+        Ok(())
+    }
+
+    #[test]
+    fn a_member_is_set_at_its_place_or_last(rt: HostRuntime) -> Result<(), Fail> {
+        let alloc = rt.alloc();
+        let rows: [(&str, &str); 6] = [
+            ("{}", r#"{"a":[1.50]}"#),
+            (r#"{"a":{"a":0},"b":2}"#, r#"{"a":[1.50],"b":2}"#),
+            (r#"{"b":2,"a":1,"c":3}"#, r#"{"b":2,"a":[1.50],"c":3}"#),
+            (
+                r#"{"b":2,"c":3,"aa":1}"#,
+                r#"{"b":2,"c":3,"aa":1,"a":[1.50]}"#,
+            ),
+            (r#""a""#, r#""a""#),
+            ("null", "null"),
+        ];
+        for (text, want) in rows {
+            let mut value = read(alloc, text.as_bytes())?;
+            set_member(alloc, &mut value, "a", read(alloc, b"[1.50]")?)?;
+            assert_eq!(rt; shown(alloc, &value)?.items(), want.as_bytes(), "{text}");
+        }
+        Ok(())
+    }
+
+    #[test]
+    fn a_member_of_a_member_is_dropped_or_set(rt: HostRuntime) -> Result<(), Fail> {
+        let alloc = rt.alloc();
+        let rows: [(&str, &str, &str); 5] = [
+            (
+                r#"{"o":{"x":1,"a":2,"y":3},"a":4}"#,
+                r#"{"o":{"x":1,"y":3},"a":4}"#,
+                r#"{"o":{"x":1,"a":true,"y":3},"a":4}"#,
+            ),
+            (
+                r#"{"a":4,"o":{"a":2}}"#,
+                r#"{"a":4,"o":{}}"#,
+                r#"{"a":4,"o":{"a":true}}"#,
+            ),
+            (r#"{"o":{}}"#, r#"{"o":{}}"#, r#"{"o":{"a":true}}"#),
+            (
+                r#"{"o":[{"a":1}]}"#,
+                r#"{"o":[{"a":1}]}"#,
+                r#"{"o":[{"a":1}]}"#,
+            ),
+            (r#"{"a":4}"#, r#"{"a":4}"#, r#"{"a":4}"#),
+        ];
+        for (text, without, with) in rows {
+            let mut dropped = read(alloc, text.as_bytes())?;
+            drop_inner_member(&mut dropped, "o", "a");
+            assert_eq!(rt;
+                shown(alloc, &dropped)?.items(),
+                without.as_bytes(),
+                "{text}"
+            );
+            let mut set = read(alloc, text.as_bytes())?;
+            set_inner_member(alloc, &mut set, "o", "a", Json::Bool(true))?;
+            assert_eq!(rt; shown(alloc, &set)?.items(), with.as_bytes(), "{text}");
+        }
+        Ok(())
+    }
+}

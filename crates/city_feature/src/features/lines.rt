@@ -1,0 +1,58 @@
+ghost use Rattle.std.specs.Prelude.{◌≡◌, ◌++◌, ℕ, List, [], Option, is_some, unwrap_or, OnErr, IfOk, IfErr};
+ghost use Rattle.city_feature.specs.Choice.{IsChosen};
+ghost use Rattle.city_feature.specs.FeatureLine.{GivesFeature, RefusesFeatureLine, SpellsMoved};
+ghost use Rattle.city_feature.specs.Values.{feature_value};
+
+#[cfg(test)]
+mod tests;
+
+use crate::choices::Choice;
+use crate::choices::selecting::selects;
+use crate::features::Feature;
+use crate::features::moving::shifted;
+use crate::features::reader::feature;
+use city_grid::Shift;
+use city_json::{Fault, Line, print, read};
+use std::alloc::Global;
+
+/// Reads a line as a feature, and moves it by the shift.
+fn moved_feature(alloc: Global, bytes: &[u8], shift: Shift) -> Result<Feature, Fault>
+    ensures ok { IfOk result (λ moved. SpellsMoved shift bytes.now (feature_value moved)) }
+    ensures refusal { IfErr result (λ fault. RefusesFeatureLine shift fault bytes.now) }
+{
+    let json = read(alloc, bytes)?;
+    let feature = feature(alloc, json)?;
+    shifted(alloc, feature, shift)
+}
+
+/// Appends the compact text of the feature that a line spells, moved by the shift, where it is chosen
+/// then, and says whether it is. On a fault the text is as before.
+///
+/// # Errors
+///
+/// That of reading the line, [`Fault::NotUtf8`], [`Fault::TooDeep`], [`Fault::Syntax`] or
+/// [`Fault::DuplicateName`], in this order; else [`Fault::NotAFeature`]; else that of the first faulty
+/// vertex, [`Fault::VertexShape`], [`Fault::VertexNotInteger`] or [`Fault::VertexRange`]; else
+/// [`Fault::VertexRange`] where a vertex leaves the range when it is moved. [`Fault::Memory`] may come
+/// in place of all but the first two.
+pub fn feature_line(
+    alloc: Global,
+    bytes: &[u8],
+    shift: Shift,
+    choice: &Choice,
+    text: &mut Line,
+) -> Result<bool, Fault>
+    ensures ok { IfOk result (λ is_chosen. (given : Option (List ℕ))
+        × GivesFeature (IsChosen choice.now) shift bytes.now given
+        × (is_some given ≡ is_chosen)
+        × (text.new ≡ text.old ++ unwrap_or given [])) }
+    ensures err { OnErr result (text.new ≡ text.old) }
+    ensures refusal { IfErr result (λ fault. RefusesFeatureLine shift fault bytes.now) }
+{
+    let moved = moved_feature(alloc, bytes, shift)?;
+    if !selects(choice, &moved) {
+        return Ok(false);
+    }
+    print(moved.json(), text)?;
+    Ok(true)
+}

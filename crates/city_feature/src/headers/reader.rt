@@ -1,0 +1,87 @@
+ghost use Rattle.std.specs.Prelude.{◌≡◌, ◌↔◌, IsTrue, IfOk, IfErr, IsOkAnd, codes};
+ghost use Rattle.city_json.specs.Members.{member_of};
+ghost use Rattle.city_json.specs.Tree.{tree};
+ghost use Rattle.city_grid.specs.Transform.{Grid};
+ghost use Rattle.city_feature.specs.Header.{HasGrid, IsCityJson, IsEmpty, IsHeader, IsVersion2};
+ghost use Rattle.city_feature.specs.Header.{RefusesGrid, RefusesHeader};
+
+use crate::headers::Header;
+use crate::kinds::{Kind, is_where_there, says};
+use city_grid::{Transform, transform};
+use city_json::{Fault, Json};
+
+fn is_city_json(value: &Json) -> bool
+    ensures { IsTrue result ↔ IsCityJson (tree value.now) }
+{
+    says(value, "type", "CityJSON")
+        && is_where_there(value, "metadata", Kind::Object)
+        && is_where_there(value, "extensions", Kind::Object)
+        && is_where_there(value, "CityObjects", Kind::Object)
+        && is_where_there(value, "vertices", Kind::Array)
+}
+
+fn is_version_2(value: &Json) -> bool
+    ensures { IsTrue result ↔ IsVersion2 (tree value.now) }
+{
+    says(value, "version", "2.0")
+}
+
+/// Whether it holds neither city objects nor vertices.
+fn is_empty(value: &Json) -> bool
+    ensures { IsTrue result ↔ IsEmpty (tree value.now) }
+{
+    is_where_there(value, "CityObjects", Kind::EmptyObject)
+        && is_where_there(value, "vertices", Kind::EmptyArray)
+}
+
+/// The transform of the member `transform`.
+fn transform_of(value: &Json) -> Result<Transform, Fault>
+    ensures ok { IfOk result (λ grid. HasGrid (tree value.now) grid) }
+    ensures only { (grid : Grid) → HasGrid (tree value.now) grid → result ≡ Ok grid }
+    ensures refusal { IfErr result (λ fault.
+        RefusesGrid fault (member_of (codes "transform") (tree value.now))) }
+{
+    let Some(member) = value.get("transform") else {
+        return Err(Fault::NoTransform);
+    };
+    transform(member)
+}
+
+/// The transform of a value that is a header.
+fn header_transform(value: &Json) -> Result<Transform, Fault>
+    ensures ok { IfOk result (λ grid. IsHeader (tree value.now) grid) }
+    ensures only { (grid : Grid) → IsHeader (tree value.now) grid → result ≡ Ok grid }
+    ensures refusal { IfErr result (λ fault. RefusesHeader fault (tree value.now)) }
+{
+    if !is_city_json(value) {
+        return Err(Fault::NotCityJson);
+    }
+    if !is_version_2(value) {
+        return Err(Fault::Version);
+    }
+    let transform = transform_of(value)?;
+    if !is_empty(value) {
+        return Err(Fault::HeaderNotEmpty);
+    }
+    Ok(transform)
+}
+
+/// Takes a value as a header.
+///
+/// # Errors
+///
+/// [`Fault::NotCityJson`] where it is no object, or its `type` is not the text `CityJSON`, or its
+/// `metadata`, `extensions` or `CityObjects` are there and no object, or its `vertices` and no
+/// array; else [`Fault::Version`] where its `version` is not the text `2.0`; else
+/// [`Fault::NoTransform`], [`Fault::Decimal`] or [`Fault::ScaleNotPositive`] by its `transform`;
+/// else [`Fault::HeaderNotEmpty`] where it holds city objects or vertices.
+pub fn header(json: Json) -> Result<Header, Fault>
+    ensures ok { IfOk result (λ header.
+        (header.json ≡ json) × IsHeader (tree json) header.grid) }
+    ensures only { (grid : Grid) → IsHeader (tree json) grid
+        → IsOkAnd result (λ header. header.grid ≡ grid) }
+    ensures refusal { IfErr result (λ fault. RefusesHeader fault (tree json)) }
+{
+    let transform = header_transform(&json)?;
+    Ok(Header { json, transform })
+}

@@ -1,0 +1,60 @@
+//! What kind of value stands at a member, and what it says.
+ghost use Rattle.std.specs.Prelude.{◌↔◌, IsTrue};
+ghost use Rattle.city_json.specs.Members.{member_of};
+ghost use Rattle.city_json.specs.Tree.{tree};
+ghost use Rattle.city_feature.specs.Shapes.{Says, IsThere, WhereThere, IsOf};
+
+use city_json::Json;
+
+/// A kind of value.
+#[derive(Clone, Copy)]
+pub(crate) enum Kind {
+    Text,
+    Array,
+    EmptyArray,
+    Object,
+    EmptyObject,
+}
+
+/// Whether the member of that name is that text.
+pub(crate) fn says(value: &Json, name: &str, text: &str) -> bool
+    ensures { IsTrue result ↔ Says name.now text.now (tree value.now) }
+{
+    match value.get(name) {
+        Some(Json::Text(found)) => found.as_str() == text,
+        _ => false,
+    }
+}
+
+fn is_of(value: &Json, kind: Kind) -> bool
+    ensures { IsTrue result ↔ IsOf kind (tree value.now) }
+{
+    match (kind, value) {
+        (Kind::Text, Json::Text(_)) => true,
+        (Kind::Array, Json::List(_)) => true,
+        (Kind::EmptyArray, Json::List(items)) => items.is_empty(),
+        (Kind::Object, Json::Map(_)) => true,
+        (Kind::EmptyObject, Json::Map(members)) => members.is_empty(),
+        _ => false,
+    }
+}
+
+/// Whether there is a member of that name, and it is of that kind.
+pub(crate) fn is_there(value: &Json, name: &str, kind: Kind) -> bool
+    ensures { IsTrue result ↔ IsThere (IsOf kind) (member_of name.now (tree value.now)) }
+{
+    match value.get(name) {
+        Some(found) => is_of(found, kind),
+        None => false,
+    }
+}
+
+/// Whether the member of that name is of that kind, where it is there.
+pub(crate) fn is_where_there(value: &Json, name: &str, kind: Kind) -> bool
+    ensures { IsTrue result ↔ WhereThere (IsOf kind) (member_of name.now (tree value.now)) }
+{
+    match value.get(name) {
+        Some(found) => is_of(found, kind),
+        None => true,
+    }
+}

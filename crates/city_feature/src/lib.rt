@@ -1,0 +1,27 @@
+//! Headers and features of CityJSONSeq (CityJSON 2.0, Text sequences and streaming with
+//! CityJSONFeature): what they are ([`header`], [`feature`]), how the headers of tiles join
+//! ([`join_headers`]), and how a feature is moved onto the shared grid ([`shifted`]).
+#![tactic(auto)]
+
+mod base;
+mod changes;
+mod choices;
+mod features;
+mod headers;
+mod joining;
+mod kinds;
+
+pub use base::Base;
+pub use choices::Choice;
+pub use choices::area::Area;
+pub use choices::area::reader::area;
+pub use choices::selecting::selects;
+pub use choices::types::{Types, types};
+pub use features::Feature;
+pub use features::lines::feature_line;
+pub use features::moving::shifted;
+pub use features::reader::feature;
+pub use features::writer::line;
+pub use headers::Header;
+pub use headers::reader::header;
+pub use joining::{HeaderFault, Joined, Shifts, join_headers};
