@@ -10,6 +10,7 @@ use crate::number_parts::{NumberParts, number_parts};
 use crate::reading::numbers::{is_number, number};
 use crate::short::ShortBytes;
 use std::alloc::{AllocError, Global};
+use std::convert::AsStr;
 use std::marker::Model;
 
 /// A text in UTF-8.
@@ -52,6 +53,14 @@ impl Str {
         ensures { result.now ≡ self.now }
     {
         self.text.as_str()
+    }
+}
+
+impl AsStr for Str {
+    ghost text = { λ text. text };
+
+    fn as_str(&self) -> &str {
+        Str::as_str(self)
     }
 }
 
