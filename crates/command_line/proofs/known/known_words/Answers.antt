@@ -1,0 +1,45 @@
+use Rattle.std.proofs.Common.{refl}
+use Rattle.clap.proofs.OnLiterals.{clap_on_literals}
+use Rattle.command_line.specs.Known.{KnownFaults, KnownRows}
+use Rattle.command_line.proofs.known.known_words.Goals as goal
+
+faults : KnownFaults
+unfolding clap_on_literals
+faults = record {
+  nothing = refl;
+  help = refl;
+  short_help = refl;
+  help_of_filter = refl;
+  help_after_options = refl;
+  version = refl;
+  version_of_filter = refl;
+  bare = refl;
+  twice = refl;
+  exclude_twice = refl;
+  no_value = refl;
+  value_of_flag = refl;
+  minus = refl;
+  path = refl;
+  path_after_dashes = refl;
+  other_option = refl;
+}
+
+rows : KnownRows
+unfolding clap_on_literals
+rows = record {
+  taken = refl;
+  types = refl;
+  area = refl;
+  exclude = refl;
+  below_zero = refl;
+  empty = refl;
+  no_types = refl;
+  no_area = refl;
+  no_exclude = refl;
+}
+
+pub returns-clause-faults : goal.returns-clause-faults
+returns-clause-faults c = faults
+
+pub returns-clause-rows : goal.returns-clause-rows
+returns-clause-rows c = rows

@@ -1,0 +1,54 @@
+-- Words that are written out, with what `clap` states for them.
+use Rattle.std.specs.Prelude.{◌≡◌, List, [], ◌∷◌, Some, None, codes, true, false, option_map}
+use Rattle.clap.specs.Words.{Kinds, Row, Text, takes}
+use Rattle.clap.specs.declared.error.kind.ErrorKind.TheVariants as kind
+use Rattle.command_line.specs.Asked.{area_text, is_used, types_text}
+use Rattle.command_line.specs.Commands.{citymerge_app, faults_of, named_by}
+
+-- the words after the program's name and the word `filter`
+abbrev pub filter : List Text → List Text
+filter words = codes "citymerge" ∷ codes "filter" ∷ words
+
+abbrev pub Fails : List Text → Kinds → Type 0
+Fails words kinds = faults_of words ≡ kinds
+
+pub record KnownFaults : Type 0 where
+  pub nothing : Fails (codes "citymerge" ∷ []) (kind.MissingSubcommand ∷ [])
+  pub help : Fails (codes "citymerge" ∷ codes "--help" ∷ []) (kind.DisplayHelp ∷ [])
+  pub short_help : Fails (codes "citymerge" ∷ codes "-h" ∷ []) (kind.DisplayHelp ∷ [])
+  pub help_of_filter : Fails (filter (codes "--help" ∷ [])) (kind.DisplayHelp ∷ [])
+  pub help_after_options :
+      Fails (filter (codes "--exclude" ∷ codes "-h" ∷ [])) (kind.DisplayHelp ∷ [])
+  pub version : Fails (codes "citymerge" ∷ codes "--version" ∷ []) (kind.DisplayVersion ∷ [])
+  pub version_of_filter : Fails (filter (codes "--version" ∷ [])) (kind.UnknownArgument ∷ [])
+  pub bare : Fails (filter []) []
+  pub twice : Fails (filter (codes "--bbox=1" ∷ codes "--bbox=2" ∷ [])) (kind.ArgumentConflict ∷ [])
+  pub exclude_twice :
+      Fails (filter (codes "--exclude" ∷ codes "--exclude" ∷ [])) (kind.ArgumentConflict ∷ [])
+  pub no_value : Fails (filter (codes "--bbox" ∷ [])) (kind.InvalidValue ∷ [])
+  pub value_of_flag : Fails (filter (codes "--exclude=true" ∷ [])) (kind.TooManyValues ∷ [])
+  pub minus : Fails (filter (codes "--bbox" ∷ codes "-5,0,1,1" ∷ [])) (kind.UnknownArgument ∷ [])
+  pub path : Fails (filter (codes "a.city.jsonl" ∷ [])) (kind.UnknownArgument ∷ [])
+  pub path_after_dashes :
+      Fails (filter (codes "--" ∷ codes "a.city.jsonl" ∷ [])) (kind.UnknownArgument ∷ [])
+  pub other_option : Fails (filter (codes "--in-turn" ∷ [])) (kind.UnknownArgument ∷ [])
+
+-- what is found of one option, where the words name a command
+abbrev pub Finds : {A : Type 0} → List Text → (List Row → A) → A → Type 0
+Finds words of found =
+    option_map (λ command. of command.1) (named_by words) ≡ Some found
+
+abbrev pub three : List Text
+three = filter (codes "--exclude" ∷ codes "--cotype=A,B" ∷ codes "--bbox" ∷ codes "1,2,3,4" ∷ [])
+
+pub record KnownRows : Type 0 where
+  pub taken : takes citymerge_app three ≡ true
+  pub types : Finds three types_text (Some (codes "A,B"))
+  pub area : Finds three area_text (Some (codes "1,2,3,4"))
+  pub exclude : Finds three (is_used (codes "exclude")) true
+  pub below_zero :
+      Finds (filter (codes "--bbox=-5,0,10,10" ∷ [])) area_text (Some (codes "-5,0,10,10"))
+  pub empty : Finds (filter (codes "--cotype=" ∷ [])) types_text (Some [])
+  pub no_types : Finds (filter []) types_text None
+  pub no_area : Finds (filter []) area_text None
+  pub no_exclude : Finds (filter []) (is_used (codes "exclude")) false

@@ -1,0 +1,5 @@
+pub mod Answered
+pub mod Asked
+pub mod Commands
+pub mod Known
+pub mod Matches

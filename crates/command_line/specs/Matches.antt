@@ -1,0 +1,29 @@
+-- What `clap` answers, and what the functions over its answers say.
+use Rattle.std.specs.Prelude.{◌≡◌, ◌≢◌, List, Option, codes, false, true, IsSomeAnd, ⊤}
+use Rattle.clap.specs.Words.{Row, Text, found_of, rows_of}
+use Rattle.clap.specs.declared.error.kind.ErrorKind.{ErrorKind}
+use Rattle.clap.specs.declared.error.kind.ErrorKind.TheVariants.{OutOfMemory}
+use Rattle.clap.specs.declared.parser.matches.ArgMatches.{ArgMatches}
+use Rattle.command_line.specs.Answered.{is_shown}
+use Rattle.command_line.specs.Asked.{IsAsked}
+use Rattle.command_line.specs.declared.parsing.Parsed.{Parsed}
+use Rattle.command_line.specs.declared.parsing.Parsed.TheVariants as parsed
+
+abbrev pub rows_in : ArgMatches → List Row
+rows_in matches = rows_of (found_of matches)
+
+-- the words name a command
+abbrev pub IsNamed : Option (Text × List Row) → Type 0
+IsNamed named = IsSomeAnd named (λ command. command.0 ≡ codes "filter")
+
+-- the answer fits an error of `clap` of that kind
+abbrev pub AnswersKind : ErrorKind → Parsed → Type 0
+AnswersKind kind (parsed.Help text) = is_shown kind ≡ true
+AnswersKind kind (parsed.Usage text) = (is_shown kind ≡ false) × (kind ≢ OutOfMemory)
+AnswersKind kind parsed.Memory = ⊤
+AnswersKind kind _ = ⊥
+
+-- the answer takes the words
+abbrev pub IsTaken : Option (Text × List Row) → Parsed → Type 0
+IsTaken named (parsed.Filter choice) = IsAsked named (parsed.Filter choice)
+IsTaken named _ = ⊥

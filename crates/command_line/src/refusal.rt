@@ -1,0 +1,35 @@
+ghost use Rattle.std.specs.Prelude.{◌≡◌, option_map};
+ghost use Rattle.command_line.specs.Answered.{text_of};
+ghost use Rattle.command_line.specs.declared.refusal.Refusal.TheVariants.{Memory};
+
+use city_json::Fault;
+
+/// Why words are refused that `clap` takes.
+#[derive(Clone, Copy, Debug, PartialEq, Eq)]
+pub(crate) enum Refusal {
+    BadTypes,
+    BadArea,
+    Memory,
+}
+
+impl Refusal {
+    /// What is said on standard error, where memory is not why.
+    pub(crate) fn text(self) -> Option<&'static str>
+        ensures { option_map (λ text. text.now) result ≡ text_of self }
+    {
+        match self {
+            Refusal::BadTypes => Some("citymerge: bad --cotype\n"),
+            Refusal::BadArea => Some("citymerge: bad --bbox\n"),
+            Refusal::Memory => None,
+        }
+    }
+}
+
+/// The only fault of the calls that read an option is [`Fault::Memory`].
+impl From<Fault> for Refusal {
+    ghost from_gives = { λ _ refusal. refusal ≡ Memory };
+
+    fn from(_fault: Fault) -> Refusal {
+        Refusal::Memory
+    }
+}
