@@ -1,5 +1,5 @@
 -- Tiles that were all checked, and what comes of them.
-use Rattle.std.proofs.Common.{◌≡◌, ◌⊎◌, ◌++◌, ◌∙◌, ◌<◌, ℕ, suc, List, [], ◌∷◌, All, drop, length, map, slice_index_or, append-nil, append_assoc, inl, inr, ◌+◌, refl, ap, sym, subst, arith}
+use Rattle.std.proofs.Common.{◌≡◌, ◌⊎◌, ◌++◌, ◌∙◌, ◌<◌, ℕ, List, [], ◌∷◌, All, drop, length, slice_index_or, append-nil, inl, inr, ◌+◌, ap, sym, subst, arith}
 use Rattle.city_json.specs.Compact.{compact}
 use Rattle.city_json.specs.Tree.{MemberTrees, no_members}
 use Rattle.city_json.specs.declared.fault.Fault.{Fault}

@@ -1,9 +1,9 @@
 -- Borrowed names and values as the members of an object: how a name is found among them, and what one more of them adds.
-use Rattle.std.proofs.Common.{◌≡◌, ◌++◌, ◌∙◌, ℕ, Bool, true, false, cond, List, [], ◌∷◌, Option, Some, None, Bor, option_map, option_copied, bytes_eq, if◌then◌else◌, refl, ap, sym}
+use Rattle.std.proofs.Common.{◌≡◌, ◌++◌, ◌∙◌, ℕ, Bool, true, false, cond, List, [], ◌∷◌, Option, Some, None, Bor, option_map, option_copied, bytes_eq, refl, ap}
 use Rattle.std.proofs.lemmas.Cmp.{nat_list_eq_equiv}
 use Rattle.std.specs.Map.{lookup}
 use Rattle.city_json.specs.Members.{first_named}
-use Rattle.city_json.specs.Tree.{Tree, tree, member}
+use Rattle.city_json.specs.Tree.{tree, member}
 use Rattle.city_json.specs.declared.json.Json.{Json}
 use Rattle.city_feature.specs.Joined.{with_last}
 use Rattle.city_feature.specs.Values.{lent_members}

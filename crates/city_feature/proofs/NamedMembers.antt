@@ -1,5 +1,5 @@
 -- Members of which the first of a name is dropped or changed, or one is added.
-use Rattle.std.proofs.Common.{◌≡◌, ◌++◌, ◌∙◌, ◌<◌, ◌+◌, ℕ, zero, suc, List, [], ◌∷◌, Some, None, Result, Ok, Err, OnOk, is_ok, is_err, Bool, true, false, length, take, drop, get_or, set, map, refl, ap, sym, arith, bytes_eq, if◌then◌else◌}
+use Rattle.std.proofs.Common.{◌≡◌, ◌++◌, ◌∙◌, ◌<◌, ◌+◌, ℕ, zero, suc, List, [], ◌∷◌, Some, None, Result, Ok, Err, OnOk, Bool, true, false, length, take, drop, get_or, set, map, refl, ap, sym, arith, bytes_eq, if◌then◌else◌}
 use Rattle.std.specs.List.{position, position_from, remove}
 use Rattle.std.proofs.lemmas.Iterator.Adapters.{position_from-zero}
 use Rattle.std.proofs.lemmas.List.Quantifiers.{position-Some}
@@ -45,14 +45,9 @@ pub on_ok : {T E : Type 0} (result : Result T E) {P Q : Type 0} → (P → Q) �
 on_ok (Ok value) use_of given = use_of given
 on_ok (Err fault) use_of given = tt
 
-true_is_something : true ≡ false → ⊥
-true_is_something equal = cc
-
 -- a member that was pushed is the last
-pub pushed_member : {T E : Type 0} (result : Result T E) (ms new : List Member) (m : Member) (pair : List ℕ × Tree) → is_err result ≡ false → new ≡ (if is_ok result then ms ++ m ∷ [] else ms) → named_tree m ≡ pair
-    → map named_tree new ≡ map named_tree ms ++ pair ∷ []
-pushed_member (Ok value) ms new m pair kept new_is m_is = ap (map named_tree) new_is ∙ (map-append named_tree ms (m ∷ []) ∙ ap (λ p. map named_tree ms ++ p ∷ []) m_is)
-pushed_member (Err fault) ms new m pair kept new_is m_is = absurd (true_is_something kept)
+pub pushed_member : (ms new : List Member) (m : Member) (pair : List ℕ × Tree) → new ≡ ms ++ m ∷ [] → named_tree m ≡ pair → map named_tree new ≡ map named_tree ms ++ pair ∷ []
+pushed_member ms new m pair new_is m_is = ap (map named_tree) new_is ∙ (map-append named_tree ms (m ∷ []) ∙ ap (λ p. map named_tree ms ++ p ∷ []) m_is)
 
 some_is_something : (n : ℕ) → Some n ≡ None → ⊥
 some_is_something n equal = cc

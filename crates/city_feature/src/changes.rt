@@ -53,9 +53,7 @@ fn push_named(alloc: Global, members: &mut Members, name: &str, value: Json) -> 
     ensures fault { IfErr result (λ fault. fault ≡ Fault.Memory) }
 {
     let member = named(alloc, name, value)?;
-    if members.push(member).is_err() {
-        return Err(Fault::Memory);
-    }
+    members.push(member)?;
     Ok(())
 }
 

@@ -29,9 +29,7 @@ pub fn types(alloc: Global, text: &str) -> Result<Option<Types>, Fault>
     }
     let mut names = Vec::new(alloc);
     for name in text.split(',') {
-        names
-            .push(Str::read(alloc, name)?)
-            .map_err(|_| Fault::Memory)?;
+        names.push(Str::read(alloc, name)?)?;
     }
     Ok(Some(Sequence::from_vec(names)))
 }
@@ -42,11 +40,9 @@ pub fn copied(alloc: Global, types: &Types) -> Result<Types, Fault>
     ensures fault { IfErr result (λ fault. fault ≡ Fault.Memory) }
 {
     let names = types.items();
-    let mut copies = Vec::with_capacity(alloc, names.len()).map_err(|_| Fault::Memory)?;
+    let mut copies = Vec::with_capacity(alloc, names.len())?;
     for name in names {
-        copies
-            .push(Str::read(alloc, name.as_str())?)
-            .map_err(|_| Fault::Memory)?;
+        copies.push(Str::read(alloc, name.as_str())?)?;
     }
     Ok(Sequence::from_vec(copies))
 }

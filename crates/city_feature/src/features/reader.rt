@@ -38,7 +38,7 @@ fn read_vertices(alloc: Global, items: &[Json]) -> Result<Vec<Vertex>, Fault>
     ensures refusal { IfErr result (λ fault.
         (fault ≡ Fault.Memory) ⊎ RefusesFirst fault (items_tree items.now)) }
 {
-    let mut vertices = Vec::with_capacity(alloc, items.len()).map_err(|_| Fault::Memory)?;
+    let mut vertices = Vec::with_capacity(alloc, items.len())?;
     for item in items {
         vertices.push_reserved(vertex(item)?);
     }

@@ -62,10 +62,8 @@ impl<'a> Extensions<'a> {
             ≡ with_last (lent_members self.old.known.entries) name.now (tree value.now)) }
         ensures fault { IfErr result (λ fault. fault ≡ Fault.Memory) }
     {
-        match self.known.insert(name, value) {
-            Ok(_) => Ok(()),
-            Err(_) => Err(Fault::Memory),
-        }
+        self.known.insert(name, value)?;
+        Ok(())
     }
 
     /// Takes in one extension.
@@ -111,11 +109,9 @@ impl<'a> Extensions<'a> {
             members_tree members.items ≡ lent_members self.now.known.entries) }
         ensures fault { IfErr result (λ fault. fault ≡ Fault.Memory) }
     {
-        let mut members = Vec::with_capacity(alloc, self.known.len()).map_err(|_| Fault::Memory)?;
+        let mut members = Vec::with_capacity(alloc, self.known.len())?;
         for (name, value) in self.known.iter() {
-            members
-                .push(copy_member(alloc, *name, *value)?)
-                .map_err(|_| Fault::Memory)?;
+            members.push(copy_member(alloc, *name, *value)?)?;
         }
         Ok(members)
     }

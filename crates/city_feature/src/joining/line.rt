@@ -26,10 +26,7 @@ fn three_json(alloc: Global, numbers: &Axes<&NumText>) -> Result<Json, Fault>
     let x = number_json(alloc, numbers.x)?;
     let y = number_json(alloc, numbers.y)?;
     let z = number_json(alloc, numbers.z)?;
-    match Vec::from_array(alloc, [x, y, z]) {
-        Ok(items) => Ok(Json::List(items)),
-        Err(_) => Err(Fault::Memory),
-    }
+    Ok(Json::List(Vec::from_array(alloc, [x, y, z])?))
 }
 
 fn object_json(members: Members) -> Json

@@ -37,7 +37,8 @@ fn push_integer(alloc: Global, numbers: &mut Items, component: i64) -> Result<()
     ensures fault { IfErr result (λ fault. fault ≡ Fault.Memory) }
 {
     let number = integer_json(alloc, component)?;
-    numbers.push(number).map_err(|_| Fault::Memory)
+    numbers.push(number)?;
+    Ok(())
 }
 
 /// Puts the vertex in place of the numbers.

@@ -1,4 +1,4 @@
-use Rattle.std.proofs.Common.{◌≡◌, ◌∷◌, ap, drop, map, rules}
+use Rattle.std.proofs.Common.{ap, drop, map}
 use Rattle.std.proofs.lemmas.Result.{err_from_is_err_and}
 use Rattle.city_grid.specs.Axes.{texts_of}
 use Rattle.city_feature.specs.Values.{header_value, lent_members}

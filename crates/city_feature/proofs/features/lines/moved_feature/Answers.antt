@@ -1,5 +1,4 @@
 use Rattle.std.proofs.lemmas.Result.{IfOk-weaker, IfErr-weaker}
-use Rattle.city_feature.specs.Feature.{RefusesMove, moved, IsMovable}
 use Rattle.city_feature.specs.FeatureLine.{SpellsMoved, RefusesFeatureLine}
 use Rattle.city_feature.specs.Values.{feature_value}
 use Rattle.city_feature.proofs.features.MovedLines.{spells_feature, spells_moved, refuses_move}
