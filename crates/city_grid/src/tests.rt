@@ -1,6 +1,6 @@
 use crate::{
-    Decimal, Shift, Transform, Vertex, decimal, least_of, moved, shift_of, three_numbers, transform,
-    vertex, vertex_json, write_vertex,
+    Decimal, Shift, Transform, Vertex, decimal, least_of, moved, shift_of, three_numbers,
+    transform, vertex, vertex_json, write_vertex,
 };
 use city_json::{Fault, Line, NumText, print, read};
 use std::alloc::Global;
