@@ -8,7 +8,7 @@ use Rattle.city_json.specs.declared.fault.Fault.TheVariants.{LineTooLong, TileTo
 use Rattle.tile_merge.specs.declared.limits.Limits.{Limits}
 use Rattle.tile_merge.specs.Ahead.{Ahead, MayCome}
 use Rattle.tile_merge.specs.Taking.{HasNoNewline, IsFineFront, IsFineLine, IsRefusal}
-use Rattle.tile_merge.specs.Unread.{Unread, Leaves, part_before, IsRefused, BeginsFrom}
+use Rattle.tile_merge.specs.Unread.{Unread, Leaves, part_before, IsRefused, BeginsFrom, EndsFrom}
 use Rattle.tile_merge.specs.Tile.{TileLines, part_of, number_parts, is_newline, is_blank, fault_at, lines_of_parts, lines_from, line_before, nothing_left, only_fault}
 use Rattle.tile_merge.proofs.FirstParts.{by_fault, by_blank, by_line, whole_blank, whole_line, last_blank, last_line}
 
@@ -83,12 +83,17 @@ pub by_kept : (fault : Fault) (line : ℕ) → IsRefused fault line (λ left. le
 by_kept Memory line = (only_fault line Memory, refl, omega arith)
 by_kept other line = refl
 
--- Something may be left, since each reader gives something.
-something_if : {R : Type 0} (gives : R → List ℕ → Bool → Type 0) → ((reader : R) → (bytes : List ℕ) × ((fails : Bool) × gives reader bytes fails)) → (ended : Option TileLines) (lines : Unread R) → lines.ended ≡ ended → (left : TileLines) × Leaves gives lines left
-something_if gives some (Some known) lines is = rw is (known, refl)
-something_if gives some None lines is =
+-- Something may be left, since each reader gives something; it begins at the next line's number.
+something_if : {R : Type 0} (gives : R → List ℕ → Bool → Type 0) → ((reader : R) → (bytes : List ℕ) × ((fails : Bool) × gives reader bytes fails)) → (ended : Option TileLines) (lines : Unread R) → lines.ended ≡ ended → EndsFrom lines.number ended → (left : TileLines) × Leaves gives lines left × Begins lines.number left
+something_if gives some (Some known) lines is from = rw is (known, refl, from)
+something_if gives some None lines is from =
     let rest = some lines.ahead.reader in
-    rw is (_, (lines.ahead.held ++ rest.0, rest.1.0, (rest.0, rest.1.1, refl), refl))
+    let bytes = lines.ahead.held ++ rest.0 in
+    rw is (
+      lines_from lines.limits lines.number lines.start bytes rest.1.0,
+      (bytes, rest.1.0, (rest.0, rest.1.1, refl), refl),
+      begins lines.limits (lines.start + length bytes) rest.1.0 lines.number lines.number lines.start (slice_split is_newline bytes) (omega arith),
+    )
 
-pub something_left : {R : Type 0} (gives : R → List ℕ → Bool → Type 0) → ((reader : R) → (bytes : List ℕ) × ((fails : Bool) × gives reader bytes fails)) → (lines : Unread R) → (left : TileLines) × Leaves gives lines left
-something_left gives some lines = something_if gives some lines.ended lines refl
+pub something_left : {R : Type 0} (gives : R → List ℕ → Bool → Type 0) → ((reader : R) → (bytes : List ℕ) × ((fails : Bool) × gives reader bytes fails)) → (lines : Unread R) → EndsFrom lines.number lines.ended → (left : TileLines) × Leaves gives lines left × Begins lines.number left
+something_left gives some lines from = something_if gives some lines.ended lines refl from

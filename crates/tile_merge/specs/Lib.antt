@@ -1,5 +1,11 @@
 pub mod Ahead
+pub mod Coming
+pub mod Filtered
+pub mod Head
+pub mod Progress
+pub mod Stream
 pub mod Taking
 pub mod TapeLines
+pub mod Texts
 pub mod Tile
 pub mod Unread

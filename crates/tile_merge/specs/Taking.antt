@@ -2,12 +2,12 @@
 use Rattle.std.specs.Prelude.{◌≡◌, ◌+◌, ℕ, Bool, false, List, ◌∷◌, ◌++◌, None, length, Result, Ok, Err}
 use Rattle.std.specs.List.{All}
 use Rattle.city_json.specs.Bytes.{newline}
-use Rattle.city_json.specs.Streams.Failures.{one_more}
 use Rattle.city_json.specs.declared.fault.Fault.{Fault}
 use Rattle.city_json.specs.declared.fault.Fault.TheVariants.{LineTooLong, TileTooLong, Read, Memory}
 use Rattle.tile_merge.specs.declared.limits.Limits.{Limits}
 use Rattle.tile_merge.specs.declared.lines.part.NextPart.{NextPart}
 use Rattle.tile_merge.specs.declared.lines.part.NextPart.TheVariants.{Ended, Last}
+use Rattle.tile_merge.specs.Unread.{failed_reads_after}
 use Rattle.tile_merge.specs.Tile.{is_newline, fault_between, lines_from, only_fault}
 
 -- a line or a tile is past its limit
@@ -21,11 +21,6 @@ abbrev pub IsFillFault : Fault → Type 0
 IsFillFault Read = Unit {0}
 IsFillFault Memory = Unit {0}
 IsFillFault other = ⊥
-
--- the count of failed reads after a call that was refused for this
-abbrev pub failed_reads_after : Fault → ℕ → ℕ
-failed_reads_after Read count = one_more count
-failed_reads_after other count = count
 
 abbrev pub failed_reads_after_call : {X : Type 0} → Result X Fault → ℕ → ℕ
 failed_reads_after_call (Ok x) count = count

@@ -73,6 +73,11 @@ abbrev pub BeginsFrom : ℕ → List Part → Option FaultyLine → Type 0
 BeginsFrom number [] fault = IsFaultFrom number fault
 BeginsFrom number (line ∷ others) fault = number ≤ line.number
 
+-- What is left once no more is read begins at this number or a higher one.
+abbrev pub EndsFrom : ℕ → Option TileLines → Type 0
+EndsFrom number None = Unit {0}
+EndsFrom number (Some left) = BeginsFrom number left.lines left.fault
+
 -- A line is refused: out of memory in place of what comes next, a line, a fault or the end; else because
 -- that fault is all that is left.
 abbrev pub IsRefused : Fault → ℕ → (TileLines → Type 0) → Type 0
@@ -107,6 +112,11 @@ has_failed lines = has_failed_if lines.ended
 abbrev pub failed_reads_between : Bool → Bool → ℕ → ℕ
 failed_reads_between false true count = one_more count
 failed_reads_between before after count = count
+
+-- the count of failed reads after a call that was refused for this
+abbrev pub failed_reads_after : Fault → ℕ → ℕ
+failed_reads_after Read count = one_more count
+failed_reads_after other count = count
 
 -- Once no more is read, each call answers the same: the fault, or none.
 abbrev pub answer_again : {X : Type 0} → Option FaultyLine → Result (Option X) LineFault

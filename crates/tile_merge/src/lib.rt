@@ -1,9 +1,18 @@
-//! Tiles, line by line: [`Lines`] gives the lines of what a reader gives, while it is read.
+//! Streams, line by line: [`Lines`] gives the lines of what a reader gives, while it is read, and
+//! [`TileReader`] what they come to, the header of the tile and the texts of its features.
+//! [`filter_stream`] writes the stream of those features that are chosen.
 #![tactic(auto)]
 
+mod fault;
+mod filter;
 mod laws;
 mod limits;
+mod line_end;
 mod lines;
+mod tile_reader;
 
+pub use fault::MergeFault;
+pub use filter::{filter_stream, filter_tile};
 pub use laws::tape_leaves_one_list;
 pub use lines::{LineFault, Lines, NumberedLine};
+pub use tile_reader::{Head, TileReader};

@@ -1,6 +1,6 @@
 ghost use Rattle.std.specs.Prelude.{◌≡◌, ◌≤◌, ◌<◌, ◌+◌, ◌^◌, ◌↔◌, false, Some, None, IfOk, IfErr, IfSome, IfNone};
 ghost use Rattle.tile_merge.specs.Tile.{TileLines, nothing_left, only_fault, limits_of, stream_limits};
-ghost use Rattle.tile_merge.specs.Unread.{Leaves, IsOfTile, GivesPart, GivesLine, IsRefused, IsLineFault, IsAgain, most_left, has_failed, failed_reads_between};
+ghost use Rattle.tile_merge.specs.Unread.{Leaves, IsOfTile, GivesPart, GivesLine, IsRefused, IsLineFault, IsAgain, BeginsFrom, EndsFrom, most_left, has_failed, failed_reads_between};
 
 mod part;
 mod read_ahead;
@@ -112,7 +112,9 @@ impl<R: Source> Lines<R> {
         ensures at { IfErr result (λ e. self.old.number ≤ e.line) }
         ensures fewer { IfOk result (λ next. IfSome next (λ line.
             most_left self.new < most_left self.old)) }
-        ensures some { (left : TileLines) × Leaves R.gives self.new left }
+        ensures most { most_left self.new ≤ 2 ^ 40 + 1 }
+        ensures some { (left : TileLines) × Leaves R.gives self.new left
+            × BeginsFrom self.new.number left.lines left.fault }
         ensures had_not_failed { IfOk result (λ next. has_failed self.old ≡ false) }
         ensures not_failed { IfOk result (λ next. has_failed self.new ≡ false) }
         ensures failures { R.failures self.new.ahead.reader ≡ failed_reads_between
@@ -148,6 +150,8 @@ impl<R: Source> Lines<R> {
         ensures at { IfErr result (λ e. self.old.number ≤ e.line) }
         ensures fewer { IfOk result (λ next. IfSome next (λ line.
             most_left self.new < most_left self.old)) }
+        ensures most { most_left self.new ≤ 2 ^ 40 + 1 }
+        ensures ended { EndsFrom self.new.number self.new.ended }
         ensures had_not_failed { IfOk result (λ next. has_failed self.old ≡ false) }
         ensures not_failed { IfOk result (λ next. has_failed self.new ≡ false) }
         ensures failures { R.failures self.new.ahead.reader ≡ failed_reads_between

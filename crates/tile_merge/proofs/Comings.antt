@@ -1,0 +1,116 @@
+-- What one line does to what may be to come of a tile.
+use Rattle.std.proofs.Common.{◌≡◌, ◌≢◌, ◌≤◌, ◌<◌, ◌++◌, ℕ, Bool, true, false, List, [], ◌∷◌, Option, Some, None, is_some, unwrap_or, option_to_list, refl, sym, ap, subst, ◌∙◌, inl, inr, arith, append_assoc, append-nil}
+use Rattle.city_json.specs.Bytes.{newline}
+use Rattle.city_json.specs.declared.fault.Fault.{Fault}
+use Rattle.city_json.specs.declared.fault.Fault.TheVariants.{Memory, Read, Write, VertexRange}
+use Rattle.city_feature.specs.Feature.{FeatureValue, RefusesFeature}
+use Rattle.city_feature.specs.FeatureLine.{GivesFeature, RefusesFeatureLine}
+use Rattle.city_grid.specs.Axes.{Triple}
+use Rattle.tile_merge.specs.Coming.{MayComeTo, GivesText, SomethingComes}
+use Rattle.tile_merge.specs.Stream.{with_newline}
+use Rattle.tile_merge.specs.Texts.{Outcome, EndsSo, EndsAfter, LinesComeTo, ComesTo}
+use Rattle.tile_merge.specs.Tile.{Part, FaultyLine, TileLines, part_of, line_before, nothing_left, only_fault}
+use Rattle.tile_merge.specs.Unread.{Unread, Leaves, GivesLine, IsRefused, IsFaultFrom, BeginsFrom, is_read}
+
+abbrev at_line : ℕ → Fault → FaultyLine
+at_line number fault = record { number = number; fault = fault }
+
+false_is_true : false ≡ true → ⊥
+false_is_true is = cc is
+
+-- memory may run out at the next line
+memory_in : (Gives : List ℕ → Option (List ℕ) → Type 0) (Refuses : Fault → List ℕ → Type 0) (lines : List Part) (fault : Option FaultyLine) (number : ℕ) → BeginsFrom number lines fault → LinesComeTo Gives Refuses lines fault [] (Some (at_line number Memory))
+memory_in Gives Refuses [] None number begins = (refl, refl)
+memory_in Gives Refuses [] (Some fault) number begins = (refl, inr (refl, begins))
+memory_in Gives Refuses (line ∷ others) fault number begins = inl (refl, inr (refl, begins))
+
+pub ends_after : (number next : ℕ) (outcome : Outcome) → number < next → IsFaultFrom next outcome → EndsAfter number outcome
+ends_after number next None below from = tt
+ends_after number next (Some at) below from = omega (arith, below, from)
+
+ends_from : (first number : ℕ) (outcome : Outcome) → first ≤ number → EndsAfter number outcome → IsFaultFrom first outcome
+ends_from first number None low after = tt
+ends_from first number (Some at) low after = omega (arith, low, after)
+
+module _ {R : Type 0} (gives : R → List ℕ → Bool → Type 0) (IsWanted : FeatureValue → Type 0) (k : Triple) where
+  abbrev Comes : Unread R → List (List ℕ) → Outcome → Type 0
+  Comes lines texts outcome = MayComeTo gives IsWanted k lines texts outcome
+
+  pub something_comes : (lines : Unread R) → (left : TileLines) × Leaves gives lines left × BeginsFrom lines.number left.lines left.fault → SomethingComes (MayComeTo gives IsWanted k lines)
+  something_comes lines some =
+      let left = some.0 in
+      let memory = memory_in (GivesFeature IsWanted k) (RefusesFeatureLine k) left.lines left.fault lines.number some.2 in
+      ([], (Some (at_line lines.number Memory), (left, some.1, memory, omega arith)))
+
+  module _ (before : Unread R) where
+    pub nothing_comes : Leaves gives before nothing_left → Comes before [] None
+    nothing_comes over = (nothing_left, over, (refl, tt), tt)
+
+    pub fault_comes : (fault : Fault) (number : ℕ) → before.number ≤ number → IsRefused fault number (Leaves gives before) → Comes before [] (Some (at_line number fault))
+    fault_comes Memory number from refused =
+        (refused.0, refused.1, memory_in (GivesFeature IsWanted k) (RefusesFeatureLine k) refused.0.lines refused.0.fault number refused.2, from)
+    fault_comes other number from refused = (only_fault number other, refused, (refl, inl refl), from)
+
+    module _ (after : Unread R) (number : ℕ) (bytes : List ℕ) (taken : GivesLine (Leaves gives before) (Leaves gives after) number bytes) (from : before.number ≤ number) where
+      abbrev line : Part
+      line = part_of number taken.0 bytes
+
+      pub line_comes : number < after.number → (given : Option (List ℕ)) → GivesFeature IsWanted k bytes given → (texts : List (List ℕ)) (outcome : Outcome) → Comes after texts outcome → Comes before (option_to_list given ++ texts) outcome
+      line_comes later given feature texts outcome comes =
+          let left = comes.0 in
+          let ends = ends_after number after.number outcome later comes.3 in (
+            line_before line left,
+            taken.1 left comes.1,
+            inr (given, texts, feature, ends, comes.2, refl),
+            ends_from before.number number outcome from ends,
+          )
+
+      pub refusal_comes : (left : TileLines) → Leaves gives after left → (fault : Fault) → RefusesFeatureLine k fault bytes → Comes before [] (Some (at_line number fault))
+      refusal_comes left leaves fault refused =
+          (line_before line left, taken.1 left leaves, inl (refl, inl (refl, refused)), from)
+
+      module _ (start : Unread R) (back : (texts : List (List ℕ)) (outcome : Outcome) → Comes before texts outcome → Comes start texts outcome) where
+        pub text_comes : number < after.number → (given : Option (List ℕ)) (is_chosen : Bool) → GivesFeature IsWanted k bytes given → is_some given ≡ is_chosen → is_chosen ≡ true
+            → (text old new longer : List ℕ) → old ≡ text → new ≡ old ++ unwrap_or given [] → longer ≡ with_newline new
+            → (x : List ℕ) × (longer ≡ text ++ with_newline x) × GivesText (MayComeTo gives IsWanted k start) (MayComeTo gives IsWanted k after) x
+        text_comes later None is_chosen feature some chosen text old new longer same appended ended = absurd (false_is_true (some ∙ chosen))
+        text_comes later (Some x) is_chosen feature some chosen text old new longer same appended ended = (
+          x,
+          ended ∙ ap with_newline (appended ∙ ap (λ front. front ++ x) same) ∙ append_assoc text x (newline ∷ []),
+          λ texts outcome comes. back (x ∷ texts) outcome (line_comes later (Some x) feature texts outcome comes),
+        )
+
+        pub none_comes : number < after.number → (given : Option (List ℕ)) (is_chosen : Bool) → GivesFeature IsWanted k bytes given → is_some given ≡ is_chosen → is_chosen ≡ false
+            → (texts : List (List ℕ)) (outcome : Outcome) → Comes after texts outcome → Comes start texts outcome
+        none_comes later None is_chosen feature some chosen texts outcome comes = back texts outcome (line_comes later None feature texts outcome comes)
+        none_comes later (Some x) is_chosen feature some chosen texts outcome comes = absurd (false_is_true (sym (some ∙ chosen)))
+
+        pub memory_comes : (left : TileLines) → Leaves gives after left → (given : Option (List ℕ)) → GivesFeature IsWanted k bytes given → Comes start [] (Some (at_line number Memory))
+        memory_comes left leaves given feature =
+            let spelled = feature.1.1 in
+            let refused : RefusesFeatureLine k Memory bytes = inr (inl (feature.1.0.value, spelled.0, spelled.1, spelled.2.0)) in
+            back [] (Some (at_line number Memory)) (refusal_comes left leaves Memory refused)
+
+-- nothing was appended of a feature that is not chosen
+pub same_text : (given : Option (List ℕ)) (is_chosen : Bool) → is_some given ≡ is_chosen → is_chosen ≡ false → (text old new : List ℕ) → old ≡ text → new ≡ old ++ unwrap_or given [] → new ≡ text
+same_text None is_chosen some chosen text old new same appended = appended ∙ append-nil old ∙ same
+same_text (Some x) is_chosen some chosen text old new same appended = absurd (false_is_true (sym (some ∙ chosen)))
+
+-- a line is refused neither because a write failed nor because a read did
+module _ (k : Triple) (line : List ℕ) where
+  never_write : RefusesFeatureLine k Write line → ⊥
+  never_write (inl text) = text
+  never_write (inr (inl value)) = value.3
+  never_write (inr (inr range)) = cc range.0
+
+  never_read : RefusesFeatureLine k Read line → ⊥
+  never_read (inl text) = text
+  never_read (inr (inl value)) = value.3
+  never_read (inr (inr range)) = cc range.0
+
+  pub no_failed_write : (fault : Fault) → RefusesFeatureLine k fault line → fault ≢ Write
+  no_failed_write fault refused is = never_write (subst (λ (f : Fault). RefusesFeatureLine k f line) is refused)
+
+  pub no_failed_read : (fault : Fault) → RefusesFeatureLine k fault line → is_read fault ≡ false
+  no_failed_read Read refused = absurd (never_read refused)
+  no_failed_read other refused = refl

@@ -1,0 +1,83 @@
+-- What a call that filters one tile may answer, and what was written then.
+use Rattle.std.specs.Prelude.{◌≡◌, ◌⊎◌, ℕ, pos, List, Option, Some, None, length, take, Result, Ok, Err}
+use Rattle.std.specs.Io.KnownBytes.{Appends, Keeps}
+use Rattle.city_json.specs.Compact.{compact}
+use Rattle.city_json.specs.Streams.Failures.{one_more}
+use Rattle.city_json.specs.declared.fault.Fault.{Fault}
+use Rattle.city_json.specs.declared.fault.Fault.TheVariants.{Write}
+use Rattle.city_feature.specs.Feature.{FeatureValue}
+use Rattle.city_feature.specs.FeatureLine.{GivesFeature, RefusesFeatureLine}
+use Rattle.city_feature.specs.Header.{HeaderValue}
+use Rattle.city_grid.specs.Axes.{Triple, triple}
+use Rattle.tile_merge.specs.Head.{HasHead, HasNoHead, SomeTile}
+use Rattle.tile_merge.specs.Stream.{stream}
+use Rattle.tile_merge.specs.Texts.{Outcome, EndsAfter, ComesTo}
+use Rattle.tile_merge.specs.Tile.{FaultyLine, TileLines}
+use Rattle.tile_merge.specs.Unread.{failed_reads_after}
+use Rattle.tile_merge.specs.declared.fault.MergeFault.{MergeFault}
+
+-- the shift of a tile that stays where it is
+abbrev pub no_steps : Triple
+no_steps = triple (pos 0) (pos 0) (pos 0)
+
+-- The tile has this header, and its wanted features, moved by nothing, come to these texts and this
+-- end, after the header's line.
+abbrev pub FiltersTo : TileLines → (FeatureValue → Type 0) → HeaderValue → List (List ℕ) → Outcome → Type 0
+FiltersTo tile IsWanted header texts outcome =
+    (number : ℕ)
+    × (after : TileLines)
+    × HasHead tile number header after
+    × EndsAfter number outcome
+    × ComesTo (GivesFeature IsWanted no_steps) (RefusesFeatureLine no_steps) after texts outcome
+
+-- Nothing is wrong with the tile, this many features are wanted, and their stream was written.
+abbrev pub WroteStream : TileLines → (FeatureValue → Type 0) → ℕ → Option (List ℕ) → Option (List ℕ) → Type 0
+WroteStream tile IsWanted count old new =
+    (header : HeaderValue)
+    × (texts : List (List ℕ))
+    × FiltersTo tile IsWanted header texts None
+    × (count ≡ length texts)
+    × Appends old new (stream (compact header.value) texts)
+
+-- A line is at fault, or memory ran out there: the header's, and nothing was written; or one after
+-- it, and the stream of the texts before it was.
+abbrev pub StoppedAt : TileLines → (FeatureValue → Type 0) → FaultyLine → Option (List ℕ) → Option (List ℕ) → Type 0
+StoppedAt tile IsWanted at old new =
+    (HasNoHead tile at × Keeps old new)
+    ⊎ ((header : HeaderValue)
+    × (texts : List (List ℕ))
+    × FiltersTo tile IsWanted header texts (Some at)
+    × Appends old new (stream (compact header.value) texts))
+
+-- the first bytes of such a stream were written, and nothing else
+abbrev pub WrotePart : TileLines → (FeatureValue → Type 0) → Option (List ℕ) → Option (List ℕ) → Type 0
+WrotePart tile IsWanted old new =
+    (header : HeaderValue)
+    × (texts : List (List ℕ))
+    × (outcome : Outcome)
+    × (count : ℕ)
+    × FiltersTo tile IsWanted header texts outcome
+    × Appends old new (take count (stream (compact header.value) texts))
+
+-- A failed write belongs to no tile, all else to a line of the one tile.
+abbrev pub IsRefusedFilter : (TileLines → Type 0) → (FeatureValue → Type 0) → Fault → ℕ → ℕ → Option (List ℕ) → Option (List ℕ) → Type 0
+IsRefusedFilter MayBe IsWanted Write tile line old new =
+    (tile ≡ 0) × (line ≡ 0) × SomeTile MayBe (λ lines. WrotePart lines IsWanted old new)
+IsRefusedFilter MayBe IsWanted fault tile line old new =
+    (tile ≡ 1)
+    × SomeTile MayBe (λ lines.
+    StoppedAt lines IsWanted (record { number = line; fault = fault }) old new)
+
+-- the count of failed writes after a refusal: it grows where the refusal is that a write failed
+abbrev pub failures_after_write : Fault → ℕ → ℕ
+failures_after_write Write count = one_more count
+failures_after_write other count = count
+
+abbrev pub failures_after_filter : {X : Type 0} → Result X MergeFault → ℕ → ℕ
+failures_after_filter (Ok x) count = count
+failures_after_filter (Err refusal) count = failures_after_write refusal.fault count
+
+-- the count of failed reads after a call: it grows where the tile could not be read
+abbrev pub failed_reads_after_filter : {X : Type 0} → Result X MergeFault → ℕ → ℕ
+failed_reads_after_filter (Ok x) count = count
+failed_reads_after_filter (Err refusal) count = failed_reads_after refusal.fault count

@@ -1,0 +1,184 @@
+ghost use Rattle.std.specs.Prelude.{◌≡◌, ◌≢◌, ◌≤◌, ◌<◌, ◌+◌, ◌^◌, ℕ, List, [], length, take, false, Some, None, IfOk, IfErr, OnOk, OnErr};
+ghost use Rattle.std.specs.Io.KnownBytes.{Appends};
+ghost use Rattle.city_json.specs.Compact.{compact};
+ghost use Rattle.city_json.specs.Streams.Failures.{after_call};
+ghost use Rattle.city_feature.specs.Choice.{IsChosen};
+ghost use Rattle.city_feature.specs.Header.{HeaderValue};
+ghost use Rattle.city_feature.specs.Values.{header_value};
+ghost use Rattle.tile_merge.specs.Coming.{MayComeTo};
+ghost use Rattle.tile_merge.specs.Filtered.{WroteStream, IsRefusedFilter, failures_after_filter, failed_reads_after_filter, no_steps};
+ghost use Rattle.tile_merge.specs.Head.{HasNoHead, SomeTile, GivesHead};
+ghost use Rattle.tile_merge.specs.Progress.{WroteTexts, IsRefusedAfter};
+ghost use Rattle.tile_merge.specs.Stream.{with_newline};
+ghost use Rattle.tile_merge.specs.Tile.{TileLines, stream_limits};
+ghost use Rattle.tile_merge.specs.Unread.{IsOfTile, Leaves, BeginsFrom, most_left, has_failed, is_read, failed_reads_between};
+
+#[cfg(test)]
+mod tests;
+
+use crate::fault::MergeFault;
+use crate::line_end::end_line;
+use crate::lines::LineFault;
+use crate::tile_reader::{Head, TileReader};
+use city_feature::Choice;
+use city_grid::Shift;
+use city_json::{Fault, Line, Sink, Source, print, write_all};
+use std::alloc::Global;
+
+/// Writes the stream of the features of a tile that are chosen, each as it stands, with the tile's
+/// own header, and answers how many features were written. The lines are taken while they are read.
+///
+/// # Errors
+///
+/// Of tile 1: [`Fault::NoHeader`] at line 0 where all lines are blank; else that of the first line
+/// at fault, or [`Fault::Memory`] at the line that did not find room. A fault of the header's line
+/// leaves nothing written, one of a later line the stream of the features before it. Of no tile and
+/// no line: [`Fault::Write`] where a write or the flush failed.
+pub fn filter_stream<R: Source + Drop, W: Sink>(
+    alloc: Global,
+    reader: R,
+    choice: &Choice,
+    output: &mut W,
+) -> Result<u64, MergeFault>
+    ensures ok { IfOk result (λ count. SomeTile (IsOfTile (R.gives reader) stream_limits) (λ tile.
+        WroteStream tile (IsChosen choice.now) count (W.taken output.old) (W.taken output.new))) }
+    ensures flushed { OnOk result (W.is_flushed output.new) }
+    ensures refused { IfErr result (λ e. IsRefusedFilter (IsOfTile (R.gives reader) stream_limits)
+        (IsChosen choice.now) e.fault e.tile e.line (W.taken output.old) (W.taken output.new)) }
+    ensures failures { W.failures output.new
+        ≡ failures_after_filter result (W.failures output.old) }
+{
+    let mut tile = TileReader::new(alloc, reader);
+    filter_tile(alloc, &mut tile, choice, output)
+}
+
+/// The same of a tile of which nothing was taken yet; whoever holds it can tell afterwards whether
+/// a read failed.
+///
+/// # Errors
+///
+/// Those of [`filter_stream`].
+pub fn filter_tile<R: Source, W: Sink>(
+    alloc: Global,
+    tile: &mut TileReader<R>,
+    choice: &Choice,
+    output: &mut W,
+) -> Result<u64, MergeFault>
+    ensures ok { IfOk result (λ count. SomeTile (Leaves R.gives tile.old) (λ lines.
+        WroteStream lines (IsChosen choice.now) count (W.taken output.old) (W.taken output.new))) }
+    ensures flushed { OnOk result (W.is_flushed output.new) }
+    ensures refused { IfErr result (λ e. IsRefusedFilter (Leaves R.gives tile.old)
+        (IsChosen choice.now) e.fault e.tile e.line (W.taken output.old) (W.taken output.new)) }
+    ensures failures { W.failures output.new
+        ≡ failures_after_filter result (W.failures output.old) }
+    ensures reads { has_failed tile.old ≡ false → R.failures tile.new.ahead.reader
+        ≡ failed_reads_after_filter result (R.failures tile.old.ahead.reader) }
+{
+    let line = match take_header_line(alloc, tile) {
+        Ok(line) => line,
+        Err(at) => return Err(MergeFault::of_line(at.line, at.fault)),
+    };
+    let text = match write_line(output, line) {
+        Ok(text) => text,
+        Err(_) => return Err(MergeFault::of_no_line(Fault::Write)),
+    };
+    let count = write_features(alloc, tile, choice, text, output)?;
+    match output.flush() {
+        Ok(()) => Ok(count),
+        Err(_) => Err(MergeFault::of_no_line(Fault::Write)),
+    }
+}
+
+/// Takes the header of a tile, and gives its line in the stream.
+fn take_header_line<R: Source>(alloc: Global, tile: &mut TileReader<R>) -> Result<Line, LineFault>
+    ensures ok { IfOk result (λ line. (number : ℕ) × (header : HeaderValue)
+        × (line ≡ with_newline (compact header.value)) × (number < tile.new.number)
+        × GivesHead (Leaves R.gives tile.old) (Leaves R.gives tile.new) number header) }
+    ensures refused { IfErr result (λ e. SomeTile (Leaves R.gives tile.old) (λ lines.
+        HasNoHead lines (record { number = e.line; fault = e.fault }))) }
+    ensures not_written { IfErr result (λ e. e.fault ≢ Fault.Write) }
+    ensures some { (left : TileLines) × Leaves R.gives tile.new left
+        × BeginsFrom tile.new.number left.lines left.fault }
+    ensures most { most_left tile.new ≤ 2 ^ 40 + 1 }
+    ensures had_not_failed { OnOk result (has_failed tile.old ≡ false) }
+    ensures not_failed { OnOk result (has_failed tile.new ≡ false) }
+    ensures failed { IfErr result (λ e. has_failed tile.new ≡ is_read e.fault) }
+    ensures failures { R.failures tile.new.ahead.reader ≡ failed_reads_between
+        (has_failed tile.old) (has_failed tile.new) (R.failures tile.old.ahead.reader) }
+{
+    let head = match tile.take_head(alloc) {
+        Ok(head) => head,
+        Err(at) => return Err(at),
+    };
+    header_line(alloc, &head)
+}
+
+/// The line of a header: its compact text and a newline.
+fn header_line(alloc: Global, head: &Head) -> Result<Line, LineFault>
+    ensures ok { IfOk result (λ line. line
+        ≡ with_newline (compact (header_value head.now.header).value)) }
+    ensures err { IfErr result (λ e. e ≡ record { line = head.now.line; fault = Fault.Memory }) }
+{
+    let mut text = Line::new(alloc);
+    if print(head.header.json(), &mut text).is_err() {
+        return Err(LineFault {
+            line: head.line,
+            fault: Fault::Memory,
+        });
+    }
+    end_line(text, head.line)
+}
+
+/// Writes the lines of the features of a tile that are chosen, and says how many there are. The text
+/// is empty, and taken for its memory.
+fn write_features<R: Source, W: Sink>(
+    alloc: Global,
+    tile: &mut TileReader<R>,
+    choice: &Choice,
+    text: Line,
+    output: &mut W,
+) -> Result<u64, MergeFault>
+    requires empty { text ≡ [] }
+    requires most { most_left tile.old ≤ 2 ^ 40 + 1 }
+    requires had_not_failed { has_failed tile.old ≡ false }
+    ensures ok { IfOk result (λ count. WroteTexts
+        (MayComeTo R.gives (IsChosen choice.now) no_steps tile.old) count
+        (W.taken output.old) (W.taken output.new)) }
+    ensures refused { IfErr result (λ e. IsRefusedAfter
+        (MayComeTo R.gives (IsChosen choice.now) no_steps tile.old) e.fault e.tile e.line
+        (W.taken output.old) (W.taken output.new)) }
+    ensures failures { W.failures output.new
+        ≡ failures_after_filter result (W.failures output.old) }
+    ensures reads { R.failures tile.new.ahead.reader
+        ≡ failed_reads_after_filter result (R.failures tile.old.ahead.reader) }
+{
+    let mut text = text;
+    let mut count = 0u64;
+    'features: loop {
+        let line = match tile.take_text(alloc, Shift::zero(), choice, text) {
+            Ok(Some(line)) => line,
+            Ok(None) => return Ok(count),
+            Err(at) => return Err(MergeFault::of_line(at.line, at.fault)),
+        };
+        text = match write_line(output, line) {
+            Ok(text) => text,
+            Err(_) => return Err(MergeFault::of_no_line(Fault::Write)),
+        };
+        count += 1;
+    }
+}
+
+/// Writes a line, and gives it back empty, for its memory.
+fn write_line<W: Sink>(output: &mut W, line: Line) -> Result<Line, Fault>
+    ensures all { IfOk result (λ text. (text ≡ [])
+        × Appends (W.taken output.old) (W.taken output.new) line) }
+    ensures some { OnErr result ((count : ℕ)
+        × Appends (W.taken output.old) (W.taken output.new) (take count line)) }
+    ensures failures { W.failures output.new ≡ after_call result (W.failures output.old) }
+    ensures fault { IfErr result (λ fault. fault ≡ Fault.Write) }
+{
+    write_all(output, line.items())?;
+    let mut bytes = line.into_vec();
+    bytes.clear();
+    Ok(Line::from_vec(bytes))
+}
