@@ -2,13 +2,13 @@
 use Rattle.std.proofs.Common.{◌≡◌, ◌≢◌, ◌≤◌, ◌<◌, ◌++◌, ℕ, Bool, true, false, List, [], ◌∷◌, Option, Some, None, is_some, unwrap_or, option_to_list, refl, sym, ap, subst, ◌∙◌, inl, inr, arith, append_assoc, append-nil}
 use Rattle.city_json.specs.Bytes.{newline}
 use Rattle.city_json.specs.declared.fault.Fault.{Fault}
-use Rattle.city_json.specs.declared.fault.Fault.TheVariants.{Memory, Read, Write, VertexRange}
-use Rattle.city_feature.specs.Feature.{FeatureValue, RefusesFeature}
+use Rattle.city_json.specs.declared.fault.Fault.TheVariants.{Memory, Read, Write}
+use Rattle.city_feature.specs.Feature.{FeatureValue}
 use Rattle.city_feature.specs.FeatureLine.{GivesFeature, RefusesFeatureLine}
 use Rattle.city_grid.specs.Axes.{Triple}
 use Rattle.tile_merge.specs.Coming.{MayComeTo, GivesText, SomethingComes}
 use Rattle.tile_merge.specs.Stream.{with_newline}
-use Rattle.tile_merge.specs.Texts.{Outcome, EndsSo, EndsAfter, LinesComeTo, ComesTo}
+use Rattle.tile_merge.specs.Texts.{Outcome, EndsAfter, LinesComeTo}
 use Rattle.tile_merge.specs.Tile.{Part, FaultyLine, TileLines, part_of, line_before, nothing_left, only_fault}
 use Rattle.tile_merge.specs.Unread.{Unread, Leaves, GivesLine, IsRefused, IsFaultFrom, BeginsFrom, is_read}
 

@@ -1,5 +1,5 @@
 -- From the features that were written to the answer of the whole call.
-use Rattle.std.proofs.Common.{◌≡◌, ◌≢◌, ◌↔◌, ◌<◌, ◌+◌, ◌++◌, ℕ, Bool, Result, Ok, Err, IfOk, IfErr, List, [], ◌∷◌, Option, Some, None, length, take, flat_map, refl, sym, ap, subst, ◌∙◌, inl, inr, take_all, le_refl}
+use Rattle.std.proofs.Common.{◌≡◌, ◌≢◌, ◌↔◌, ◌<◌, ◌+◌, ℕ, Bool, Result, Ok, Err, IfOk, IfErr, List, Option, Some, None, length, take, flat_map, refl, sym, ap, subst, ◌∙◌, inl, inr, take_all, le_refl}
 use Rattle.std.proofs.Math.Seq.{take-append-add}
 use Rattle.std.specs.Io.KnownBytes.{Appends, Keeps}
 use Rattle.std.proofs.KnownBytes.{Appends-trans, Keeps-refl}
@@ -14,7 +14,7 @@ use Rattle.tile_merge.specs.Head.{HasNoHead, SomeTile, GivesHead}
 use Rattle.tile_merge.specs.Progress.{WroteTexts, IsRefusedAfter}
 use Rattle.tile_merge.specs.Stream.{stream, with_newline}
 use Rattle.tile_merge.specs.Texts.{Outcome}
-use Rattle.tile_merge.specs.Tile.{FaultyLine, TileLines}
+use Rattle.tile_merge.specs.Tile.{TileLines}
 use Rattle.tile_merge.specs.declared.fault.MergeFault.{MergeFault}
 use Rattle.tile_merge.specs.Unread.{Unread, Leaves}
 use Rattle.tile_merge.proofs.Comings.{ends_after}

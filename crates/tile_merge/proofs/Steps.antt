@@ -1,5 +1,5 @@
 -- One text more is taken and its line written.
-use Rattle.std.proofs.Common.{◌≡◌, ◌≢◌, ◌≤◌, ◌<◌, ◌+◌, ◌++◌, ℕ, List, [], ◌∷◌, Option, Some, None, length, take, flat_map, refl, sym, ap, subst, ◌∙◌, arith, append_assoc, append-nil, ⊎_elim, true, false, nat_le, take_all}
+use Rattle.std.proofs.Common.{◌≡◌, ◌≢◌, ◌+◌, ◌++◌, ℕ, List, [], ◌∷◌, Option, Some, None, length, take, flat_map, refl, sym, ap, subst, ◌∙◌, arith, append_assoc, append-nil, ⊎_elim, true, false, nat_le, take_all}
 use Rattle.std.proofs.lemmas.Bool.{cases_Bool}
 use Rattle.std.proofs.lemmas.Bool.Decides.{nat_tests}
 use Rattle.std.proofs.Math.Seq.{take-append-add, take-append_seam}

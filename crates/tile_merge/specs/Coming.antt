@@ -1,10 +1,10 @@
 -- What is still to come of a tile that is being read: texts, and how it ends.
-use Rattle.std.specs.Prelude.{◌≤◌, ℕ, Bool, List, ◌∷◌, Some, None}
+use Rattle.std.specs.Prelude.{ℕ, Bool, List, ◌∷◌}
 use Rattle.city_feature.specs.Feature.{FeatureValue}
 use Rattle.city_feature.specs.FeatureLine.{GivesFeature, RefusesFeatureLine}
 use Rattle.city_grid.specs.Axes.{Triple}
 use Rattle.tile_merge.specs.Texts.{Outcome, ComesTo}
-use Rattle.tile_merge.specs.Tile.{FaultyLine, TileLines}
+use Rattle.tile_merge.specs.Tile.{TileLines}
 use Rattle.tile_merge.specs.Unread.{Unread, Leaves, IsFaultFrom}
 
 -- These texts may be to come, and then this end: the wanted features of the lines that may be left,

@@ -1,4 +1,3 @@
-use Rattle.std.proofs.Common.{refl}
 use Rattle.std.proofs.lemmas.Result.{err_from_is_err_and}
 use Rattle.city_feature.specs.Choice.{IsChosen}
 use Rattle.tile_merge.specs.Filtered.{no_steps}

@@ -1,8 +1,7 @@
-use Rattle.std.proofs.Common.{◌+◌, ◌≤◌, ◌<◌, ◌∙◌, refl, arith, Some, None}
+use Rattle.std.proofs.Common.{◌∙◌, refl, arith}
 use Rattle.city_feature.specs.Choice.{IsChosen}
 use Rattle.tile_merge.specs.Coming.{MayComeTo}
 use Rattle.tile_merge.specs.Filtered.{no_steps}
-use Rattle.tile_merge.specs.Unread.{Unread}
 use Rattle.tile_merge.proofs.Steps.{at_end, at_fault, at_text, at_failed_write, of_line}
 use Rattle.tile_merge.proofs.filter.write_features.Goals as goal
 

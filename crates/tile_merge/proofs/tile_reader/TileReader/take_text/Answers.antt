@@ -1,6 +1,6 @@
-use Rattle.std.proofs.Common.{◌≤◌, ◌∙◌, sym, arith, Some, []}
+use Rattle.std.proofs.Common.{◌∙◌, sym, arith}
 use Rattle.city_feature.specs.Choice.{IsChosen}
-use Rattle.tile_merge.proofs.Comings.{something_comes, nothing_comes, fault_comes, refusal_comes, text_comes, none_comes, memory_comes, same_text, no_failed_write, no_failed_read}
+use Rattle.tile_merge.proofs.Comings.{something_comes, nothing_comes, fault_comes, refusal_comes, text_comes, none_comes, memory_comes, same_text}
 use Rattle.tile_merge.proofs.tile_reader.TileReader.take_text.Goals as goal
 
 pub returns-in-Ok-None-clause-over : goal.returns-in-Ok-None-clause-over
