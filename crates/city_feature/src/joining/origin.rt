@@ -199,8 +199,8 @@ mod tests {
     fn the_least_of_many_tiles_is_found(rt: HostRuntime) -> Result<(), Fail> {
         let alloc = rt.alloc();
         let mut headers = Vec::with_capacity(alloc, 1000)?;
-        for tile in 0..1000i32 {
-            let x = (tile - 700).abs();
+        for tile in 0..1000u32 {
+            let x = tile.abs_diff(700);
             let translate = format!(in alloc; "[{x}.0,{tile}.50,-{tile}]")?;
             headers.push(header_at(alloc, translate.as_str())?)?;
         }

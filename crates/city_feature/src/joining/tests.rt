@@ -74,6 +74,12 @@ fn join(alloc: Global, texts: &[String], base: Base) -> Result<Result<Joined, He
     for text in texts {
         headers.push(header(read(alloc, text.as_bytes())?)?)?;
     }
+    if headers.is_empty() {
+        return Err("no tiles".into());
+    }
+    if headers.len() > 1000 {
+        return Err("too many tiles".into());
+    }
     Ok(join_headers(alloc, &headers, base))
 }
 
