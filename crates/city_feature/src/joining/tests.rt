@@ -369,7 +369,7 @@ fn many_tiles_share_and_add_extensions(rt: HostRuntime) -> Result<(), Fail> {
     let mut texts = Vec::new(alloc);
     let mut all = String::new(alloc);
     let mut shifts = Vec::new(alloc);
-    for number in 0..1000i64 {
+    for number in 0..1000u32 {
         let end = format!(in alloc;
             r#","extensions":{{"E{}":{{"version":"{}"}},"Shared":{{}}}}"#,
             number / 2,
@@ -383,7 +383,7 @@ fn many_tiles_share_and_add_extensions(rt: HostRuntime) -> Result<(), Fail> {
             ..PLAIN
         };
         texts.push(text_of(alloc, &tile)?)?;
-        shifts.push((1000 * number, 0, 0))?;
+        shifts.push((1000 * i64::from(number), 0, 0))?;
     }
     for number in 1..500u32 {
         all.push_str(&format!(in alloc; r#","E{number}":{{"version":"{number}"}}"#)?)?;
