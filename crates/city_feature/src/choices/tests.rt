@@ -118,9 +118,9 @@ fn no_type_is_empty(rt: HostRuntime) -> Result<(), Fail> {
 
 #[test]
 fn a_thousand_types_are_read_and_copied(rt: HostRuntime) -> Result<(), Fail> {
-    let mut text = format!(in rt.alloc(); "T0")?;
+    let mut text = format!(in rt.alloc(); "Type0")?;
     for i in 1..1000u32 {
-        text.push_str(&format!(in rt.alloc(); ",T{i}")?)?;
+        text.push_str(&format!(in rt.alloc(); ",Type{i}")?)?;
     }
     let choice = choice_of(rt.alloc(), Some(&text), None, false)?;
     for names in [&choice.types, &choice.copy(rt.alloc())?.types] {
@@ -128,7 +128,7 @@ fn a_thousand_types_are_read_and_copied(rt: HostRuntime) -> Result<(), Fail> {
             return Err("a name is empty".into());
         };
         assert_eq!(rt; names.items().len(), 1000);
-        assert_eq!(rt; names.items()[999].as_str(), "T999");
+        assert_eq!(rt; names.items()[999].as_str(), "Type999");
     }
     Ok(())
 }
