@@ -1,6 +1,7 @@
 //! Headers and features of CityJSONSeq (CityJSON 2.0, Text sequences and streaming with
 //! CityJSONFeature): what they are ([`header`], [`feature`]), how the headers of tiles join
-//! ([`join_headers`]), and how a feature is moved onto the shared grid ([`shifted`]).
+//! ([`join_headers`]), how a feature is moved onto the shared grid ([`shifted`]) and chosen
+//! ([`selects`]), and the one step from a feature's line to its text ([`feature_line`]).
 #![tactic(auto)]
 
 mod base;

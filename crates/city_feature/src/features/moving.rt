@@ -101,7 +101,13 @@ fn write_vertices(alloc: Global, vertices: &[Vertex], json: &mut Json) -> Result
     write_members(alloc, vertices, members)
 }
 
-/// The feature with each vertex moved by the shift.
+/// The feature with each vertex moved by the shift, and written as three integers in decimal; every
+/// other member stays as it was, at its place (CityJSON 2.0, Transform Object).
+///
+/// # Errors
+///
+/// [`Fault::VertexRange`] where a component of a moved vertex is above 2^53 - 1 in size, and
+/// [`Fault::Memory`] where there is not enough memory.
 pub fn shifted(alloc: Global, feature: Feature, shift: Shift) -> Result<Feature, Fault>
     ensures ok { IfOk result (λ shifted.
         (feature_value shifted ≡ moved (feature_value feature) shift)

@@ -88,7 +88,7 @@ impl<'a> Extensions<'a> {
     ///
     /// # Errors
     ///
-    /// [`Fault::ExtensionClash`] where one has another text than the known one of its name, else
+    /// [`Fault::ExtensionClash`] where one has another text than the known one of its name, and
     /// [`Fault::Memory`] where there is not enough memory.
     pub(crate) fn take_in(&mut self, header: &'a Header) -> Result<(), Fault>
         ensures ok { OnOk result (TakesIn (lent_members self.old.known.entries)
