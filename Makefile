@@ -3,7 +3,7 @@
 .PHONY: help build check demo test program-test docs-test compile-test bench clean
 
 help:
-	@echo 'citymerge: compacts streams of 3D city features (CityJSONSeq)'
+	@echo 'citymerge: filters streams of 3D city features (CityJSONSeq)'
 	@echo
 	@echo '  make build   prove the program and build it: build/citymerge'
 	@echo '  make check   prove what has changed, in all crates; in one with CRATE=city_json, and of that'
@@ -11,7 +11,7 @@ help:
 	@echo '  make demo    build it, run it on the tiles in examples/ and show what came out'
 	@echo '  make test    all that has to hold: the documents, the built program at its edges, what must not compile, then the gate'
 	@echo '               (every proof from nothing, the edits that must fail, the tests); takes long'
-	@echo '  make bench   how fast it is, beside its plain path and jq (BENCH="--help" lists the options)'
+	@echo '  make bench   how fast it is, beside jq, and how much memory it takes (BENCH="--help" lists the options)'
 	@echo '  make clean   remove what was built and what the proofs kept'
 	@echo
 	@echo 'Needed: the Rattle kit, its command rt on PATH, which itself needs python3. For make bench also jq and valgrind.'
@@ -48,8 +48,7 @@ test: docs-test program-test compile-test
 
 bench: build
 	@tools/need.sh python3
-	@tools/build_plain.sh $(RTFLAGS)
-	@python3 bench/bench.py --program build/citymerge --plain build/citymerge-plain $(BENCH)
+	@python3 bench/bench.py --program build/citymerge $(BENCH)
 
 clean:
 	@rm -rf build crates/*/out

@@ -1,20 +1,20 @@
 #!/usr/bin/env python3
-"""How fast `citymerge filter` is, beside its plain path and `jq -c .`, and whether its output is right.
+"""How fast `citymerge filter` is, beside `jq -c .`, how much memory it takes, and whether its output is right.
 
-Four parts, each of which can be left out:
-  right         the output on small streams, compared with that of a compactor of its own
-  speed         MB/s and peak memory, the programs in turn: on building tiles, and on shorter streams of
-                features with 300 attributes, with a blank after each comma and colon, and with escapes
-  instructions  executed for each input byte of these four streams, beside the most that is wanted; they
-                do not depend on the machine's load (valgrind)
+Five parts, each of which can be left out:
+  right         the output on small streams, compared with that of a compactor and a selection of its own
+  speed         MB/s and peak memory, in turn: on building tiles, without options, with a type and with a box,
+                beside jq; and on shorter streams of tiny features, of features with 300 attributes, with a
+                blank after each comma and colon, and with escapes
+  memory        the peak for 10 MB and for 100 MB of building tiles (1 GB with --giga), which must be the
+                same, and for one line of 64 MB
+  instructions  executed for each input byte of the five streams; they do not depend on the machine's load
+                (valgrind)
   hostile       time against size for shapes of text that are hard on a reader
 
---plain names a build of the program whose one pass says nothing of any line, so that each line takes the
-plain path (tools/build_plain.sh). Then speed and instructions show both side by side.
-
-Status 0: all is right. 1: an output is wrong, a stream takes more instructions than is wanted or as much
-as by the plain path, or the time for a hostile shape does not grow about as its size. 2: a program is not
-there. A tool that is not there is named, and its part is left out.
+Status 0: all is right. 1: an output is wrong, the peak memory grows with the stream, a stream takes more
+instructions than is wanted, or the time for a hostile shape does not grow about as its size. 2: the program
+is not there. A tool that is not there is named, and its part is left out.
 """
 
 import argparse
@@ -27,22 +27,20 @@ sys.dont_write_bytecode = True
 
 from growth import hostile
 from instructions import instructions
+from memory import memory
 from right import right
 from speed import speed
 
-PARTS = {"right": right, "speed": speed, "instructions": instructions, "hostile": hostile}
-# Where the plain path takes fewer times as much, the program went along it.
-LEAST_GAIN = 1.1
+PARTS = {"right": right, "speed": speed, "memory": memory, "instructions": instructions, "hostile": hostile}
 
 
 class Bench:
-    """The programs, a folder for streams, and what was found wrong."""
+    """The program, a folder for streams, and what was found wrong."""
 
     def __init__(self, options, folder):
         self.options = options
         self.folder = folder
         self.filter = [os.path.abspath(options.program), "filter"]
-        self.plain = [os.path.abspath(options.plain), "filter"] if options.plain else None
         self.wrong = []
 
     def say(self, text):
@@ -63,22 +61,17 @@ class Bench:
                 file.write(line)
         return path
 
-    def see_gain(self, name, gain, unit):
-        """The plain path takes `gain` times as much of the unit for this stream."""
-        if gain < LEAST_GAIN:
-            self.fail("%s: it falls back on the plain path, which takes %.2f times as many %s" % (name, gain, unit))
-
 
 def read_options():
     here = os.path.dirname(os.path.dirname(os.path.abspath(__file__)))
     reader = argparse.ArgumentParser(description=__doc__, formatter_class=argparse.RawDescriptionHelpFormatter)
     reader.add_argument("files", nargs="*", help="further streams on which the output must be right")
     reader.add_argument("--program", default=os.path.join(here, "build", "citymerge"))
-    reader.add_argument("--plain", metavar="PROGRAM", help="a build that takes the plain path alone")
     reader.add_argument("--only", metavar="PARTS", help="some of %s, with commas between" % ", ".join(PARTS))
     reader.add_argument("--size", type=float, default=50, metavar="MB", help="of the tiles for speed (50); else a fifth")
     reader.add_argument("--rounds", type=int, default=5, help="runs of each program for speed (5)")
     reader.add_argument("--small", type=float, default=2, metavar="MB", help="of the streams for the other parts (2)")
+    reader.add_argument("--giga", action="store_true", help="memory: 1 GB of building tiles, too; takes some minutes")
     reader.add_argument("--share", type=float, default=1, help="of the hostile shapes' sizes (1)")
     reader.add_argument("--tries", type=int, default=3, help="runs of each hostile shape (3)")
     reader.add_argument("--functions", type=int, default=0, metavar="N", help="show the N functions that execute most")
@@ -93,10 +86,9 @@ def read_options():
 
 def main():
     options = read_options()
-    for program, maker in ((options.program, "make build"), (options.plain, "tools/build_plain.sh")):
-        if program and not os.access(program, os.X_OK):
-            print("missing: %s (%s leaves it there)" % (os.path.relpath(program), maker))
-            return 2
+    if not os.access(options.program, os.X_OK):
+        print("missing: %s (make build leaves it there)" % os.path.relpath(options.program))
+        return 2
     with tempfile.TemporaryDirectory(prefix="citymerge-bench-") as folder:
         bench = Bench(options, folder)
         for part in options.parts:

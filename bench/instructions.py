@@ -4,36 +4,32 @@ import os
 import shutil
 
 from running import counted, dominant
-from streams import BUILDINGS, MEASURED, SPACED, WIDE
+from streams import BUILDINGS, BY_BOX, BY_TYPE, MEASURED, TINY
 
-# The most that is wanted for each input byte. None is set for escapes, which can stand at every byte.
-MOST = {BUILDINGS: 15, WIDE: 20, SPACED: 45}
+# The most that is wanted for each input byte. None is set for the other streams.
+MOST = {BUILDINGS: 125}
 
 
-def each_byte(bench, words, path, profile):
+def each_byte(bench, words, path):
     """The instructions for each byte of a stream, or None where the run went wrong."""
-    run, count = counted(words, path, bench.path(profile))
+    run, count = counted(words, path, bench.path("profile"))
     if run.status != 0 or count is None:
         bench.fail("under valgrind: " + run.trouble())
         return None
     return count / os.path.getsize(path)
 
 
-def measure(bench, name, path):
-    found = each_byte(bench, bench.filter, path, "profile")
-    plain = each_byte(bench, bench.plain, path, "plain-profile") if bench.plain else None
+def measure(bench, name, path, options):
+    found = each_byte(bench, [*bench.filter, *options], path)
     if found is None:
         return
     most = MOST.get(name)
-    wanted = "no limit" if most is None else "wanted: at most %d" % most
-    beside = "" if plain is None else "by the plain path %.1f, %.1f times as many" % (plain, plain / found)
-    bench.say(("  %-15s %6.1f   %-18s   %s" % (name, found, wanted, beside)).rstrip())
+    wanted = "" if most is None else "wanted: at most %d" % most
+    bench.say(("  %-15s %-32s %6.1f   %s" % (name, " ".join(options), found, wanted)).rstrip())
     if bench.options.functions:
         show_functions(bench, os.path.getsize(path))
     if most is not None and found > most:
         bench.fail("%s: %.1f instructions for each byte, wanted: at most %d" % (name, found, most))
-    if plain is not None:
-        bench.see_gain(name, plain / found, "instructions")
 
 
 def show_functions(bench, size):
@@ -52,5 +48,6 @@ def instructions(bench):
     bench.say("How many instructions for each byte? (%g MB of each stream)" % bench.options.small)
     for name, lines in MEASURED.items():
         path = bench.write("small", lines(bench.options.seed, bench.options.small * 1_000_000))
-        measure(bench, name, path)
+        for options in ((), BY_TYPE, BY_BOX) if name in (BUILDINGS, TINY) else ((),):
+            measure(bench, name, path, options)
         os.remove(path)

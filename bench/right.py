@@ -1,18 +1,31 @@
-"""Is the output that of another compactor?"""
+"""Is the output that of another compactor, and of another selection?"""
 
 import os
 
+from chooser import choose
 from compactor import compact
 from running import Run
-from streams import MEASURED, loose
+from streams import BUILDINGS, BY_BOX, BY_TYPE, MEASURED, TINY, loose
+
+# What is asked of the streams of which a part is chosen.
+CHOICES = (
+    BY_TYPE,
+    BY_BOX,
+    BY_TYPE + BY_BOX,
+    BY_TYPE + BY_BOX + ("--exclude",),
+    ("--cotype=Road,Bridge",),
+    ("--bbox=-5,-5,-1,-1",),
+    ("--exclude",),
+)
 
 
-def compare(bench, name, path, expected):
+def compare(bench, name, path, expected, options=()):
     target = bench.path("output")
-    run = Run(bench.filter, path, target)
+    run = Run([*bench.filter, *options], path, target)
     with open(target, "rb") as file:
         got = file.read()
     os.remove(target)
+    name = " ".join((name, *options))
     if run.status != 0:
         bench.fail("%s: %s" % (name, run.trouble()))
     elif got != expected:
@@ -31,6 +44,9 @@ def right(bench):
         stream = b"".join(lines(bench.options.seed, size))
         path = bench.write("small", (stream,))
         compare(bench, name, path, compact(stream))
+        if name in (BUILDINGS, TINY):
+            for options in CHOICES:
+                compare(bench, name, path, choose(stream, options), options)
         os.remove(path)
     for name in bench.options.files:
         with open(name, "rb") as file:

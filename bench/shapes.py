@@ -25,14 +25,45 @@ def members(count, name, value=str):
     yield b'}}},"vertices":[]}\n'
 
 
-def repeated(before, piece, count, after):
-    """One line: the piece many times over, with a comma between."""
+def feature_with(name, pieces):
+    """A feature with a member of that name whose value are these pieces."""
     yield HEADER
+    yield b'{"type":"CityJSONFeature","id":"a"'
+    for other, value in ((b"CityObjects", b"{}"), (b"vertices", b"[]")):
+        if other != name:
+            yield b',"' + other + b'":' + value
+    yield b',"' + name + b'":'
+    yield from pieces
+    yield b"}\n"
+
+
+def holding(text):
+    """A feature that holds this text."""
+    return feature_with(b"holds", (text,))
+
+
+def joined(before, piece, count, after):
+    """The piece many times over, with a comma between."""
     yield before
     block = b",".join([piece] * 1000)
     for at in range(count // 1000):
         yield (b"," if at else b"") + block
-    yield after + b"\n"
+    yield after
+
+
+def repeated(before, piece, count, after):
+    return feature_with(b"holds", joined(before, piece, count, after))
+
+
+def vertices(count, last=b"]"):
+    """A feature of so many vertices."""
+    return feature_with(b"vertices", joined(b"[", b"[1204,-3310,2100]", count, last))
+
+
+def city_objects(count):
+    """A feature of so many city objects, of which its identifier names the last."""
+    pieces = [('"o%d":{"type":"BuildingPart"},' % at).encode("ascii") for at in range(count)]
+    return feature_with(b"CityObjects", (b"{", *pieces, b'"a":{"type":"Building"}}'))
 
 
 def within(levels, before, inner, after):
@@ -98,11 +129,12 @@ def object_of(count):
 
 def whole_numbers_within(count):
     """Arrays within arrays, each with whole numbers in front, and a fraction in the innermost."""
-    return iter((HEADER, within(120, b"[" + b"7," * (count // 120), b"[0.5]", b"]"), b"\n"))
+    return holding(within(120, b"[" + b"7," * (count // 120), b"[0.5]", b"]"))
 
 
 REPEATED = "a name is repeated in an object"
 NO_JSON = "the line is not a JSON text"
+NOT_WHOLE = "a vertex number is not written as a whole number"
 
 # Each hostile shape. A line that is refused may not take longer than about its size either.
 HOSTILE = (
@@ -119,19 +151,22 @@ HOSTILE = (
     Shape("objects of one member", 400_000, lambda n: repeated(b"[", b'{"a":1}', n, b"]")),
     Shape("objects of 17 members", 20_000, lambda n: repeated(b"[", object_of(17), n, b"]")),
     Shape("objects of 257 members", 2_000, lambda n: repeated(b"[", object_of(257), n, b"]")),
-    Shape("objects 127 deep", 4_000, lambda n: repeated(b"[", within(127, b'{"a":1,"b":', b"2", b',"c":3}'), n, b"]")),
+    Shape("objects 126 deep", 4_000, lambda n: repeated(b"[", within(126, b'{"a":1,"b":', b"2", b',"c":3}'), n, b"]")),
     Shape("brackets 120 deep", 20_000, lambda n: repeated(b"[", within(120, b"[", b"", b"]"), n, b"]")),
     Shape("brackets in strings", 200_000, lambda n: repeated(b"[", b'"[[[[{{{{]]]]}}}}"', n, b"]")),
     Shape("strings of backslashes", 100_000, lambda n: repeated(b"[", b'"' + b"\\\\" * 20 + b'"', n, b"]")),
     Shape("strings whose last letter is escaped", 20_000, lambda n: repeated(b"[", b'"' + b"a" * 500 + b'\\u0061"', n, b"]")),
     Shape("surrogate pairs", 200_000, lambda n: repeated(b"[", b'"\\ud83d\\ude00\\u000a"', n, b"]")),
-    Shape("one string of escapes", 2_000_000, lambda n: iter((HEADER, b'"' + b"\\u00e9" * n + b'"\n'))),
-    Shape("digits of one number", 10_000_000, lambda n: iter((HEADER, b"7" * n, b"\n"))),
+    Shape("one string of escapes", 2_000_000, lambda n: holding(b'"' + b"\\u00e9" * n + b'"')),
+    Shape("digits of one number", 10_000_000, lambda n: holding(b"7" * n)),
     Shape("whole numbers, the last a fraction", 2_000_000, lambda n: repeated(b"[", b"12", n, b",0.5]")),
     Shape("whole numbers, the last with a leading zero", 2_000_000, lambda n: repeated(b"[", b"12", n, b",01]"), NO_JSON),
     Shape("arrays of whole numbers, then a bad one", 400_000, lambda n: repeated(b"[", b"[1,2,3]", n, b",[01]]"), NO_JSON),
     Shape("arrays of whole numbers 120 deep", 2_000_000, whole_numbers_within),
-    Shape("blanks between two items", 10_000_000, lambda n: iter((HEADER, b"[1," + b" " * n + b"2]\n"))),
+    Shape("blanks between two items", 10_000_000, lambda n: holding(b"[1," + b" " * n + b"2]")),
     Shape("white space around each item", 1_000_000, lambda n: repeated(b"[", b" \t1\r ", n, b"]")),
+    Shape("vertices of one feature", 1_000_000, vertices),
+    Shape("vertices, the last with a fraction", 1_000_000, lambda n: vertices(n, b",[0.5,0,0]]"), NOT_WHOLE),
+    Shape("city objects of one feature", 200_000, city_objects),
     Shape("blank lines", 5_000_000, lambda n: iter((HEADER, b" \n" * n))),
 )

@@ -4,10 +4,9 @@ import os
 import shutil
 
 from running import Run
-from streams import BUILDINGS, MEASURED
+from streams import BUILDINGS, BY_BOX, BY_TYPE, MEASURED, TINY
 
 OURS = "citymerge filter"
-PLAIN = "by the plain path"
 JQ = "jq -c ."
 MEGA = 1_000_000
 # The streams beside the building tiles are this many times shorter.
@@ -16,8 +15,9 @@ SHORTER = 5
 
 def programs_for(bench, name):
     programs = {OURS: bench.filter}
-    if bench.plain:
-        programs[PLAIN] = bench.plain
+    if name in (BUILDINGS, TINY):
+        programs["with a type"] = [*bench.filter, *BY_TYPE]
+        programs["with a box"] = [*bench.filter, *BY_BOX]
     if name == BUILDINGS and shutil.which("jq"):
         programs[JQ] = ["jq", "-c", "."]
     return programs
@@ -35,10 +35,6 @@ def race(bench, programs, path):
     return runs
 
 
-def best_seconds(runs):
-    return min(run.seconds for run in runs)
-
-
 def best_processor(runs):
     return min(run.processor for run in runs)
 
@@ -46,7 +42,7 @@ def best_processor(runs):
 def show(bench, program, runs, size):
     rates = sorted(size / MEGA / run.seconds for run in runs)
     bench.say(
-        "    %-17s %6.1f MB/s (median %.1f), by processor time %.1f MB/s, peak memory %.0f MB"
+        "    %-17s %6.1f MB/s (median %.1f), by processor time %.1f MB/s, peak memory %.1f MB"
         % (
             program, rates[-1], rates[len(rates) // 2],
             size / MEGA / best_processor(runs), max(run.peak for run in runs) / MEGA,
@@ -62,15 +58,9 @@ def measure(bench, name, megabytes):
     os.remove(path)
     for program, some in runs.items():
         show(bench, program, some, size)
-    ours = runs.pop(OURS)
-    for program, some in runs.items():
-        gain = best_processor(some) / best_processor(ours)
-        bench.say(
-            "    %.2f times as fast as %s (by processor time %.2f times)"
-            % (best_seconds(some) / best_seconds(ours), program, gain)
-        )
-        if program == PLAIN:
-            bench.see_gain(name, gain, "seconds")
+    if JQ in runs:
+        gain = best_processor(runs[JQ]) / best_processor(runs[OURS])
+        bench.say("    by processor time %.1f times as fast as %s" % (gain, JQ))
 
 
 def speed(bench):

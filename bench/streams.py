@@ -223,18 +223,64 @@ def loose_value(rng, levels):
 
 
 def loose(seed, size):
-    """The lines of a stream with much white space, escapes and blank lines."""
+    """Features with one member of any kind, much white space, escapes and blank lines."""
     rng = random.Random(seed)
+    white = lambda: rng.choice(WHITE)
     yield b" \t\r\n"
     yield HEADER.replace(b":", b" :\t").replace(b"https :\t", b"https:").replace(b",", b" , ")
     done = 0
     while done < size:
-        text = rng.choice(WHITE) + loose_value(rng, 7) + rng.choice(WHITE)
+        members = [
+            '"type"%s:%s"CityJSONFeature"' % (white(), white()),
+            '"id":%s' % spelled(rng, "caf\u00e9"),
+            '"CityObjects":{%s:{"type":"Building"}}' % spelled(rng, "caf\u00e9"),
+            '"vertices":[%s[1%s,-2,3]]' % (white(), white()),
+            '"of_any_kind"%s:%s' % (white(), loose_value(rng, 6)),
+        ]
+        rng.shuffle(members)
+        text = white() + "{" + white() + (white() + "," + white()).join(members) + "}" + white()
         line = text.encode("utf-8") + rng.choice((b"\n", b"\n", b"\r\n", b"\n \n"))
         done += len(line)
         yield line
 
 
-BUILDINGS, WIDE, SPACED, ESCAPED = "building tiles", "300 attributes", "blanks", "escapes"
+TYPES = ("Building", "Building", "Building", "Bridge", "Road", "SolitaryVegetationObject")
+
+
+def tiny_feature(rng, number):
+    """One city object with two vertices, in some 200 bytes."""
+    name = "T%07d" % number
+    x, y, z = rng.randrange(2_000_000), rng.randrange(2_000_000), rng.randrange(20_000)
+    text = (
+        '{"type":"CityJSONFeature","id":"%s","CityObjects":{"%s":{"type":"%s","attributes":{"height":%.2f,"use":"%s"}}},'
+        '"vertices":[[%d,%d,%d],[%d,%d,%d]]}\n'
+        % (name, name, rng.choice(TYPES), rng.random() * 40, rng.choice(STATUSES), x, y, z, x + 4000, y + 3000, z + 2500)
+    )
+    return text.encode("ascii")
+
+
+def tiny(seed, size):
+    """Features of some 200 bytes, of several types, in compact spelling."""
+    rng = random.Random(seed)
+    return stream(size, lambda number: tiny_feature(rng, number))
+
+
+def one_line(seed, size):
+    """One building whose line has about `size` bytes, most of them of its vertices."""
+    rng = random.Random(seed)
+    yield HEADER
+    yield b'{"type":"CityJSONFeature","id":"a","CityObjects":{"a":{"type":"Building"}},"vertices":[[0,0,0]'
+    done = 0
+    while done < size:
+        some = ["[%d,%d,%d]" % (rng.randrange(2_000_000), rng.randrange(2_000_000), rng.randrange(20_000)) for _ in range(1000)]
+        piece = ("," + ",".join(some)).encode("ascii")
+        done += len(piece)
+        yield piece
+    yield b"]}\n"
+
+
+BUILDINGS, TINY, WIDE, SPACED, ESCAPED = "building tiles", "tiny features", "300 attributes", "blanks", "escapes"
 # The streams whose speed is measured.
-MEASURED = {BUILDINGS: buildings, WIDE: wide, SPACED: spaced, ESCAPED: escaped}
+MEASURED = {BUILDINGS: buildings, TINY: tiny, WIDE: wide, SPACED: spaced, ESCAPED: escaped}
+# Options of `filter`; the box holds about a quarter of the features of buildings and of tiny ones.
+BY_TYPE, BY_BOX = ("--cotype=Building",), ("--bbox=0,0,1000000,1000000",)

@@ -1,6 +1,6 @@
 #!/bin/sh
 # What the built program must do at its edges, which the gate's stored run does not show: the words, the
-# statuses, the fault lines, a closed output, and the bundled tiles.
+# statuses, the fault lines, a closed output, long inputs, and the bundled tiles.
 # Use: tools/program_test.sh PROGRAM
 set -u
 cd "$(dirname "$0")/.."
@@ -26,56 +26,126 @@ answer() {
     printf '%s|%s|%s' "$?" "$(cat "$room/out")" "$(cat "$room/errors")"
 }
 
-usage='2||citymerge: use: citymerge filter'
-printf '[1, 2]\n' >"$room/in"
-expect 'no words' "$usage" "$(answer)"
-expect 'another word' "$usage" "$(answer merge)"
-expect 'a word too many' "$usage" "$(answer filter filter)"
-expect 'filter' '0|[1,2]|' "$(answer filter)"
+# the same, of a long text its first line
+first_lines() {
+    timeout 60 "$program" "$@" <"$room/in" >"$room/out" 2>"$room/errors"
+    printf '%s|%s|%s' "$?" "$(head -n 1 "$room/out")" "$(head -n 1 "$room/errors")"
+}
 
+header='{"type":"CityJSON","version":"2.0","transform":{"scale":[0.001,0.001,0.001],"translate":[0,0,0]},"CityObjects":{},"vertices":[]}'
+
+# a feature of this name and type with these vertices
+feature() {
+    printf '{"type":"CityJSONFeature","id":"%s","CityObjects":{"%s":{"type":"%s"}},"vertices":[%s]}' "$1" "$1" "$2" "$3"
+}
+
+a=$(feature a Building '')
+p=$(feature p Building '[0,0,0],[10,10,0]')
+q=$(feature q Bridge '[10,20,0]')
+
+# the words
+printf '%s\n%s\n%s\n' "$header" "$p" "$q" >"$room/in"
+whole=$(cat "$room/in")
+expect 'no words' "2||error: 'citymerge' requires a subcommand but one was not provided" "$(first_lines)"
+expect 'another command' "2||error: unrecognized subcommand 'collect'" "$(first_lines collect)"
+expect 'a path' "2||error: unexpected argument 'a.city.jsonl' found" "$(first_lines filter a.city.jsonl)"
+expect 'a box of three numbers' '2||citymerge: bad --bbox' "$(answer filter --bbox=1,2,3)"
+expect 'a box from right to left' '2||citymerge: bad --bbox' "$(answer filter --bbox=5,0,1,1)"
+expect 'a type with no name' '2||citymerge: bad --cotype' "$(answer filter --cotype=A,,B)"
+expect 'a word that is not UTF-8' '2||citymerge: a word is not UTF-8' "$(answer filter "$(printf '\377')")"
+expect 'the version' '0|citymerge 0.1.0|' "$(answer --version)"
+expect 'help' '0|Merges and filters streams of CityJSON features (CityJSONSeq).|' "$(first_lines --help)"
+expect 'help by its word' '0|Merges and filters streams of CityJSON features (CityJSONSeq).|' "$(first_lines help)"
+expect 'help of filter' '0|Writes the chosen features of a stream from standard input to standard output.|' "$(first_lines help filter)"
+expect 'help of merge' '0|Joins the streams of several files into one on standard output.|' "$(first_lines help merge)"
+expect 'help of nothing' "2||error: unrecognized subcommand 'nope'" "$(first_lines help nope)"
+for word in --help --version; do
+    timeout 60 "$program" "$word" <"$room/in" >/dev/full 2>"$room/errors"
+    expect "$word, which cannot be written" '0|' "$?|$(cat "$room/errors")"
+done
+timeout 60 "$program" collect <"$room/in" >"$room/out" 2>/dev/full
+expect 'usage that cannot be written' 2 "$?"
+
+# what is chosen
+expect 'filter' "0|$whole|" "$(answer filter)"
+expect 'by a type' "0|$(printf '%s\n%s' "$header" "$q")|" "$(answer filter --cotype=Road,Bridge)"
+expect 'by a box' "0|$(printf '%s\n%s' "$header" "$p")|" "$(answer filter --bbox=-5,0,10,10)"
+expect 'by a box, excluded' "0|$(printf '%s\n%s' "$header" "$q")|" "$(answer filter --exclude --bbox=-5,0,10,10)"
+expect 'by both' "0|$header|" "$(answer filter --cotype=Building --bbox=11,11,12,12)"
+
+# the streams
 printf '' >"$room/in"
 expect 'no bytes' '1||citymerge: tile 1: the stream has no header line' "$(answer filter)"
 printf '\n \t\r\n' >"$room/in"
 expect 'blank lines' '1||citymerge: tile 1: the stream has no header line' "$(answer filter)"
-printf '[1]\n\n{' >"$room/in"
-expect 'a line cut short' '1|[1]|citymerge: tile 1 line 3: the line is not a JSON text' "$(answer filter)"
-printf '[1]\n"\377"\n' >"$room/in"
-expect 'not UTF-8' '1|[1]|citymerge: tile 1 line 2: the line is not UTF-8' "$(answer filter)"
+printf '\n%s\r\n \t\r\n%s\r\n{' "$header" "$a" >"$room/in"
+expect 'a line cut short' "1|$(printf '%s\n%s' "$header" "$a")|citymerge: tile 1 line 5: the line is not a JSON text" "$(answer filter)"
+printf '%s\n"\377"\n' "$header" >"$room/in"
+expect 'not UTF-8' "1|$header|citymerge: tile 1 line 2: the line is not UTF-8" "$(answer filter)"
 printf '{"a":1,"\\u0061":2}' >"$room/in"
 expect 'a name twice' '1||citymerge: tile 1 line 1: a name is repeated in an object' "$(answer filter)"
 head -c 129 /dev/zero | tr '\0' '[' >"$room/in"
 expect 'nested too deeply' '1||citymerge: tile 1 line 1: the JSON text is nested too deeply' "$(answer filter)"
+printf '[1]\n' >"$room/in"
+expect 'no header' '1||citymerge: tile 1 line 1: the object is not a CityJSON object' "$(answer filter)"
+printf '%s\n%s\n' "$header" "$header" >"$room/in"
+expect 'a header among the features' "1|$header|citymerge: tile 1 line 2: the line is not a CityJSONFeature" "$(answer filter)"
+printf '%s\n%s\n' "$header" "$(feature a Building '[0.5,0,0]')" >"$room/in"
+expect 'half a step' "1|$header|citymerge: tile 1 line 2: a vertex number is not written as a whole number" "$(answer filter)"
 
-# a large text that is compact comes out as it went in
+# a large stream that is compact comes out as it went in
 stays() {
     timeout 60 "$program" filter <"$room/in" >"$room/out" 2>"$room/errors"
     expect "$1" '0||same' "$?|$(cat "$room/errors")|$(cmp "$room/in" "$room/out" && echo same)"
 }
-{ printf '"'; head -c 3000000 /dev/zero | tr '\0' a; printf '"\n'; } >"$room/in"
-stays 'a string of 3 MB'
-{ head -c 1000000 /dev/zero | tr '\0' 7; echo; } >"$room/in"
-stays 'a number of 1,000,000 digits'
-{ printf '['; yes '1,' | tr -d '\n' | head -c 1000000; printf '1]\n'; } >"$room/in"
-stays 'an array of 500,001 items'
-yes '[1]' | head -n 100000 >"$room/in"
-stays '100,000 lines'
 
-# memory for the tile and not for the text of its one line, and not even for the tile
-{ printf '['; yes '1,' | tr -d '\n' | head -c 60000000; printf '1]\n'; } >"$room/in"
-expect 'no memory at line 1' '1||citymerge: tile 1 line 1: there is not enough memory' "$(ulimit -v 120000; answer filter)"
-expect 'no memory for the tile' '1||citymerge: there is not enough memory' "$(ulimit -v 40000; answer filter)"
+# the stream of the header and a feature with a member that holds the text of standard input
+holding() {
+    printf '%s\n{"type":"CityJSONFeature","id":"a","CityObjects":{},"vertices":[],"holds":' "$header"
+    cat
+    printf '}\n'
+}
+{ printf '"'; head -c 3000000 /dev/zero | tr '\0' a; printf '"'; } | holding >"$room/in"
+stays 'a string of 3 MB'
+head -c 1000000 /dev/zero | tr '\0' 7 | holding >"$room/in"
+stays 'a number of 1,000,000 digits'
+{ printf '['; yes '1,' | tr -d '\n' | head -c 1000000; printf '1]'; } | holding >"$room/in"
+stays 'an array of 500,001 items'
+{ printf '%s\n' "$header"; yes "$p" | head -n 100000; } >"$room/in"
+stays '100,000 features'
+head -n 3 "$room/in" >"$room/three"
+{ cat "$room/in"; printf '{}\n'; } >"$room/long"
+mv "$room/long" "$room/in"
+timeout 60 "$program" filter <"$room/in" >"$room/out" 2>"$room/errors"
+expect 'a fault at the end' '1|citymerge: tile 1 line 100002: the line is not a CityJSONFeature' "$?|$(cat "$room/errors")"
+expect 'all that is before it' 100001 "$(wc -l <"$room/out")"
+timeout 60 "$program" filter --cotype=Road <"$room/in" >"$room/out" 2>"$room/errors"
+expect 'a fault after features that are not chosen' "1|$header" "$?|$(cat "$room/out")"
+
+# a line without end
+tr '\0' ' ' </dev/zero | timeout 60 "$program" filter >"$room/out" 2>"$room/errors"
+expect 'a line without end' 'citymerge: tile 1 line 1: the line is too long' "$(cat "$room/errors")"
+
+# memory for a long line and not for its value, and not even for the line
+{ printf '['; yes '1,' | tr -d '\n' | head -c 60000000; printf '1]'; } | holding >"$room/in"
+for most in 250000 60000; do
+    expect "no memory past $most KB" "1|$header|citymerge: tile 1 line 2: there is not enough memory" "$(ulimit -v $most; answer filter)"
+done
 
 # a directory can be opened, and cannot be read
 timeout 60 "$program" filter <"$room" >"$room/out" 2>"$room/errors"
 expect 'a read that fails' '1|citymerge: tile 1 line 1: the tile could not be read' "$?|$(cat "$room/errors")"
 
 # a full device takes no byte
-printf '[1]\n' >"$room/in"
+cp "$room/three" "$room/in"
 timeout 60 "$program" filter <"$room/in" >/dev/full 2>"$room/errors"
 expect 'a full device' '1|citymerge: the output could not be written' "$?|$(cat "$room/errors")"
+{ cat "$room/three"; printf '{}\n'; } >"$room/in"
+timeout 60 "$program" filter <"$room/in" >/dev/full 2>"$room/errors"
+expect 'a full device and a fault' '1|citymerge: tile 1 line 4: the line is not a CityJSONFeature' "$?|$(cat "$room/errors")"
 
 # the reader of the pipe is gone before anything is written, and more comes than a pipe holds
-yes '[1, 2, 3]' | head -n 200000 >"$room/in"
+{ printf '%s\n' "$header"; yes "$p" | head -n 20000; } >"$room/in"
 {
     { sleep 1; timeout 60 "$program" filter <"$room/in" 2>"$room/errors"; echo $? >"$room/status"; } | :
 }
@@ -92,6 +162,130 @@ for tile in west east; do
     timeout 60 "$program" filter <"$room/once" >"$room/twice"
     expect "$tile, written once more" same "$(cmp "$room/once" "$room/twice" && echo same)"
     expect "$tile, its expected output" same "$(cmp "$room/once" "examples/$tile.expected.city.jsonl" && echo same)"
+done
+timeout 60 "$program" filter --cotype=Bridge <examples/east.city.jsonl | tail -n +2 >"$room/out"
+grep '"id":"brug-7"' examples/east.expected.city.jsonl >"$room/wanted"
+expect 'the bridge of east' same "$(cmp "$room/out" "$room/wanted" && echo same)"
+
+# the tiles of a merge: files of these names, each with the lines that follow
+tile() {
+    name=$1
+    shift
+    printf '%s\n' "$@" >"$room/$name"
+}
+
+# merges files of the folder, with these words
+merged() {
+    (cd "$room" && timeout 60 "$program" merge "$@" >out 2>errors)
+    printf '%s|%s|%s' "$?" "$(cat "$room/out")" "$(cat "$room/errors")"
+}
+
+# the header with another translation in x, or with a member more
+moved_to() {
+    printf '%s' "$header" | sed "s/\"translate\":\[0,/\"translate\":[$1,/"
+}
+header_with() {
+    printf '%s,%s}' "${header%\}}" "$1"
+}
+
+case $program in
+/*) ;;
+*) program=$PWD/$program ;;
+esac
+one=$(feature a Building '[1,2,3]')
+two=$(feature b Building '[10,20,30]')
+far=$(feature b Building '[1510,20,30]')
+tile a "$header" "$one"
+tile b "$(moved_to 1.5)" "$two"
+tile -b "$(moved_to 1.5)" "$two"
+tile - "$header" "$one" "$one"
+for turns in '' --in-turn; do
+    expect "a merge $turns" "0|$(printf '%s\n%s\n%s' "$header" "$one" "$far")|" "$(merged $turns a b)"
+    expect "a merge of a box $turns" "0|$(printf '%s\n%s' "$header" "$far")|" "$(merged a $turns b --bbox=1510,0,1510,100)"
+    expect "a merge from the least $turns" "0|$(printf '%s\n%s\n%s' "$header" "$far" "$one")|" "$(merged $turns --least b a)"
+done
+expect 'a box on the least grid' "0|$(printf '%s\n%s' "$header" "$far")|" "$(merged --least --bbox=1510,0,1510,100 b a)"
+expect 'a merge of what is excluded' "0|$(printf '%s\n%s' "$header" "$one")|" "$(merged --exclude --bbox=1510,0,1510,100 a b)"
+expect 'a merge of a type' "0|$header|" "$(merged --cotype=Bridge a b)"
+expect 'one tile' "0|$(printf '%s\n%s' "$header" "$one")|" "$(merged a)"
+expect 'one tile twice' "0|$(printf '%s\n%s\n%s' "$header" "$one" "$one")|" "$(merged a a)"
+expect 'a dash is a name' "0|$(printf '%s\n%s\n%s' "$header" "$one" "$one")|" "$(merged -)"
+expect 'a name with a dash' "0|$(printf '%s\n%s\n%s' "$header" "$one" "$far")|" "$(merged a -- -b)"
+tile c "$header" "$one" "$one" "$one"
+tile d "$header" "$two"
+tile e "$header" "$q" "$p"
+expect 'three tiles' "0|$(printf '%s\n' "$header" "$one" "$two" "$q" "$one" "$p" "$one")|" "$(merged c d e)"
+tile f "$header" "$two" '{"type":"CityJSONFeature","id":"b2'
+expect 'a tile that is cut short' "1|$(printf '%s\n' "$header" "$one" "$two" "$one")|citymerge: tile 2 line 3: the line is not a JSON text" "$(merged - f)"
+expect 'the same in the other order' "1|$(printf '%s\n' "$header" "$two" "$one" "$one")|citymerge: tile 1 line 3: the line is not a JSON text" "$(merged f -)"
+
+# the words of a merge
+expect 'no tile' '2||error: the following required arguments were not provided:' "$(first_lines merge)"
+expect 'options and no tile' '2||error: the following required arguments were not provided:' "$(first_lines merge --in-turn --least)"
+expect 'a bad box of a merge' '2||citymerge: bad --bbox' "$(merged --bbox=1,2,3 no-such-file)"
+expect 'a bad type of a merge' '2||citymerge: bad --cotype' "$(merged --bbox=1,2,3 no-such-file --cotype=A,,B)"
+expect 'an option that looks like a tile' "2||error: unexpected argument '-b' found" "$(first_lines merge a -b)"
+
+# tiles that are not merged
+expect 'a file that is not there' '1||citymerge: tile 2: the tile could not be read' "$(merged a no-such-file no-such-file)"
+expect 'a name that is empty' '1||citymerge: tile 1: the tile could not be read' "$(merged '' a)"
+mkdir "$room/folder"
+expect 'a folder' '1||citymerge: tile 2 line 1: the tile could not be read' "$(merged a folder)"
+expect '65 files that are not there' '1||citymerge: there are more than 64 tiles' "$(merged $(seq 65))"
+expect '64 tiles' "0|65" "$(merged $(yes a | head -n 64) >"$room/64"; printf '%s|%s' "$(cut -c 1 "$room/64" | head -n 1)" "$(wc -l <"$room/out")")"
+tile empty
+printf '' >"$room/empty"
+expect 'a tile of no bytes' '1||citymerge: tile 3: the stream has no header line' "$(merged a b empty)"
+misfit() {
+    tile misfit "$2"
+    expect "$1" "1||citymerge: tile 2 line 1: $3" "$(merged a misfit)"
+}
+misfit 'off the grid' "$(moved_to 0.0005)" 'the translation is off the grid'
+misfit 'another scale' "$(printf '%s' "$header" | sed 's/0\.001/0.01/g')" 'the scale differs from tile 1'
+misfit 'another version' "$(printf '%s' "$header" | sed 's/2\.0/1.1/')" 'the version is not 2.0'
+misfit 'no transform' '{"type":"CityJSON","version":"2.0","CityObjects":{},"vertices":[]}' 'the transform is missing or malformed'
+misfit 'a scale of zero' "$(printf '%s' "$header" | sed 's/0\.001/0/g')" 'a scale is not above zero'
+misfit 'templates' "$(header_with '"geometry-templates":{"templates":[],"vertices-templates":[]}')" 'geometry templates differ between tiles'
+misfit 'a reference system' "$(header_with '"metadata":{"referenceSystem":"https://www.opengis.net/def/crs/EPSG/0/7415"}')" 'the reference system differs from tile 1'
+tile fine "$(printf '%s' "$header" | sed 's/0\.001/0.000001/g')"
+tile far "$(moved_to 100000000000 | sed 's/0\.001/0.000001/g')"
+expect 'too far' '1||citymerge: tile 2 line 1: the shift is out of range' "$(merged fine far)"
+tile misfit "$(moved_to -0.0005)"
+expect 'off the least grid' '1||citymerge: tile 1 line 1: the translation is off the grid' "$(merged --least a misfit)"
+tile extended "$(header_with '"extensions":{"A":{"version":"1"}}')"
+tile others "$(header_with '"extensions":{"B":{},"A":{"version":"1"}}')"
+tile clashing "$(header_with '"extensions":{"B":{},"A":{"version":"2"}}')"
+expect 'extensions' "0|$(header_with '"extensions":{"A":{"version":"1"},"B":{}}')|" "$(merged extended others)"
+expect 'extensions that clash' '1||citymerge: tile 2 line 1: an extension differs between tiles' "$(merged extended clashing)"
+tile bounded "$(header_with '"metadata":{"geographicalExtent":[0,0,0,1,1,1],"title":"t"}')"
+expect 'the extent of a tile' "0|$(header_with '"metadata":{"title":"t"}')|" "$(merged bounded)"
+cp "$room/bounded" "$room/in"
+expect 'the extent stays in a filter' "0|$(cat "$room/in")|" "$(answer filter)"
+
+# a large merge, and outputs that are closed
+{ printf '%s\n' "$header"; yes "$one" | head -n 50000; } >"$room/many"
+{ printf '%s\n' "$(moved_to 1.5)"; yes "$two" | head -n 30000; } >"$room/others"
+{ printf '%s\n' "$header"; yes "$one
+$far" | head -n 60000; yes "$one" | head -n 20000; } >"$room/wanted"
+timeout 60 "$program" merge "$room/many" "$room/others" >"$room/out" 2>"$room/errors"
+expect 'a merge of 80,000 features' '0||same' "$?|$(cat "$room/errors")|$(cmp "$room/wanted" "$room/out" && echo same)"
+timeout 60 "$program" merge "$room/a" "$room/b" >/dev/full 2>"$room/errors"
+expect 'a merge to a full device' '1|citymerge: the output could not be written' "$?|$(cat "$room/errors")"
+{
+    { sleep 1; timeout 60 "$program" merge "$room/many" "$room/others" 2>"$room/errors"; echo $? >"$room/status"; } | :
+}
+expect 'a merge to a closed pipe' '1|citymerge: the output could not be written' "$(cat "$room/status")|$(cat "$room/errors")"
+timeout 60 "$program" merge "$room/many" no-such-file >"$room/out" 2>/dev/full
+expect 'a file that is not there, and nowhere to say it' '1|0' "$?|$(wc -c <"$room/out")"
+
+# the bundled tiles
+timeout 60 "$program" merge examples/west.city.jsonl examples/east.city.jsonl >"$room/out" 2>"$room/errors"
+expect 'west and east' '0||same' "$?|$(cat "$room/errors")|$(cmp "$room/out" examples/west_and_east.expected.city.jsonl && echo same)"
+timeout 60 "$program" filter <"$room/out" >"$room/twice"
+expect 'west and east, written once more' same "$(cmp "$room/out" "$room/twice" && echo same)"
+for refused in 'off_grid|the translation is off the grid' 'other_reference_system|the reference system differs from tile 1'; do
+    timeout 60 "$program" merge examples/west.city.jsonl "examples/${refused%%|*}.city.jsonl" >"$room/out" 2>"$room/errors"
+    expect "west and ${refused%%|*}" "1||citymerge: tile 2 line 1: ${refused#*|}" "$?|$(cat "$room/out")|$(cat "$room/errors")"
 done
 
 echo "The program at its edges: $passed right, $failed wrong"

@@ -2,3 +2,5 @@ pub mod FeatureVertices
 pub mod InPlace
 pub mod MovedLines
 pub mod StillFeature
+pub mod QuickLines
+pub mod TextVertices

@@ -1,6 +1,6 @@
 -- Objects of which one member is changed: every other member stays as it is, at its place.
 use Rattle.std.specs.Prelude.{ℕ, List, bytes_eq, if◌then◌else◌}
-use Rattle.city_json.specs.Tree.{Tree, null, boolean, number, string, array, object, MemberTrees, no_members, member}
+use Rattle.city_json.specs.Tree.{Tree, object, MemberTrees, no_members, member}
 
 -- with this value for the first of this name; as the last, where there is none of the name
 abbrev pub with_named : List ℕ → Tree → MemberTrees → MemberTrees

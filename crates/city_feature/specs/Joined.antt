@@ -3,7 +3,7 @@
 use Rattle.std.specs.Prelude.{◌≡◌, ◌≢◌, ◌⊎◌, ◌+◌, ◌≤ℤ◌, pos, ℕ, List, [], ◌∷◌, Option, Some, None, codes, if◌then◌else◌, is_some}
 use Rattle.city_json.specs.Compact.{compact}
 use Rattle.city_json.specs.Members.{member_of, first_named}
-use Rattle.city_json.specs.Tree.{Tree, null, boolean, number, string, array, object, MemberTrees, no_members, member}
+use Rattle.city_json.specs.Tree.{Tree, object, MemberTrees, no_members, member}
 use Rattle.city_json.specs.declared.fault.Fault.{Fault}
 use Rattle.city_json.specs.declared.fault.Fault.TheVariants.{ScaleDiffers, CrsDiffers, OffGrid, ShiftRange, ExtensionClash, TemplatesDiffer, Memory}
 use Rattle.city_grid.specs.Axes.{Texts, Triple, IsInRange, three}

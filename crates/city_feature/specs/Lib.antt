@@ -7,5 +7,6 @@ pub mod FeatureLine
 pub mod Header
 pub mod Joined
 pub mod Origin
+pub mod Quick
 pub mod Shapes
 pub mod Values

@@ -1,7 +1,6 @@
 -- The transform that joined tiles share: the first tile's, or the one of the least translation.
 use Rattle.std.specs.Prelude.{◌≡◌, ◌++◌, ◌≤ℤ◌, ◌<ℤ◌, ℕ, ℤ, List, ◌∷◌, All, Some, codes}
 use Rattle.city_json.specs.Members.{member_of}
-use Rattle.city_json.specs.Tree.{Tree}
 use Rattle.city_grid.specs.Axes.{Texts, three}
 use Rattle.city_grid.specs.Transform.{Grid}
 use Rattle.city_feature.specs.Header.{HeaderValue}

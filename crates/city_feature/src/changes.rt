@@ -65,8 +65,8 @@ fn named(alloc: Global, name: &str, value: Json) -> Result<Member, Fault>
     Ok(Member { name, value })
 }
 
-/// Drops the first member of this name from an object.
-pub(crate) fn drop_member(object: &mut Json, name: &str)
+/// Drops the first member of this name from an object; a value that is no object stays as it is.
+pub fn drop_member(object: &mut Json, name: &str)
     ensures { tree object.new ≡ without_member name.now (tree object.old) }
 {
     if let Json::Map(members) = object {
@@ -76,12 +76,7 @@ pub(crate) fn drop_member(object: &mut Json, name: &str)
 
 /// Gives the first member of this name in an object the value, or adds such a member as the last.
 /// The only fault is [`Fault::Memory`].
-pub(crate) fn set_member(
-    alloc: Global,
-    object: &mut Json,
-    name: &str,
-    value: Json,
-) -> Result<(), Fault>
+pub fn set_member(alloc: Global, object: &mut Json, name: &str, value: Json) -> Result<(), Fault>
     ensures ok { OnOk result (tree object.new
         ≡ with_member name.now (tree value) (tree object.old)) }
     ensures fault { IfErr result (λ fault. fault ≡ Fault.Memory) }

@@ -13,6 +13,7 @@ mod joining;
 mod kinds;
 
 pub use base::Base;
+pub use changes::{drop_member, set_member};
 pub use choices::Choice;
 pub use choices::area::Area;
 pub use choices::area::reader::area;
@@ -24,5 +25,5 @@ pub use features::moving::shifted;
 pub use features::reader::feature;
 pub use features::writer::line;
 pub use headers::Header;
-pub use headers::reader::header;
+pub use headers::reader::{header, is_city_json, is_version_2, transform_of};
 pub use joining::{HeaderFault, Joined, Shifts, join_headers};

@@ -2,3 +2,4 @@ pub mod DecimalIntegers
 pub mod IntegerTexts
 pub mod OneVertex
 pub mod WrittenVertex
+pub mod VertexTexts

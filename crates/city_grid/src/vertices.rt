@@ -4,6 +4,7 @@ ghost use Rattle.city_grid.specs.Axes.{IsInRange, sum, triple};
 
 mod integers;
 pub(crate) mod reader;
+pub(crate) mod texts;
 pub(crate) mod writer;
 
 use crate::axes::Axes;

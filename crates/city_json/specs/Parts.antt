@@ -1,5 +1,5 @@
 -- Where the members of an object lie in its compact text, and an object with the value of one member exchanged.
-use Rattle.std.specs.Prelude.{◌≡◌, ◌++◌, ◌+◌, ℕ, zero, suc, List, [], ◌∷◌, length, take, drop}
+use Rattle.std.specs.Prelude.{◌≡◌, ◌++◌, ◌+◌, ℕ, zero, suc, List, [], ◌∷◌, length, take, drop, slice_range}
 use Rattle.city_json.specs.Bytes.{colon}
 use Rattle.city_json.specs.Compact.{quoted, compact}
 use Rattle.city_json.specs.Tree.{Tree, MemberTrees, no_members, member}
@@ -25,3 +25,17 @@ abbrev pub replaced : ℕ → Tree → MemberTrees → MemberTrees
 replaced k value no_members = no_members
 replaced zero value (member name other others) = member name value others
 replaced (suc k) value (member name other others) = member name other (replaced k value others)
+
+-- the member at place k, from 0, has this name and this value
+abbrev pub HasMember : ℕ → List ℕ → Tree → MemberTrees → Type 0
+HasMember k name value no_members = ⊥
+HasMember zero name value (member other found others) = (other ≡ name) × (found ≡ value)
+HasMember (suc k) name value (member other found others) = HasMember k name value others
+
+-- the compact texts of the name and the value of the member at place k stand in this part of a text
+pub record IsMemberText (text : List ℕ) (part : Part) (k : ℕ) (members : MemberTrees) : Type 0 where
+  pub name : List ℕ
+  pub value : Tree
+  pub has : HasMember k name value members
+  pub named : slice_range text part.at part.value ≡ quoted name ++ colon ∷ []
+  pub valued : slice_range text part.value part.end ≡ compact value

@@ -5,7 +5,7 @@ ghost use Rattle.city_json.specs.Compact.{compact};
 ghost use Rattle.city_json.specs.Depth.{IsDeep};
 ghost use Rattle.city_json.specs.Fits.{depth, most_depth};
 ghost use Rattle.city_json.specs.Grammar.{Spells};
-ghost use Rattle.city_json.specs.Parts.{AreParts, with_value, replaced};
+ghost use Rattle.city_json.specs.Parts.{AreParts, IsMemberText, with_value, replaced};
 ghost use Rattle.city_json.specs.Tree.{Tree, MemberTrees, object};
 ghost use Rattle.city_json.specs.Writable.{IsWritable};
 ghost use Rattle.city_json.specs.declared.compacting.parts.Part.{Part};
@@ -54,4 +54,11 @@ pub fn exchanged_text_is_exchanged_value()
         → AreParts 1 parts members → k < length parts
         → with_value (compact (object members)) (slice_index_or parts k part) (compact value)
         ≡ compact (object (replaced k value members)) }
+{}
+
+/// In each part of the compact text of an object lie the name and the value of the member at its place.
+pub fn members_lie_in_their_parts()
+    ensures { (members : MemberTrees) (parts : List Part) (k : ℕ) (part : Part)
+        → AreParts 1 parts members → k < length parts
+        → IsMemberText (compact (object members)) (slice_index_or parts k part) k members }
 {}

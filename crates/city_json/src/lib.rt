@@ -26,7 +26,7 @@ pub use json::{Items, Json, Member, Members};
 pub use laws::{
     a_text_has_one_meaning, compact_text_is_one_line, compact_text_is_read_as_its_value,
     compact_text_spells_its_value, compact_text_tells_its_value, exchanged_text_is_exchanged_value,
-    spelled_value_is_writable, texts_nest_as_their_values,
+    members_lie_in_their_parts, spelled_value_is_writable, texts_nest_as_their_values,
 };
 pub use line::Line;
 pub use number_parts::NumberParts;

@@ -46,7 +46,7 @@ impl Line {
     }
 
     /// Adds the bytes at the end. Out of memory, the line is as before.
-    pub(crate) fn append(&mut self, bytes: &[u8]) -> Result<(), AllocError>
+    pub fn append(&mut self, bytes: &[u8]) -> Result<(), AllocError>
         ensures ok { OnOk result (self.new ≡ self.old ++ bytes.now) }
         ensures err { OnErr result (self.new ≡ self.old) }
     {

@@ -1,10 +1,8 @@
 -- The line that tells a refusal on standard error.
-use Rattle.std.specs.Prelude.{◌≡◌, ◌⊎◌, ◌++◌, ◌==◌, ℕ, List, [], ◌∷◌, Option, take, codes, decimal, if◌then◌else◌}
-use Rattle.std.specs.Io.KnownBytes.{Appends}
+use Rattle.std.specs.Prelude.{◌++◌, ◌==◌, ℕ, List, [], ◌∷◌, codes, decimal, if◌then◌else◌}
 use Rattle.city_json.specs.Bytes.{newline}
-use Rattle.city_json.specs.Streams.Failures.{one_more}
 use Rattle.city_json.specs.Faults.{text_of}
-use Rattle.citymerge.specs.declared.fault.MergeFault.{MergeFault}
+use Rattle.tile_merge.specs.declared.fault.MergeFault.{MergeFault}
 
 -- the tile and the line that a refusal names; what is 0 is left out
 abbrev pub place_text : ℕ → ℕ → List ℕ
@@ -15,9 +13,3 @@ place_text tile line =
 
 abbrev pub fault_line : MergeFault → List ℕ
 fault_line refusal = codes "citymerge: " ++ place_text refusal.tile refusal.line ++ text_of refusal.fault ++ newline ∷ []
-
--- All of these bytes were written and no call failed, or some first ones were and one did.
-abbrev pub WroteOrFailed : List ℕ → Option (List ℕ) → Option (List ℕ) → ℕ → ℕ → Type 0
-WroteOrFailed bytes old new failures_before failures_after =
-    (Appends old new bytes × (failures_after ≡ failures_before))
-    ⊎ ((count : ℕ) × Appends old new (take count bytes) × (failures_after ≡ one_more failures_before))

@@ -1,6 +1,4 @@
 pub mod FaultLine
-pub mod NextLine
-pub mod Outcome
-pub mod Progress
-pub mod Stream
-pub mod Tile
+pub mod Merging
+pub mod Passing
+pub mod Words

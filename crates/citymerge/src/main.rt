@@ -1,52 +1,60 @@
-//! `citymerge`: filters streams of CityJSON features.
+//! `citymerge`: merges and filters streams of CityJSON features.
 #![tactic(auto)]
 
-mod compact;
-mod fault;
+ghost use Rattle.std.specs.Prelude.{◌<◌, length};
+
 mod fault_line;
-mod limits;
-mod lines;
+mod output;
 mod report;
 mod run;
-mod stream;
-#[cfg(test)]
-mod tests;
+mod tiles;
+mod words;
 
-use crate::fault::MergeFault;
-use crate::report::report_fault;
-use crate::run::run_filter;
-use city_json::{Device, Fault, write_all};
+use crate::output::buffered;
+use crate::report::{report_fault, show_help, show_usage};
+use crate::run::{run_filter, run_merge};
+use crate::tiles::open_tiles;
+use crate::words::parse_args;
+use city_feature::Choice;
+use city_json::{Device, Fault, Sink};
+use command_line::{MergeArgs, Parsed};
 use std::env;
-use std::io::ErrorKind;
 use std::process::ExitCode;
-
-/// What the program says where its words are wrong.
-const USE: &str = "citymerge: use: citymerge filter\n";
+use tile_merge::{MergeFault, TileReader};
 
 fn main(rt: HostRuntime) -> ExitCode {
     let mut errors = Device::new(rt.stderr());
-    let asked = match env::args(&rt) {
-        Ok(words) => asks_filter(words),
-        Err(e) if e.kind() == ErrorKind::OutOfMemory => {
-            let fault = MergeFault::of_no_line(Fault::Memory);
-            return ExitCode::from(report_fault(&fault, &mut errors));
-        }
-        Err(_) => false,
+    let status = match parse_args(rt.alloc(), env::args(&rt)) {
+        Parsed::Merge(args) => merge_files(&rt, &args, &mut errors),
+        Parsed::Filter(choice) => filter_input(&rt, &choice, &mut errors),
+        Parsed::Help(text) => show_help(&text, &mut Device::new(rt.stdout())),
+        Parsed::Usage(text) => show_usage(&text, &mut errors),
+        Parsed::Memory => report_fault(&MergeFault::of_no_line(Fault::Memory), &mut errors),
     };
-    if !asked {
-        let _ = write_all(&mut errors, USE.as_bytes());
-        return ExitCode::from(2);
-    }
-    let mut input = Device::new(rt.stdin());
-    let mut output = Device::new(rt.stdout());
-    ExitCode::from(run_filter(rt.alloc(), &mut input, &mut output, &mut errors))
+    ExitCode::from(status)
 }
 
-/// Whether the words after the program's name are the one word `filter`.
-fn asks_filter(words: env::Args) -> bool {
-    let mut words = words.skip(1);
-    let Some(first) = words.next() else {
-        return false;
+/// Merges files to standard output, and answers the status.
+fn merge_files<E: Sink>(rt: &HostRuntime, args: &MergeArgs, errors: &mut E) -> u8
+    requires { 0 < length args.now.paths }
+{
+    let readers = match open_tiles(rt.alloc(), rt, &args.paths) {
+        Ok(readers) => readers,
+        Err(refusal) => return report_fault(&refusal, errors),
     };
-    first.as_str() == "filter" && words.next().is_none()
+    match buffered(rt.alloc(), rt.stdout()) {
+        Ok(mut output) => run_merge(rt.alloc(), args, readers, &mut output, errors),
+        Err(fault) => report_fault(&MergeFault::of_no_line(fault), errors),
+    }
+}
+
+/// Filters standard input to standard output, and answers the status.
+fn filter_input<E: Sink>(rt: &HostRuntime, choice: &Choice, errors: &mut E) -> u8 {
+    match buffered(rt.alloc(), rt.stdout()) {
+        Ok(mut output) => {
+            let mut tile = TileReader::new(rt.alloc(), Device::new(rt.stdin()));
+            run_filter(rt.alloc(), &mut tile, choice, &mut output, errors)
+        }
+        Err(fault) => report_fault(&MergeFault::of_no_line(fault), errors),
+    }
 }

@@ -1,39 +1,100 @@
-ghost use Rattle.std.specs.Prelude.{◌≡◌, ◌⊎◌, ℕ};
-ghost use Rattle.city_json.specs.Streams.Failures.{one_more};
-ghost use Rattle.city_json.specs.declared.fault.Fault.TheVariants.{Read};
-ghost use Rattle.citymerge.specs.FaultLine.{WroteOrFailed, fault_line};
-ghost use Rattle.citymerge.specs.Outcome.{SomeTile, WroteStream, IsRefusal, failures_after};
-ghost use Rattle.citymerge.specs.declared.fault.MergeFault.{MergeFault};
+ghost use Rattle.std.specs.Prelude.{◌≡◌, ◌⊎◌, ◌<◌, ℕ, List, false, length};
+ghost use Rattle.city_feature.specs.Choice.{IsChosen};
+ghost use Rattle.citymerge.specs.FaultLine.{fault_line};
+ghost use Rattle.citymerge.specs.Merging.{base_of};
+ghost use Rattle.citymerge.specs.Passing.{FlushedOrFailed, WroteOrFailed};
+ghost use Rattle.tile_merge.specs.Filtered.{WroteStream, IsRefusedFilter, failures_after_refusal, failures_after_write};
+ghost use Rattle.tile_merge.specs.Head.{SomeTile};
+ghost use Rattle.tile_merge.specs.Merged.{IsRefusedMerge, MergedAll};
+ghost use Rattle.tile_merge.specs.Turns.{AreTurns};
+ghost use Rattle.tile_merge.specs.Unread.{Leaves, has_failed, failed_reads_after};
+ghost use Rattle.tile_merge.specs.declared.fault.MergeFault.{MergeFault};
 
-use crate::fault::MergeFault;
-use crate::report::report_fault;
-use crate::stream::plain_stream;
+#[cfg(test)]
+mod merging_tests;
+#[cfg(test)]
+mod tests;
+
+use crate::report::end_refused;
+use city_feature::{Base, Choice};
 use city_json::{Sink, Source};
+use command_line::MergeArgs;
 use std::alloc::Global;
+use tile_merge::{TileReader, filter_tile, merge_in_turn};
 
-/// Filters the stream of `input` to `output`, and answers the status to end with: 0, or 1 with a fault
-/// line on `errors`.
-pub fn run_filter<S: Source, W: Sink, E: Sink>(
+/// How many texts of a tile are held at most.
+const CAPACITY: u32 = 64;
+
+/// Writes the stream of the chosen features of a tile, of which nothing was taken yet, to `output`,
+/// and answers the status to end with: 0, or 1 with a fault line on `errors`. What was written is
+/// passed on either way.
+pub fn run_filter<R: Source, W: Sink, E: Sink>(
     alloc: Global,
-    input: &mut S,
+    tile: &mut TileReader<R>,
+    choice: &Choice,
     output: &mut W,
     errors: &mut E,
 ) -> u8
     ensures status { (result ≡ 0) ⊎ (result ≡ 1) }
-    ensures done { result ≡ 0 → SomeTile (S.gives input.old)
-        (λ tile. (count : ℕ) × WroteStream tile count (W.taken output.old) (W.taken output.new)) }
+    ensures done { result ≡ 0 → SomeTile (Leaves R.gives tile.old) (λ lines. (count : ℕ)
+        × WroteStream lines (IsChosen choice.now) count (W.taken output.old) (W.taken output.new)) }
     ensures done_flushed { result ≡ 0 → W.is_flushed output.new }
     ensures done_failures { result ≡ 0 → W.failures output.new ≡ W.failures output.old }
+    ensures done_reads { result ≡ 0 → has_failed tile.old ≡ false
+        → R.failures tile.new.ahead.reader ≡ R.failures tile.old.ahead.reader }
     ensures refused { result ≡ 1 → (e : MergeFault)
-        × IsRefusal (S.gives input.old) e.fault e.tile e.line (W.taken output.old) (W.taken output.new)
-        × (W.failures output.new ≡ failures_after e.fault (W.failures output.old))
-        × (e.fault ≡ Read → S.failures input.new ≡ one_more (S.failures input.old))
+        × IsRefusedFilter (Leaves R.gives tile.old) (IsChosen choice.now) e.fault e.tile e.line
+        (W.taken output.old) (W.taken output.new)
+        × FlushedOrFailed (W.is_flushed output.new)
+        (failures_after_write e.fault (W.failures output.old)) (W.failures output.new)
+        × (has_failed tile.old ≡ false → R.failures tile.new.ahead.reader
+        ≡ failed_reads_after e.fault (R.failures tile.old.ahead.reader))
         × WroteOrFailed (fault_line e) (E.taken errors.old) (E.taken errors.new)
         (E.failures errors.old) (E.failures errors.new) }
     ensures silent { result ≡ 0 → errors.new ≡ errors.old }
 {
-    match plain_stream(alloc, input, output) {
+    match filter_tile(alloc, tile, choice, output) {
         Ok(_) => 0,
-        Err(fault) => report_fault(&fault, errors),
+        Err(refusal) => end_refused(&refusal, output, errors),
     }
+}
+
+/// Merges the tiles that the readers give to `output` as the options say, and answers the status to
+/// end with: 0, or 1 with a fault line on `errors`. What was written is passed on either way. The
+/// tiles take turns with and without `--in-turn`.
+pub fn run_merge<R: Source + Drop, W: Sink, E: Sink>(
+    alloc: Global,
+    args: &MergeArgs,
+    readers: Vec<R>,
+    output: &mut W,
+    errors: &mut E,
+) -> u8
+    requires { 0 < length readers.items }
+    ensures status { (result ≡ 0) ⊎ (result ≡ 1) }
+    ensures done { result ≡ 0 → (counts : List ℕ)
+        × MergedAll R.gives (IsChosen args.now.choice) (base_of args.now.least) AreTurns
+        readers.items counts (W.taken output.old) (W.taken output.new) }
+    ensures done_flushed { result ≡ 0 → W.is_flushed output.new }
+    ensures done_failures { result ≡ 0 → W.failures output.new ≡ W.failures output.old }
+    ensures refused { result ≡ 1 → (e : MergeFault)
+        × IsRefusedMerge R.gives (IsChosen args.now.choice) (base_of args.now.least) AreTurns
+        readers.items e (W.taken output.old) (W.taken output.new)
+        × FlushedOrFailed (W.is_flushed output.new)
+        (failures_after_refusal e (W.failures output.old)) (W.failures output.new)
+        × WroteOrFailed (fault_line e) (E.taken errors.old) (E.taken errors.new)
+        (E.failures errors.old) (E.failures errors.new) }
+    ensures silent { result ≡ 0 → errors.new ≡ errors.old }
+{
+    let base = base_of(args.least);
+    let Err(refusal) = merge_in_turn(alloc, readers, &args.choice, base, CAPACITY, output) else {
+        return 0;
+    };
+    end_refused(&refusal, output, errors)
+}
+
+/// Whose translation the tiles share.
+fn base_of(least: bool) -> Base
+    ensures { result ≡ base_of least }
+{
+    if least { Base::Least } else { Base::First }
 }

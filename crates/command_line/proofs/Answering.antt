@@ -20,7 +20,7 @@ use Rattle.clap.proofs.OnLiterals.{clap_on_literals}
 use Rattle.command_line.proofs.Naming.{enters_no_help, first_none, is_none_of, second_none}
 use Rattle.command_line.specs.Answered.{IsAnswered, is_shown}
 use Rattle.command_line.specs.Asked.{IsAsked}
-use Rattle.command_line.specs.Commands.{citymerge_app, filter_app}
+use Rattle.command_line.specs.Commands.{citymerge_app, filter_app, merge_app}
 use Rattle.command_line.specs.Matches.{AnswersKind, IsNamed}
 use Rattle.command_line.specs.declared.parsing.Parsed.{Parsed}
 use Rattle.command_line.specs.declared.parsing.Parsed.TheVariants as parsed
@@ -38,6 +38,9 @@ simple_and_free = refl
 
 abbrev all_commands : App
 all_commands = built citymerge_app
+
+abbrev merge_command : Shape
+merge_command = built_leaf (inherited (on_top with_leaf_noted (on_top marked_built citymerge_app)).top merge_app.top)
 
 abbrev filter_command : Shape
 filter_command = built_leaf (inherited (on_top with_leaf_noted (on_top marked_built citymerge_app)).top filter_app.top)
@@ -88,19 +91,23 @@ differs name other = go (bytes_eq (codes "help") name) refl
         let same : codes "help" ≡ name = (bytes_eq-Decides (codes "help") name).0 e in
         sym ((bytes_eq-Decides name (codes "help")).1 (sym same)) ∙ other
 
-one_of_two : (words : List Text) (filters helps : Bool) → helps ≡ false
-    → is_some (option_map (λ s. rows_at s words) (cond filters (Some filter_command) (cond helps (Some help_command) None))) ≡ true
-    → IsNamed (option_map (λ s. rows_at s words) (cond filters (Some filter_command) (cond helps (Some help_command) None)))
-one_of_two words true helps other has = refl
-one_of_two words false true other has = absurd (true≢false other)
-one_of_two words false false other has = absurd (true≢false (sym has))
+abbrev met_of : (merges filters helps : Bool) → Option Shape
+met_of merges filters helps = cond merges (Some merge_command) (cond filters (Some filter_command) (cond helps (Some help_command) None))
+
+one_of_three : (words : List Text) (merges filters helps : Bool) → helps ≡ false
+    → is_some (option_map (λ s. rows_at s words) (met_of merges filters helps)) ≡ true
+    → IsNamed (option_map (λ s. rows_at s words) (met_of merges filters helps))
+one_of_three words true filters helps other has = inl refl
+one_of_three words false true helps other has = inr refl
+one_of_three words false false true other has = absurd (true≢false other)
+one_of_three words false false false other has = absurd (true≢false (sym has))
 
 entered_named : (stop : Option (Text × List Text)) → is_some (entered all_commands stop) ≡ true
     → ((p : Text × List Text) → stop ≡ Some p → bytes_eq p.0 (codes "help") ≡ false) → IsNamed (entered all_commands stop)
 entered_named None has free = absurd (true≢false (sym has))
 entered_named (Some p) has free =
     let other : answers_to p.0 (label_of help_command) ≡ false = ap (λ b. b || false) (differs p.0 (free p refl)) in
-    one_of_two p.1 (answers_to p.0 (label_of filter_command)) (answers_to p.0 (label_of help_command)) other has
+    one_of_three p.1 (answers_to p.0 (label_of merge_command)) (answers_to p.0 (label_of filter_command)) (answers_to p.0 (label_of help_command)) other has
 
 names_command : (words : List Text) → fault_of citymerge_app words ≡ [] → IsNamed (subcommand_of citymerge_app words)
 names_command words none =
@@ -128,6 +135,7 @@ any_among p k (x ∷ xs) e (inr later) = or_right (p x) _ (any_among p k xs e la
 
 kind_answered : (kinds : Kinds) (named : Option (Text × List Row)) (k : ErrorKind) (answer : Parsed)
     → (k ≡ OutOfMemory) ⊎ IsAmong k kinds → AnswersKind k answer → IsAnswered kinds named answer
+kind_answered kinds named k (parsed.Merge args) has h = absurd h
 kind_answered kinds named k (parsed.Filter choice) has h = absurd h
 kind_answered kinds named k parsed.Memory has h = tt
 kind_answered kinds named k (parsed.Help text) (inl out) h = absurd (true≢false (sym h ∙ ap is_shown out))

@@ -8,16 +8,17 @@ use Rattle.city_feature.specs.declared.choices.area.Area.{Area}
 use Rattle.clap.specs.Words.{Kinds, Row, Text}
 use Rattle.clap.specs.declared.error.kind.ErrorKind.{ErrorKind}
 use Rattle.clap.specs.declared.error.kind.ErrorKind.TheVariants.{DisplayHelp, DisplayVersion}
-use Rattle.command_line.specs.Asked.{area_text, types_text}
+use Rattle.command_line.specs.Asked.{area_text, paths_in, types_text}
 use Rattle.command_line.specs.declared.parsing.Parsed.{Parsed}
 use Rattle.command_line.specs.declared.parsing.Parsed.TheVariants as parsed
 use Rattle.command_line.specs.declared.refusal.Refusal.{Refusal}
-use Rattle.command_line.specs.declared.refusal.Refusal.TheVariants.{BadArea, BadTypes, Memory}
+use Rattle.command_line.specs.declared.refusal.Refusal.TheVariants.{BadArea, BadTypes, Memory, NoTile}
 
 -- what is said of a refusal; out of memory nothing can be
 abbrev pub text_of : Refusal → Option Text
 text_of BadTypes = Some (codes "citymerge: bad --cotype\n")
 text_of BadArea = Some (codes "citymerge: bad --bbox\n")
+text_of NoTile = Some (codes "citymerge: no TILE\n")
 text_of Memory = None
 
 -- an area is given, and its text writes none
@@ -29,11 +30,17 @@ abbrev pub RefusesChoice : Refusal → List Row → Type 0
 RefusesChoice BadTypes rows = IsSomeAnd (types_text rows) HasEmptyName
 RefusesChoice BadArea rows =
     IfSome (types_text rows) (λ text. ¬ HasEmptyName text) × HasBadArea rows
+RefusesChoice NoTile rows = ⊥
 RefusesChoice Memory rows = ⊤
+
+-- why a command is refused
+abbrev pub RefusesCommand : Refusal → Text × List Row → Type 0
+RefusesCommand NoTile command = (command.0 ≡ codes "merge") × (paths_in command.1 ≡ [])
+RefusesCommand refusal command = RefusesChoice refusal command.1
 
 -- why words are refused that `clap` takes
 abbrev pub RefusesNamed : Refusal → Option (Text × List Row) → Type 0
-RefusesNamed refusal named = IsSomeAnd named (λ command. RefusesChoice refusal command.1)
+RefusesNamed refusal named = IsSomeAnd named (RefusesCommand refusal)
 
 -- of the kinds of error of `clap`, those that are no mistake
 abbrev pub is_shown : ErrorKind → Bool
@@ -44,6 +51,7 @@ is_shown _ = false
 -- the answer fits the kinds of error that `clap` may give for the words, and the command that they
 -- name
 abbrev pub IsAnswered : Kinds → Option (Text × List Row) → Parsed → Type 0
+IsAnswered kinds named (parsed.Merge args) = kinds ≡ []
 IsAnswered kinds named (parsed.Filter choice) = kinds ≡ []
 IsAnswered kinds named (parsed.Help text) = list_any is_shown kinds ≡ true
 IsAnswered kinds named (parsed.Usage text) =

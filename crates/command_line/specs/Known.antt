@@ -2,12 +2,16 @@
 use Rattle.std.specs.Prelude.{◌≡◌, List, [], ◌∷◌, Some, None, codes, true, false, option_map}
 use Rattle.clap.specs.Words.{Kinds, Row, Text, takes}
 use Rattle.clap.specs.declared.error.kind.ErrorKind.TheVariants as kind
-use Rattle.command_line.specs.Asked.{area_text, is_used, types_text}
+use Rattle.command_line.specs.Asked.{area_text, is_used, paths_in, types_text}
 use Rattle.command_line.specs.Commands.{citymerge_app, faults_of, named_by}
 
 -- the words after the program's name and the word `filter`
 abbrev pub filter : List Text → List Text
 filter words = codes "citymerge" ∷ codes "filter" ∷ words
+
+-- the same after the word `merge`
+abbrev pub merge : List Text → List Text
+merge words = codes "citymerge" ∷ codes "merge" ∷ words
 
 abbrev pub Fails : List Text → Kinds → Type 0
 Fails words kinds = faults_of words ≡ kinds
@@ -32,6 +36,15 @@ pub record KnownFaults : Type 0 where
   pub path_after_dashes :
       Fails (filter (codes "--" ∷ codes "a.city.jsonl" ∷ [])) (kind.UnknownArgument ∷ [])
   pub other_option : Fails (filter (codes "--in-turn" ∷ [])) (kind.UnknownArgument ∷ [])
+  pub no_tile : Fails (merge []) (kind.MissingRequiredArgument ∷ [])
+  pub options_and_no_tile :
+      Fails (merge (codes "--least" ∷ codes "--in-turn" ∷ [])) (kind.MissingRequiredArgument ∷ [])
+  pub one_tile : Fails (merge (codes "a.city.jsonl" ∷ [])) []
+  pub tile_of_a_dash : Fails (merge (codes "-" ∷ [])) []
+  pub tile_after_a_dash : Fails (merge (codes "-a" ∷ [])) (kind.UnknownArgument ∷ [])
+  pub in_turn_twice :
+      Fails (merge (codes "--in-turn" ∷ codes "a" ∷ codes "--in-turn" ∷ [])) (kind.ArgumentConflict ∷ [])
+  pub help_of_merge : Fails (merge (codes "--help" ∷ [])) (kind.DisplayHelp ∷ [])
 
 -- what is found of one option, where the words name a command
 abbrev pub Finds : {A : Type 0} → List Text → (List Row → A) → A → Type 0
@@ -41,8 +54,13 @@ Finds words of found =
 abbrev pub three : List Text
 three = filter (codes "--exclude" ∷ codes "--cotype=A,B" ∷ codes "--bbox" ∷ codes "1,2,3,4" ∷ [])
 
+abbrev pub five : List Text
+five =
+    merge (codes "a" ∷ codes "--least" ∷ codes "-" ∷ codes "--bbox=1,2,3,4" ∷ codes "--" ∷ codes "--in-turn" ∷ [])
+
 pub record KnownRows : Type 0 where
   pub taken : takes citymerge_app three ≡ true
+  pub merge_taken : takes citymerge_app five ≡ true
   pub types : Finds three types_text (Some (codes "A,B"))
   pub area : Finds three area_text (Some (codes "1,2,3,4"))
   pub exclude : Finds three (is_used (codes "exclude")) true
@@ -52,3 +70,7 @@ pub record KnownRows : Type 0 where
   pub no_types : Finds (filter []) types_text None
   pub no_area : Finds (filter []) area_text None
   pub no_exclude : Finds (filter []) (is_used (codes "exclude")) false
+  pub paths : Finds five paths_in (codes "a" ∷ codes "-" ∷ codes "--in-turn" ∷ [])
+  pub least : Finds five (is_used (codes "least")) true
+  pub in_turn : Finds five (is_used (codes "in-turn")) false
+  pub merge_area : Finds five area_text (Some (codes "1,2,3,4"))

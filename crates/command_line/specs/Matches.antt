@@ -1,5 +1,5 @@
 -- What `clap` answers, and what the functions over its answers say.
-use Rattle.std.specs.Prelude.{◌≡◌, ◌≢◌, List, Option, codes, false, true, IsSomeAnd, ⊤}
+use Rattle.std.specs.Prelude.{◌≡◌, ◌≢◌, ◌⊎◌, List, Option, codes, false, true, IsSomeAnd, ⊤}
 use Rattle.clap.specs.Words.{Row, Text, found_of, rows_of}
 use Rattle.clap.specs.declared.error.kind.ErrorKind.{ErrorKind}
 use Rattle.clap.specs.declared.error.kind.ErrorKind.TheVariants.{OutOfMemory}
@@ -14,7 +14,8 @@ rows_in matches = rows_of (found_of matches)
 
 -- the words name a command
 abbrev pub IsNamed : Option (Text × List Row) → Type 0
-IsNamed named = IsSomeAnd named (λ command. command.0 ≡ codes "filter")
+IsNamed named =
+    IsSomeAnd named (λ command. (command.0 ≡ codes "merge") ⊎ (command.0 ≡ codes "filter"))
 
 -- the answer fits an error of `clap` of that kind
 abbrev pub AnswersKind : ErrorKind → Parsed → Type 0
@@ -25,5 +26,6 @@ AnswersKind kind _ = ⊥
 
 -- the answer takes the words
 abbrev pub IsTaken : Option (Text × List Row) → Parsed → Type 0
+IsTaken named (parsed.Merge args) = IsAsked named (parsed.Merge args)
 IsTaken named (parsed.Filter choice) = IsAsked named (parsed.Filter choice)
 IsTaken named _ = ⊥

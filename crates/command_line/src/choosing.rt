@@ -49,7 +49,7 @@ fn area_given(matches: &ArgMatches<'_>) -> Result<Option<Area>, Refusal>
 }
 
 /// Whether a flag was used.
-fn is_used(matches: &ArgMatches<'_>, name: &str) -> bool
+pub(crate) fn is_used(matches: &ArgMatches<'_>, name: &str) -> bool
     ensures { result ≡ is_used name.now (rows_in matches.now) }
 {
     match value_of(matches, name) {

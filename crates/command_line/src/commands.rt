@@ -2,7 +2,7 @@ ghost use Rattle.std.specs.Prelude.{◌≡◌, IfOk, false};
 ghost use Rattle.clap.specs.Words.{app_of, rule_of};
 ghost use Rattle.clap.specs.declared.builder.command.Command.TheViews.{out-Command as fields_of};
 ghost use Rattle.command_line.specs.Commands.{above_app, choosing, citymerge_app, filter_app};
-ghost use Rattle.command_line.specs.Commands.{flag, valued};
+ghost use Rattle.command_line.specs.Commands.{flag, merge_app, tiles, valued};
 
 use clap::{Arg, ArgAction, Command};
 use std::alloc::{AllocError, Global};
@@ -23,10 +23,24 @@ macro_rules! with_statuses {
 }
 
 static PROGRAM_END: &str = with_statuses!(
-    "Example:
+    "Examples:
+  citymerge merge west.city.jsonl east.city.jsonl > both.city.jsonl
   citymerge filter --cotype=Building < tile.city.jsonl > buildings.city.jsonl
 
 `citymerge help COMMAND` says more of a command."
+);
+
+static MERGE_END: &str = with_statuses!(
+    "The tiles are put on the grid of the first, and are joined only where nothing is
+rounded: the same scale and reference system, and translations that lie a whole
+number of grid units apart. Else the tile that does not fit is named, and nothing
+is written. A feature is written where all options that are given choose it.
+
+A TILE that begins with - stands after --, and - itself is a file of that name.
+
+Examples:
+  citymerge merge west.city.jsonl east.city.jsonl > both.city.jsonl
+  citymerge merge --least --bbox=-5,0,10,10 west.city.jsonl east.city.jsonl > part.city.jsonl"
 );
 
 static FILTER_END: &str = with_statuses!(
@@ -37,6 +51,18 @@ Examples:
   citymerge filter --cotype=Building,Bridge < tile.city.jsonl > chosen.city.jsonl
   citymerge filter --bbox=-5,0,10,10 --exclude < tile.city.jsonl > others.city.jsonl"
 );
+
+static TILE_HELP: &str = "A file with a CityJSONSeq stream: a header,
+then one feature a line. At most 64.";
+
+static IN_TURN_HELP: &str = "One feature of each tile in turn, in the
+order of the tiles, so that the same tiles
+give the same stream.";
+
+static LEAST_HELP: &str = "Move the origin of the grid to the least
+translation of the tiles in x, y and z, so
+that no vertex is moved below 0. The area is
+in units of that grid.";
 
 static TYPES_HELP: &str = "Only features of these types, with commas
 between: the type of the city object that
@@ -57,7 +83,9 @@ pub(crate) fn citymerge_command<'a>(alloc: Global) -> Result<Command<'a>, AllocE
     ensures app { IfOk result (λ command. app_of command ≡ citymerge_app) }
     ensures local { IfOk result (λ command. (fields_of command).has_globals ≡ false) }
 {
-    above_command(alloc).subcommand(filter_command(alloc)?)
+    above_command(alloc)
+        .subcommand(merge_command(alloc)?)?
+        .subcommand(filter_command(alloc)?)
 }
 
 /// The program above its commands, with its version.
@@ -67,9 +95,34 @@ fn above_command<'a>(alloc: Global) -> Command<'a>
 {
     Command::new(alloc, "citymerge")
         .version(VERSION)
-        .about("Filters streams of CityJSON features (CityJSONSeq).")
+        .about("Merges and filters streams of CityJSON features (CityJSONSeq).")
         .after_help(PROGRAM_END)
         .subcommand_required(true)
+}
+
+fn merge_command<'a>(alloc: Global) -> Result<Command<'a>, AllocError>
+    ensures app { IfOk result (λ command. app_of command ≡ merge_app) }
+    ensures local { IfOk result (λ command. (fields_of command).has_globals ≡ false) }
+{
+    let command = merging_command(alloc)?;
+    Ok(
+        command
+            .about("Joins the streams of several files into one on standard output.")
+            .after_help(MERGE_END),
+    )
+}
+
+/// The command `merge` with its options and paths.
+fn merging_command<'a>(alloc: Global) -> Result<Command<'a>, AllocError>
+    ensures app { IfOk result (λ command. app_of command ≡ merge_app) }
+    ensures local { IfOk result (λ command. (fields_of command).has_globals ≡ false) }
+{
+    let in_turn = flag_option(alloc, "in-turn").help(IN_TURN_HELP);
+    let least = flag_option(alloc, "least").help(LEAST_HELP);
+    choosing_command(alloc, "merge")?
+        .arg(in_turn)?
+        .arg(least)?
+        .arg(tile_paths(alloc))
 }
 
 fn filter_command<'a>(alloc: Global) -> Result<Command<'a>, AllocError>
@@ -114,4 +167,15 @@ fn flag_option<'a>(alloc: Global, name: &'a str) -> Arg<'a>
     ensures local { result.global ≡ false }
 {
     Arg::new(alloc, name).long(name).action(ArgAction::SetTrue)
+}
+
+/// The files of the tiles.
+fn tile_paths<'a>(alloc: Global) -> Arg<'a>
+    ensures rule { rule_of result ≡ tiles }
+    ensures local { result.global ≡ false }
+{
+    Arg::new(alloc, "TILE")
+        .action(ArgAction::Append)
+        .required(true)
+        .help(TILE_HELP)
 }

@@ -5,10 +5,12 @@
 mod choosing;
 mod commands;
 mod known;
+mod merge_args;
 mod parsing;
 mod refusal;
 #[cfg(test)]
 mod tests;
 
 pub use known::known_words;
+pub use merge_args::MergeArgs;
 pub use parsing::{Parsed, Paths, parse_words};

@@ -1,12 +1,13 @@
 ghost use Rattle.std.specs.Prelude.{◌≡◌, [], IfErr, IfOk, string_bytes};
 ghost use Rattle.clap.specs.Words.{kind_of, subcommand_rows_of};
 ghost use Rattle.command_line.specs.Answered.{IsAnswered, RefusesNamed};
-ghost use Rattle.command_line.specs.Asked.{IsAsked};
+ghost use Rattle.command_line.specs.Asked.{HasTiles, IsAsked};
 ghost use Rattle.command_line.specs.Commands.{faults_of, named_by};
 ghost use Rattle.command_line.specs.Matches.{AnswersKind, IsNamed, IsTaken};
 
 use crate::choosing::choice_given;
 use crate::commands::citymerge_command;
+use crate::merge_args::{MergeArgs, merge_given};
 use crate::refusal::Refusal;
 use city_feature::Choice;
 use city_json::{Line, Sequence, Str};
@@ -20,6 +21,8 @@ pub type Paths = Sequence<Str>;
 /// What the words of a command line ask for.
 #[derive(Debug, Drop)]
 pub enum Parsed {
+    /// To merge tiles.
+    Merge(MergeArgs),
     /// To filter a stream by this choice.
     Filter(Choice),
     /// A text for standard output: help, or the version.
@@ -33,12 +36,14 @@ pub enum Parsed {
 /// What the words ask for, the program's name first.
 ///
 /// `filter` takes `--cotype=TYPE,TYPE`, `--bbox=MINX,MINY,MAXX,MAXY` in grid units and `--exclude`.
-/// A value that begins with `-` is given with `=`. `--help`, `-h`, `help` and `--version` are
+/// `merge` takes these, `--in-turn`, `--least` and one path or more, of which `-` is a name as any
+/// other. A value that begins with `-` is given with `=`, such a path after `--`. `--help`, `-h`, `help` and `--version` are
 /// answered with [`Parsed::Help`]. All other words are answered with [`Parsed::Usage`]: what `clap`
 /// says of them, or a line for a bad `--cotype` and else for a bad `--bbox`.
 pub fn parse_words(alloc: Global, words: &Paths) -> Parsed
     ensures asked { IsAsked (named_by words.now) result }
     ensures answered { IsAnswered (faults_of words.now) (named_by words.now) result }
+    ensures tiles { HasTiles result }
 {
     match answer(alloc, words.items()) {
         Ok(parsed) => parsed,
@@ -49,6 +54,7 @@ pub fn parse_words(alloc: Global, words: &Paths) -> Parsed
 fn answer(alloc: Global, words: &[Str]) -> Result<Parsed, AllocError>
     ensures asked { IfOk result (IsAsked (named_by words.now)) }
     ensures answered { IfOk result (IsAnswered (faults_of words.now) (named_by words.now)) }
+    ensures tiles { IfOk result HasTiles }
 {
     let command = citymerge_command(alloc)?;
     match command.try_get_matches_from(words) {
@@ -62,6 +68,7 @@ fn answer_matches(alloc: Global, matches: &ArgMatches<'_>) -> Result<Parsed, All
     requires { IsNamed (subcommand_rows_of matches.now) }
     ensures asked { IfOk result (IsAsked (subcommand_rows_of matches.now)) }
     ensures answered { IfOk result (IsAnswered [] (subcommand_rows_of matches.now)) }
+    ensures tiles { IfOk result HasTiles }
 {
     match asked(alloc, matches) {
         Ok(parsed) => Ok(parsed),
@@ -76,8 +83,12 @@ fn answer_matches(alloc: Global, matches: &ArgMatches<'_>) -> Result<Parsed, All
 fn asked(alloc: Global, matches: &ArgMatches<'_>) -> Result<Parsed, Refusal>
     requires { IsNamed (subcommand_rows_of matches.now) }
     ensures ok { IfOk result (IsTaken (subcommand_rows_of matches.now)) }
+    ensures tiles { IfOk result HasTiles }
     ensures err { IfErr result (λ refusal. RefusesNamed refusal (subcommand_rows_of matches.now)) }
 {
+    if let Some(merge) = matches.subcommand_matches("merge") {
+        return Ok(Parsed::Merge(merge_given(alloc, merge)?));
+    }
     if let Some(filter) = matches.subcommand_matches("filter") {
         return Ok(Parsed::Filter(choice_given(alloc, filter)?));
     }
@@ -86,7 +97,8 @@ fn asked(alloc: Global, matches: &ArgMatches<'_>) -> Result<Parsed, Refusal>
 
 /// The answer to words that `clap` does not take, or answers itself.
 fn answer_error(alloc: Global, error: &Error) -> Result<Parsed, AllocError>
-    ensures { IfOk result (AnswersKind (kind_of error.now)) }
+    ensures kind { IfOk result (AnswersKind (kind_of error.now)) }
+    ensures tiles { IfOk result HasTiles }
 {
     match error.kind() {
         ErrorKind::OutOfMemory => Ok(Parsed::Memory),

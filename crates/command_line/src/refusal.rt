@@ -9,6 +9,7 @@ use city_json::Fault;
 pub(crate) enum Refusal {
     BadTypes,
     BadArea,
+    NoTile,
     Memory,
 }
 
@@ -20,6 +21,7 @@ impl Refusal {
         match self {
             Refusal::BadTypes => Some("citymerge: bad --cotype\n"),
             Refusal::BadArea => Some("citymerge: bad --bbox\n"),
+            Refusal::NoTile => Some("citymerge: no TILE\n"),
             Refusal::Memory => None,
         }
     }

@@ -1,3 +1,5 @@
+mod merging;
+
 use crate::{Parsed, Paths, parse_words};
 use city_feature::Choice;
 use city_json::{Line, Str};
@@ -329,7 +331,9 @@ fn help_says_what_each_option_does(rt: HostRuntime) -> Result<(), Fail> {
         &rt,
         ["--help"].as_slice(),
         [
+            "  merge   Joins the streams of several files",
             "  filter  Writes the chosen features",
+            "citymerge merge west.city.jsonl east.city.jsonl > both.city.jsonl",
             "citymerge filter --cotype=Building < tile.city.jsonl",
             "  0  done, or help was asked for\n",
             "  1  refused, with one line on standard error\n",

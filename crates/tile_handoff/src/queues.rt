@@ -211,8 +211,8 @@ impl Queues {
         Ok(())
     }
 
-    // Puts a line in the place that there is.
-    pub(crate) fn store_line(&mut self, t: u32, line: Line)
+    /// Puts a line at the end of tile `t`'s queue, where there is a place.
+    pub fn store_line(&mut self, t: u32, line: Line)
         requires within { t < length self.old.tiles }
         requires place { HasPlace self.old t }
         ensures { self.new ≡ with_queue self.old t (longer (queue_of self.old t) (Note.Line line)) }
@@ -220,8 +220,9 @@ impl Queues {
         self.tiles[t as usize].store(Note::Line(line));
     }
 
-    // Puts the end note in the place that there is.
-    pub(crate) fn store_end(&mut self, t: u32, end: End)
+    /// Puts the end note at the end of tile `t`'s queue, where there is a place. Nothing more is put
+    /// after it.
+    pub fn store_end(&mut self, t: u32, end: End)
         requires within { t < length self.old.tiles }
         requires place { HasPlace self.old t }
         ensures { self.new ≡ with_queue self.old t (longer (queue_of self.old t) (Note.End end)) }

@@ -29,8 +29,6 @@ pub fn ends(alloc: Global, capacity: u32) -> Result<(Sender, Receiver), Fault>
     ensures capacity { IfOk result (λ ends. capacity_of ends.1 ≡ capacity) }
     ensures memory { IfErr result (λ fault. fault ≡ Fault.Memory) }
 {
-    let Ok((producer, consumer)) = RingBuffer::new(alloc, capacity as usize) else {
-        return Err(Fault::Memory);
-    };
+    let (producer, consumer) = RingBuffer::new(alloc, capacity as usize)?;
     Ok((Sender { producer }, Receiver { consumer }))
 }

@@ -21,7 +21,7 @@ use Rattle.tile_merge.proofs.Comings.{ends_after}
 use Rattle.tile_merge.proofs.Steps.{first_of_longer}
 
 -- known bytes that grew and then stayed
-Appends-kept : (old mid new : Option (List ℕ)) (bytes : List ℕ) → Appends old mid bytes → Keeps mid new → Appends old new bytes
+pub Appends-kept : (old mid new : Option (List ℕ)) (bytes : List ℕ) → Appends old mid bytes → Keeps mid new → Appends old new bytes
 Appends-kept None mid new bytes grew stayed = tt
 Appends-kept (Some x) None new bytes grew stayed = absurd grew
 Appends-kept (Some x) (Some y) None bytes grew stayed = absurd stayed

@@ -1,5 +1,5 @@
 -- What a call that filters one tile may answer, and what was written then.
-use Rattle.std.specs.Prelude.{◌≡◌, ◌⊎◌, ℕ, pos, List, Option, Some, None, length, take, Result, Ok, Err}
+use Rattle.std.specs.Prelude.{◌≡◌, ◌⊎◌, ◌==◌, if◌then◌else◌, ℕ, pos, List, Option, Some, None, length, take, Result, Ok, Err}
 use Rattle.std.specs.Io.KnownBytes.{Appends, Keeps}
 use Rattle.city_json.specs.Compact.{compact}
 use Rattle.city_json.specs.Streams.Failures.{one_more}
@@ -72,6 +72,15 @@ IsRefusedFilter MayBe IsWanted fault tile line old new =
 abbrev pub failures_after_write : Fault → ℕ → ℕ
 failures_after_write Write count = one_more count
 failures_after_write other count = count
+
+-- the same of a refusal by its tile, too: a failed write belongs to no tile
+abbrev pub failures_after_refusal : MergeFault → ℕ → ℕ
+failures_after_refusal refusal count =
+    if refusal.tile == 0 then failures_after_write refusal.fault count else count
+
+abbrev pub failures_after_merge : {X : Type 0} → Result X MergeFault → ℕ → ℕ
+failures_after_merge (Ok x) count = count
+failures_after_merge (Err refusal) count = failures_after_refusal refusal count
 
 abbrev pub failures_after_filter : {X : Type 0} → Result X MergeFault → ℕ → ℕ
 failures_after_filter (Ok x) count = count

@@ -1,6 +1,8 @@
 ghost use Rattle.std.specs.Prelude.{◌≡◌};
 
+use crate::lines::LineFault;
 use city_json::Fault;
+use std::alloc::{AllocError, AllocFailed};
 
 /// A refusal, and where it belongs: a tile counted from 1, or 0, and a line of it counted from 1,
 /// or 0.
@@ -32,5 +34,52 @@ impl MergeFault {
             line: 0,
             fault,
         }
+    }
+}
+
+impl LineFault {
+    /// The fault as that of a tile, counted from 1.
+    pub(crate) fn of_tile(self, tile: u32) -> MergeFault
+        ensures { result ≡ record { tile = tile; line = self.line; fault = self.fault } }
+    {
+        MergeFault {
+            tile,
+            line: self.line,
+            fault: self.fault,
+        }
+    }
+}
+
+/// A fault of which no tile is named belongs to none.
+impl From<Fault> for MergeFault {
+    ghost use Rattle.std.specs.Prelude.{◌≡◌};
+
+    ghost from_gives = { λ fault refusal. refusal ≡ record { tile = 0; line = 0; fault = fault } };
+
+    fn from(fault: Fault) -> MergeFault {
+        MergeFault::of_no_line(fault)
+    }
+}
+
+/// Out of memory, where no line is named, belongs to no tile.
+impl From<AllocError> for MergeFault {
+    ghost use Rattle.std.specs.Prelude.{◌≡◌};
+    ghost use Rattle.city_json.specs.declared.fault.Fault.TheVariants.{Memory};
+
+    ghost from_gives = { λ _ refusal. refusal ≡ record { tile = 0; line = 0; fault = Memory } };
+
+    fn from(_: AllocError) -> MergeFault {
+        MergeFault::of_no_line(Fault::Memory)
+    }
+}
+
+impl<T: Drop> From<AllocFailed<T>> for MergeFault {
+    ghost use Rattle.std.specs.Prelude.{◌≡◌};
+    ghost use Rattle.city_json.specs.declared.fault.Fault.TheVariants.{Memory};
+
+    ghost from_gives = { λ _ refusal. refusal ≡ record { tile = 0; line = 0; fault = Memory } };
+
+    fn from(_: AllocFailed<T>) -> MergeFault {
+        MergeFault::from(AllocError)
     }
 }

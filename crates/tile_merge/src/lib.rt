@@ -9,10 +9,14 @@ mod laws;
 mod limits;
 mod line_end;
 mod lines;
+mod merging;
 mod tile_reader;
 
 pub use fault::MergeFault;
 pub use filter::{filter_stream, filter_tile};
-pub use laws::tape_leaves_one_list;
+pub use laws::{tape_leaves_one_list, turns_interleave};
 pub use lines::{LineFault, Lines, NumberedLine};
+pub use merging::in_turn::merge_in_turn;
+pub use merging::report::{Counts, Report};
+pub use merging::tiles::tile_count;
 pub use tile_reader::{Head, TileReader};

@@ -1,5 +1,5 @@
 ghost use Rattle.std.specs.Prelude.{◌↔◌, ℕ, List, IsTrue, IfSome, IfNone};
-ghost use Rattle.city_json.specs.Tree.{tree};
+ghost use Rattle.city_json.specs.Tree.{Tree, tree};
 ghost use Rattle.city_feature.specs.Area.{Meets};
 ghost use Rattle.city_feature.specs.Choice.{HasType, IsChosen, IsTypeOf, Matches};
 ghost use Rattle.city_feature.specs.Shapes.{Says};
@@ -87,4 +87,15 @@ pub fn selects(choice: &Choice, feature: &Feature) -> bool
     ensures { IsTrue result ↔ IsChosen choice.now (feature_value feature.now) }
 {
     matches(choice, feature) != choice.exclude
+}
+
+/// Whether the choice selects a feature of these vertices. None where that depends on more than the vertices.
+pub fn selects_vertices(choice: &Choice, vertices: &[Vertex]) -> Option<bool>
+    ensures { IfSome result (λ is_chosen. (value : Tree)
+        → (IsTrue is_chosen ↔ IsChosen choice.now (record { value = value; vertices = vertices.now }))) }
+{
+    if choice.types.is_some() {
+        return None;
+    }
+    Some(meets_given_area(&choice.area, vertices) != choice.exclude)
 }

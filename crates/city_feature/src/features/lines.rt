@@ -10,6 +10,7 @@ use crate::choices::Choice;
 use crate::choices::selecting::selects;
 use crate::features::Feature;
 use crate::features::moving::shifted;
+use crate::features::quick::quick_line;
 use crate::features::reader::feature;
 use city_grid::Shift;
 use city_json::{Fault, Line, print, read};
@@ -23,6 +24,29 @@ fn moved_feature(alloc: Global, bytes: &[u8], shift: Shift) -> Result<Feature, F
     let json = read(alloc, bytes)?;
     let feature = feature(alloc, json)?;
     shifted(alloc, feature, shift)
+}
+
+/// The same by way of the value: it says why there is no text.
+fn plain_line(
+    alloc: Global,
+    bytes: &[u8],
+    shift: Shift,
+    choice: &Choice,
+    text: &mut Line,
+) -> Result<bool, Fault>
+    ensures ok { IfOk result (λ is_chosen. (given : Option (List ℕ))
+        × GivesFeature (IsChosen choice.now) shift bytes.now given
+        × (is_some given ≡ is_chosen)
+        × (text.new ≡ text.old ++ unwrap_or given [])) }
+    ensures err { OnErr result (text.new ≡ text.old) }
+    ensures refusal { IfErr result (λ fault. RefusesFeatureLine shift fault bytes.now) }
+{
+    let moved = moved_feature(alloc, bytes, shift)?;
+    if !selects(choice, &moved) {
+        return Ok(false);
+    }
+    print(moved.json(), text)?;
+    Ok(true)
 }
 
 /// Appends the compact text of the feature that a line spells, moved by the shift, where it is chosen
@@ -49,10 +73,8 @@ pub fn feature_line(
     ensures err { OnErr result (text.new ≡ text.old) }
     ensures refusal { IfErr result (λ fault. RefusesFeatureLine shift fault bytes.now) }
 {
-    let moved = moved_feature(alloc, bytes, shift)?;
-    if !selects(choice, &moved) {
-        return Ok(false);
+    if let Some(is_chosen) = quick_line(alloc, bytes, shift, choice, text) {
+        return Ok(is_chosen);
     }
-    print(moved.json(), text)?;
-    Ok(true)
+    plain_line(alloc, bytes, shift, choice, text)
 }

@@ -15,7 +15,7 @@ use city_json::{Fault, Items, Json, Member, Members};
 use std::alloc::Global;
 
 /// The vertices, each moved by the shift.
-fn moved_all(mut vertices: Vec<Vertex>, shift: Shift) -> Result<Vec<Vertex>, Fault>
+pub(super) fn moved_all(mut vertices: Vec<Vertex>, shift: Shift) -> Result<Vec<Vertex>, Fault>
     ensures ok { IfOk result (λ moved. (moved.items ≡ moved_vertices vertices.items shift)
         × All IsInRange moved.items) }
     ensures refusal { IfErr result (λ fault. (fault ≡ Fault.VertexRange)

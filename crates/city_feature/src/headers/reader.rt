@@ -10,7 +10,9 @@ use crate::kinds::{Kind, is_where_there, says};
 use city_grid::{Transform, transform};
 use city_json::{Fault, Json};
 
-fn is_city_json(value: &Json) -> bool
+/// Whether it is an object of the type `CityJSON` of which `metadata`, `extensions` and `CityObjects` are
+/// objects, where they are there, and `vertices` an array (CityJSON 2.0, CityJSON Object).
+pub fn is_city_json(value: &Json) -> bool
     ensures { IsTrue result ↔ IsCityJson (tree value.now) }
 {
     says(value, "type", "CityJSON")
@@ -20,7 +22,8 @@ fn is_city_json(value: &Json) -> bool
         && is_where_there(value, "vertices", Kind::Array)
 }
 
-fn is_version_2(value: &Json) -> bool
+/// Whether its version is 2.0.
+pub fn is_version_2(value: &Json) -> bool
     ensures { IsTrue result ↔ IsVersion2 (tree value.now) }
 {
     says(value, "version", "2.0")
@@ -34,8 +37,13 @@ fn is_empty(value: &Json) -> bool
         && is_where_there(value, "vertices", Kind::EmptyArray)
 }
 
-/// The transform of the member `transform`.
-fn transform_of(value: &Json) -> Result<Transform, Fault>
+/// The transform of the member `transform` (CityJSON 2.0, Transform Object).
+///
+/// # Errors
+///
+/// [`Fault::NoTransform`] where there is no such member or it is malformed, else [`Fault::Decimal`] where one
+/// of its numbers is outside the profile, else [`Fault::ScaleNotPositive`].
+pub fn transform_of(value: &Json) -> Result<Transform, Fault>
     ensures ok { IfOk result (λ grid. HasGrid (tree value.now) grid) }
     ensures only { (grid : Grid) → HasGrid (tree value.now) grid → result ≡ Ok grid }
     ensures refusal { IfErr result (λ fault.

@@ -77,8 +77,8 @@ impl<R: Source> ReadAhead<R> {
         ensures failures { R.failures self.new.reader
             ≡ failed_reads_after_call result (R.failures self.old.reader) }
     {
-        if self.piece.is_empty() && self.piece.resize(PIECE, 0).is_err() {
-            return Err(Fault::Memory);
+        if self.piece.is_empty() {
+            self.piece.resize(PIECE, 0)?;
         }
         self.at = 0;
         self.filled = 0;

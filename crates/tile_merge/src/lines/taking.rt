@@ -36,9 +36,7 @@ pub fn take_part<R: Source>(
                 if let Some(fault) = fault_between(limits, end + 1, start, end) {
                     return Err(fault);
                 }
-                if line.extend_from_slice(&held[..count]).is_err() {
-                    return Err(Fault::Memory);
-                }
+                line.extend_from_slice(&held[..count])?;
                 ahead.skip(count + 1);
                 return Ok(NextPart::Ended(Line::from_vec(line)));
             }
@@ -48,9 +46,7 @@ pub fn take_part<R: Source>(
                 if let Some(fault) = fault_between(limits, end, start, end) {
                     return Err(fault);
                 }
-                if line.extend_from_slice(held).is_err() {
-                    return Err(Fault::Memory);
-                }
+                line.extend_from_slice(held)?;
                 ahead.skip(count);
                 match ahead.fill() {
                     Ok(0) => return Ok(NextPart::Last(Line::from_vec(line))),

@@ -4,9 +4,7 @@ ghost use Rattle.city_feature.specs.Area.{IsAreaText, IsStepsText};
 ghost use Rattle.city_feature.specs.declared.choices.area.Area as areas;
 
 use crate::choices::area::Area;
-
-/// The greatest size of a number in an area: 2^53 - 1, as of a vertex.
-const MOST_STEPS: u64 = 9_007_199_254_740_991;
+use city_grid::MOST_STEPS;
 
 /// The number of steps that a text writes.
 fn steps(text: &str) -> Option<i64>

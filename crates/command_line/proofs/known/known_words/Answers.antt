@@ -22,12 +22,20 @@ faults = record {
   path = refl;
   path_after_dashes = refl;
   other_option = refl;
+  no_tile = refl;
+  options_and_no_tile = refl;
+  one_tile = refl;
+  tile_of_a_dash = refl;
+  tile_after_a_dash = refl;
+  in_turn_twice = refl;
+  help_of_merge = refl;
 }
 
 rows : KnownRows
 unfolding clap_on_literals
 rows = record {
   taken = refl;
+  merge_taken = refl;
   types = refl;
   area = refl;
   exclude = refl;
@@ -36,6 +44,10 @@ rows = record {
   no_types = refl;
   no_area = refl;
   no_exclude = refl;
+  paths = refl;
+  least = refl;
+  in_turn = refl;
+  merge_area = refl;
 }
 
 pub returns-clause-faults : goal.returns-clause-faults

@@ -19,4 +19,4 @@ returns-in-Ok-clause-answered c =
 pub returns-in-Err-clause-answered : goal.returns-in-Err-clause-answered
 returns-in-Err-clause-answered c =
     err_answered c.in_ok-command.command c.args.words.now _ c.in_ok-command.ensures.app (map-id _) _ c.in-Err.error c.answer_error.result
-    c.in-Err.ensures.kinds c.answer_error.ensures
+    c.in-Err.ensures.kinds c.answer_error.ensures.kind

@@ -1,5 +1,6 @@
 use Rattle.std.proofs.Common.{◌≡◌, ◌+◌, ◌++◌, false, length, take, ap, ◌∙◌, arith}
 use Rattle.std.proofs.lemmas.Grind.{common_steps}
+use Rattle.std.proofs.lemmas.Result.{err_from_is_err_and}
 use Rattle.city_json.specs.declared.fault.Fault.TheVariants.{Read}
 use Rattle.tile_merge.specs.Ahead.{MayCome}
 use Rattle.tile_merge.specs.Taking.{IsRefusedLine}
@@ -16,8 +17,10 @@ returns-in-Some-fault_between-clause-refused g c =
     limit_refusal c.in-Some-fault_between.fault c.args.limits c.args.start _ c.in-Some-fault_between.ensures.kind
     (whole_refused g.R.Source.gives c.args.ahead.now now c.pieces.line.items c.pieces.invariant.follows c.in-Some.count found c.args.limits c.args.start c.in-Some-fault_between.fault c.pieces.invariant.begun (g.met.R.Source.gives_something now.reader) is)
 
-pub returns-then-is_err-clause-refused : goal.returns-then-is_err-clause-refused
-returns-then-is_err-clause-refused g c = something g.R.Source.gives c.args.ahead.now c.pieces.ahead c.pieces.line.items c.pieces.invariant.follows (g.met.R.Source.gives_something c.pieces.ahead.reader)
+pub returns-in_err-extend_from_slice-in-Some-clause-refused : goal.returns-in_err-extend_from_slice-in-Some-clause-refused
+returns-in_err-extend_from_slice-in-Some-clause-refused g c =
+    let refusal = err_from_is_err_and c.from_residual.result c.from_residual.ensures.1 in
+    rw (refusal.1, refusal.2) (something g.R.Source.gives c.args.ahead.now c.pieces.ahead c.pieces.line.items c.pieces.invariant.follows (g.met.R.Source.gives_something c.pieces.ahead.reader))
 
 pub returns-in-Some-clause-taken : goal.returns-in-Some-clause-taken
 returns-in-Some-clause-taken g c =
@@ -40,8 +43,10 @@ returns-in-Some-fault_between-2-clause-refused g c =
     limit_refusal c.in-Some-fault_between-2.fault c.args.limits c.args.start _ c.in-Some-fault_between-2.ensures.kind
     (part_refused g.R.Source.gives c.args.ahead.now now c.pieces.line.items c.pieces.invariant.follows found c.pieces.invariant.begun c.args.limits c.args.start c.in-Some-fault_between-2.fault (g.met.R.Source.gives_something now.reader) is)
 
-pub returns-then-is_err-2-clause-refused : goal.returns-then-is_err-2-clause-refused
-returns-then-is_err-2-clause-refused g c = something g.R.Source.gives c.args.ahead.now c.pieces.ahead c.pieces.line.items c.pieces.invariant.follows (g.met.R.Source.gives_something c.pieces.ahead.reader)
+pub returns-in_err-extend_from_slice-in-None-clause-refused : goal.returns-in_err-extend_from_slice-in-None-clause-refused
+returns-in_err-extend_from_slice-in-None-clause-refused g c =
+    let refusal = err_from_is_err_and c.from_residual-in_err-extend_from_slice-in-None.result c.from_residual-in_err-extend_from_slice-in-None.ensures.1 in
+    rw (refusal.1, refusal.2) (something g.R.Source.gives c.args.ahead.now c.pieces.ahead c.pieces.line.items c.pieces.invariant.follows (g.met.R.Source.gives_something c.pieces.ahead.reader))
 
 pub pieces-preserved : goal.pieces-preserved
 pieces-preserved g c =

@@ -1,0 +1,9 @@
+use Rattle.std.proofs.Common.{◌≡◌, map, take}
+use Rattle.std.specs.Prelude.{codes}
+use Rattle.city_cut.specs.Relabelling.{own_text}
+use Rattle.city_json.specs.Tree.{named_tree}
+use Rattle.city_cut.specs.Boundaries.{changed, relabelled_boundary}
+use Rattle.city_cut.proofs.relabelling.members_with_location.Given as goal
+
+abbrev pub invariant-loop-member : goal.invariant-loop-member
+invariant-loop-member l = map named_tree l.copies.items ≡ map (changed (codes "location") (relabelled_boundary (own_text l.table))) (map named_tree (take l.member-index l.members))

@@ -1,0 +1,15 @@
+pub mod Assembled
+pub mod Boundaries
+pub mod Chosen
+pub mod CityObjects
+pub mod Cut
+pub mod Families
+pub mod Items
+pub mod Leaves
+pub mod Numbered
+pub mod Places
+pub mod Points
+pub mod Reach
+pub mod Relabelling
+pub mod Search
+pub mod Table

@@ -1,0 +1,136 @@
+//! The boundaries of a city object.
+ghost use Rattle.std.specs.Prelude.{◌≡◌, ◌⊎◌, ◌↔◌, ◌++◌, ℕ, List, map, length, IsTrue, OnOk, IfErr};
+ghost use Rattle.std.specs.List.{flat_map, AllByRecursion};
+ghost use Rattle.city_json.specs.Members.{member_of};
+ghost use Rattle.city_json.specs.Tree.{tree, items_tree};
+ghost use Rattle.city_feature.specs.Shapes.{IsArray, IsObject, WhereThere};
+ghost use Rattle.city_cut.specs.Boundaries.{IsAddress, IsBounded, IsGeometry};
+ghost use Rattle.city_cut.specs.Boundaries.{address_boundary, boundaries, own_boundary};
+ghost use Rattle.city_cut.specs.Leaves.{IsBoundary, leaves};
+ghost use Rattle.city_cut.specs.Numbered.{AreNumbered};
+
+use crate::leaves::number_items;
+use crate::numbering::Numbering;
+use crate::values::{is_object, items_named};
+use city_json::{Fault, Json};
+
+/// Numbers the vertices of the member `boundaries`, if there is one.
+fn number_boundaries(value: &Json, numbering: &mut Numbering) -> Result<(), Fault>
+    ensures long { length numbering.new.table.items ≡ length numbering.old.table.items }
+    ensures bounded { OnOk result
+        (AllByRecursion (IsBoundary (length numbering.old.table.items)) (own_boundary (tree value.now))) }
+    ensures ok { OnOk result ((uses : List ℕ)
+        → AreNumbered uses numbering.old.table.items numbering.old.order.items
+        → AreNumbered (uses ++ flat_map leaves (own_boundary (tree value.now)))
+        numbering.new.table.items numbering.new.order.items) }
+    ensures fault { IfErr result (λ fault. (fault ≡ Fault.Memory)
+        ⊎ ((fault ≡ Fault.BoundaryIndex)
+        × ¬ (AllByRecursion (IsBoundary (length numbering.old.table.items)) (own_boundary (tree value.now))))) }
+{
+    let Some(boundary) = value.get("boundaries") else {
+        return Ok(());
+    };
+    let Json::List(items) = boundary else {
+        return Err(Fault::BoundaryIndex);
+    };
+    number_items(items, numbering)
+}
+
+fn number_geometry(value: &Json, numbering: &mut Numbering) -> Result<(), Fault>
+    ensures long { length numbering.new.table.items ≡ length numbering.old.table.items }
+    ensures bounded { OnOk result (IsGeometry (length numbering.old.table.items) (tree value.now)) }
+    ensures ok { OnOk result ((uses : List ℕ)
+        → AreNumbered uses numbering.old.table.items numbering.old.order.items
+        → AreNumbered (uses ++ flat_map leaves (own_boundary (tree value.now)))
+        numbering.new.table.items numbering.new.order.items) }
+    ensures fault { IfErr result (λ fault. (fault ≡ Fault.Memory)
+        ⊎ ((fault ≡ Fault.BoundaryIndex)
+        × ¬ (IsGeometry (length numbering.old.table.items) (tree value.now)))) }
+{
+    if !is_object(value) {
+        return Err(Fault::BoundaryIndex);
+    }
+    number_boundaries(value, numbering)
+}
+
+fn number_geometries(items: &[Json], numbering: &mut Numbering) -> Result<(), Fault>
+    ensures long { length numbering.new.table.items ≡ length numbering.old.table.items }
+    ensures bounded { OnOk result
+        (AllByRecursion (IsGeometry (length numbering.old.table.items)) (map tree items.now)) }
+    ensures ok { OnOk result ((uses : List ℕ)
+        → AreNumbered uses numbering.old.table.items numbering.old.order.items
+        → AreNumbered (uses ++ flat_map leaves (flat_map own_boundary (map tree items.now)))
+        numbering.new.table.items numbering.new.order.items) }
+    ensures fault { IfErr result (λ fault. (fault ≡ Fault.Memory)
+        ⊎ ((fault ≡ Fault.BoundaryIndex)
+        × ¬ (AllByRecursion (IsGeometry (length numbering.old.table.items)) (map tree items.now)))) }
+{
+    for item in items {
+        number_geometry(item, numbering)?;
+    }
+    Ok(())
+}
+
+fn number_address(value: &Json, numbering: &mut Numbering) -> Result<(), Fault>
+    ensures long { length numbering.new.table.items ≡ length numbering.old.table.items }
+    ensures bounded { OnOk result (IsAddress (length numbering.old.table.items) (tree value.now)) }
+    ensures ok { OnOk result ((uses : List ℕ)
+        → AreNumbered uses numbering.old.table.items numbering.old.order.items
+        → AreNumbered (uses ++ flat_map leaves (address_boundary (tree value.now)))
+        numbering.new.table.items numbering.new.order.items) }
+    ensures fault { IfErr result (λ fault. (fault ≡ Fault.Memory)
+        ⊎ ((fault ≡ Fault.BoundaryIndex)
+        × ¬ (IsAddress (length numbering.old.table.items) (tree value.now)))) }
+{
+    let Some(location) = value.get("location") else {
+        return Ok(());
+    };
+    number_boundaries(location, numbering)
+}
+
+fn number_addresses(items: &[Json], numbering: &mut Numbering) -> Result<(), Fault>
+    ensures long { length numbering.new.table.items ≡ length numbering.old.table.items }
+    ensures bounded { OnOk result
+        (AllByRecursion (IsAddress (length numbering.old.table.items)) (map tree items.now)) }
+    ensures ok { OnOk result ((uses : List ℕ)
+        → AreNumbered uses numbering.old.table.items numbering.old.order.items
+        → AreNumbered (uses ++ flat_map leaves (flat_map address_boundary (map tree items.now)))
+        numbering.new.table.items numbering.new.order.items) }
+    ensures fault { IfErr result (λ fault. (fault ≡ Fault.Memory)
+        ⊎ ((fault ≡ Fault.BoundaryIndex)
+        × ¬ (AllByRecursion (IsAddress (length numbering.old.table.items)) (map tree items.now)))) }
+{
+    for item in items {
+        number_address(item, numbering)?;
+    }
+    Ok(())
+}
+
+/// Whether the member of this name is an array, if it is there.
+fn is_array_where_there(value: &Json, name: &str) -> bool
+    ensures { IsTrue result ↔ WhereThere IsArray (member_of name.now (tree value.now)) }
+{
+    match value.get(name) {
+        None | Some(Json::List(_)) => true,
+        Some(_) => false,
+    }
+}
+
+/// Numbers the vertices that a city object names: those of its geometries, then those of its addresses.
+pub(crate) fn number_object(value: &Json, numbering: &mut Numbering) -> Result<(), Fault>
+    ensures long { length numbering.new.table.items ≡ length numbering.old.table.items }
+    ensures bounded { OnOk result (IsBounded (length numbering.old.table.items) (tree value.now)) }
+    ensures ok { OnOk result ((uses : List ℕ)
+        → AreNumbered uses numbering.old.table.items numbering.old.order.items
+        → AreNumbered (uses ++ flat_map leaves (boundaries (tree value.now)))
+        numbering.new.table.items numbering.new.order.items) }
+    ensures fault { IfErr result (λ fault. (fault ≡ Fault.Memory)
+        ⊎ ((fault ≡ Fault.BoundaryIndex)
+        × ¬ (IsBounded (length numbering.old.table.items) (tree value.now)))) }
+{
+    if !is_array_where_there(value, "geometry") {
+        return Err(Fault::BoundaryIndex);
+    }
+    number_geometries(items_named(value, "geometry"), numbering)?;
+    number_addresses(items_named(value, "address"), numbering)
+}

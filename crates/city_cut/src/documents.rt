@@ -1,0 +1,104 @@
+//! Whether a value is a document that can be cut, as far as it takes no memory to tell.
+ghost use Rattle.std.specs.Prelude.{◌↔◌, IsTrue, IfErr, OnOk, ℕ, List};
+ghost use Rattle.city_json.specs.Members.{member_of};
+ghost use Rattle.city_json.specs.Tree.{tree, items_tree, members_tree};
+ghost use Rattle.city_grid.specs.Axes.{Triple};
+ghost use Rattle.city_feature.specs.Feature.{AreVertices, RefusesFirst};
+ghost use Rattle.city_feature.specs.Shapes.{WhereThere};
+ghost use Rattle.city_cut.specs.CityObjects.{AllTexts, AreCityObjects, AreTexts, IsCityObject};
+ghost use Rattle.city_cut.specs.Cut.{HasFrame, IsDocument, IsOnGrid, RefusesCut};
+
+use crate::values::{is_object, is_text, items_named, members_named, value_of};
+use city_feature::{is_city_json, is_version_2, transform_of};
+use city_grid::vertex;
+use city_json::{Fault, Json, Member};
+
+fn all_texts(items: &[Json]) -> bool
+    ensures { IsTrue result ↔ AllTexts (items_tree items.now) }
+{
+    for item in items {
+        if !is_text(item) {
+            return false;
+        }
+    }
+    true
+}
+
+fn are_texts(value: &Json) -> bool
+    ensures { IsTrue result ↔ AreTexts (tree value.now) }
+{
+    match value {
+        Json::List(items) => all_texts(items),
+        _ => false,
+    }
+}
+
+/// Whether the member of this name is an array of texts, where it is there.
+fn are_texts_where_there(value: &Json, name: &str) -> bool
+    ensures { IsTrue result ↔ WhereThere AreTexts (member_of name.now (tree value.now)) }
+{
+    match value.get(name) {
+        Some(found) => are_texts(found),
+        None => true,
+    }
+}
+
+fn is_city_object(value: &Json) -> bool
+    ensures { IsTrue result ↔ IsCityObject (tree value.now) }
+{
+    is_object(value)
+        && are_texts_where_there(value, "parents")
+        && are_texts_where_there(value, "children")
+}
+
+fn are_city_objects(objects: &[Member]) -> bool
+    ensures { IsTrue result ↔ AreCityObjects (members_tree objects.now) }
+{
+    for member in objects {
+        if !is_city_object(value_of(member)) {
+            return false;
+        }
+    }
+    true
+}
+
+fn is_document(value: &Json) -> bool
+    ensures { IsTrue result ↔ IsDocument (tree value.now) }
+{
+    is_city_json(value) && are_city_objects(members_named(value, "CityObjects"))
+}
+
+/// Refuses a value that is no CityJSON object of version 2.0 on a grid.
+fn check_frame(value: &Json) -> Result<(), Fault>
+    ensures ok { OnOk result (HasFrame (tree value.now)) }
+    ensures refusal { IfErr result (λ fault. RefusesCut fault (tree value.now)) }
+{
+    if !is_document(value) {
+        return Err(Fault::NotCityJson);
+    }
+    if !is_version_2(value) {
+        return Err(Fault::Version);
+    }
+    let _ = transform_of(value)?;
+    Ok(())
+}
+
+/// Refuses the first item that is no vertex.
+fn check_vertices(items: &[Json]) -> Result<(), Fault>
+    ensures ok { OnOk result ((points : List Triple) × AreVertices (items_tree items.now) points) }
+    ensures refusal { IfErr result (λ fault. RefusesFirst fault (items_tree items.now)) }
+{
+    for item in items {
+        let _ = vertex(item)?;
+    }
+    Ok(())
+}
+
+/// Refuses a value that is no document with vertices that are some. It takes no memory.
+pub(crate) fn check_document(value: &Json) -> Result<(), Fault>
+    ensures ok { OnOk result (IsOnGrid (tree value.now)) }
+    ensures refusal { IfErr result (λ fault. RefusesCut fault (tree value.now)) }
+{
+    check_frame(value)?;
+    check_vertices(items_named(value, "vertices"))
+}

@@ -1,0 +1,74 @@
+//! The header of a document that is cut.
+ghost use Rattle.std.specs.Prelude.{◌≡◌, ◌↔◌, IsTrue, is_some, IfOk, IfErr, OnOk, codes};
+ghost use Rattle.city_json.specs.Members.{member_of};
+ghost use Rattle.city_json.specs.Tree.{tree, array, no_items, object, no_members};
+ghost use Rattle.city_feature.specs.Changes.{changed_member};
+ghost use Rattle.city_feature.specs.Header.{HasGrid};
+ghost use Rattle.city_cut.specs.Cut.{HasFrame, header_tree, without_appearance};
+
+use city_feature::{Header, drop_member, header, set_member};
+use city_json::{Fault, Json};
+use std::alloc::Global;
+
+fn has_member(value: &Json, name: &str) -> bool
+    ensures { result ≡ is_some (member_of name.now (tree value.now)) }
+{
+    value.get(name).is_some()
+}
+
+/// Drops the appearance, unless there are geometry templates, which may refer to it.
+fn drop_appearance(document: &mut Json)
+    ensures { tree document.new
+        ≡ without_appearance (member_of (codes "geometry-templates") (tree document.old)) (tree document.old) }
+{
+    if !has_member(document, "geometry-templates") {
+        drop_member(document, "appearance");
+    }
+}
+
+/// Drops the vertices, where there is an array of them. The only fault is [`Fault::Memory`].
+#[tactic(auto, using(crate::proofs::MemberChanges::set_is_changed, crate::proofs::MemberChanges::none_is_unchanged))]
+fn empty_vertices(alloc: Global, document: &mut Json) -> Result<(), Fault>
+    ensures ok { OnOk result (tree document.new
+        ≡ changed_member (codes "vertices") (λ vertices. array no_items) (tree document.old)) }
+    ensures fault { IfErr result (λ fault. fault ≡ Fault.Memory) }
+{
+    if !has_member(document, "vertices") {
+        return Ok(());
+    }
+    set_member(alloc, document, "vertices", Json::List(Vec::new(alloc)))
+}
+
+/// Drops the city objects, where there is an object of them. The only fault is [`Fault::Memory`].
+#[tactic(auto, using(crate::proofs::MemberChanges::set_is_changed, crate::proofs::MemberChanges::none_is_unchanged))]
+fn empty_objects(alloc: Global, document: &mut Json) -> Result<(), Fault>
+    ensures ok { OnOk result (tree document.new
+        ≡ changed_member (codes "CityObjects") (λ objects. object no_members) (tree document.old)) }
+    ensures fault { IfErr result (λ fault. fault ≡ Fault.Memory) }
+{
+    if !has_member(document, "CityObjects") {
+        return Ok(());
+    }
+    set_member(alloc, document, "CityObjects", Json::Map(Vec::new(alloc)))
+}
+
+fn empty(alloc: Global, document: &mut Json) -> Result<(), Fault>
+    ensures ok { OnOk result (tree document.new ≡ header_tree (tree document.old)) }
+    ensures fault { IfErr result (λ fault. fault ≡ Fault.Memory) }
+{
+    drop_appearance(document);
+    empty_vertices(alloc, document)?;
+    empty_objects(alloc, document)
+}
+
+/// The document without its city objects and vertices, and without its appearance unless it has geometry
+/// templates. The only fault is [`Fault::Memory`].
+pub(crate) fn document_header(alloc: Global, mut document: Json) -> Result<Header, Fault>
+    requires { HasFrame (tree document) }
+    ensures ok { IfOk result (λ header. (tree header.json ≡ header_tree (tree document))
+        × HasGrid (tree document) header.grid) }
+    ensures fault { IfErr result (λ fault. fault ≡ Fault.Memory) }
+{
+    empty(alloc, &mut document)?;
+    header(document)
+}

@@ -1,0 +1,24 @@
+//! A CityJSON document cut into features (CityJSON 2.0, City Objects, Geometry Objects, Text sequences
+//! and streaming with CityJSONFeature): [`cut`] gives a header and, for each city object without
+//! parents, a feature with the objects that are reached from it and vertices of its own.
+#![tactic(auto)]
+
+mod assembling;
+mod boundaries;
+mod cuts;
+mod cutting;
+mod documents;
+mod families;
+mod features;
+mod headers;
+mod leaves;
+mod numbering;
+mod objects;
+mod reach;
+mod relabelling;
+#[cfg(test)]
+mod tests;
+mod values;
+
+pub use cuts::{Cut, Features};
+pub use cutting::cut;

@@ -1,0 +1,110 @@
+//! City objects by their identifiers, and their children.
+ghost use Rattle.std.specs.Prelude.{◌≡◌, ◌≢◌, ◌⊎◌, ℕ, List, map, Some, Contains, IfOk, IfErr};
+ghost use Rattle.std.specs.Prelude.{MatchOption, slice_get};
+ghost use Rattle.city_json.specs.Members.{member_of, names};
+ghost use Rattle.city_json.specs.Tree.{Tree, tree, named_tree, members_tree, string};
+ghost use Rattle.city_cut.specs.CityObjects.{children, has_parents, is_filled};
+ghost use Rattle.city_cut.specs.Places.{ArePlaced, IsGraph};
+ghost use Rattle.city_cut.specs.Items.{items_of, values};
+ghost use Rattle.city_cut.specs.Search.{InRange};
+ghost use Rattle.city_cut.specs.Table.{IsTable};
+
+use crate::values::{items_named, name_of, text_of, value_of};
+use city_json::{Fault, Json, Member};
+use std::alloc::Global;
+
+/// The names of the objects with their places, in the order of the names. The only fault is [`Fault::Memory`].
+pub(crate) fn table(alloc: Global, objects: &[Member]) -> Result<Vec<(&str, usize)>, Fault>
+    ensures ok { IfOk result (λ pairs. IsTable (names (members_tree objects.now)) pairs.items) }
+    ensures fault { IfErr result (λ fault. fault ≡ Fault.Memory) }
+{
+    let mut pairs = Vec::with_capacity(alloc, objects.len())?;
+    for (at, member) in objects.iter().enumerate() {
+        pairs.push_reserved((name_of(member), at));
+    }
+    pairs.sort_unstable();
+    Ok(pairs)
+}
+
+/// The place of a name.
+pub(crate) fn place(table: &[(&str, usize)], name: &str) -> Option<usize>
+    ensures { (names : List (List ℕ)) → IsTable names table.now
+        → MatchOption result ((k : ℕ) → slice_get names k ≢ Some name.now)
+        (λ k. slice_get names k ≡ Some name.now) }
+{
+    match table.binary_search_by_key(&name, |pair| pair.0) {
+        Ok(at) => Some(table[at].1),
+        Err(_) => None,
+    }
+}
+
+/// The places of the names that stand among the values.
+fn places_of(alloc: Global, named: &[Json], table: &[(&str, usize)]) -> Result<Vec<usize>, Fault>
+    ensures ok { IfOk result (λ places. (names : List (List ℕ)) → IsTable names table.now
+        → ArePlaced names (map tree named.now) places.items) }
+    ensures fault { IfErr result (λ fault. (fault ≡ Fault.Memory)
+        ⊎ ((fault ≡ Fault.ChildMissing) × ((names : List (List ℕ)) → IsTable names table.now
+        → (name : List ℕ) × Contains (map tree named.now) (string name)
+        × ((k : ℕ) → slice_get names k ≢ Some name)))) }
+{
+    let mut places = Vec::new(alloc);
+    for value in named {
+        let Some(name) = text_of(value) else {
+            continue;
+        };
+        let Some(place) = place(table, name) else {
+            return Err(Fault::ChildMissing);
+        };
+        places.push(place)?;
+    }
+    Ok(places)
+}
+
+/// The places of an object's children.
+fn children_of(alloc: Global, object: &Json, table: &[(&str, usize)]) -> Result<Vec<usize>, Fault>
+    ensures ok { IfOk result (λ places. (names : List (List ℕ)) → IsTable names table.now
+        → ArePlaced names (children (tree object.now)) places.items) }
+    ensures fault { IfErr result (λ fault. (fault ≡ Fault.Memory)
+        ⊎ ((fault ≡ Fault.ChildMissing) × ((names : List (List ℕ)) → IsTable names table.now
+        → (name : List ℕ) × Contains (children (tree object.now)) (string name)
+        × ((k : ℕ) → slice_get names k ≢ Some name)))) }
+{
+    places_of(alloc, items_named(object, "children"), table)
+}
+
+/// For each object the places of its children.
+pub(crate) fn children(alloc: Global, objects: &[Member]) -> Result<Vec<Vec<usize>>, Fault>
+    ensures ok { IfOk result (λ graph. IsGraph (members_tree objects.now) graph.items) }
+    ensures fault { IfErr result (λ fault. (fault ≡ Fault.Memory)
+        ⊎ ((fault ≡ Fault.ChildMissing) × (object : Tree)
+        × Contains (values (members_tree objects.now)) object
+        × (name : List ℕ) × Contains (children object) (string name)
+        × ((k : ℕ) → slice_get (names (members_tree objects.now)) k ≢ Some name))) }
+{
+    let table = table(alloc, objects)?;
+    let mut graph = Vec::with_capacity(alloc, objects.len())?;
+    for member in objects {
+        graph.push(children_of(alloc, value_of(member), &table)?)?;
+    }
+    Ok(graph)
+}
+
+/// Whether it is no empty array.
+fn is_filled(value: &Json) -> bool
+    ensures { result ≡ is_filled (Some (tree value.now)) }
+{
+    match value {
+        Json::List(items) => !items.is_empty(),
+        _ => true,
+    }
+}
+
+/// Whether the object names parents.
+pub(crate) fn has_parents(object: &Json) -> bool
+    ensures { result ≡ has_parents (tree object.now) }
+{
+    match object.get("parents") {
+        Some(found) => is_filled(found),
+        None => false,
+    }
+}

@@ -1,0 +1,70 @@
+//! Documents and what they are cut into, line by line.
+mod refusals;
+mod shapes;
+
+use crate::cuts::Cut;
+use crate::cutting::cut;
+use city_feature::line;
+use city_json::{Fault, Line, print, read};
+use std::alloc::{AllocGlobal, Global};
+use std::process::Abort;
+use std::test::Fail;
+
+const HEAD: &str =
+    r#"{"type":"CityJSON","version":"2.0","transform":{"scale":[0.001,0.001,0.001],"translate":[0,0,0]}"#;
+
+const POINTS: &str = "[[0,0,0],[1,1,1],[2,2,2],[3,3,3]]";
+
+/// A document of these city objects and the vertices `POINTS`.
+fn document(alloc: Global, objects: &str) -> Result<String, Fail> {
+    Ok(format!(in alloc; "{HEAD},\"CityObjects\":{{{objects}}},\"vertices\":{POINTS}}}")?)
+}
+
+fn cut_text(alloc: Global, text: &str) -> Result<Cut, Fault> {
+    cut(alloc, read(alloc, text.as_bytes())?)
+}
+
+/// The lines of the header and the features.
+fn lines_of(alloc: Global, cut: &Cut) -> Result<Vec<Line>, Fault> {
+    let mut lines = Vec::new(alloc);
+    let mut header = Line::new(alloc);
+    print(cut.header.json(), &mut header)?;
+    lines.push(header)?;
+    for feature in cut.features.items() {
+        lines.push(line(alloc, feature)?)?;
+    }
+    Ok(lines)
+}
+
+/// The document is cut into these lines.
+fn expect_lines(rt: &(impl Abort + AllocGlobal), text: &str, want: &[&str]) -> Result<(), Fail> {
+    let cut = cut_text(rt.alloc(), text)?;
+    let lines = lines_of(rt.alloc(), &cut)?;
+    assert_eq!(rt; lines.len(), want.len(), "{text}");
+    for (line, want) in lines.iter().zip(want) {
+        assert_eq!(rt; line.items(), want.as_bytes(), "{text}");
+    }
+    Ok(())
+}
+
+/// The document of these objects is cut into the header and these features.
+fn expect_features(
+    rt: &(impl Abort + AllocGlobal),
+    objects: &str,
+    want: &[&str],
+) -> Result<(), Fail> {
+    let header = format!(in rt.alloc(); "{HEAD},\"CityObjects\":{{}},\"vertices\":[]}}")?;
+    let mut lines = Vec::new(rt.alloc());
+    lines.push(header.as_str())?;
+    for feature in want {
+        lines.push(*feature)?;
+    }
+    expect_lines(rt, &document(rt.alloc(), objects)?, &lines)
+}
+
+/// A building with these members and two parts with these boundaries.
+fn building(alloc: Global, members: &str, first: &str, second: &str) -> Result<String, Fail> {
+    Ok(format!(in alloc;
+        r#""b":{{"type":"Building"{members}}},"p1":{{"type":"BuildingPart","parents":["b"],"geometry":[{{"type":"MultiPoint","lod":"1","boundaries":{first}}}]}},"p2":{{"type":"BuildingPart","parents":["b"],"geometry":[{{"type":"MultiPoint","lod":"1","boundaries":{second}}}]}}"#
+    )?)
+}

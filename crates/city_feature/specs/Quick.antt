@@ -1,0 +1,38 @@
+-- What is found on the compact text of a feature's line, whose members lie in known parts.
+use Rattle.std.specs.Prelude.{◌≡◌, ◌<◌, ℕ, List, length, get_or, slice_range, codes}
+use Rattle.city_json.specs.Compact.{compact}
+use Rattle.city_json.specs.Fits.{HasDistinctNames}
+use Rattle.city_json.specs.Members.{member_of}
+use Rattle.city_json.specs.Parts.{AreParts, with_value}
+use Rattle.city_json.specs.Tree.{Tree, MemberTrees, object}
+use Rattle.city_json.specs.Writable.{IsWritable}
+use Rattle.city_json.specs.declared.compacting.parts.Part.{Part}
+use Rattle.city_feature.specs.Changes.{with_member}
+use Rattle.city_feature.specs.Shapes.{IsObject, IsText, IsThere, Says}
+
+-- one of the parts, where this text stands up to the value
+pub record IsPartNamed (line : List ℕ) (parts : List Part) (name : List ℕ) (part : Part) : Type 0 where
+  pub place : ℕ
+  pub within : place < length parts
+  pub is : get_or parts place part ≡ part
+  pub named : slice_range line part.at part.value ≡ name
+
+-- the compact text of an object of these members, which lie in these parts
+pub record IsLine (line : List ℕ) (parts : List Part) (members : MemberTrees) : Type 0 where
+  pub written : line ≡ compact (object members)
+  pub are_parts : AreParts 1 parts members
+  pub names_differ : HasDistinctNames members
+  pub writable : IsWritable (object members)
+
+-- the value of the member of this name stands in this part of the line: with another text there, the line is the
+-- text of an object with another value
+abbrev pub IsPlaceOf : List ℕ → MemberTrees → List ℕ → Part → Type 0
+IsPlaceOf name members line part =
+    (new : Tree) → compact (with_member name new (object members)) ≡ with_value line part (compact new)
+
+-- what a feature has beside its vertices
+abbrev pub HasOtherMembers : Tree → Type 0
+HasOtherMembers value =
+    Says (codes "type") (codes "CityJSONFeature") value
+    × IsThere IsText (member_of (codes "id") value)
+    × IsThere IsObject (member_of (codes "CityObjects") value)

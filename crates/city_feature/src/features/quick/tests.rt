@@ -1,0 +1,91 @@
+use super::quick_line;
+use crate::{Choice, area};
+use city_grid::Shift;
+use city_json::Line;
+use std::alloc::Global;
+use std::test::Fail;
+
+/// What the quick path answers of a line that is moved by 10, 20 and 30, and the text that stands there then.
+fn answer(alloc: Global, line: &str, choice: &Choice) -> Result<(Option<bool>, Line), Fail> {
+    let Some(shift) = Shift::new(10, 20, 30) else {
+        return Err("no shift".into());
+    };
+    let mut text = Line::from_vec(b"front ".to_vec(alloc)?);
+    let answer = quick_line(alloc, line.as_bytes(), shift, choice, &mut text);
+    Ok((answer, text))
+}
+
+#[test]
+fn common_lines_are_taken(rt: HostRuntime) -> Result<(), Fail> {
+    let alloc = rt.alloc();
+    let rows = [
+        (
+            r#"{"type":"CityJSONFeature","id":"a","CityObjects":{},"vertices":[]}"#,
+            r#"front {"type":"CityJSONFeature","id":"a","CityObjects":{},"vertices":[]}"#,
+        ),
+        (
+            r#"{"vertices":[[1,2,3],[-4,-5,-6]],"CityObjects":{"a":{"type":"Building"}},"id":"a","type":"CityJSONFeature"}"#,
+            r#"front {"vertices":[[11,22,33],[6,15,24]],"CityObjects":{"a":{"type":"Building"}},"id":"a","type":"CityJSONFeature"}"#,
+        ),
+        (
+            r#" { "type" : "CityJSONFeature" , "more" : [1.50] , "id" : "\u00e9" , "vertices" : [ [ 1 , 2 , 3 ] ] , "CityObjects" : { "\u0061" : { } } } "#,
+            r#"front {"type":"CityJSONFeature","more":[1.50],"id":"é","vertices":[[11,22,33]],"CityObjects":{"a":{}}}"#,
+        ),
+        (
+            r#"{"type":"CityJSONFeature","id":"","CityObjects":{},"vertices":[[9007199254740981,-9007199254740991,0],[-10,-20,-30],[1000000000000000,0,0]]}"#,
+            r#"front {"type":"CityJSONFeature","id":"","CityObjects":{},"vertices":[[9007199254740991,-9007199254740971,30],[0,0,0],[1000000000000010,20,30]]}"#,
+        ),
+    ];
+    for (line, want) in rows {
+        let (chosen, text) = answer(alloc, line, &Choice::new(None, None, false))?;
+        assert_eq!(rt; chosen, Some(true));
+        assert_eq!(rt; text.items(), want.as_bytes());
+    }
+    Ok(())
+}
+
+#[test]
+fn an_area_is_tried_on_the_moved_vertices(rt: HostRuntime) -> Result<(), Fail> {
+    let alloc = rt.alloc();
+    let line =
+        r#"{"type":"CityJSONFeature","id":"a","CityObjects":{},"vertices":[[0,0,0],[5,5,5]]}"#;
+    let rows = [
+        ("15,25,40,40", true),
+        ("16,25,40,40", false),
+        ("0,0,10,20", true),
+        ("0,0,9,20", false),
+    ];
+    for (bounds, inside) in rows {
+        let (chosen, text) = answer(alloc, line, &Choice::new(None, area(bounds), false))?;
+        assert_eq!(rt; chosen, Some(inside));
+        assert_eq!(rt; text.items().len() > 6, inside);
+        let (chosen, _) = answer(alloc, line, &Choice::new(None, area(bounds), true))?;
+        assert_eq!(rt; chosen, Some(!inside));
+    }
+    Ok(())
+}
+
+#[test]
+fn other_lines_are_left_alone(rt: HostRuntime) -> Result<(), Fail> {
+    let alloc = rt.alloc();
+    let rows = [
+        r#"{"type":"CityJSON","id":"a","CityObjects":{},"vertices":[]}"#,
+        r#"{"type":"CityJSONFeature","id":1,"CityObjects":{},"vertices":[]}"#,
+        r#"{"type":"CityJSONFeature","id":"a","CityObjects":[],"vertices":[]}"#,
+        r#"{"type":"CityJSONFeature","id":"a","CityObjects":{}}"#,
+        r#"{"type":"CityJSONFeature","id":"a","CityObjects":{},"vertices":{}}"#,
+        r#"{"type":"CityJSONFeature","id":"a","CityObjects":{},"vertices":[[1,2,3,4]]}"#,
+        r#"{"type":"CityJSONFeature","id":"a","CityObjects":{},"vertices":[[1,2,3],[1,2],[1,2,3]]}"#,
+        r#"{"type":"CityJSONFeature","id":"a","CityObjects":{},"vertices":[[1,2,3],[1.0,2,3]]}"#,
+        r#"{"type":"CityJSONFeature","id":"a","CityObjects":{},"vertices":[[-0,2,3]]}"#,
+        r#"{"type":"CityJSONFeature","id":"a","CityObjects":{},"vertices":[[1,2,10000000000000000]]}"#,
+        r#"{"type":"CityJSONFeature","id":"a","CityObjects":{},"vertices":[[1,2,9007199254740991]]}"#,
+        r#"{"type":"CityJSONFeature","id":"a","CityObjects":{},"vertices":[[1,2,3]],"id":"b"}"#,
+    ];
+    for line in rows {
+        let (chosen, text) = answer(alloc, line, &Choice::new(None, None, false))?;
+        assert_eq!(rt; chosen, None);
+        assert_eq!(rt; text.items(), b"front ".as_slice());
+    }
+    Ok(())
+}

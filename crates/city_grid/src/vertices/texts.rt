@@ -1,0 +1,217 @@
+//! Vertices in a compact text: read and written with no tree between them.
+ghost use Rattle.std.specs.Prelude.{◌≡◌, ◌++◌, ◌∷◌, [], ◌^◌, ◌<◌, ◌≤◌, ◌+◌, ◌↔◌, length, drop, slice_range, slice_index, IfSome, OnOk, IsTrue, unsigned_abs};
+ghost use Rattle.std.specs.Fmt.{decimal, signed_decimal};
+ghost use Rattle.std.specs.Str.Parse.{AllDigits, digits_value};
+ghost use Rattle.city_json.specs.Compact.{compact};
+ghost use Rattle.city_grid.specs.Axes.{IsInRange, most_steps};
+ghost use Rattle.city_grid.specs.Vertex.{vertex_tree};
+
+use crate::vertices::Vertex;
+use city_json::Line;
+use itoa::write_digits;
+use std::alloc::AllocError;
+
+/// How many digits a number has at most that is read here: as many as the largest component.
+const MOST_DIGITS: usize = 16;
+
+/// How long the text of a vertex and a byte before it is at most, and some bytes more.
+const MOST_LEN: usize = 64;
+
+/// The number that digits write, and where they end.
+#[derive(Clone, Copy, Drop)]
+struct Digits {
+    size: u64,
+    end: usize,
+}
+
+/// An integer, and where its text ends.
+#[derive(Clone, Copy, Drop)]
+struct PlacedInteger {
+    value: i64,
+    end: usize,
+}
+
+/// A vertex, and where its text ends.
+#[derive(Clone, Copy, Debug, PartialEq, Eq)]
+pub struct PlacedVertex {
+    pub vertex: Vertex,
+    pub end: usize,
+}
+
+/// Whether this byte stands at that place.
+#[inline(always)]
+pub fn byte_is(text: &[u8], at: usize, byte: u8) -> bool
+    ensures { IsTrue result ↔ ((at < length text.now) × (slice_index text.now at ≡ byte)) }
+{
+    at < text.len() && text[at] == byte
+}
+
+#[inline(always)]
+fn is_digit(byte: u8) -> bool
+    ensures { IsTrue result ↔ ((48 ≤ byte) × (byte ≤ 57)) }
+{
+    matches!(byte, b'0'..=b'9')
+}
+
+/// The place up to which digits are read from `at` on.
+#[inline(always)]
+fn digits_limit(text: &[u8], at: usize) -> usize
+    requires { at ≤ length text.now }
+    ensures onward { at ≤ result }
+    ensures within { result ≤ length text.now }
+    ensures few { result ≤ at + 16 }
+{
+    if text.len() - at < MOST_DIGITS {
+        return text.len();
+    }
+    at + MOST_DIGITS
+}
+
+/// The digits from `at` on, the first sixteen of them where there are more.
+#[inline(always)]
+fn digits_at(text: &[u8], at: usize) -> Digits
+    requires { at ≤ length text.now }
+    ensures onward { at ≤ result.end }
+    ensures within { result.end ≤ length text.now }
+    ensures few { result.end ≤ at + 16 }
+    ensures digits { AllDigits 10 (slice_range text.now at result.end) }
+    ensures value { result.size ≡ digits_value 10 (slice_range text.now at result.end) }
+{
+    let limit = digits_limit(text, at);
+    let mut end = at;
+    let mut size = 0u64;
+    while end < limit && is_digit(text[end]) {
+        size = size * 10 + u64::from(text[end] - b'0');
+        end += 1;
+    }
+    Digits { size, end }
+}
+
+/// The number at `at` that is written in at most sixteen digits, with no zero before others.
+#[inline(always)]
+fn number_at(text: &[u8], at: usize) -> Option<Digits>
+    requires { at ≤ length text.now }
+    ensures onward { IfSome result (λ found. at < found.end) }
+    ensures within { IfSome result (λ found. found.end ≤ length text.now) }
+    ensures written { IfSome result (λ found. slice_range text.now at found.end ≡ decimal found.size) }
+    ensures small { IfSome result (λ found. found.size < 10 ^ 16) }
+{
+    let digits = digits_at(text, at);
+    if digits.end == at {
+        return None;
+    }
+    if text[at] == b'0' {
+        if digits.end - at > 1 {
+            return None;
+        }
+        return Some(digits);
+    }
+    Some(digits)
+}
+
+/// The integer at `at` that is written as it would be printed, in at most sixteen digits.
+#[inline(always)]
+fn integer_at(text: &[u8], at: usize) -> Option<PlacedInteger>
+    requires { at ≤ length text.now }
+    ensures onward { IfSome result (λ found. at < found.end) }
+    ensures within { IfSome result (λ found. found.end ≤ length text.now) }
+    ensures written { IfSome result (λ found. slice_range text.now at found.end
+        ≡ signed_decimal found.value) }
+{
+    if byte_is(text, at, b'-') {
+        let found = number_at(text, at + 1)?;
+        if found.size == 0 {
+            return None;
+        }
+        return Some(PlacedInteger {
+            value: -(found.size as i64),
+            end: found.end,
+        });
+    }
+    let found = number_at(text, at)?;
+    Some(PlacedInteger {
+        value: found.size as i64,
+        end: found.end,
+    })
+}
+
+/// The vertex at `at`, where it is in the text that would be written for it. None says nothing of the text.
+#[inline(always)]
+pub fn vertex_at(text: &[u8], at: usize) -> Option<PlacedVertex>
+    requires { at ≤ length text.now }
+    ensures onward { IfSome result (λ found. at < found.end) }
+    ensures within { IfSome result (λ found. found.end ≤ length text.now) }
+    ensures written { IfSome result (λ found. slice_range text.now at found.end
+        ≡ compact (vertex_tree found.vertex)) }
+    ensures range { IfSome result (λ found. IsInRange found.vertex) }
+{
+    if !byte_is(text, at, b'[') {
+        return None;
+    }
+    let x = integer_at(text, at + 1)?;
+    if !byte_is(text, x.end, b',') {
+        return None;
+    }
+    let y = integer_at(text, x.end + 1)?;
+    if !byte_is(text, y.end, b',') {
+        return None;
+    }
+    let z = integer_at(text, y.end + 1)?;
+    if !byte_is(text, z.end, b']') {
+        return None;
+    }
+    let vertex = Vertex::new(x.value, y.value, z.value)?;
+    Some(PlacedVertex {
+        vertex,
+        end: z.end + 1,
+    })
+}
+
+/// Puts a byte before `end`: where it stands.
+#[inline(always)]
+fn put_byte(byte: u8, to: &mut [u8], end: usize) -> usize
+    requires some { 0 < end }
+    requires within { end ≤ length to.old }
+    ensures place { result + 1 ≡ end }
+    ensures put { drop result to.new ≡ byte ∷ drop end to.old }
+{
+    let at = end - 1;
+    to[at] = byte;
+    at
+}
+
+/// Puts an integer in decimal before `end`: where it begins.
+#[inline(always)]
+fn put_integer(value: i64, to: &mut [u8], end: usize) -> usize
+    requires small { unsigned_abs value ≤ most_steps }
+    requires room { 17 ≤ end }
+    requires within { end ≤ length to.old }
+    ensures short { end ≤ result + 17 }
+    ensures onward { result ≤ end }
+    ensures put { drop result to.new ≡ signed_decimal value ++ drop end to.old }
+{
+    let start = write_digits(value.unsigned_abs(), to, end);
+    if value < 0 {
+        put_byte(b'-', to, start)
+    } else {
+        start
+    }
+}
+
+/// Appends a byte and the compact text of a vertex.
+#[inline(always)]
+pub fn append_vertex(before: u8, vertex: &Vertex, to: &mut Line) -> Result<(), AllocError>
+    ensures { OnOk result (to.new ≡ to.old ++ before ∷ compact (vertex_tree vertex.now)) }
+{
+    let steps = vertex.steps();
+    let mut text = [0u8; MOST_LEN];
+    let closed = put_byte(b']', &mut text, MOST_LEN);
+    let z = put_integer(steps.z, &mut text, closed);
+    let second = put_byte(b',', &mut text, z);
+    let y = put_integer(steps.y, &mut text, second);
+    let first = put_byte(b',', &mut text, y);
+    let x = put_integer(steps.x, &mut text, first);
+    let opened = put_byte(b'[', &mut text, x);
+    let start = put_byte(before, &mut text, opened);
+    to.append(&text[start..])
+}

@@ -1,0 +1,121 @@
+ghost use Rattle.std.specs.Prelude.{◌≡◌, ◌<◌, ◌+◌, Err, length, IfErr, IfOk};
+ghost use Rattle.citymerge.specs.Merging.{RefusesFiles};
+
+use city_json::{Device, Fault};
+use command_line::Paths;
+use std::alloc::Global;
+use std::fs;
+use std::rt::Files;
+use tile_merge::{MergeFault, tile_count};
+
+/// Opens the files of the tiles in order.
+///
+/// # Errors
+///
+/// [`Fault::TooManyTiles`], of no tile, above 64, before one is opened; [`Fault::Read`] at line 0 of
+/// the first tile that cannot be opened; [`Fault::Memory`], of no tile.
+pub fn open_tiles<F: Files>(
+    alloc: Global,
+    files: &F,
+    paths: &Paths,
+) -> Result<Vec<Device<F::File>>, MergeFault>
+    ensures all { IfOk result (λ readers. length readers.items ≡ length paths.now) }
+    ensures refused { IfErr result (RefusesFiles (length paths.now)) }
+    ensures too_many { 64 < length paths.now → result ≡ Err (record {
+      tile = 0;
+      line = 0;
+      fault = Fault.TooManyTiles;
+    }) }
+{
+    let paths = paths.items();
+    tile_count(paths.len())?;
+    let mut readers = Vec::with_capacity(alloc, paths.len())?;
+    for path in paths {
+        let file = match fs::open(files, path.as_str()) {
+            Ok(file) => file,
+            Err(_) => return Err(not_opened(readers.len())),
+        };
+        readers.push(Device::new(file))?;
+    }
+    Ok(readers)
+}
+
+/// The fault of the tile after so many, which could not be opened.
+fn not_opened(before: usize) -> MergeFault
+    requires { before < 64 }
+    ensures { result ≡ record { tile = before + 1; line = 0; fault = Fault.Read } }
+{
+    MergeFault {
+        tile: before as u32 + 1,
+        line: 0,
+        fault: Fault::Read,
+    }
+}
+
+#[cfg(test)]
+mod tests {
+    use super::*;
+    use city_json::{Source, Str};
+    use std::test::Fail;
+
+    fn paths_of(alloc: Global, names: &[&str]) -> Result<Paths, Fail> {
+        let mut paths = Paths::new(alloc);
+        for name in names {
+            paths.push(Str::read(alloc, name)?)?;
+        }
+        Ok(paths)
+    }
+
+    #[test]
+    fn the_first_file_that_cannot_be_opened_is_named(rt: HostRuntime) -> Result<(), Fail> {
+        let alloc = rt.alloc();
+        let empty = "/dev/null";
+        let missing = "no/such/tile.city.jsonl";
+        for (names, tile) in [
+            ([missing, empty, missing], 1u32),
+            ([empty, missing, missing], 2),
+            ([empty, empty, ""], 3),
+        ] {
+            let Err(refusal) = open_tiles(alloc, &rt, &paths_of(alloc, &names)?) else {
+                panic!(rt; "opened");
+            };
+            let fault = Fault::Read;
+            assert_eq!(rt;
+                refusal,
+                MergeFault {
+                    tile,
+                    line: 0,
+                    fault
+                }
+            );
+        }
+        Ok(())
+    }
+
+    #[test]
+    fn files_are_opened_and_nothing_is_read_yet(rt: HostRuntime) -> Result<(), Fail> {
+        let alloc = rt.alloc();
+        let paths = paths_of(alloc, &["/dev/zero", "/dev/null", "/dev/zero"])?;
+        let mut readers = open_tiles(alloc, &rt, &paths)?;
+        let mut counts = Vec::new(alloc);
+        for reader in readers.iter_mut() {
+            counts.push(reader.read(&mut [1; 4])?)?;
+        }
+        assert_eq!(rt; counts.as_slice(), [4usize, 0, 4].as_slice());
+        Ok(())
+    }
+
+    #[test]
+    fn too_many_files_are_refused_before_one_is_opened(rt: HostRuntime) -> Result<(), Fail> {
+        let alloc = rt.alloc();
+        let mut names = vec![in alloc; "no/such/tile.city.jsonl"]?;
+        for _ in 0..64u32 {
+            names.push("no/such/tile.city.jsonl")?;
+        }
+        let Err(refusal) = open_tiles(alloc, &rt, &paths_of(alloc, &names)?) else {
+            panic!(rt; "opened");
+        };
+        assert_eq!(rt; refusal, MergeFault::of_no_line(Fault::TooManyTiles));
+        Ok(())
+    }
+}

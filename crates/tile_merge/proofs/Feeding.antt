@@ -1,0 +1,156 @@
+-- A text, or the end, that was read ahead.
+use Rattle.std.proofs.Common.{◌≡◌, ◌+◌, ◌++◌, ℕ, Bool, true, false, List, [], ◌∷◌, Option, Some, length, if◌then◌else◌, refl, sym, ap, subst, ◌∙◌, arith}
+use Rattle.std.proofs.lemmas.List.{append_cancel_right, get_or-set_same}
+use Rattle.city_json.specs.Bytes.{newline}
+use Rattle.city_feature.specs.Feature.{FeatureValue}
+use Rattle.city_grid.specs.Axes.{Triple}
+use Rattle.tile_handoff.specs.Notes.{has_end}
+use Rattle.tile_handoff.specs.Queues.{Queue, QueuesState, queue_of, with_queue, longer}
+use Rattle.tile_handoff.specs.declared.note.End.{End}
+use Rattle.tile_handoff.specs.declared.note.Note.{Note}
+use Rattle.tile_handoff.specs.declared.note.Note.TheVariants.{Line as LineNote, End as EndNote}
+use Rattle.tile_merge.specs.Coming.{MayComeTo, GivesText, SomethingComes}
+use Rattle.tile_merge.specs.EndNotes.{Ended, end_of, ended_so}
+use Rattle.tile_merge.specs.Feeds.{FeedState, Course, course_of, ThenComes, NotesCome, MayTake, TakesNone, TakesTurn, SomeCourse}
+use Rattle.tile_merge.specs.Stream.{with_newline}
+use Rattle.tile_merge.specs.Texts.{Outcome}
+use Rattle.tile_merge.specs.Unread.{Unread, most_left}
+use Rattle.tile_merge.proofs.FaultNumbers.{end_tells}
+
+not_empty : (left : List Note) (note : Note) → left ++ note ∷ [] ≡ [] → ⊥
+not_empty [] note is = cc is
+not_empty (other ∷ left) note is = cc is
+
+-- a note more is put after those that are there; `More` follows it, and `Then` followed the others
+module _ (Then More : Course → Type 0) where
+  module _ (text line : List ℕ) (is_line : line ≡ with_newline text) where
+    pub line_put : ((more : List (List ℕ)) (ended : Ended) → More (course_of more ended) → Then (course_of (text ∷ more) ended))
+        → (left : List Note) (texts : List (List ℕ)) (ended : Ended) → NotesCome More (left ++ LineNote line ∷ []) texts ended → NotesCome Then left texts ended
+    line_put step [] texts ended come =
+        let same : come.0 ≡ text = append_cancel_right come.0 text (newline ∷ []) (sym come.3 ∙ is_line) in
+        subst (λ all. Then (course_of all ended)) (sym (come.2 ∙ ap (λ t. t ∷ come.1) same)) (step come.1 ended come.4)
+    line_put step (LineNote other ∷ left) texts ended come = (come.0, come.1, come.2, come.3, line_put step left come.1 ended come.4)
+    line_put step (EndNote end ∷ left) texts ended come = absurd (not_empty left (LineNote line) come.0)
+
+    pub line_follows : (more : List (List ℕ)) (last : Ended) → More (course_of more last)
+        → (left : List Note) → has_end left ≡ false → (texts : List (List ℕ)) (ended : Ended) → NotesCome Then left texts ended → SomeCourse (λ course. NotesCome More (left ++ LineNote line ∷ []) course.texts course.ended)
+    line_follows more last comes [] is_open texts ended come = (course_of (text ∷ more) last, (text, more, refl, is_line, comes))
+    line_follows more last comes (LineNote other ∷ left) is_open texts ended come =
+        let some = line_follows more last comes left is_open come.1 ended come.4 in
+        (course_of (come.0 ∷ some.0.texts) some.0.ended, (come.0, some.0.texts, refl, come.3, some.1))
+    line_follows more last comes (EndNote end ∷ left) is_open texts ended come = absurd (cc is_open)
+
+  module _ (last : Ended) (end : End) (is_end : end ≡ end_of last) where
+    pub end_put : Then (course_of [] last)
+        → (left : List Note) (texts : List (List ℕ)) (ended : Ended) → NotesCome More (left ++ EndNote end ∷ []) texts ended → NotesCome Then left texts ended
+    end_put over [] texts ended come =
+        let same : last ≡ ended = end_tells last ended (sym is_end ∙ come.2) in
+        let Over : List (List ℕ) → Type 0 = λ all. Then (course_of all ended) in
+        subst Over (sym come.1) (subst (λ (e : Ended). Then (course_of [] e)) same over)
+    end_put over (LineNote other ∷ left) texts ended come = (come.0, come.1, come.2, come.3, end_put over left come.1 ended come.4)
+    end_put over (EndNote other ∷ left) texts ended come = absurd (not_empty left (EndNote end) come.0)
+
+    pub end_follows : (left : List Note) → has_end left ≡ false → (texts : List (List ℕ)) (ended : Ended) → NotesCome Then left texts ended → SomeCourse (λ course. NotesCome More (left ++ EndNote end ∷ []) course.texts course.ended)
+    end_follows [] is_open texts ended come = (course_of [] last, (refl, refl, is_end))
+    end_follows (LineNote other ∷ left) is_open texts ended come =
+        let some = end_follows left is_open come.1 ended come.4 in
+        (course_of (come.0 ∷ some.0.texts) some.0.ended, (come.0, some.0.texts, refl, come.3, some.1))
+    end_follows (EndNote other ∷ left) is_open texts ended come = absurd (cc is_open)
+
+-- the queue that was set is there
+pub set_there : (queues : QueuesState) (queue : Queue) → length queues.tiles ≡ 1 → queue_of (with_queue queues 0 queue) 0 ≡ queue
+set_there queues queue one = get_or-set_same queues.tiles 0 queue _ (omega (arith, one))
+
+-- a feed before and after one more note was read
+module _ {R : Type 0} (gives : R → List ℕ → Bool → Type 0) (IsWanted : FeatureValue → Type 0) (shift : Triple) (places later_places count : ℕ) (last : Option End) (before after : Unread R) where
+  abbrev feed : Unread R → ℕ → ℕ → Queue → FeedState R
+  feed unread capacity lines queue = record { unread = unread; shift = shift; capacity = capacity; notes = queue; count = lines; last = last }
+
+  abbrev Comes : Unread R → List (List ℕ) → Outcome → Type 0
+  Comes unread texts outcome = MayComeTo gives IsWanted shift unread texts outcome
+
+  module _ (queue : Queue) (is_open : queue.closed ≡ false) where
+    -- a line was read
+    module _ (text line : List ℕ) (is_line : line ≡ with_newline text) (given : GivesText (MayComeTo gives IsWanted shift before) (MayComeTo gives IsWanted shift after) text) (new : Queue) (is_new : new ≡ longer queue (LineNote line)) where
+      step : (more : List (List ℕ)) (ended : Ended) → ThenComes false gives IsWanted shift after (count + 1) last (course_of more ended) → ThenComes false gives IsWanted shift before count last (course_of (text ∷ more) ended)
+      step more ended comes = (given more ended.outcome comes.0, omega (arith, comes.1))
+
+      line_taken-open : (closed : Bool) → closed ≡ false → (texts : List (List ℕ)) (ended : Ended)
+          → NotesCome (ThenComes closed gives IsWanted shift after (count + 1) last) (queue.left ++ LineNote line ∷ []) texts ended → NotesCome (ThenComes closed gives IsWanted shift before count last) queue.left texts ended
+      line_taken-open true is texts ended come = absurd (cc is)
+      line_taken-open false is texts ended come =
+          line_put (ThenComes false gives IsWanted shift before count last) (ThenComes false gives IsWanted shift after (count + 1) last) text line is_line step queue.left texts ended come
+
+      pub line_taken : TakesNone (MayTake gives IsWanted (feed before places count queue)) (MayTake gives IsWanted (feed after later_places (count + 1) new))
+      line_taken course come =
+          let P : Queue → Type 0 = λ q. NotesCome (ThenComes q.closed gives IsWanted shift after (count + 1) last) q.left course.texts course.ended in
+          line_taken-open queue.closed is_open course.texts course.ended (subst P is_new come)
+
+      line_some-open : (closed : Bool) → closed ≡ false → (texts : List (List ℕ)) (ended : Ended) → has_end queue.left ≡ false → SomethingComes (MayComeTo gives IsWanted shift after)
+          → NotesCome (ThenComes closed gives IsWanted shift before count last) queue.left texts ended → SomeCourse (λ course. NotesCome (ThenComes closed gives IsWanted shift after (count + 1) last) (queue.left ++ LineNote line ∷ []) course.texts course.ended)
+      line_some-open true is texts ended none some come = absurd (cc is)
+      line_some-open false is texts ended none some come =
+          let end = ended_so (count + 1 + length some.0) some.1.0 in
+          line_follows (ThenComes false gives IsWanted shift before count last) (ThenComes false gives IsWanted shift after (count + 1) last) text line is_line some.0 end (some.1.1, refl) queue.left none texts ended come
+
+      pub line_some : has_end queue.left ≡ false → SomethingComes (MayComeTo gives IsWanted shift after) → SomeCourse (MayTake gives IsWanted (feed before places count queue)) → SomeCourse (MayTake gives IsWanted (feed after later_places (count + 1) new))
+      line_some none some was =
+          let there = line_some-open queue.closed is_open was.0.texts was.0.ended none some was.1 in
+          let P : Queue → Type 0 = λ q. NotesCome (ThenComes q.closed gives IsWanted shift after (count + 1) last) q.left there.0.texts there.0.ended in
+          (there.0, subst P (sym is_new) there.1)
+
+    -- the end was read
+    module _ (outcome : Outcome) (over : Comes before [] outcome) (end : End) (is_end : end ≡ end_of (ended_so count outcome)) (new : Queue) (is_new : new ≡ longer queue (EndNote end)) where
+      end_taken-open : (closed : Bool) → closed ≡ false → (texts : List (List ℕ)) (ended : Ended)
+          → NotesCome (ThenComes true gives IsWanted shift after count last) (queue.left ++ EndNote end ∷ []) texts ended → NotesCome (ThenComes closed gives IsWanted shift before count last) queue.left texts ended
+      end_taken-open true is texts ended come = absurd (cc is)
+      end_taken-open false is texts ended come =
+          end_put (ThenComes false gives IsWanted shift before count last) (ThenComes true gives IsWanted shift after count last) (ended_so count outcome) end is_end (over, omega arith) queue.left texts ended come
+
+      pub end_taken : TakesNone (MayTake gives IsWanted (feed before places count queue)) (MayTake gives IsWanted (feed after later_places count new))
+      end_taken course come =
+          let P : Queue → Type 0 = λ q. NotesCome (ThenComes q.closed gives IsWanted shift after count last) q.left course.texts course.ended in
+          end_taken-open queue.closed is_open course.texts course.ended (subst P is_new come)
+
+      end_some-open : (closed : Bool) → closed ≡ false → (texts : List (List ℕ)) (ended : Ended) → has_end queue.left ≡ false
+          → NotesCome (ThenComes closed gives IsWanted shift before count last) queue.left texts ended → SomeCourse (λ course. NotesCome (ThenComes true gives IsWanted shift after count last) (queue.left ++ EndNote end ∷ []) course.texts course.ended)
+      end_some-open true is texts ended none come = absurd (cc is)
+      end_some-open false is texts ended none come =
+          end_follows (ThenComes false gives IsWanted shift before count last) (ThenComes true gives IsWanted shift after count last) (ended_so count outcome) end is_end queue.left none texts ended come
+
+      pub end_some : has_end queue.left ≡ false → SomeCourse (MayTake gives IsWanted (feed before places count queue)) → SomeCourse (MayTake gives IsWanted (feed after later_places count new))
+      end_some none was =
+          let there = end_some-open queue.closed is_open was.0.texts was.0.ended none was.1 in
+          let P : Queue → Type 0 = λ q. NotesCome (ThenComes q.closed gives IsWanted shift after count last) q.left there.0.texts there.0.ended in
+          (there.0, subst P (sym is_new) there.1)
+
+-- the first line is taken of those that were read ahead
+line_first : (Then : Course → Type 0) (line : List ℕ) (others left : List Note) → left ≡ LineNote line ∷ others → SomeCourse (λ course. NotesCome Then left course.texts course.ended)
+    → (text : List ℕ) × (line ≡ with_newline text)
+    × ((course : Course) → NotesCome Then others course.texts course.ended → NotesCome Then left (text ∷ course.texts) course.ended)
+    × SomeCourse (λ course. NotesCome Then others course.texts course.ended)
+line_first Then line others left is was =
+    let Comes : List Note → Type 0 = λ notes. NotesCome Then notes was.0.texts was.0.ended in
+    let first = subst Comes is was.1 in (
+      first.0,
+      first.3,
+      λ course come. subst (λ notes. NotesCome Then notes (first.0 ∷ course.texts) course.ended) (sym is) (first.0, course.texts, refl, first.3, come),
+      (course_of first.1 was.0.ended, first.4),
+    )
+
+pub line_turn : {R : Type 0} (gives : R → List ℕ → Bool → Type 0) (IsWanted : FeatureValue → Type 0) (before : FeedState R) (queue : Queue) (line : List ℕ)
+    → before.notes.left ≡ LineNote line ∷ queue.left → queue.closed ≡ before.notes.closed → SomeCourse (MayTake gives IsWanted before)
+    → (text : List ℕ) × (line ≡ with_newline text) × TakesTurn gives IsWanted before (record before { notes = queue }) (Some text)
+line_turn gives IsWanted before queue line is same was =
+    let Then : Bool → Course → Type 0 = λ closed course. ThenComes closed gives IsWanted before.shift before.unread before.count before.last course in
+    let first = line_first (Then before.notes.closed) line queue.left before.notes.left is was in
+    let Comes : Course → Bool → Type 0 = λ course closed. NotesCome (Then closed) queue.left course.texts course.ended in
+    let open_part = ap (λ closed. if closed then 0 else 1 + most_left before.unread) same in (
+      first.0,
+      first.1,
+      (
+        λ course come. first.2 course (subst (Comes course) same come),
+        (first.3.0, subst (Comes first.3.0) (sym same) first.3.1),
+        omega (arith, ap length is, open_part),
+      ),
+    )

@@ -1,0 +1,47 @@
+-- The notes by which a tile is handed on: its texts, a line each, and then the end note.
+use Rattle.std.specs.Prelude.{◌≡◌, ◌++◌, ℕ, List, [], ◌∷◌, Option, Some, None, length, map}
+use Rattle.std.specs.List.{AllZip}
+use Rattle.city_json.specs.Faults.{number_of}
+use Rattle.tile_handoff.specs.declared.note.End.{End}
+use Rattle.tile_handoff.specs.declared.note.Note.{Note}
+use Rattle.tile_handoff.specs.declared.note.Note.TheVariants.{Line as LineNote, End as EndNote}
+use Rattle.tile_merge.specs.Stream.{with_newline}
+use Rattle.tile_merge.specs.Texts.{Outcome}
+use Rattle.tile_merge.specs.declared.lines.state.LineFault.{LineFault}
+
+-- how many texts a tile gave in all, and how it ended
+pub record Ended : Type 0 where
+  pub total : ℕ
+  pub outcome : Outcome
+
+abbrev pub ended_so : ℕ → Outcome → Ended
+ended_so total outcome = record { total = total; outcome = outcome }
+
+abbrev pub end_with : ℕ → Outcome → End
+end_with total None = record { count = total; line = 0; number = 0 }
+end_with total (Some at) = record { count = total; line = at.number; number = number_of at.fault }
+
+-- the end note: the count, and the line and the number of the fault, or 0 and 0
+abbrev pub end_of : Ended → End
+end_of ended = end_with ended.total ended.outcome
+
+abbrev pub outcomes_in : List Ended → List Outcome
+outcomes_in tiles = map (λ ended. ended.outcome) tiles
+
+abbrev pub totals_in : List Ended → List ℕ
+totals_in tiles = map (λ ended. ended.total) tiles
+
+-- these are the end notes of tiles that ended so
+abbrev pub AreEnds : List End → List Ended → Type 0
+AreEnds ends tiles = AllZip (λ end ended. end ≡ end_of ended) ends tiles
+
+abbrev pub line_note : List ℕ → Note
+line_note text = LineNote (with_newline text)
+
+abbrev pub notes_of : List (List ℕ) → Outcome → List Note
+notes_of texts outcome = map line_note texts ++ EndNote (end_of (ended_so (length texts) outcome)) ∷ []
+
+-- how a tile ended that stopped at this line, or nowhere
+abbrev pub outcome_at : Option LineFault → Outcome
+outcome_at None = None
+outcome_at (Some at) = Some (record { number = at.line; fault = at.fault })

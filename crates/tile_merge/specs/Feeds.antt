@@ -1,0 +1,106 @@
+-- A tile that is merged in turn: what is still to be read of it, and the notes that were read ahead.
+use Rattle.std.specs.Prelude.{◌≡◌, ◌⊎◌, ◌≤◌, ◌<◌, ◌+◌, ◌-◌, ℕ, Bool, true, false, List, [], ◌∷◌, Option, Some, None, length, if◌then◌else◌}
+use Rattle.city_feature.specs.Feature.{FeatureValue}
+use Rattle.city_grid.specs.Axes.{Triple}
+use Rattle.tile_handoff.specs.Queues.{Queue, empty_queue}
+use Rattle.tile_handoff.specs.declared.note.End.{End}
+use Rattle.tile_handoff.specs.declared.note.Note.{Note}
+use Rattle.tile_handoff.specs.declared.note.Note.TheVariants.{Line as LineNote, End as EndNote}
+use Rattle.tile_merge.specs.Coming.{MayComeTo}
+use Rattle.tile_merge.specs.EndNotes.{Ended, end_of}
+use Rattle.tile_merge.specs.Stream.{with_newline}
+use Rattle.tile_merge.specs.Unread.{Unread, most_left}
+
+-- The reader, the shift, how many notes may be read ahead, those that were, how many lines were put
+-- among them, and the end note once it was taken.
+pub record FeedState (R : Type 0) : Type 0 where
+  pub unread : Unread R
+  pub shift : Triple
+  pub capacity : ℕ
+  pub notes : Queue
+  pub count : ℕ
+  pub last : Option End
+
+-- nothing was read ahead yet
+abbrev pub fresh_feed : {R : Type 0} → ℕ → Unread R → Triple → FeedState R
+fresh_feed capacity unread shift = record { unread = unread; shift = shift; capacity = capacity; notes = empty_queue; count = 0; last = None }
+
+-- the texts that a tile still gives, and how it has ended then
+pub record Course : Type 0 where
+  pub texts : List (List ℕ)
+  pub ended : Ended
+
+abbrev pub course_of : List (List ℕ) → Ended → Course
+course_of texts ended = record { texts = texts; ended = ended }
+
+-- a text, and then what else is given
+abbrev pub text_before : List ℕ → Course → Course
+text_before text course = record { texts = text ∷ course.texts; ended = course.ended }
+
+-- what follows the notes: what may be read, or once the tile was closed nothing more than its end
+abbrev pub ThenComes : {R : Type 0} → Bool → (R → List ℕ → Bool → Type 0) → (FeatureValue → Type 0) → Triple → Unread R → ℕ → Option End → Course → Type 0
+ThenComes true gives IsWanted shift unread count last course =
+    (course.texts ≡ []) × (last ≡ Some (end_of course.ended))
+ThenComes false gives IsWanted shift unread count last course =
+    MayComeTo gives IsWanted shift unread course.texts course.ended.outcome
+    × (course.ended.total ≡ count + length course.texts)
+
+-- these notes come first: each line is a text, and the end note is the last
+abbrev pub NotesCome : (Course → Type 0) → List Note → List (List ℕ) → Ended → Type 0
+NotesCome Then [] texts ended = Then (course_of texts ended)
+NotesCome Then (LineNote line ∷ notes) texts ended =
+    (text : List ℕ)
+    × (more : List (List ℕ))
+    × (texts ≡ text ∷ more)
+    × (line ≡ with_newline text)
+    × NotesCome Then notes more ended
+NotesCome Then (EndNote end ∷ notes) texts ended =
+    (notes ≡ []) × (texts ≡ []) × (end ≡ end_of ended)
+
+-- this course may be ahead of the tile
+abbrev pub MayTake : {R : Type 0} → (R → List ℕ → Bool → Type 0) → (FeatureValue → Type 0) → FeedState R → Course → Type 0
+MayTake gives IsWanted feed course =
+    NotesCome (ThenComes feed.notes.closed gives IsWanted feed.shift feed.unread feed.count feed.last) feed.notes.left course.texts course.ended
+
+-- whatever may be ahead now may, with this text in front, have been ahead before
+abbrev pub TakesText : (Course → Type 0) → (Course → Type 0) → List ℕ → Type 0
+TakesText before after text = (course : Course) → after course → before (text_before text course)
+
+-- whatever may be ahead now may have been ahead before
+abbrev pub TakesNone : (Course → Type 0) → (Course → Type 0) → Type 0
+TakesNone before after = (course : Course) → after course → before course
+
+abbrev pub SomeCourse : (Course → Type 0) → Type 0
+SomeCourse may = (course : Course) × may course
+
+-- the end note was taken
+abbrev pub IsOver : {R : Type 0} → FeedState R → Type 0
+IsOver feed = (feed.notes.closed ≡ true) × (feed.notes.left ≡ [])
+
+-- as many notes were read ahead as may be, or all
+abbrev pub IsAhead : {R : Type 0} → FeedState R → Type 0
+IsAhead feed = (feed.notes.closed ≡ true) ⊎ (0 < length feed.notes.left)
+
+-- there is a place for a note more
+abbrev pub HasRoom : {R : Type 0} → FeedState R → Type 0
+HasRoom feed = (feed.notes.closed ≡ false) × (length feed.notes.left < feed.capacity)
+
+-- how many notes may be ahead at most
+abbrev pub most_ahead : {R : Type 0} → FeedState R → ℕ
+most_ahead feed = (if feed.notes.closed then 0 else 1 + most_left feed.unread) + length feed.notes.left
+
+-- how many more notes may be read ahead at most
+abbrev pub most_places : {R : Type 0} → FeedState R → ℕ
+most_places feed = if feed.notes.closed then 0 else 1 + (feed.capacity - length feed.notes.left)
+
+-- one turn of a tile: it gave this text, or none since it is over
+abbrev pub TakesTurn : {R : Type 0} → (R → List ℕ → Bool → Type 0) → (FeatureValue → Type 0) → FeedState R → FeedState R → Option (List ℕ) → Type 0
+TakesTurn gives IsWanted before after (Some text) =
+    TakesText (MayTake gives IsWanted before) (MayTake gives IsWanted after) text
+    × SomeCourse (MayTake gives IsWanted after)
+    × (most_ahead after < most_ahead before)
+TakesTurn gives IsWanted before after None =
+    TakesNone (MayTake gives IsWanted before) (MayTake gives IsWanted after)
+    × SomeCourse (MayTake gives IsWanted after)
+    × (most_ahead after ≤ most_ahead before)
+    × IsOver after

@@ -1,0 +1,214 @@
+ghost use Rattle.std.specs.Prelude.{◌≡◌, ◌≤◌, ◌<◌, ◌+◌, ◌^◌, ℕ, All, Err, length, filter_map, IfOk, IfErr, OnOk, OnErr};
+ghost use Rattle.city_json.specs.Streams.Failures.{after_call};
+ghost use Rattle.city_feature.specs.Choice.{IsChosen};
+ghost use Rattle.tile_merge.specs.Filtered.{failures_after_merge, failures_after_refusal};
+ghost use Rattle.tile_merge.specs.Interleaves.{Interleaves};
+ghost use Rattle.tile_merge.specs.Merged.{MergedAll, IsRefusedEarly, IsRefusedMerge};
+ghost use Rattle.tile_merge.specs.Opened.{AllThree};
+ghost use Rattle.tile_merge.specs.Turns.{AreTurns};
+ghost use Rattle.tile_merge.specs.Unread.{most_left};
+ghost use Rattle.tile_merge.specs.Rounds.{AreReady, IsFeedOf, MayTakeAll, SomeCourses, WroteRound, WroteTurns, WroteTurnsFront};
+
+use crate::fault::MergeFault;
+use crate::filter::write_line;
+use crate::merging::feed::Feed;
+use crate::merging::report::{Report, report_of};
+use crate::merging::tiles::{JoinedTiles, OpenTile, join_tiles, tile_count};
+use city_feature::{Base, Choice};
+use city_grid::Shift;
+use city_json::{Fault, Line, Sink, Source};
+use std::alloc::{AllocError, Global};
+use tile_handoff::{End, MAX_CAPACITY, Queues};
+
+/// Tiles that are ready to be merged in turn, and the line of their header.
+#[derive(Debug, Drop)]
+struct ReadyTiles<R> {
+    feeds: Vec<Feed<R>>,
+    line: Line,
+}
+
+/// Merges the tiles that the readers give, in turn: the joined header, then the first feature that
+/// is chosen of each tile that has one, in the tiles' order, then the second ones, and so on. Each
+/// is moved by its tile's shift and then chosen. Of a tile up to `capacity` texts are held. The
+/// report has how many features were written of each tile.
+///
+/// # Errors
+///
+/// Before a byte is written: [`Fault::TooManyTiles`], of no tile, above 64 readers; else that of the
+/// first tile that has no header; else that of joining, at the line of the tile's header. A faulty
+/// line ends its tile there, and the others are written whole: then that of the lowest tile that ran
+/// out of memory, or else of the lowest that is faulty. Of no tile [`Fault::Write`] where a write or
+/// the flush failed, and [`Fault::Memory`].
+pub fn merge_in_turn<R: Source + Drop, W: Sink>(
+    alloc: Global,
+    readers: Vec<R>,
+    choice: &Choice,
+    base: Base,
+    capacity: u32,
+    output: &mut W,
+) -> Result<Report, MergeFault>
+    requires some { 0 < length readers.items }
+    requires capacity { (0 < capacity) × (capacity ≤ MAX_CAPACITY) }
+    ensures ok { IfOk result (λ report. MergedAll R.gives (IsChosen choice.now) base AreTurns
+        readers.items report.counts (W.taken output.old) (W.taken output.new)) }
+    ensures flushed { OnOk result (W.is_flushed output.new) }
+    ensures refused { IfErr result (λ e. IsRefusedMerge R.gives (IsChosen choice.now) base AreTurns
+        readers.items e (W.taken output.old) (W.taken output.new)) }
+
+    // Where it succeeds, the stream is the joined header and an interleaving of the tiles' chosen,
+    // moved features, each tile in its own order.
+    ensures interleaved { IfOk result (λ report. MergedAll R.gives (IsChosen choice.now) base
+        Interleaves readers.items report.counts (W.taken output.old) (W.taken output.new)) }
+
+    ensures too_many { 64 < length readers.items → result ≡ Err (record {
+      tile = 0;
+      line = 0;
+      fault = Fault.TooManyTiles;
+    }) }
+    ensures failures { W.failures output.new ≡ failures_after_merge result (W.failures output.old) }
+{
+    tile_count(readers.len())?;
+    merge_few(alloc, readers, choice, base, capacity, output)
+}
+
+/// The same of tiles that are not too many.
+fn merge_few<R: Source + Drop, W: Sink>(
+    alloc: Global,
+    readers: Vec<R>,
+    choice: &Choice,
+    base: Base,
+    capacity: u32,
+    output: &mut W,
+) -> Result<Report, MergeFault>
+    requires some { 0 < length readers.items }
+    requires few { length readers.items ≤ 64 }
+    requires capacity { (0 < capacity) × (capacity ≤ MAX_CAPACITY) }
+    ensures ok { IfOk result (λ report. MergedAll R.gives (IsChosen choice.now) base AreTurns
+        readers.items report.counts (W.taken output.old) (W.taken output.new)) }
+    ensures flushed { OnOk result (W.is_flushed output.new) }
+    ensures refused { IfErr result (λ e. IsRefusedMerge R.gives (IsChosen choice.now) base AreTurns
+        readers.items e (W.taken output.old) (W.taken output.new)) }
+    ensures failures { W.failures output.new ≡ failures_after_merge result (W.failures output.old) }
+{
+    let ReadyTiles { mut feeds, line } = make_ready(alloc, readers, base, capacity)?;
+    write_line(output, line)?;
+    write_turns(alloc, &mut feeds, choice, output)?;
+    output.flush()?;
+    let ends = ends_of(alloc, &feeds)?;
+    report_of(alloc, &ends)
+}
+
+/// Opens and joins the tiles, and makes their feeds.
+fn make_ready<R: Source + Drop>(
+    alloc: Global,
+    readers: Vec<R>,
+    base: Base,
+    capacity: u32,
+) -> Result<ReadyTiles<R>, MergeFault>
+    requires some { 0 < length readers.items }
+    requires few { length readers.items ≤ 64 }
+    requires capacity { (0 < capacity) × (capacity ≤ MAX_CAPACITY) }
+    ensures ok { IfOk result (λ ready.
+        AreReady R.gives base capacity readers.items ready.feeds.items ready.line) }
+    ensures few { IfOk result (λ ready. length ready.feeds.items ≤ 64) }
+    ensures refused { IfErr result (IsRefusedEarly R.gives base readers.items) }
+    ensures quiet { IfErr result (λ e. (count : ℕ) → failures_after_refusal e count ≡ count) }
+{
+    let JoinedTiles {
+        tiles,
+        line,
+        shifts,
+    } = join_tiles(alloc, readers, base)?;
+    let feeds = feeds_of(alloc, tiles, shifts.items(), capacity)?;
+    Ok(ReadyTiles { feeds, line })
+}
+
+/// The tiles, each with its shift and an empty queue.
+fn feeds_of<R: Source + Drop>(
+    alloc: Global,
+    tiles: Vec<OpenTile<R>>,
+    shifts: &[Shift],
+    capacity: u32,
+) -> Result<Vec<Feed<R>>, Fault>
+    requires few { length tiles.items ≤ 64 }
+    requires shifts { length shifts.now ≡ length tiles.items }
+    requires most { All (λ tile. most_left tile.unread ≤ 2 ^ 40 + 1) tiles.items }
+    requires capacity { (0 < capacity) × (capacity ≤ MAX_CAPACITY) }
+    ensures ok { IfOk result (λ feeds.
+        AllThree (IsFeedOf capacity) tiles.items shifts.now feeds.items) }
+    ensures memory { IfErr result (λ fault. fault ≡ Fault.Memory) }
+{
+    let mut feeds = Vec::with_capacity(alloc, tiles.len())?;
+    for tile in tiles {
+        let shift = shifts[feeds.len()];
+        let notes = Queues::new(alloc, 1, capacity)?;
+        feeds.push(Feed::new(tile.reader, shift, notes))?;
+    }
+    Ok(feeds)
+}
+
+/// Writes the texts of the tiles in turn, to the end of each.
+fn write_turns<R: Source, W: Sink>(
+    alloc: Global,
+    feeds: &mut [Feed<R>],
+    choice: &Choice,
+    output: &mut W,
+) -> Result<(), Fault>
+    requires { SomeCourses (MayTakeAll R.gives (IsChosen choice.now) feeds.old) }
+    ensures ok { OnOk result (WroteTurns R.gives (IsChosen choice.now) feeds.old feeds.new
+        (W.taken output.old) (W.taken output.new)) }
+    ensures failed { OnErr result (WroteTurnsFront R.gives (IsChosen choice.now) feeds.old
+        (W.taken output.old) (W.taken output.new)) }
+    ensures fault { IfErr result (λ fault. fault ≡ Fault.Write) }
+    ensures failures { W.failures output.new ≡ after_call result (W.failures output.old) }
+{
+    'rounds: loop {
+        match write_round(alloc, feeds, choice, output) {
+            Ok(true) => {}
+            Ok(false) => return Ok(()),
+            Err(fault) => return Err(fault),
+        }
+    }
+}
+
+/// Writes the next text of each tile that has one, and says whether one had.
+fn write_round<R: Source, W: Sink>(
+    alloc: Global,
+    feeds: &mut [Feed<R>],
+    choice: &Choice,
+    output: &mut W,
+) -> Result<bool, Fault>
+    requires { SomeCourses (MayTakeAll R.gives (IsChosen choice.now) feeds.old) }
+    ensures ok { IfOk result (λ any. WroteRound R.gives (IsChosen choice.now) feeds.old feeds.new
+        any (W.taken output.old) (W.taken output.new)) }
+    ensures failed { OnErr result (WroteTurnsFront R.gives (IsChosen choice.now) feeds.old
+        (W.taken output.old) (W.taken output.new)) }
+    ensures fault { IfErr result (λ fault. fault ≡ Fault.Write) }
+    ensures failures { W.failures output.new ≡ after_call result (W.failures output.old) }
+{
+    let mut any = false;
+    'tiles: for feed in feeds.iter_mut() {
+        let Some(line) = feed.take(alloc, choice) else {
+            continue;
+        };
+        match write_line(output, line) {
+            Ok(_) => any = true,
+            Err(fault) => return Err(fault),
+        }
+    }
+    Ok(any)
+}
+
+/// The ends of tiles that are over.
+fn ends_of<R: Source>(alloc: Global, feeds: &[Feed<R>]) -> Result<Vec<End>, AllocError>
+    ensures { IfOk result (λ ends. ends.items ≡ filter_map (λ feed. feed.last) feeds.now) }
+{
+    let mut ends = Vec::with_capacity(alloc, feeds.len())?;
+    for feed in feeds {
+        let Some(end) = feed.last() else {
+            continue;
+        };
+        ends.push(end)?;
+    }
+    Ok(ends)
+}

@@ -1,0 +1,101 @@
+ghost use Rattle.std.specs.Prelude.{◌≡◌, ◌⊎◌, ◌<◌, ◌^◌, List, Some, None, true, length, map, IfOk, IfErr};
+ghost use Rattle.tile_merge.specs.EndNotes.{Ended, AreEnds, end_of, outcome_at, outcomes_in, totals_in};
+ghost use Rattle.tile_merge.specs.Told.{told, first_where, is_memory, fault_of_tile};
+
+use crate::fault::MergeFault;
+use crate::lines::LineFault;
+use city_json::{Fault, Sequence};
+use std::alloc::Global;
+use tile_handoff::End;
+
+/// A count for each tile, in order.
+pub type Counts = Sequence<u64>;
+
+/// What a merge that succeeded says.
+#[derive(Debug, Drop)]
+pub struct Report {
+    /// How many features were written of each tile.
+    pub counts: Counts,
+}
+
+/// The counts of the ends of all tiles, where none has a fault.
+///
+/// # Errors
+///
+/// That of the lowest tile that ran out of memory, or else of the lowest that has one; before
+/// these, of no tile, [`Fault::Memory`].
+pub(crate) fn report_of(alloc: Global, ends: &[End]) -> Result<Report, MergeFault>
+    requires few { length ends.now < 2 ^ 32 }
+    ensures ok { IfOk result (λ report. (tiles : List Ended) → AreEnds ends.now tiles
+        → (told 1 (outcomes_in tiles) ≡ None) × (report.counts ≡ totals_in tiles)) }
+    ensures refused { IfErr result (λ e.
+        (e ≡ record { tile = 0; line = 0; fault = Fault.Memory })
+        ⊎ ((tiles : List Ended) → AreEnds ends.now tiles
+        → told 1 (outcomes_in tiles) ≡ Some e)) }
+{
+    let mut counts = Vec::with_capacity(alloc, ends.len())?;
+    if let Some(refusal) = told(ends) {
+        return Err(refusal);
+    }
+    for end in ends {
+        counts.push(end.count)?;
+    }
+    Ok(Report {
+        counts: Sequence::from_vec(counts),
+    })
+}
+
+/// What is told of tiles that ended so.
+fn told(ends: &[End]) -> Option<MergeFault>
+    requires few { length ends.now < 2 ^ 32 }
+    ensures { (tiles : List Ended) → AreEnds ends.now tiles
+        → result ≡ told 1 (outcomes_in tiles) }
+{
+    match first_memory(ends) {
+        Some(refusal) => Some(refusal),
+        None => first_stop(ends),
+    }
+}
+
+fn first_memory(ends: &[End]) -> Option<MergeFault>
+    requires few { length ends.now < 2 ^ 32 }
+    ensures { (tiles : List Ended) → AreEnds ends.now tiles
+        → result ≡ first_where is_memory 1 (outcomes_in tiles) }
+{
+    let mut tile = 0u32;
+    for end in ends {
+        tile += 1;
+        if let Some(at) = stop_of(end) {
+            if at.fault == Fault::Memory {
+                return Some(at.of_tile(tile));
+            }
+        }
+    }
+    None
+}
+
+fn first_stop(ends: &[End]) -> Option<MergeFault>
+    requires few { length ends.now < 2 ^ 32 }
+    ensures { (tiles : List Ended) → AreEnds ends.now tiles
+        → result ≡ first_where (λ fault. true) 1 (outcomes_in tiles) }
+{
+    let mut tile = 0u32;
+    for end in ends {
+        tile += 1;
+        if let Some(at) = stop_of(end) {
+            return Some(at.of_tile(tile));
+        }
+    }
+    None
+}
+
+/// Where and why a tile stopped that ended so.
+fn stop_of(end: &End) -> Option<LineFault>
+    ensures { (ended : Ended) → end.now ≡ end_of ended → outcome_at result ≡ ended.outcome }
+{
+    let fault = Fault::of(end.number)?;
+    Some(LineFault {
+        line: end.line,
+        fault,
+    })
+}

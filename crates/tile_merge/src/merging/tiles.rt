@@ -1,0 +1,155 @@
+ghost use Rattle.std.specs.Prelude.{◌≡◌, ◌≤◌, ◌<◌, ◌-◌, ◌⊎◌, ℕ, List, length, map, slice_get, IsSomeAnd, IfOk, IfErr};
+ghost use Rattle.city_feature.specs.Header.{HeaderValue};
+ghost use Rattle.city_feature.specs.Joined.{IsJoined};
+ghost use Rattle.city_feature.specs.Values.{header_value};
+ghost use Rattle.tile_merge.specs.Head.{HasNoHead, SomeTile};
+ghost use Rattle.tile_merge.specs.Merged.{IsFirstHeadless, IsFirstUnfit, IsOfNoTile};
+ghost use Rattle.tile_merge.specs.Opened.{AllThree, IsOpened};
+ghost use Rattle.tile_merge.specs.Stream.{with_newline};
+ghost use Rattle.tile_merge.specs.Tile.{stream_limits};
+ghost use Rattle.tile_merge.specs.Unread.{IsOfTile};
+
+use crate::fault::MergeFault;
+use crate::lines::LineFault;
+use crate::tile_reader::{Head, TileReader};
+use city_feature::{Base, Header, HeaderFault, Joined, Shifts, join_headers};
+use city_json::{Fault, Line, Source};
+use std::alloc::Global;
+use std::marker::Model;
+
+/// How many tiles are merged at most.
+const MAX_TILES: usize = 64;
+
+/// A tile whose header was taken.
+#[derive(Debug, Drop)]
+pub(crate) struct OpenTile<R> {
+    pub(crate) reader: TileReader<R>,
+    /// The number of the header's line, from 1.
+    pub(crate) line: u64,
+}
+
+impl<R> Model for OpenTile<R> {
+    ghost use Rattle.tile_merge.specs.Opened.{OpenState};
+
+    ghost Value = { OpenState R };
+
+    ghost view = { λ tile. record { unread = tile.reader; line = tile.line } };
+}
+
+/// Tiles whose headers were taken, and these headers.
+#[derive(Debug, Drop)]
+pub(crate) struct OpenTiles<R> {
+    pub(crate) tiles: Vec<OpenTile<R>>,
+    pub(crate) headers: Vec<Header>,
+}
+
+/// Tiles that join: the line of their header in the stream, and the shift of each.
+#[derive(Debug, Drop)]
+pub(crate) struct JoinedTiles<R> {
+    pub(crate) tiles: Vec<OpenTile<R>>,
+    pub(crate) line: Line,
+    pub(crate) shifts: Shifts,
+}
+
+/// Whether so many tiles can be merged.
+///
+/// # Errors
+///
+/// [`Fault::TooManyTiles`], of no tile, above 64.
+pub fn tile_count(count: usize) -> Result<(), MergeFault>
+    ensures ok { IfOk result (λ _. count ≤ 64) }
+    ensures many { IfErr result (λ e. (64 < count)
+        × (e ≡ record { tile = 0; line = 0; fault = Fault.TooManyTiles })) }
+{
+    if count > MAX_TILES {
+        return Err(MergeFault::of_no_line(Fault::TooManyTiles));
+    }
+    Ok(())
+}
+
+/// Takes the headers of the tiles that the readers give, in order, and joins them.
+///
+/// # Errors
+///
+/// That of the first tile that has no header; else that of joining, at the line of the tile's
+/// header; of no tile [`Fault::Memory`].
+pub(crate) fn join_tiles<R: Source + Drop>(
+    alloc: Global,
+    readers: Vec<R>,
+    base: Base,
+) -> Result<JoinedTiles<R>, MergeFault>
+    requires some { 0 < length readers.items }
+    requires few { length readers.items ≤ 64 }
+    ensures ok { IfOk result (λ joined. (headers : List HeaderValue) × (line : List ℕ)
+        × AllThree (IsOpened R.gives) readers.items joined.tiles.items headers
+        × IsJoined base headers line joined.shifts × (joined.line ≡ with_newline line)) }
+    ensures shifts { IfOk result (λ joined. length joined.shifts ≡ length joined.tiles.items) }
+    ensures refused { IfErr result (λ e. IsFirstHeadless R.gives readers.items e
+        ⊎ IsFirstUnfit R.gives base readers.items e
+        ⊎ (IsOfNoTile e × (e.fault ≡ Fault.Memory))) }
+{
+    let OpenTiles { tiles, headers } = take_heads(alloc, readers)?;
+    let Joined { line, shifts } = match join_headers(alloc, &headers, base) {
+        Ok(joined) => joined,
+        Err(refused) => return Err(refusal_at_head(refused, &tiles)),
+    };
+    let mut line = line.into_vec();
+    line.push(b'\n')?;
+    Ok(JoinedTiles {
+        tiles,
+        line: Line::from_vec(line),
+        shifts,
+    })
+}
+
+/// Takes the headers of the tiles that the readers give, in order.
+fn take_heads<R: Source + Drop>(alloc: Global, readers: Vec<R>) -> Result<OpenTiles<R>, MergeFault>
+    requires few { length readers.items ≤ 64 }
+    ensures ok { IfOk result (λ opened. AllThree (IsOpened R.gives) readers.items
+        opened.tiles.items (map header_value opened.headers.items)) }
+    ensures refused { IfErr result (λ e. IsFirstHeadless R.gives readers.items e
+        ⊎ (IsOfNoTile e × (e.fault ≡ Fault.Memory))) }
+{
+    let mut tiles = Vec::with_capacity(alloc, readers.len())?;
+    let mut headers = Vec::with_capacity(alloc, readers.len())?;
+    for reader in readers {
+        let (tile, header) = match open_tile(alloc, reader) {
+            Ok(opened) => opened,
+            Err(at) => return Err(at.of_tile(tiles.len() as u32 + 1)),
+        };
+        tiles.push(tile)?;
+        headers.push(header)?;
+    }
+    Ok(OpenTiles { tiles, headers })
+}
+
+/// Takes the header of the tile that a reader gives.
+fn open_tile<R: Source + Drop>(alloc: Global, reader: R) -> Result<(OpenTile<R>, Header), LineFault>
+    ensures ok { IfOk result (λ opened.
+        IsOpened R.gives reader opened.0 (header_value opened.1)) }
+    ensures refused { IfErr result (λ e. SomeTile (IsOfTile (R.gives reader) stream_limits)
+        (λ lines. HasNoHead lines (record { number = e.line; fault = e.fault }))) }
+{
+    let mut reader = TileReader::new(alloc, reader);
+    let Head { header, line } = reader.take_head(alloc)?;
+    Ok((OpenTile { reader, line }, header))
+}
+
+/// Where a refusal of joining belongs: the line of the tile's header.
+fn refusal_at_head<R>(refused: HeaderFault, tiles: &[OpenTile<R>]) -> MergeFault
+    requires within { refused.tile ≤ length tiles.now }
+    ensures none { refused.tile ≡ 0
+        → result ≡ record { tile = 0; line = 0; fault = refused.fault } }
+    ensures some { 0 < refused.tile → IsSomeAnd (slice_get tiles.now (refused.tile - 1)) (λ tile.
+        result ≡ record { tile = refused.tile; line = tile.line; fault = refused.fault }) }
+{
+    if refused.tile == 0 {
+        return MergeFault::of_no_line(refused.fault);
+    }
+    let tile = &tiles[refused.tile as usize - 1];
+    MergeFault {
+        tile: refused.tile,
+        line: tile.line,
+        fault: refused.fault,
+    }
+}
