@@ -9,8 +9,8 @@ help:
 	@echo '  make check   prove what has changed, in all crates; in one with CRATE=city_json, and of that'
 	@echo '               one function or module with ONLY=reading::read'
 	@echo '  make demo    build it, run it on the tiles in examples/ and show what came out'
-	@echo '  make test    all that has to hold: the documents, the built program at its edges, what must not compile, then the gate'
-	@echo '               (every proof from nothing, the edits that must fail, the tests); takes long'
+	@echo '  make test    all that has to hold: the documents, what must not compile, the gate (every proof from nothing, the edits'
+	@echo '               that must fail, the tests), and the program that it built, at its edges; takes long'
 	@echo '  make bench   how fast it is, beside jq, and how much memory it takes (BENCH="--help" lists the options)'
 	@echo '  make clean   remove what was built and what the proofs kept'
 	@echo
@@ -41,10 +41,9 @@ compile-test:
 	@tools/need.sh rt python3
 	@python3 tools/must_not_compile.py
 
-# The gate comes last, and so does its closing line.
-test: docs-test program-test compile-test
-	@echo 'The gate: every proof from nothing, the edits that must fail, the tests.'
-	@tools/at_work.sh 'the gate' rt ci
+# The documents, what must not compile, the gate, and the program that the gate built, at its edges.
+test:
+	@tools/gate.sh
 
 bench: build
 	@tools/need.sh python3
