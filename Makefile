@@ -1,6 +1,6 @@
 # The short commands. `make` alone prints them.
 
-.PHONY: help build check demo test program-test docs-test compile-test bench clean
+.PHONY: help build check demo install uninstall test program-test install-test docs-test compile-test bench clean
 
 help:
 	@echo 'citymerge: filters streams of 3D city features (CityJSONSeq)'
@@ -9,8 +9,10 @@ help:
 	@echo '  make check   prove what has changed, in all crates; in one with CRATE=city_json, and of that'
 	@echo '               one function or module with ONLY=reading::read'
 	@echo '  make demo    build it, run it on the tiles in examples/ and show what came out'
+	@echo '  make install put the program, its manual page and its completions below PREFIX (/usr/local);'
+	@echo '               make uninstall takes them away'
 	@echo '  make test    all that has to hold: the documents, what must not compile, the gate (every proof from nothing, the edits'
-	@echo '               that must fail, the tests), and the program that it built, at its edges; takes long'
+	@echo '               that must fail, the tests), and the program that it built; takes long'
 	@echo '  make bench   how fast it is, beside jq, and how much memory it takes (BENCH="--help" lists the options)'
 	@echo '  make clean   remove what was built and what the proofs kept'
 	@echo
@@ -33,6 +35,10 @@ demo: build
 program-test: build
 	@tools/program_test.sh build/citymerge
 
+install-test: build
+	@tools/install_test.sh
+	@tools/many_tiles_test.sh build/citymerge
+
 docs-test:
 	@tools/need.sh python3
 	@python3 tools/docs_test.py
@@ -44,6 +50,15 @@ compile-test:
 # The documents, what must not compile, the gate, and the program that the gate built, at its edges.
 test:
 	@tools/gate.sh
+
+# PREFIX is where the program, its manual page and its completions go.
+PREFIX = /usr/local
+
+install: build
+	@tools/install.sh install '$(PREFIX)'
+
+uninstall:
+	@tools/install.sh uninstall '$(PREFIX)'
 
 bench: build
 	@tools/need.sh python3

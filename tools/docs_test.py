@@ -74,7 +74,7 @@ def told_files():
 
 
 def named_files():
-    folders = ("crates/*/src", "crates/*/specs", "crates/*/proofs", "tools", "bench")
+    folders = ("crates/*/src", "crates/*/specs", "crates/*/proofs", "tools", "bench", "examples")
     there = [path for folder in folders for path in glob.glob(folder + "/**/*", recursive=True)]
     for path in DOCUMENTS:
         for name in sorted(set(re.findall(r"`([\w+/]+\.(?:antt|rt|py|sh|edit))`", read(path)))):

@@ -78,8 +78,8 @@ as in --bbox=-5,0,10,10";
 static EXCLUDE_HELP: &str = "Only the features that the other options
 do not choose.";
 
-/// All commands of the program.
-pub(crate) fn citymerge_command<'a>(alloc: Global) -> Result<Command<'a>, AllocError>
+/// All commands of the program, as `clap` takes them.
+pub fn citymerge_command<'a>(alloc: Global) -> Result<Command<'a>, AllocError>
     ensures app { IfOk result (λ command. app_of command ≡ citymerge_app) }
     ensures local { IfOk result (λ command. (fields_of command).has_globals ≡ false) }
 {

@@ -11,6 +11,7 @@ mod refusal;
 #[cfg(test)]
 mod tests;
 
+pub use commands::citymerge_command;
 pub use known::known_words;
 pub use merge_args::MergeArgs;
 pub use parsing::{Parsed, Paths, parse_words};

@@ -1,0 +1,24 @@
+#!/bin/sh
+# All that has to hold. The documents and what must not compile come first, then the gate: every proof from
+# nothing, the edits that must fail, the tests. The program that the gate built is then tried at its edges,
+# installed, and given many tiles. Ends in the gate's own last line.
+set -u
+cd "$(dirname "$0")/.."
+tools/need.sh rt python3 || exit 1
+python3 tools/docs_test.py || exit 1
+python3 tools/must_not_compile.py || exit 1
+
+echo 'The gate: every proof from nothing, the edits that must fail, the tests.'
+mkdir -p build
+log=build/gate.log
+{
+    tools/at_work.sh 'the gate' rt ci
+    echo $? >build/gate.status
+} | tee "$log"
+[ "$(cat build/gate.status)" -eq 0 ] || exit 1
+cp crates/citymerge/out/citymerge build/citymerge.new
+mv build/citymerge.new build/citymerge
+tools/program_test.sh build/citymerge || exit 1
+tools/install_test.sh || exit 1
+tools/many_tiles_test.sh build/citymerge || exit 1
+tail -n 1 "$log"
