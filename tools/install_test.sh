@@ -3,22 +3,9 @@
 # each shell offers after some words. A shell that this machine lacks is left out, which is said.
 set -u
 cd "$(dirname "$0")/.."
-room=$(mktemp -d)
-trap 'rm -rf "$room"' EXIT
+. tools/expect.sh
 touch "$room/west.city.jsonl"
 share=$room/share
-passed=0
-failed=0
-
-# what is wanted, and what there is
-expect() {
-    if [ "$2" = "$3" ]; then
-        passed=$((passed + 1))
-    else
-        failed=$((failed + 1))
-        printf 'FAILED: %s\n  wanted: %s\n  got:    %s\n' "$1" "$2" "$3"
-    fi
-}
 
 # bash, asked as readline asks it: the last word is the one to complete
 offered_by_bash() {
@@ -91,5 +78,4 @@ fi
 tools/install.sh uninstall "$room" >"$room/said"
 expect 'nothing is left' '' "$(find "$room/bin" "$share" -type f)"
 
-echo "Installed: $passed right, $failed wrong"
-[ "$failed" -eq 0 ]
+counted 'Installed'

@@ -10,20 +10,7 @@ case $1 in
 esac
 export CITYMERGE
 script=$PWD/examples/many_tiles.sh
-room=$(mktemp -d)
-trap 'rm -rf "$room"' EXIT
-passed=0
-failed=0
-
-# what is wanted, and what there is
-expect() {
-    if [ "$2" = "$3" ]; then
-        passed=$((passed + 1))
-    else
-        failed=$((failed + 1))
-        printf 'FAILED: %s\n  wanted: %s\n  got:    %s\n' "$1" "$2" "$3"
-    fi
-}
+. tools/expect.sh
 
 # Tile T stands 0.25 * (T - 100) beside the origin, which are 250 steps of its grid. Its features are at the steps
 # 1000 * T + F of the grid that has its zero there, so at 1000 * T + F + 250 * (T - first) of the first tile's.
@@ -101,5 +88,4 @@ for way in '' "--steps=$room/steps"; do
     rm -r "$room/steps"
 done
 
-echo "Many tiles: $passed right, $failed wrong"
-[ "$failed" -eq 0 ]
+counted 'Many tiles'

@@ -5,20 +5,7 @@
 set -u
 cd "$(dirname "$0")/.."
 program=$1
-room=$(mktemp -d)
-trap 'rm -rf "$room"' EXIT
-passed=0
-failed=0
-
-# what is wanted, and what there is
-expect() {
-    if [ "$2" = "$3" ]; then
-        passed=$((passed + 1))
-    else
-        failed=$((failed + 1))
-        printf 'FAILED: %s\n  wanted: %s\n  got:    %s\n' "$1" "$2" "$3"
-    fi
-}
+. tools/expect.sh
 
 # runs the program with these words on the file `in`; what comes: the status, the output, the errors
 answer() {
@@ -293,5 +280,4 @@ for refused in 'off_grid|the translation is off the grid' 'other_reference_syste
     expect "west and ${refused%%|*}" "1||citymerge: tile 2 line 1: ${refused#*|}" "$?|$(cat "$room/out")|$(cat "$room/errors")"
 done
 
-echo "The program at its edges: $passed right, $failed wrong"
-[ "$failed" -eq 0 ]
+counted 'The program at its edges'
