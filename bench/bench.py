@@ -1,8 +1,8 @@
 #!/usr/bin/env python3
-"""How fast `citymerge filter` is, beside `jq -c .`, how much memory it takes, and whether its output is right.
+"""How fast `citymerge` is, how much memory it takes, and whether its output is right.
 
-Five parts, each of which can be left out:
-  right         the output on small streams, compared with that of a compactor and a selection of its own
+Six parts, each of which can be left out:
+  right         the output of `filter` on small streams, compared with that of a compactor and a selection of its own
   speed         MB/s and peak memory, in turn: on building tiles, without options, with a type and with a box,
                 beside jq; and on shorter streams of tiny features, of features with 300 attributes, with a
                 blank after each comma and colon, and with escapes
@@ -10,11 +10,15 @@ Five parts, each of which can be left out:
                 same, and for one line of 64 MB
   instructions  executed for each input byte of the five streams; they do not depend on the machine's load
                 (valgrind)
+  merges        MB/s of `merge --in-turn` on four building tiles, beside `filter` on the same bytes, of which it
+                must have nine tenths; and its peak memory for tiles of 10 MB and of 100 MB each (1 GB with
+                --giga), which must be the same
   hostile       time against size for shapes of text that are hard on a reader
 
 Status 0: all is right. 1: an output is wrong, the peak memory grows with the stream, a stream takes more
-instructions than is wanted, or the time for a hostile shape does not grow about as its size. 2: the program
-is not there. A tool that is not there is named, and its part is left out.
+instructions than is wanted, a merge is too slow beside the filter, or the time for a hostile shape does not
+grow about as its size. 2: the program is not there. A tool that is not there is named, and its part is left
+out.
 """
 
 import argparse
@@ -28,10 +32,11 @@ sys.dont_write_bytecode = True
 from growth import hostile
 from instructions import instructions
 from memory import memory
+from merges import merges
 from right import right
 from speed import speed
 
-PARTS = {"right": right, "speed": speed, "memory": memory, "instructions": instructions, "hostile": hostile}
+PARTS = {"right": right, "speed": speed, "memory": memory, "instructions": instructions, "merges": merges, "hostile": hostile}
 
 
 class Bench:
@@ -41,6 +46,7 @@ class Bench:
         self.options = options
         self.folder = folder
         self.filter = [os.path.abspath(options.program), "filter"]
+        self.merge = [os.path.abspath(options.program), "merge", "--in-turn"]
         self.wrong = []
 
     def say(self, text):
@@ -71,7 +77,7 @@ def read_options():
     reader.add_argument("--size", type=float, default=50, metavar="MB", help="of the tiles for speed (50); else a fifth")
     reader.add_argument("--rounds", type=int, default=5, help="runs of each program for speed (5)")
     reader.add_argument("--small", type=float, default=2, metavar="MB", help="of the streams for the other parts (2)")
-    reader.add_argument("--giga", action="store_true", help="memory: 1 GB of building tiles, too; takes some minutes")
+    reader.add_argument("--giga", action="store_true", help="memory: 1 GB of building tiles, too, and 1 GB a tile; takes some minutes")
     reader.add_argument("--share", type=float, default=1, help="of the hostile shapes' sizes (1)")
     reader.add_argument("--tries", type=int, default=3, help="runs of each hostile shape (3)")
     reader.add_argument("--functions", type=int, default=0, metavar="N", help="show the N functions that execute most")

@@ -11,6 +11,8 @@ ghost use Rattle.tile_merge.specs.Unread.{Leaves, has_failed, failed_reads_after
 ghost use Rattle.tile_merge.specs.declared.fault.MergeFault.{MergeFault};
 
 #[cfg(test)]
+mod joining_tests;
+#[cfg(test)]
 mod merging_tests;
 #[cfg(test)]
 mod tests;

@@ -1,0 +1,22 @@
+//! Tests of what merges several tiles, with whole streams in and out. There is no code but these
+//! tests, so that the crates whose code they run are not proved once more with them.
+#![tactic(auto)]
+
+#[cfg(test)]
+mod bounds;
+#[cfg(test)]
+mod devices;
+#[cfg(test)]
+mod faults;
+#[cfg(test)]
+mod headers;
+#[cfg(test)]
+mod many;
+#[cfg(test)]
+mod merging;
+#[cfg(test)]
+mod origins;
+#[cfg(test)]
+mod texts;
+#[cfg(test)]
+mod turns;
