@@ -3,13 +3,14 @@
 
 Six parts, each of which can be left out:
   right         the output of `filter` on small streams, compared with that of a compactor and a selection of its own
-  speed         MB/s and peak memory, in turn: on building tiles, without options, with a type and with a box,
-                beside jq; and on shorter streams of tiny features, of features with 300 attributes, with a
-                blank after each comma and colon, and with escapes
+  speed         MB/s and peak memory, in turn: on building tiles and on tiny features, without options, with two
+                types and with a box, beside jq; on one long line, beside jq; on features with 300 attributes,
+                with a blank after each comma and colon, with escapes, and with a -0 in each, so that the value is
+                built; and of a merge in turn that moves all vertices
   memory        the peak for 10 MB and for 100 MB of building tiles (1 GB with --giga), which must be the
                 same, and for one line of 64 MB
-  instructions  executed for each input byte of the five streams; they do not depend on the machine's load
-                (valgrind)
+  instructions  executed for each input byte of these streams, but the long line; they do not depend on the
+                machine's load (valgrind)
   merges        MB/s of `merge --in-turn` on four building tiles, beside `filter` on the same bytes, of which it
                 must have nine tenths; and its peak memory for tiles of 10 MB and of 100 MB each (1 GB with
                 --giga), which must be the same

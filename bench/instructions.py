@@ -4,10 +4,11 @@ import os
 import shutil
 
 from running import counted, dominant
-from streams import BUILDINGS, BY_BOX, BY_TYPE, MEASURED, TINY
+from streams import BUILDINGS, BY_BOX, BY_TYPES, HEADER, MEASURED, TINY, elsewhere
 
+MERGED = "all moved"
 # The most that is wanted for each input byte. None is set for the other streams.
-MOST = {BUILDINGS: 125}
+MOST = {(BUILDINGS, ()): 18, (BUILDINGS, BY_BOX): 22, (BUILDINGS, BY_TYPES): 26, (MERGED, ()): 26}
 
 
 def each_byte(bench, words, path):
@@ -19,17 +20,27 @@ def each_byte(bench, words, path):
     return count / os.path.getsize(path)
 
 
-def measure(bench, name, path, options):
-    found = each_byte(bench, [*bench.filter, *options], path)
+def measure(bench, name, path, options, words=None):
+    found = each_byte(bench, words or [*bench.filter, *options], path)
     if found is None:
         return
-    most = MOST.get(name)
+    most = MOST.get((name, options))
     wanted = "" if most is None else "wanted: at most %d" % most
-    bench.say(("  %-15s %-32s %6.1f   %s" % (name, " ".join(options), found, wanted)).rstrip())
+    bench.say(("  %-24s %-32s %6.1f   %s" % (name, " ".join(options), found, wanted)).rstrip())
     if bench.options.functions:
         show_functions(bench, os.path.getsize(path))
     if most is not None and found > most:
+        name = " ".join((name, *options))
         bench.fail("%s: %.1f instructions for each byte, wanted: at most %d" % (name, found, most))
+
+
+def measure_merge(bench):
+    """A merge of a tile without features, and of one all of whose vertices are moved onto its grid."""
+    first = bench.write("first", (HEADER,))
+    second = bench.write("second", elsewhere(bench.options.seed, bench.options.small * 1_000_000))
+    measure(bench, MERGED, second, (), [bench.filter[0], "merge", "--in-turn", first, second])
+    os.remove(first)
+    os.remove(second)
 
 
 def show_functions(bench, size):
@@ -48,6 +59,7 @@ def instructions(bench):
     bench.say("How many instructions for each byte? (%g MB of each stream)" % bench.options.small)
     for name, lines in MEASURED.items():
         path = bench.write("small", lines(bench.options.seed, bench.options.small * 1_000_000))
-        for options in ((), BY_TYPE, BY_BOX) if name in (BUILDINGS, TINY) else ((),):
+        for options in ((), BY_TYPES, BY_BOX) if name in (BUILDINGS, TINY) else ((),):
             measure(bench, name, path, options)
         os.remove(path)
+    measure_merge(bench)

@@ -5,7 +5,7 @@ import os
 from chooser import choose
 from compactor import compact
 from running import Run
-from streams import BUILDINGS, BY_BOX, BY_TYPE, MEASURED, TINY, loose
+from streams import BUILDINGS, BY_BOX, BY_TYPE, MEASURED, PLAIN, TINY, loose
 
 # What is asked of the streams of which a part is chosen.
 CHOICES = (
@@ -40,7 +40,9 @@ def compare(bench, name, path, expected, options=()):
 def right(bench):
     bench.say("Is the output right?")
     size = bench.options.small * 1_000_000
-    for name, lines in (*MEASURED.items(), ("white space, escapes, blank lines", loose)):
+    # The compactor knows of no vertices, and would keep a -0 among them.
+    measured = [each for each in MEASURED.items() if each[0] != PLAIN]
+    for name, lines in (*measured, ("white space, escapes, blank lines", loose)):
         stream = b"".join(lines(bench.options.seed, size))
         path = bench.write("small", (stream,))
         compare(bench, name, path, compact(stream))

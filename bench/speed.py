@@ -4,21 +4,22 @@ import os
 import shutil
 
 from running import Run
-from streams import BUILDINGS, BY_BOX, BY_TYPE, MEASURED, TINY
+from streams import BUILDINGS, BY_BOX, BY_TYPES, HEADER, MEASURED, TINY, elsewhere, one_line
 
 OURS = "citymerge filter"
 JQ = "jq -c ."
 MEGA = 1_000_000
 # The streams beside the building tiles are this many times shorter.
 SHORTER = 5
+ONE_LINE = "one long line"
 
 
 def programs_for(bench, name):
     programs = {OURS: bench.filter}
     if name in (BUILDINGS, TINY):
-        programs["with a type"] = [*bench.filter, *BY_TYPE]
+        programs["with two types"] = [*bench.filter, *BY_TYPES]
         programs["with a box"] = [*bench.filter, *BY_BOX]
-    if name == BUILDINGS and shutil.which("jq"):
+    if name in (BUILDINGS, TINY, ONE_LINE) and shutil.which("jq"):
         programs[JQ] = ["jq", "-c", "."]
     return programs
 
@@ -50,8 +51,8 @@ def show(bench, program, runs, size):
     )
 
 
-def measure(bench, name, megabytes):
-    path = bench.write("stream", MEASURED[name](bench.options.seed, megabytes * MEGA))
+def measure(bench, name, lines, megabytes):
+    path = bench.write("stream", lines(bench.options.seed, megabytes * MEGA))
     size = os.path.getsize(path)
     bench.say("  %s, %.0f MB" % (name, size / MEGA))
     runs = race(bench, programs_for(bench, name), path)
@@ -63,9 +64,25 @@ def measure(bench, name, megabytes):
         bench.say("    by processor time %.1f times as fast as %s" % (gain, JQ))
 
 
+def measure_merge(bench, megabytes):
+    """A merge of a tile without features, and of one all of whose vertices are moved onto its grid."""
+    first = bench.write("first", (HEADER,))
+    second = bench.write("second", elsewhere(bench.options.seed, megabytes * MEGA))
+    size = os.path.getsize(second)
+    bench.say("  building tiles that are moved, %.0f MB" % (size / MEGA))
+    words = [bench.filter[0], "merge", "--in-turn", first, second]
+    for program, some in race(bench, {"citymerge merge": words}, second).items():
+        show(bench, program, some, size)
+    os.remove(first)
+    os.remove(second)
+
+
 def speed(bench):
     bench.say("How fast? (%d runs of each program in turn, the best)" % bench.options.rounds)
     if not shutil.which(JQ.split()[0]):
         bench.say("  missing: jq (apt-get install jq); going on without it")
-    for name in MEASURED:
-        measure(bench, name, bench.options.size / (1 if name == BUILDINGS else SHORTER))
+    size = bench.options.size
+    for name, lines in MEASURED.items():
+        measure(bench, name, lines, size / (1 if name == BUILDINGS else SHORTER))
+    measure(bench, ONE_LINE, one_line, size)
+    measure_merge(bench, size)

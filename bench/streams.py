@@ -279,8 +279,23 @@ def one_line(seed, size):
     yield b"]}\n"
 
 
+def plain(seed, size):
+    """Building tiles, each with a vertex at -0, so that the value of each line is built."""
+    for line in buildings(seed, size):
+        yield line.replace(b'"vertices":[[', b'"vertices":[[-0,0,0],[')
+
+
+def elsewhere(seed, size):
+    """Building tiles on a grid whose origin is a kilometre away in x and y, and a metre in z."""
+    for line in buildings(seed, size):
+        yield line.replace(b"[84710.100,446846.000,-5.300]", b"[85710.100,445846.000,-4.300]")
+
+
 BUILDINGS, TINY, WIDE, SPACED, ESCAPED = "building tiles", "tiny features", "300 attributes", "blanks", "escapes"
+PLAIN = "building tiles by value"
 # The streams whose speed is measured.
-MEASURED = {BUILDINGS: buildings, TINY: tiny, WIDE: wide, SPACED: spaced, ESCAPED: escaped}
-# Options of `filter`; the box holds about a quarter of the features of buildings and of tiny ones.
+MEASURED = {BUILDINGS: buildings, TINY: tiny, WIDE: wide, SPACED: spaced, ESCAPED: escaped, PLAIN: plain}
+# Options of `filter`; the box holds about a quarter of the features of buildings and of tiny ones, the types all
+# buildings.
 BY_TYPE, BY_BOX = ("--cotype=Building",), ("--bbox=0,0,1000000,1000000",)
+BY_TYPES = ("--cotype=Bridge,Building",)

@@ -4,3 +4,5 @@ pub mod MovedLines
 pub mod StillFeature
 pub mod QuickLines
 pub mod TextVertices
+pub mod QuickTypes
+pub mod QuickMoves

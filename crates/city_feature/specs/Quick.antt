@@ -1,5 +1,5 @@
 -- What is found on the compact text of a feature's line, whose members lie in known parts.
-use Rattle.std.specs.Prelude.{◌≡◌, ◌<◌, ℕ, List, length, get_or, slice_range, codes}
+use Rattle.std.specs.Prelude.{◌≡◌, ◌<◌, ℕ, List, length, get_or, slice_range, codes, pos}
 use Rattle.city_json.specs.Compact.{compact}
 use Rattle.city_json.specs.Fits.{HasDistinctNames}
 use Rattle.city_json.specs.Members.{member_of}
@@ -7,6 +7,7 @@ use Rattle.city_json.specs.Parts.{AreParts, with_value}
 use Rattle.city_json.specs.Tree.{Tree, MemberTrees, object}
 use Rattle.city_json.specs.Writable.{IsWritable}
 use Rattle.city_json.specs.declared.compacting.parts.Part.{Part}
+use Rattle.city_grid.specs.Axes.{Triple, triple}
 use Rattle.city_feature.specs.Changes.{with_member}
 use Rattle.city_feature.specs.Shapes.{IsObject, IsText, IsThere, Says}
 
@@ -36,3 +37,7 @@ HasOtherMembers value =
     Says (codes "type") (codes "CityJSONFeature") value
     × IsThere IsText (member_of (codes "id") value)
     × IsThere IsObject (member_of (codes "CityObjects") value)
+
+-- the shift after which all vertices stand where they stood
+abbrev pub no_steps : Triple
+no_steps = triple (pos 0) (pos 0) (pos 0)

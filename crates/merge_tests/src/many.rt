@@ -2,10 +2,26 @@ use crate::devices::LineReader;
 use crate::merging::{answer_of, merge_readers, plain, readers_of, stream_of};
 use crate::texts::{A1, B1, C1, HEADER};
 use city_json::{Bin, Device, Fault};
+use std::process::Abort;
 use std::sync::atomic::AtomicU64;
 use std::sync::atomic::Ordering::SeqCst;
 use std::test::Fail;
 use tile_merge::{MergeFault, tile_count};
+
+/// Merges with ample memory and many bytes a read and a write.
+fn expect_large(
+    rt: &(impl Abort + AllocGlobal),
+    (tiles, capacity): (&[&[&str]], u32),
+    counts: &[u64],
+    written: &[u8],
+) -> Result<(), Fail> {
+    let readers = readers_of(rt.alloc(), tiles, 10_000, true)?;
+    let mut output = Bin::new(rt.alloc(), written.len(), 10_000, false)?;
+    let merged = merge_readers(rt, readers, &plain(), capacity, &mut output);
+    assert_eq!(rt; answer_of(&merged), Ok(counts), "capacity {capacity}");
+    assert!(rt; output.bytes() == written, "capacity {capacity}");
+    Ok(())
+}
 
 #[test]
 fn sixty_four_tiles_are_merged(rt: HostRuntime) -> Result<(), Fail> {
@@ -20,11 +36,7 @@ fn sixty_four_tiles_are_merged(rt: HostRuntime) -> Result<(), Fail> {
     }
     let written = stream_of(alloc, texts.as_slice())?;
     for capacity in [1u32, 64] {
-        let readers = readers_of(alloc, tiles.as_slice(), 4096, true)?;
-        let mut output = Bin::new(alloc, written.len(), 4096, false)?;
-        let merged = merge_readers(&rt, readers, &plain(), capacity, &mut output);
-        assert_eq!(rt; answer_of(&merged), Ok(ones.as_slice()));
-        assert!(rt; output.bytes() == written.as_slice());
+        expect_large(&rt, (tiles.as_slice(), capacity), &ones, &written)?;
     }
     Ok(())
 }
@@ -71,11 +83,12 @@ fn tiles_of_many_features_are_merged(rt: HostRuntime) -> Result<(), Fail> {
     let written = stream_of(alloc, turns.as_slice())?;
     let tiles = [longer.as_slice(), shorter.as_slice(), shorter.as_slice()];
     for capacity in [1u32, 3, 64, 1024] {
-        let readers = readers_of(alloc, tiles.as_slice(), 10_000, true)?;
-        let mut output = Bin::new(alloc, written.len(), 10_000, false)?;
-        let merged = merge_readers(&rt, readers, &plain(), capacity, &mut output);
-        assert_eq!(rt; answer_of(&merged), Ok([1001u64, 1000, 1000].as_slice()));
-        assert!(rt; output.bytes() == written.as_slice());
+        expect_large(
+            &rt,
+            (tiles.as_slice(), capacity),
+            &[1001, 1000, 1000],
+            &written,
+        )?;
     }
     Ok(())
 }

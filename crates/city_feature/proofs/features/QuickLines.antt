@@ -1,5 +1,5 @@
 -- A feature that is found on the compact text of its line.
-use Rattle.std.proofs.Common.{◌≡◌, ◌≢◌, ◌∙◌, ◌++◌, ◌-◌, ◌<◌, ◌≤◌, ℕ, zero, suc, sym, ap, refl, subst, Bool, true, false, if◌then◌else◌, List, [], ◌∷◌, append_assoc, length, take, drop, get_or, slice_range, map, All, Option, Some, None, codes, bytes_eq, IsUtf8, arith, inl, inr, ⊎_elim, cond, nat_lt, is_some, unwrap_or}
+use Rattle.std.proofs.Common.{◌≡◌, ◌≢◌, ◌∙◌, ◌++◌, ◌-◌, ◌<◌, ◌≤◌, ℕ, zero, suc, sym, ap, refl, subst, Bool, true, false, if◌then◌else◌, List, [], ◌∷◌, length, take, drop, get_or, slice_range, map, All, Some, codes, bytes_eq, IsUtf8, arith, inl, inr, ⊎_elim, cond, nat_lt}
 use Rattle.std.proofs.lemmas.Bool.Decides.{nat_tests}
 use Rattle.std.proofs.lemmas.List.{append_cancel_right}
 use Rattle.std.proofs.lemmas.List.Elements.{All-tail}
@@ -9,23 +9,20 @@ use Rattle.city_json.proofs.CompactLaws.{compact-tells}
 use Rattle.city_json.proofs.MemberPlaces.{member_in_part}
 use Rattle.city_json.proofs.Places.{drop_one}
 use Rattle.city_json.proofs.Replacing.{replaced_text}
-use Rattle.city_json.proofs.SpelledWritable.{spelled_writable}
 use Rattle.city_json.specs.Bytes.{colon, minus, quotation_mark, open_bracket, open_brace, close_brace}
 use Rattle.city_json.specs.Compact.{quoted, compact}
-use Rattle.city_json.specs.Fits.{Fits, HasDistinctNames, IsNewName}
-use Rattle.city_json.specs.Grammar.{Spells}
+use Rattle.city_json.specs.Fits.{HasDistinctNames, IsNewName}
 use Rattle.city_json.specs.Members.{first_named, member_of}
 use Rattle.city_json.specs.Number.{IsMinus, IsNumber, IsWhole}
-use Rattle.city_json.specs.Parts.{AreParts, HasMember, IsMemberText, replaced, with_value}
-use Rattle.city_json.specs.Tree.{Tree, null, boolean, number, string, array, object, ItemTrees, no_items, item, item_trees, MemberTrees, no_members, member}
+use Rattle.city_json.specs.Parts.{HasMember, IsMemberText, replaced, with_value}
+use Rattle.city_json.specs.Tree.{Tree, null, boolean, number, string, array, object, item_trees, MemberTrees, no_members, member}
 use Rattle.city_json.specs.Writable.{IsWritable, AreWritableMembers, AreWritableItems}
 use Rattle.city_json.specs.declared.compacting.parts.Part.{Part}
 use Rattle.city_grid.proofs.VertexLaws.{vertex_is_read, vertex_is_writable}
 use Rattle.city_grid.specs.Axes.{Triple, IsInRange}
 use Rattle.city_grid.specs.Vertex.{vertex_tree}
-use Rattle.city_feature.specs.Changes.{with_named, with_member}
-use Rattle.city_feature.specs.Feature.{AreReadAgain, FeatureValue, HasFeatureShape, IsFeature, moved, moved_vertices, vertices_tree}
-use Rattle.city_feature.specs.FeatureLine.{GivesFeature, SpellsMoved}
+use Rattle.city_feature.specs.Changes.{with_named}
+use Rattle.city_feature.specs.Feature.{AreReadAgain, HasFeatureShape, IsFeature, vertices_tree}
 use Rattle.city_feature.specs.Quick.{HasOtherMembers, IsLine, IsPartNamed, IsPlaceOf}
 use Rattle.city_feature.specs.Shapes.{IsArray, IsObject, IsText, IsThere}
 
@@ -200,23 +197,3 @@ feature_at line parts members part ps is others named vertices range =
     let here : member_of name (object members) ≡ Some (vertices_tree ps) = says_at line members name part (vertices_tree ps) (are_writable ps range) found vertices in
     let shape : HasFeatureShape (object members) = (others.0, others.1, others.2, subst (IsThere IsArray) (sym here) tt) in
     ((shape, (item_trees (map vertex_tree ps), here, are_vertices ps range)), found.exchanged)
-
--- and what stands there once it is moved
-pub moved_there : (bytes line items : List ℕ) (parts passed : List Part) (members : MemberTrees) (part : Part) (ps qs : List Triple) (k : Triple) → Spells bytes (object members) → Fits (object members) → line ≡ compact (object members) → AreParts 1 parts members → items ≡ line → passed ≡ parts
-    → (IsLine items passed members → IsFeature (object members) ps × IsPlaceOf (codes "vertices") members items part) → qs ≡ moved_vertices ps k → All IsInRange qs
-    → (there : FeatureValue) × SpellsMoved k bytes there × (there.vertices ≡ qs) × (compact there.value ≡ with_value line part (compact (vertices_tree qs)))
-moved_there bytes line items parts passed members part ps qs k spells fits written are_parts same_line same_parts placed moved_is moved_range =
-    let is : IsLine items passed members = record { written = same_line ∙ written; are_parts = subst (λ l. AreParts 1 l members) (sym same_parts) are_parts; names_differ = fits.1.0; writable = spelled_writable bytes (object members) spells } in
-    let at = placed is in
-    let feature : FeatureValue = record { value = object members; vertices = ps } in (
-      moved feature k,
-      (feature, (spells, fits, at.0), subst (All IsInRange) moved_is moved_range, refl),
-      sym moved_is,
-      at.1 (vertices_tree (moved_vertices ps k)) ∙ ap (λ rs. with_value items part (compact (vertices_tree rs))) (sym moved_is) ∙ ap (λ l. with_value l part (compact (vertices_tree qs))) same_line,
-    )
-
-pub gives_moved : (IsWanted : FeatureValue → Type 0) (k : Triple) (bytes line : List ℕ) (part : Part) (there : FeatureValue) (qs passed : List Triple) (old given text : List ℕ) → SpellsMoved k bytes there → there.vertices ≡ qs → compact there.value ≡ with_value line part (compact (vertices_tree qs)) → passed ≡ qs → IsWanted (record { value = there.value; vertices = passed }) → given ≡ with_value line part (compact (vertices_tree qs)) → text ≡ old ++ given
-    → (out : Option (List ℕ)) × GivesFeature IsWanted k bytes out × (is_some out ≡ true) × (text ≡ old ++ unwrap_or out [])
-gives_moved IsWanted k bytes line part there qs passed old given text spells same written also wanted put more =
-    let wanted_there : IsWanted there = subst (λ vs. IsWanted (record { value = there.value; vertices = vs })) (also ∙ sym same) wanted in
-    (Some given, (there, spells, (wanted_there, put ∙ sym written)), refl, more)

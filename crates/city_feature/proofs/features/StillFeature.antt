@@ -33,7 +33,7 @@ module _ (name : List ℕ) (x : Tree) where
             ap (λ b. if b then Some x else first_named another others) away ∙ sym (ap (λ b. if b then Some value else first_named another others) away)
         told false is later = ap (λ rest. if bytes_eq other another then Some value else rest) later
 
-    other_member : (value : Tree) → member_of another (with_member name x value) ≡ member_of another value
+    pub other_member : (value : Tree) → member_of another (with_member name x value) ≡ member_of another value
     other_member null = refl
     other_member (boolean b) = refl
     other_member (number text) = refl

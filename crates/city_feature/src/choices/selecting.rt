@@ -89,13 +89,11 @@ pub fn selects(choice: &Choice, feature: &Feature) -> bool
     matches(choice, feature) != choice.exclude
 }
 
-/// Whether the choice selects a feature of these vertices. None where that depends on more than the vertices.
-pub fn selects_vertices(choice: &Choice, vertices: &[Vertex]) -> Option<bool>
-    ensures { IfSome result (λ is_chosen. (value : Tree)
-        → (IsTrue is_chosen ↔ IsChosen choice.now (record { value = value; vertices = vertices.now }))) }
+/// Whether the choice selects a feature of these vertices that has one of its types, where it gives any, or none.
+pub fn selects_of(choice: &Choice, has_type: bool, vertices: &[Vertex]) -> bool
+    ensures { (value : Tree)
+        → (IsTrue has_type ↔ IfSome choice.now.types (λ types. HasType types value))
+        → (IsTrue result ↔ IsChosen choice.now (record { value = value; vertices = vertices.now })) }
 {
-    if choice.types.is_some() {
-        return None;
-    }
-    Some(meets_given_area(&choice.area, vertices) != choice.exclude)
+    (has_type && meets_given_area(&choice.area, vertices)) != choice.exclude
 }

@@ -27,6 +27,7 @@ fn moved_feature(alloc: Global, bytes: &[u8], shift: Shift) -> Result<Feature, F
 }
 
 /// The same by way of the value: it says why there is no text.
+#[inline(never)]
 fn plain_line(
     alloc: Global,
     bytes: &[u8],

@@ -1,26 +1,30 @@
 //! The line of a feature with no tree: checked, moved and written on its compact text.
 //!
 //! It answers for the common spellings only, and says nothing of any other line and of no fault.
-ghost use Rattle.std.specs.Prelude.{◌≡◌, ◌++◌, [], ℕ, List, All, Option, codes, slice_range, is_some, unwrap_or, IfSome, IfNone, IsTrue, OnOk};
+ghost use Rattle.std.specs.Prelude.{◌≡◌, ◌≤◌, ◌++◌, [], ℕ, List, All, Option, codes, slice_range, ◌↔◌, is_some, unwrap_or, IfSome, IfNone, IsTrue, OnOk, OnSome};
 ghost use Rattle.city_json.specs.Compact.{compact};
 ghost use Rattle.city_json.specs.Parts.{with_value};
 ghost use Rattle.city_json.specs.Tree.{MemberTrees, object};
 ghost use Rattle.city_grid.specs.Axes.{IsInRange};
-ghost use Rattle.city_feature.specs.Choice.{IsChosen};
-ghost use Rattle.city_feature.specs.Feature.{FeatureValue, IsFeature, vertices_tree};
+ghost use Rattle.city_feature.specs.Choice.{HasType, IsChosen};
+ghost use Rattle.city_feature.specs.Feature.{FeatureValue, IsFeature, moved_vertices, vertices_tree};
 ghost use Rattle.city_feature.specs.FeatureLine.{GivesFeature, SpellsMoved};
-ghost use Rattle.city_feature.specs.Quick.{HasOtherMembers, IsLine, IsPartNamed, IsPlaceOf};
+ghost use Rattle.city_feature.specs.Quick.{HasOtherMembers, IsLine, IsPartNamed, IsPlaceOf, no_steps};
 
 #[cfg(test)]
 mod tests;
+mod types;
 
 use crate::choices::Choice;
-use crate::choices::selecting::selects_vertices;
+use crate::choices::selecting::selects_of;
+use crate::choices::types::Types;
 use crate::features::moving::moved_all;
 use crate::features::texts::{append_vertices, vertices_of};
 use city_grid::{Shift, Vertex, byte_is};
 use city_json::{Line, Part, compact_parts};
 use std::alloc::{AllocError, Global};
+use std::mem::swap;
+use types::has_given_type;
 
 /// The vertices of a line, and their place in it.
 #[derive(Drop)]
@@ -29,17 +33,20 @@ struct PlacedVertices {
     vertices: Vec<Vertex>,
 }
 
-/// A line in its compact text, the place of its vertices, and the vertices that are to stand there.
+/// A line in its compact text, the place of its vertices, the vertices that are to stand there, and whether the
+/// feature has one of the types that are asked for.
 #[derive(Drop)]
 struct MovedLine {
     line: Line,
     part: Part,
     vertices: Vec<Vertex>,
+    has_type: bool,
 }
 
 /// The text between two places.
 fn between(text: &[u8], from: usize, to: usize) -> Option<&[u8]>
-    ensures { IfSome result (λ found. found.now ≡ slice_range text.now from to) }
+    ensures some { IfSome result (λ found. found.now ≡ slice_range text.now from to) }
+    ensures ordered { IfSome result (λ found. from ≤ to) }
 {
     if from > to {
         return None;
@@ -100,6 +107,7 @@ fn vertices_between(alloc: Global, line: &[u8], from: usize, to: usize) -> Optio
     ensures text { IfSome result (λ vertices. slice_range line.now from to
         ≡ compact (vertices_tree vertices.items)) }
     ensures range { IfSome result (λ vertices. All IsInRange vertices.items) }
+    ensures ordered { IfSome result (λ vertices. from ≤ to) }
 {
     let found = between(line, from, to)?;
     vertices_of(alloc, found)
@@ -107,9 +115,11 @@ fn vertices_between(alloc: Global, line: &[u8], from: usize, to: usize) -> Optio
 
 /// The vertices of a line that is a feature, and where they stand.
 fn placed_vertices(alloc: Global, line: &[u8], parts: &[Part]) -> Option<PlacedVertices>
-    ensures { IfSome result (λ placed. (members : MemberTrees) → IsLine line.now parts.now members
+    ensures feature { IfSome result (λ placed. (members : MemberTrees) → IsLine line.now parts.now members
         → IsFeature (object members) placed.vertices.items
         × IsPlaceOf (codes "vertices") members line.now placed.part) }
+    ensures range { IfSome result (λ placed. All IsInRange placed.vertices.items) }
+    ensures text { IfSome result (λ placed. with_value line.now placed.part (compact (vertices_tree placed.vertices.items)) ≡ line.now) }
 {
     if !has_other_members(line, parts) {
         return None;
@@ -119,23 +129,54 @@ fn placed_vertices(alloc: Global, line: &[u8], parts: &[Part]) -> Option<PlacedV
     Some(PlacedVertices { part, vertices })
 }
 
-/// Reads a line as a feature, and moves its vertices.
-fn moved_line(alloc: Global, bytes: &[u8], shift: Shift) -> Option<MovedLine>
-    ensures { IfSome result (λ moved. (there : FeatureValue)
+/// Whether all vertices stay where they are.
+fn is_still(shift: Shift) -> bool
+    ensures { IsTrue result → shift ≡ no_steps }
+{
+    shift == Shift::zero()
+}
+
+/// The vertices, each moved by the shift.
+fn shifted_vertices(vertices: Vec<Vertex>, shift: Shift) -> Option<Vec<Vertex>>
+    ensures { IfSome result (λ moved. All IsInRange vertices.items
+        → (moved.items ≡ moved_vertices vertices.items shift) × All IsInRange moved.items) }
+{
+    if is_still(shift) {
+        return Some(vertices);
+    }
+    let Ok(moved) = moved_all(vertices, shift) else {
+        return None;
+    };
+    Some(moved)
+}
+
+/// Reads a line as a feature, and moves its vertices. The compact text takes the memory of `spare`.
+fn moved_line(
+    alloc: Global,
+    bytes: &[u8],
+    shift: Shift,
+    types: &Option<Types>,
+    spare: Line,
+) -> Option<MovedLine>
+    ensures there { IfSome result (λ moved. (there : FeatureValue)
         × SpellsMoved shift bytes.now there
         × (there.vertices ≡ moved.vertices.items)
         × (compact there.value
-        ≡ with_value moved.line moved.part (compact (vertices_tree moved.vertices.items)))) }
+        ≡ with_value moved.line moved.part (compact (vertices_tree moved.vertices.items)))
+        × (IsTrue moved.has_type ↔ IfSome types.now (λ types. HasType types there.value))) }
+    ensures same { IfSome result (λ moved. shift ≡ no_steps
+        → with_value moved.line moved.part (compact (vertices_tree moved.vertices.items)) ≡ moved.line) }
 {
-    let found = compact_parts(alloc, bytes, Line::new(alloc))?;
-    let placed = placed_vertices(alloc, found.line.items(), &found.parts)?;
-    let Ok(vertices) = moved_all(placed.vertices, shift) else {
-        return None;
-    };
+    let found = compact_parts(alloc, bytes, spare)?;
+    let (line, parts) = (found.line.items(), found.parts.as_slice());
+    let placed = placed_vertices(alloc, line, parts)?;
+    let has_type = has_given_type(alloc, types, line, parts)?;
+    let vertices = shifted_vertices(placed.vertices, shift)?;
     Some(MovedLine {
         line: found.line,
         part: placed.part,
         vertices,
+        has_type,
     })
 }
 
@@ -155,6 +196,48 @@ fn append_moved(moved: &MovedLine, to: &mut Line) -> Result<(), AllocError>
     to.append(back)
 }
 
+/// The line with the vertices in their place: the one that was read, where they stand there already.
+fn written(alloc: Global, moved: MovedLine, shift: Shift) -> Option<Line>
+    ensures { IfSome result (λ line.
+        (shift ≡ no_steps → with_value moved.line moved.part (compact (vertices_tree moved.vertices.items)) ≡ moved.line)
+        → line ≡ with_value moved.line moved.part (compact (vertices_tree moved.vertices.items))) }
+{
+    if is_still(shift) {
+        return Some(moved.line);
+    }
+    let mut line = Line::new(alloc);
+    let Ok(_) = append_moved(&moved, &mut line) else {
+        return None;
+    };
+    Some(line)
+}
+
+/// The memory of an empty text; else a line that has none.
+fn spare_of(alloc: Global, text: &mut Line) -> Line
+    ensures { text.new ≡ text.old }
+{
+    let mut spare = Line::new(alloc);
+    if text.items().is_empty() {
+        swap(text, &mut spare);
+    }
+    spare
+}
+
+/// Puts a text after another; after an empty one without a copy.
+fn put_after(given: Line, to: &mut Line) -> Option<()>
+    ensures some { OnSome result (to.new ≡ to.old ++ given) }
+    ensures none { IfNone result (to.new ≡ to.old) }
+{
+    if to.items().is_empty() {
+        *to = given;
+        return Some(());
+    }
+    let Ok(_) = to.append(given.items()) else {
+        return None;
+    };
+    Some(())
+}
+
 /// Appends the compact text of the feature that a line spells, moved by the shift, where it is chosen then, and says
 /// whether it is. None says nothing of the line, and leaves the text as before.
 pub fn quick_line(
@@ -170,19 +253,12 @@ pub fn quick_line(
         × (text.new ≡ text.old ++ unwrap_or given [])) }
     ensures none { IfNone result (text.new ≡ text.old) }
 {
-    if choice.types.is_some() {
-        return None;
-    }
-    let moved = moved_line(alloc, bytes, shift)?;
-    if !selects_vertices(choice, &moved.vertices)? {
+    let spare = spare_of(alloc, text);
+    let moved = moved_line(alloc, bytes, shift, &choice.types, spare)?;
+    if !selects_of(choice, moved.has_type, &moved.vertices) {
         return Some(false);
     }
-    let mut given = Line::new(alloc);
-    let Ok(_) = append_moved(&moved, &mut given) else {
-        return None;
-    };
-    let Ok(_) = text.append(given.items()) else {
-        return None;
-    };
+    let given = written(alloc, moved, shift)?;
+    put_after(given, text)?;
     Some(true)
 }

@@ -19,6 +19,7 @@ fn push_vertex(vertex: Vertex, to: &mut Vec<Vertex>) -> Option<()>
 }
 
 /// The vertices that the text would be written for. None says nothing of the text.
+#[inline(never)]
 pub fn vertices_of(alloc: Global, text: &[u8]) -> Option<Vec<Vertex>>
     ensures text { IfSome result (λ vertices. text.now ≡ compact (vertices_tree vertices.items)) }
     ensures range { IfSome result (λ vertices. All IsInRange vertices.items) }
@@ -48,6 +49,7 @@ pub fn vertices_of(alloc: Global, text: &[u8]) -> Option<Vec<Vertex>>
 }
 
 /// Appends the compact text of an array of the vertices.
+#[inline(never)]
 pub fn append_vertices(vertices: &[Vertex], to: &mut Line) -> Result<(), AllocError>
     ensures { OnOk result (to.new ≡ to.old ++ compact (vertices_tree vertices.now)) }
 {

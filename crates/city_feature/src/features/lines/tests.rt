@@ -1,3 +1,5 @@
+mod generated;
+
 use crate::{Choice, area, feature_line};
 use city_grid::Shift;
 use city_json::{Fault, Line};
@@ -104,5 +106,34 @@ fn a_line_of_many_vertices_is_written(rt: HostRuntime) -> Result<(), Fail> {
     let (chosen, text) = answer(alloc, line.as_bytes(), 2, &choice_of("6,5,6,5"))?;
     assert_eq!(rt; chosen, Ok(true));
     assert_eq!(rt; text.items(), want.as_bytes());
+    Ok(())
+}
+
+#[test]
+fn a_faulty_vertex_is_told_wherever_it_stands(rt: HostRuntime) -> Result<(), Fail> {
+    let alloc = rt.alloc();
+    let rows = [
+        ("[1,2]", Fault::VertexShape),
+        ("[1,2,3,4]", Fault::VertexShape),
+        ("7", Fault::VertexShape),
+        ("[1,\"2\",3]", Fault::VertexShape),
+        ("[1,2.0,3]", Fault::VertexNotInteger),
+        ("[1,2,3e0]", Fault::VertexNotInteger),
+        ("[1,2,9007199254740992]", Fault::VertexRange),
+        ("[1,-10000000000000000,3]", Fault::VertexRange),
+        ("[9007199254740991,2,3]", Fault::VertexRange),
+    ];
+    for (bad, fault) in rows {
+        for vertices in [
+            format!(in alloc; "[{bad},[4,5,6],[7,8,9]]")?,
+            format!(in alloc; "[[4,5,6],{bad},[7,8,9]]")?,
+            format!(in alloc; "[[4,5,6],[7,8,9],{bad}]")?,
+        ] {
+            let line = feature_text(alloc, vertices.as_str())?;
+            let (refused, text) = answer(alloc, line.as_bytes(), 1, &choice_of(""))?;
+            assert_eq!(rt; refused, Err(fault), "{line}");
+            assert_eq!(rt; text.items(), FRONT);
+        }
+    }
     Ok(())
 }

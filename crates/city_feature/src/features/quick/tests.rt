@@ -1,5 +1,5 @@
 use super::quick_line;
-use crate::{Choice, area};
+use crate::{Choice, area, types};
 use city_grid::Shift;
 use city_json::Line;
 use std::alloc::Global;
@@ -38,9 +38,29 @@ fn common_lines_are_taken(rt: HostRuntime) -> Result<(), Fail> {
     ];
     for (line, want) in rows {
         let (chosen, text) = answer(alloc, line, &Choice::new(None, None, false))?;
-        assert_eq!(rt; chosen, Some(true));
+        assert_eq!(rt; chosen, Some(true), "{line}");
         assert_eq!(rt; text.items(), want.as_bytes());
     }
+    Ok(())
+}
+
+#[test]
+fn a_line_of_many_vertices_is_taken(rt: HostRuntime) -> Result<(), Fail> {
+    let alloc = rt.alloc();
+    let (front, back) = (
+        r#"{"type":"CityJSONFeature","id":"a","CityObjects":{},"vertices":[[1,2,3]"#,
+        "]}",
+    );
+    let (from, to) = (
+        ",[4,-5,6]".repeat(alloc, 100_000)?,
+        ",[14,15,36]".repeat(alloc, 100_000)?,
+    );
+    let line = format!(in alloc; "{front}{from}{back}")?;
+    let (chosen, text) = answer(alloc, line.as_str(), &Choice::new(None, None, false))?;
+    let front = front.replacen(alloc, "[1,2,3]", "[11,22,33]", 1)?;
+    let want = format!(in alloc; "front {front}{to}{back}")?;
+    assert_eq!(rt; chosen, Some(true));
+    assert!(rt; text.items() == want.as_bytes());
     Ok(())
 }
 
@@ -62,6 +82,53 @@ fn an_area_is_tried_on_the_moved_vertices(rt: HostRuntime) -> Result<(), Fail> {
         let (chosen, _) = answer(alloc, line, &Choice::new(None, area(bounds), true))?;
         assert_eq!(rt; chosen, Some(!inside));
     }
+    Ok(())
+}
+
+#[test]
+fn the_type_is_that_of_the_object_that_the_identifier_names(rt: HostRuntime) -> Result<(), Fail> {
+    let alloc = rt.alloc();
+    let rows = [
+        (
+            r#"{"a":{"type":"Bridge"},"é":{"attributes":{"type":"Road"},"type":"Building"},"type":{"type":"Tunnel"}}"#,
+            "Building",
+        ),
+        (
+            r#"{ "\u00e9" : { "type" : "\u0042uilding", "children" : ["é"] } }"#,
+            "Building",
+        ),
+        (r#"{"é":{"type":""},"a":{"type":"Building"}}"#, ""),
+    ];
+    for (objects, name) in rows {
+        let line = format!(in alloc;
+            r#"{{"type":"CityJSONFeature","id":"\u00e9","CityObjects":{objects},"vertices":[[1,2,3]]}}"#
+        )?;
+        for asked in ["Building", "Road,Building,Bridge", "Bridge,Road", "Build"] {
+            let is_among = asked.split(',').any(|each| each == name);
+            let choice = Choice::new(types(alloc, asked)?, None, false);
+            let (chosen, text) = answer(alloc, line.as_str(), &choice)?;
+            assert_eq!(rt; chosen, Some(is_among), "{line} {asked}");
+            assert_eq!(rt; text.items().len() > 6, is_among);
+            let choice = Choice::new(types(alloc, asked)?, area("0,0,10,20"), true);
+            let (chosen, _) = answer(alloc, line.as_str(), &choice)?;
+            assert_eq!(rt; chosen, Some(true));
+        }
+    }
+    Ok(())
+}
+
+#[test]
+fn a_line_that_is_not_moved_is_copied(rt: HostRuntime) -> Result<(), Fail> {
+    let alloc = rt.alloc();
+    let mut text = Line::from_vec(b"front ".to_vec(alloc)?);
+    let line =
+        br#" {"vertices": [[1,2,3], [-4,0,6]], "id":"a", "type":"CityJSONFeature", "CityObjects":{}}"#;
+    let want =
+        br#"front {"vertices":[[1,2,3],[-4,0,6]],"id":"a","type":"CityJSONFeature","CityObjects":{}}"#;
+    let all = Choice::new(None, None, false);
+    let chosen = quick_line(alloc, line, Shift::zero(), &all, &mut text);
+    assert_eq!(rt; chosen, Some(true));
+    assert_eq!(rt; text.items(), want.as_slice());
     Ok(())
 }
 
