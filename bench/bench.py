@@ -1,8 +1,8 @@
 #!/usr/bin/env python3
 """How fast `citymerge` is, how much memory it takes, and whether its output is right.
 
-Six parts, each of which can be left out:
-  right         the output of `filter` on small streams, compared with that of a compactor and a selection of its own
+Seven parts, each of which can be left out:
+  right         the output on small streams, compared with that of a compactor, a selection and sums of its own
   speed         MB/s and peak memory, in turn: on building tiles and on tiny features, without options, with two
                 types and with a box, beside jq; on one long line, beside jq; on features with 300 attributes,
                 with a blank after each comma and colon, with escapes, and with a -0 in each, so that the value is
@@ -15,6 +15,8 @@ Six parts, each of which can be left out:
                 must have nine tenths; and its peak memory for tiles of 10 MB and of 100 MB each (1 GB with
                 --giga), which must be the same
   hostile       time against size for shapes of text that are hard on a reader
+  documents     MB/s and peak memory of `citymerge cat` on a document, beside `citymerge filter` of its stream;
+                time against size for documents that are hard on it
 
 Status 0: all is right. 1: an output is wrong, the peak memory grows with the stream, a stream takes more
 instructions than is wanted, a merge is too slow beside the filter, or the time for a hostile shape does not
@@ -30,6 +32,7 @@ import tempfile
 sys.path.insert(0, os.path.dirname(os.path.abspath(__file__)))
 sys.dont_write_bytecode = True
 
+from documents import documents
 from growth import hostile
 from instructions import instructions
 from memory import memory
@@ -37,7 +40,15 @@ from merges import merges
 from right import right
 from speed import speed
 
-PARTS = {"right": right, "speed": speed, "memory": memory, "instructions": instructions, "merges": merges, "hostile": hostile}
+PARTS = {
+    "right": right,
+    "speed": speed,
+    "memory": memory,
+    "instructions": instructions,
+    "merges": merges,
+    "hostile": hostile,
+    "documents": documents,
+}
 
 
 class Bench:
@@ -46,8 +57,10 @@ class Bench:
     def __init__(self, options, folder):
         self.options = options
         self.folder = folder
-        self.filter = [os.path.abspath(options.program), "filter"]
-        self.merge = [os.path.abspath(options.program), "merge", "--in-turn"]
+        self.program = os.path.abspath(options.program)
+        self.filter = [self.program, "filter"]
+        self.merge = [self.program, "merge", "--in-turn"]
+        self.cat = [self.program, "cat"]
         self.wrong = []
 
     def say(self, text):

@@ -22,7 +22,7 @@ def ends_as_it_should(run, shape):
 def least_time(bench, shape, path):
     """The least processor time of a few runs, or None where one ended in another way than it should."""
     target = bench.path("output")
-    runs = [Run(bench.filter, path, target) for _ in range(bench.options.tries)]
+    runs = [Run([bench.program, shape.command], path, target) for _ in range(bench.options.tries)]
     os.remove(target)
     for run in runs:
         if not ends_as_it_should(run, shape):

@@ -1,11 +1,12 @@
-"""Is the output that of another compactor, and of another selection?"""
+"""Is the output that of another compactor, of another selection, and of another sum?"""
 
+import json
 import os
 
 from chooser import choose
 from compactor import compact
 from running import Run
-from streams import BUILDINGS, BY_BOX, BY_TYPE, MEASURED, PLAIN, TINY, loose
+from streams import BUILDINGS, BY_BOX, BY_TYPE, HEADER, MEASURED, PLAIN, STEPS_AWAY, TINY, elsewhere, loose
 
 # What is asked of the streams of which a part is chosen.
 CHOICES = (
@@ -19,9 +20,9 @@ CHOICES = (
 )
 
 
-def compare(bench, name, path, expected, options=()):
+def compare(bench, name, path, expected, options=(), words=None):
     target = bench.path("output")
-    run = Run([*bench.filter, *options], path, target)
+    run = Run(words or [*bench.filter, *options], path, target)
     with open(target, "rb") as file:
         got = file.read()
     os.remove(target)
@@ -37,6 +38,23 @@ def compare(bench, name, path, expected, options=()):
         bench.say("  right: %s, %d bytes in, %d bytes out" % (name, os.path.getsize(path), len(got)))
 
 
+def moved(line):
+    """The line of a building of a tile elsewhere, on the grid of the others."""
+    front, vertices = line.rstrip(b"}\n").split(b'"vertices":')
+    sums = [[a + b for a, b in zip(vertex, STEPS_AWAY)] for vertex in json.loads(vertices)]
+    return front + b'"vertices":' + json.dumps(sums, separators=(",", ":")).encode("ascii") + b"}\n"
+
+
+def compare_merge(bench, size):
+    """A merge of a tile without features, and of one all of whose vertices are moved onto its grid."""
+    lines = list(elsewhere(bench.options.seed, size))
+    paths = [bench.write("first", (HEADER,)), bench.write("second", lines)]
+    words = [bench.filter[0], "merge", "--in-turn", *paths]
+    compare(bench, "merged, all moved", paths[1], HEADER + b"".join([moved(line) for line in lines[1:]]), (), words)
+    for path in paths:
+        os.remove(path)
+
+
 def right(bench):
     bench.say("Is the output right?")
     size = bench.options.small * 1_000_000
@@ -50,6 +68,7 @@ def right(bench):
             for options in CHOICES:
                 compare(bench, name, path, choose(stream, options), options)
         os.remove(path)
+    compare_merge(bench, size)
     for name in bench.options.files:
         with open(name, "rb") as file:
             stream = file.read()

@@ -13,6 +13,8 @@ class Shape(typing.NamedTuple):
     lines: typing.Callable
     # the fault that has to be told of its second line, if any
     fault: str = ""
+    # the command that reads it
+    command: str = "filter"
 
 
 def members(count, name, value=str):

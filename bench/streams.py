@@ -285,8 +285,12 @@ def plain(seed, size):
         yield line.replace(b'"vertices":[[', b'"vertices":[[-0,0,0],[')
 
 
+# How far the origin of the grid of a tile elsewhere is away: a kilometre in x and y, a metre in z.
+STEPS_AWAY = (1_000_000, -1_000_000, 1000)
+
+
 def elsewhere(seed, size):
-    """Building tiles on a grid whose origin is a kilometre away in x and y, and a metre in z."""
+    """Building tiles on another grid."""
     for line in buildings(seed, size):
         yield line.replace(b"[84710.100,446846.000,-5.300]", b"[85710.100,445846.000,-4.300]")
 

@@ -1,5 +1,5 @@
 #!/bin/sh
-# Runs the program on the bundled tiles, and shows what goes in, what is chosen and what comes out.
+# Runs the program on the bundled tiles and the bundled document, and shows what goes in, what is chosen and what comes out.
 set -u
 cd "$(dirname "$0")/.."
 program=build/citymerge
@@ -44,12 +44,25 @@ choose west --bbox=10000,0,20000,20000 --exclude
 
 both=build/west_and_east.city.jsonl
 echo
-echo "\$ $program merge examples/west.city.jsonl examples/east.city.jsonl > $both"
-"$program" merge examples/west.city.jsonl examples/east.city.jsonl >"$both" || exit 1
+echo "\$ $program merge --in-turn examples/west.city.jsonl examples/east.city.jsonl > $both"
+"$program" merge --in-turn examples/west.city.jsonl examples/east.city.jsonl >"$both" || exit 1
 echo 'the header, and one feature of each tile in turn; of each its id and its first vertex:'
 tail -n +2 "$both" | sed 's/^.*"id":"\([^"]*\)".*"vertices":\[\(\[[^]]*\]\).*$/   | \1 \2/'
 echo 'the first vertices of east as they came in:'
 tr -d '\r' <examples/east.city.jsonl | grep Feature | grep -o '"vertices" *: *\[ *\[[^]]*\]' | sed 's/^/   | /'
+
+town=build/town.city.jsonl
+echo
+echo "\$ $program cat < examples/town.city.json > $town"
+"$program" cat <examples/town.city.json >"$town" || exit 1
+echo "in:  $(wc -c <examples/town.city.json) bytes, one document, with the objects"
+grep -o '^    "[^"]*": {' examples/town.city.json | tr -d '":{ ' | sed 's/^/   | /'
+echo "out: $(wc -c <"$town") bytes, the header, and the ids of the features:"
+tail -n +2 "$town" | sed 's/^.*"id":"\([^"]*\)".*$/   | \1/'
+echo
+echo "\$ $program merge examples/west.city.jsonl $town"
+echo "$("$program" merge examples/west.city.jsonl "$town" | wc -l) lines: the header, and the features of both; of each its id and its first vertex:"
+"$program" merge examples/west.city.jsonl "$town" | tail -n +2 | sed 's/^.*"id":"\([^"]*\)".*"vertices":\[\(\[[^]]*\]\).*$/   | \1 \2/'
 
 # a tile that does not fit the first
 misfit() {

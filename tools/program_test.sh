@@ -41,10 +41,13 @@ expect 'a box from right to left' '2||citymerge: bad --bbox' "$(answer filter --
 expect 'a type with no name' '2||citymerge: bad --cotype' "$(answer filter --cotype=A,,B)"
 expect 'a word that is not UTF-8' '2||citymerge: a word is not UTF-8' "$(answer filter "$(printf '\377')")"
 expect 'the version' '0|citymerge 0.1.0|' "$(answer --version)"
-expect 'help' '0|Merges and filters streams of CityJSON features (CityJSONSeq).|' "$(first_lines --help)"
-expect 'help by its word' '0|Merges and filters streams of CityJSON features (CityJSONSeq).|' "$(first_lines help)"
+expect 'help' '0|Merges, filters and makes streams of CityJSON features (CityJSONSeq).|' "$(first_lines --help)"
+expect 'help by its word' '0|Merges, filters and makes streams of CityJSON features (CityJSONSeq).|' "$(first_lines help)"
 expect 'help of filter' '0|Writes the chosen features of a stream from standard input to standard output.|' "$(first_lines help filter)"
 expect 'help of merge' '0|Joins the streams of several files into one on standard output.|' "$(first_lines help merge)"
+expect 'help of cat' '0|Cuts a CityJSON document from standard input into a stream on standard output.|' "$(first_lines help cat)"
+expect 'a path of cat' "2||error: unexpected argument 'a.city.json' found" "$(first_lines cat a.city.json)"
+expect 'an option of cat' "2||error: unexpected argument '--exclude' found" "$(first_lines cat --exclude)"
 expect 'help of nothing' "2||error: unrecognized subcommand 'nope'" "$(first_lines help nope)"
 for word in --help --version; do
     timeout 60 "$program" "$word" <"$room/in" >/dev/full 2>"$room/errors"
@@ -172,6 +175,12 @@ merged() {
     printf '%s|%s|%s' "$?" "$(cat "$room/out")" "$(cat "$room/errors")"
 }
 
+# the same, where the features stand as they come: those after the header, sorted
+mixed() {
+    (cd "$room" && timeout 60 "$program" merge "$@" >out 2>errors)
+    printf '%s|%s|%s' "$?" "$(head -n 1 "$room/out"; tail -n +2 "$room/out" | LC_ALL=C sort)" "$(cat "$room/errors")"
+}
+
 # the header with another translation in x, or with a member more
 moved_to() {
     printf '%s' "$header" | sed "s/\"translate\":\[0,/\"translate\":[$1,/"
@@ -191,10 +200,12 @@ tile a "$header" "$one"
 tile b "$(moved_to 1.5)" "$two"
 tile -b "$(moved_to 1.5)" "$two"
 tile - "$header" "$one" "$one"
+expect 'a merge in turn' "0|$(printf '%s\n%s\n%s' "$header" "$one" "$far")|" "$(merged --in-turn a b)"
+expect 'a merge in turn from the least' "0|$(printf '%s\n%s\n%s' "$header" "$far" "$one")|" "$(merged --in-turn --least b a)"
 for turns in '' --in-turn; do
-    expect "a merge $turns" "0|$(printf '%s\n%s\n%s' "$header" "$one" "$far")|" "$(merged $turns a b)"
+    expect "a merge $turns" "0|$(printf '%s\n%s\n%s' "$header" "$one" "$far")|" "$(mixed $turns a b)"
     expect "a merge of a box $turns" "0|$(printf '%s\n%s' "$header" "$far")|" "$(merged a $turns b --bbox=1510,0,1510,100)"
-    expect "a merge from the least $turns" "0|$(printf '%s\n%s\n%s' "$header" "$far" "$one")|" "$(merged $turns --least b a)"
+    expect "a merge from the least $turns" "0|$(printf '%s\n%s\n%s' "$header" "$one" "$far")|" "$(mixed $turns --least b a)"
 done
 expect 'a box on the least grid' "0|$(printf '%s\n%s' "$header" "$far")|" "$(merged --least --bbox=1510,0,1510,100 b a)"
 expect 'a merge of what is excluded' "0|$(printf '%s\n%s' "$header" "$one")|" "$(merged --exclude --bbox=1510,0,1510,100 a b)"
@@ -202,14 +213,18 @@ expect 'a merge of a type' "0|$header|" "$(merged --cotype=Bridge a b)"
 expect 'one tile' "0|$(printf '%s\n%s' "$header" "$one")|" "$(merged a)"
 expect 'one tile twice' "0|$(printf '%s\n%s\n%s' "$header" "$one" "$one")|" "$(merged a a)"
 expect 'a dash is a name' "0|$(printf '%s\n%s\n%s' "$header" "$one" "$one")|" "$(merged -)"
-expect 'a name with a dash' "0|$(printf '%s\n%s\n%s' "$header" "$one" "$far")|" "$(merged a -- -b)"
+expect 'a name with a dash' "0|$(printf '%s\n%s\n%s' "$header" "$one" "$far")|" "$(mixed a -- -b)"
 tile c "$header" "$one" "$one" "$one"
 tile d "$header" "$two"
 tile e "$header" "$q" "$p"
-expect 'three tiles' "0|$(printf '%s\n' "$header" "$one" "$two" "$q" "$one" "$p" "$one")|" "$(merged c d e)"
+expect 'three tiles' "0|$(printf '%s\n' "$header" "$one" "$two" "$q" "$one" "$p" "$one")|" "$(merged --in-turn c d e)"
+expect 'three tiles with threads' "0|$(printf '%s\n' "$header" "$one" "$one" "$one" "$two" "$p" "$q")|" "$(mixed c d e)"
+expect 'each in its own order' "$(printf '%s\n' "$q" "$p")" "$(grep -e '"id":"[pq]"' "$room/out")"
 tile f "$header" "$two" '{"type":"CityJSONFeature","id":"b2'
-expect 'a tile that is cut short' "1|$(printf '%s\n' "$header" "$one" "$two" "$one")|citymerge: tile 2 line 3: the line is not a JSON text" "$(merged - f)"
-expect 'the same in the other order' "1|$(printf '%s\n' "$header" "$two" "$one" "$one")|citymerge: tile 1 line 3: the line is not a JSON text" "$(merged f -)"
+expect 'a tile that is cut short' "1|$(printf '%s\n' "$header" "$one" "$two" "$one")|citymerge: tile 2 line 3: the line is not a JSON text" "$(merged --in-turn - f)"
+expect 'the same in the other order' "1|$(printf '%s\n' "$header" "$two" "$one" "$one")|citymerge: tile 1 line 3: the line is not a JSON text" "$(merged --in-turn f -)"
+expect 'a tile that is cut short, with threads' "1|$(printf '%s\n' "$header" "$one" "$one" "$two")|citymerge: tile 2 line 3: the line is not a JSON text" "$(mixed - f)"
+expect 'the same in the other order, with threads' "1|$(printf '%s\n' "$header" "$one" "$one" "$two")|citymerge: tile 1 line 3: the line is not a JSON text" "$(mixed f -)"
 
 # the words of a merge
 expect 'no tile' '2||error: the following required arguments were not provided:' "$(first_lines merge)"
@@ -260,6 +275,8 @@ expect 'the extent stays in a filter' "0|$(cat "$room/in")|" "$(answer filter)"
 { printf '%s\n' "$header"; yes "$one
 $far" | head -n 60000; yes "$one" | head -n 20000; } >"$room/wanted"
 timeout 60 "$program" merge "$room/many" "$room/others" >"$room/out" 2>"$room/errors"
+expect 'a merge of 80,000 features with threads' '0||same' "$?|$(cat "$room/errors")|$(tail -n +2 "$room/out" | LC_ALL=C sort >"$room/sorted"; tail -n +2 "$room/wanted" | LC_ALL=C sort | cmp - "$room/sorted" && echo same)"
+timeout 60 "$program" merge --in-turn "$room/many" "$room/others" >"$room/out" 2>"$room/errors"
 expect 'a merge of 80,000 features' '0||same' "$?|$(cat "$room/errors")|$(cmp "$room/wanted" "$room/out" && echo same)"
 timeout 60 "$program" merge "$room/a" "$room/b" >/dev/full 2>"$room/errors"
 expect 'a merge to a full device' '1|citymerge: the output could not be written' "$?|$(cat "$room/errors")"
@@ -271,13 +288,75 @@ timeout 60 "$program" merge "$room/many" no-such-file >"$room/out" 2>/dev/full
 expect 'a file that is not there, and nowhere to say it' '1|0' "$?|$(wc -c <"$room/out")"
 
 # the bundled tiles
+both=examples/west_and_east.expected.city.jsonl
+west=examples/west.expected.city.jsonl
 timeout 60 "$program" merge examples/west.city.jsonl examples/east.city.jsonl >"$room/out" 2>"$room/errors"
-expect 'west and east' '0||same' "$?|$(cat "$room/errors")|$(cmp "$room/out" examples/west_and_east.expected.city.jsonl && echo same)"
+expect 'west and east with threads' "0||$(head -n 1 "$both")" "$?|$(cat "$room/errors")|$(head -n 1 "$room/out")"
+expect 'west in its order' "$(tail -n +2 "$west")" "$(tail -n +2 "$room/out" | grep -Fxf "$west")"
+expect 'east in its order' "$(tail -n +2 "$both" | grep -vFxf "$west")" "$(tail -n +2 "$room/out" | grep -vFxf "$west")"
+timeout 60 "$program" merge --in-turn examples/west.city.jsonl examples/east.city.jsonl >"$room/out" 2>"$room/errors"
+expect 'west and east' '0||same' "$?|$(cat "$room/errors")|$(cmp "$room/out" "$both" && echo same)"
 timeout 60 "$program" filter <"$room/out" >"$room/twice"
 expect 'west and east, written once more' same "$(cmp "$room/out" "$room/twice" && echo same)"
 for refused in 'off_grid|the translation is off the grid' 'other_reference_system|the reference system differs from tile 1'; do
     timeout 60 "$program" merge examples/west.city.jsonl "examples/${refused%%|*}.city.jsonl" >"$room/out" 2>"$room/errors"
     expect "west and ${refused%%|*}" "1||citymerge: tile 2 line 1: ${refused#*|}" "$?|$(cat "$room/out")|$(cat "$room/errors")"
 done
+
+# a document that is cut
+document='{"type":"CityJSON","version":"2.0","transform":{"scale":[0.001,0.001,0.001],"translate":[0,0,0]},"CityObjects":{"b":{"type":"Building","children":["p1","p2"]},"p1":{"type":"BuildingPart","parents":["b"],"geometry":[{"type":"MultiPoint","lod":"1","boundaries":[3,1]}]},"p2":{"type":"BuildingPart","parents":["b"],"geometry":[{"type":"MultiPoint","lod":"1","boundaries":[1,0]}]}},"vertices":[[0,0,0],[1,1,1],[2,2,2],[3,3,3]]}'
+cut='{"type":"CityJSONFeature","id":"b","CityObjects":{"b":{"type":"Building","children":["p1","p2"]},"p1":{"type":"BuildingPart","parents":["b"],"geometry":[{"type":"MultiPoint","lod":"1","boundaries":[0,1]}]},"p2":{"type":"BuildingPart","parents":["b"],"geometry":[{"type":"MultiPoint","lod":"1","boundaries":[1,2]}]}},"vertices":[[3,3,3],[1,1,1],[0,0,0]]}'
+stream=$(printf '%s\n%s' "$header" "$cut")
+
+# the document with a text of it changed, and what comes of it
+changed() {
+    printf '%s' "$document" | sed "s/$1/$2/" >"$room/in"
+    answer cat
+}
+expect 'a document' "0|$stream|" "$(changed nothing nothing)"
+expect 'a document over lines' "0|$stream|" "$(changed ',' ',\n')"
+expect 'a document of no objects' "0|$header|" "$(printf '%s\n' "$header" >"$room/in"; answer cat)"
+expect 'a missing child' '1||citymerge: tile 1: a child is missing' "$(changed '"p1","p2"' '"p1","p3"')"
+expect 'an object in no feature' '1||citymerge: tile 1: a city object belongs to no feature' "$(changed '"p1","p2"' '"p1"')"
+expect 'an index past the vertices' '1||citymerge: tile 1: a boundary index is wrong' "$(changed '3,1' '4,1')"
+expect 'an index that is a text' '1||citymerge: tile 1: a boundary index is wrong' "$(changed '3,1' '"3",1')"
+expect 'children that are a text' '1||citymerge: tile 1: the object is not a CityJSON object' "$(changed '\["p1","p2"\]' '"p1"')"
+expect 'another version of a document' '1||citymerge: tile 1: the version is not 2.0' "$(changed '2\.0' '1.1')"
+expect 'a vertex of two numbers' '1||citymerge: tile 1: a vertex is not three numbers' "$(changed '2,2,2' '2,2')"
+expect 'a document twice' '1||citymerge: tile 1: the line is not a JSON text' "$(printf '%s\n%s\n' "$document" "$document" >"$room/in"; answer cat)"
+expect 'a stream for a document' '1||citymerge: tile 1: the line is not a JSON text' "$(printf '%s\n' "$stream" >"$room/in"; answer cat)"
+expect 'a feature for a document' '1||citymerge: tile 1: the object is not a CityJSON object' "$(printf '%s\n' "$cut" >"$room/in"; answer cat)"
+expect 'a blank document' '1||citymerge: tile 1: the stream has no header line' "$(printf ' \n' >"$room/in"; answer cat)"
+expect 'no document' '1||citymerge: tile 1: the stream has no header line' "$(printf '' >"$room/in"; answer cat)"
+timeout 60 "$program" cat <"$room" >"$room/out" 2>"$room/errors"
+expect 'a document that cannot be read' '1||citymerge: tile 1: the tile could not be read' "$?|$(cat "$room/out")|$(cat "$room/errors")"
+printf '%s\n' "$document" >"$room/in"
+timeout 60 "$program" cat <"$room/in" >/dev/full 2>"$room/errors"
+expect 'a document to a full device' '1|citymerge: the output could not be written' "$?|$(cat "$room/errors")"
+timeout 60 "$program" cat <"$room/in" | cat >"$room/out"
+printf '%s\n' "$stream" >"$room/wanted"
+expect 'a document to a pipe' same "$(cmp "$room/out" "$room/wanted" && echo same)"
+
+# 2^28 bytes are read, and one more is too many
+padded() {
+    { printf '%s' "$document"; head -c $(($1 - ${#document})) /dev/zero | tr '\0' ' '; } | timeout 60 "$program" cat >"$room/out" 2>"$room/errors"
+    printf '%s|%s|%s' "$?" "$(cat "$room/out")" "$(cat "$room/errors")"
+}
+expect 'a document of 2^28 bytes' "0|$stream|" "$(padded 268435456)"
+expect 'a document of 2^28 bytes and one' '1||citymerge: tile 1: the line is too long' "$(padded 268435457)"
+tr '\0' ' ' </dev/zero | timeout 60 "$program" cat >"$room/out" 2>"$room/errors"
+expect 'a document without end' '|citymerge: tile 1: the line is too long' "$(cat "$room/out")|$(cat "$room/errors")"
+head -c 60000000 /dev/zero | tr '\0' '[' >"$room/in"
+expect 'no memory for a document' '1||citymerge: tile 1: there is not enough memory' "$(ulimit -v 40000; answer cat)"
+
+# the bundled document, and what takes its stream
+timeout 60 "$program" cat <examples/town.city.json >"$room/out" 2>"$room/errors"
+expect 'town' '0||same' "$?|$(cat "$room/errors")|$(cmp "$room/out" examples/town.expected.city.jsonl && echo same)"
+timeout 60 "$program" filter <"$room/out" >"$room/twice"
+expect 'town, filtered' same "$(cmp "$room/out" "$room/twice" && echo same)"
+timeout 60 "$program" merge --in-turn examples/west.city.jsonl "$room/out" >"$room/both" 2>"$room/errors"
+expect 'west and town' "0||$(($(wc -l <examples/west.expected.city.jsonl) + 3))" "$?|$(cat "$room/errors")|$(wc -l <"$room/both")"
+timeout 60 "$program" merge --in-turn "$room/out" >"$room/twice" 2>"$room/errors"
+expect 'town, merged alone' same "$(cmp "$room/out" "$room/twice" && echo same)"
 
 counted 'The program at its edges'

@@ -1,5 +1,5 @@
 -- A flush after a refusal: what was taken stays as it was.
-use Rattle.std.proofs.Common.{ℕ, Bool, List, Option, inl, inr}
+use Rattle.std.proofs.Common.{◌≡◌, ℕ, Bool, true, false, List, Option, Result, IfErr, inl, inr, sym, subst}
 use Rattle.std.specs.Io.KnownBytes.{Keeps}
 use Rattle.std.proofs.KnownBytes.{Keeps-trans}
 use Rattle.city_json.specs.declared.fault.Fault.{Fault}
@@ -7,9 +7,14 @@ use Rattle.city_json.specs.declared.fault.Fault.TheVariants.{Write}
 use Rattle.city_feature.specs.Feature.{FeatureValue}
 use Rattle.city_feature.specs.declared.base.Base.{Base}
 use Rattle.tile_merge.specs.Filtered.{StoppedAt, IsRefusedFilter}
+use Rattle.citymerge.specs.Merging.{IsRefusedAsked}
+use Rattle.tile_merge.specs.Interleaves.{Interleaves}
 use Rattle.tile_merge.specs.Merged.{IsRefusedMerge, MergedTile, WroteFrontOf, WroteMerge}
 use Rattle.tile_merge.specs.Tile.{FaultyLine, TileLines}
+use Rattle.tile_merge.specs.Threaded.{IsRefusedThreaded}
+use Rattle.tile_merge.specs.Turns.{AreTurns}
 use Rattle.tile_merge.specs.declared.fault.MergeFault.{MergeFault}
+use Rattle.tile_merge.specs.declared.merging.report.Report.{Report}
 use Rattle.tile_merge.proofs.Filtering.{Appends-kept}
 
 module _ (IsWanted : FeatureValue → Type 0) (old mid new : Option (List ℕ)) (kept : Keeps mid new) where
@@ -49,3 +54,21 @@ module _ {R : Type 0} (gives : R → List ℕ → Bool → Type 0) (IsWanted : F
   merge_still refusal (inl early) = inl (early.0, Keeps-trans old mid new early.1 kept)
   merge_still refusal (inr (inl output)) = inr (inl (output.0, front_still output.1))
   merge_still refusal (inr (inr stopped)) = inr (inr (stopped.0, all_still stopped.0 stopped.1, stopped.2))
+
+module _ {R : Type 0} (gives : R → List ℕ → Bool → Type 0) (IsWanted : FeatureValue → Type 0) (base : Base) (readers : List R) (old mid new : Option (List ℕ)) (kept : Keeps mid new) where
+  pub asked_still : (in_turn : Bool) (refusal : MergeFault) → IsRefusedAsked in_turn gives IsWanted base readers refusal old mid → IsRefusedAsked in_turn gives IsWanted base readers refusal old new
+  asked_still true refusal refused = merge_still gives IsWanted base AreTurns readers old mid new kept refusal refused
+  asked_still false refusal (inl lacking) = inl (lacking.0, Keeps-trans old mid new lacking.1 kept)
+  asked_still false refusal (inr refused) = inr (merge_still gives IsWanted base Interleaves readers old mid new kept refusal refused)
+
+-- the refusal of the merge that was asked for
+module _ {R : Type 0} (gives : R → List ℕ → Bool → Type 0) (IsWanted : FeatureValue → Type 0) (readers : List R) (old new : Option (List ℕ)) (in_turn : Bool) (base other : Base) (same : base ≡ other) (result : Result Report MergeFault) where
+  pub asked_in_turn : in_turn ≡ true → IfErr result (λ e. IsRefusedMerge gives IsWanted base AreTurns readers e old new) → IfErr result (λ e. IsRefusedAsked in_turn gives IsWanted other readers e old new)
+  asked_in_turn is refused =
+      let there = subst (λ (b : Base). IfErr result (λ e. IsRefusedMerge gives IsWanted b AreTurns readers e old new)) same refused in
+      subst (λ (asked : Bool). IfErr result (λ e. IsRefusedAsked asked gives IsWanted other readers e old new)) (sym is) there
+
+  pub asked_with_threads : in_turn ≡ false → IfErr result (λ e. IsRefusedThreaded gives IsWanted base readers e old new) → IfErr result (λ e. IsRefusedAsked in_turn gives IsWanted other readers e old new)
+  asked_with_threads is refused =
+      let there = subst (λ (b : Base). IfErr result (λ e. IsRefusedThreaded gives IsWanted b readers e old new)) same refused in
+      subst (λ (asked : Bool). IfErr result (λ e. IsRefusedAsked asked gives IsWanted other readers e old new)) (sym is) there

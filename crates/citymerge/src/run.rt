@@ -1,12 +1,12 @@
-ghost use Rattle.std.specs.Prelude.{◌≡◌, ◌⊎◌, ◌<◌, ℕ, List, false, length};
+ghost use Rattle.std.specs.Prelude.{◌≡◌, ◌⊎◌, ◌<◌, ℕ, List, false, length, IfOk, IfErr, OnOk};
 ghost use Rattle.city_feature.specs.Choice.{IsChosen};
 ghost use Rattle.citymerge.specs.FaultLine.{fault_line};
-ghost use Rattle.citymerge.specs.Merging.{base_of};
+ghost use Rattle.citymerge.specs.Merging.{base_of, mixes_of, IsRefusedAsked};
 ghost use Rattle.citymerge.specs.Passing.{FlushedOrFailed, WroteOrFailed};
-ghost use Rattle.tile_merge.specs.Filtered.{WroteStream, IsRefusedFilter, failures_after_refusal, failures_after_write};
+ghost use Rattle.tile_merge.specs.Filtered.{WroteStream, IsRefusedFilter, failures_after_merge, failures_after_refusal, failures_after_write};
 ghost use Rattle.tile_merge.specs.Head.{SomeTile};
-ghost use Rattle.tile_merge.specs.Merged.{IsRefusedMerge, MergedAll};
-ghost use Rattle.tile_merge.specs.Turns.{AreTurns};
+ghost use Rattle.tile_merge.specs.Interleaves.{Interleaves};
+ghost use Rattle.tile_merge.specs.Merged.{MergedAll};
 ghost use Rattle.tile_merge.specs.Unread.{Leaves, has_failed, failed_reads_after};
 ghost use Rattle.tile_merge.specs.declared.fault.MergeFault.{MergeFault};
 
@@ -22,7 +22,9 @@ use city_feature::{Base, Choice};
 use city_json::{Sink, Source};
 use command_line::MergeArgs;
 use std::alloc::Global;
-use tile_merge::{TileReader, filter_tile, merge_in_turn};
+use std::sync::Wait;
+use std::thread::Threads;
+use tile_merge::{MergeFault, Report, TileReader, filter_tile, merge, merge_in_turn};
 
 /// How many texts of a tile are held at most.
 const CAPACITY: u32 = 64;
@@ -63,35 +65,81 @@ pub fn run_filter<R: Source, W: Sink, E: Sink>(
 
 /// Merges the tiles that the readers give to `output` as the options say, and answers the status to
 /// end with: 0, or 1 with a fault line on `errors`. What was written is passed on either way. The
-/// tiles take turns with and without `--in-turn`.
-pub fn run_merge<R: Source + Drop, W: Sink, E: Sink>(
+/// tiles take turns with `--in-turn`; without it each has a thread, and its features stand as they
+/// come.
+pub fn run_merge<H, R, W, E>(
+    rt: &H,
     alloc: Global,
     args: &MergeArgs,
     readers: Vec<R>,
     output: &mut W,
     errors: &mut E,
 ) -> u8
+where
+    H: Threads + Wait + Copy + Send + 'static,
+    R: Source + Send + Drop + 'static,
+    W: Sink,
+    E: Sink,
     requires { 0 < length readers.items }
     ensures status { (result ≡ 0) ⊎ (result ≡ 1) }
     ensures done { result ≡ 0 → (counts : List ℕ)
-        × MergedAll R.gives (IsChosen args.now.choice) (base_of args.now.least) AreTurns
+        × MergedAll R.gives (IsChosen args.now.choice) (base_of args.now.least)
+        (mixes_of args.now.in_turn)
         readers.items counts (W.taken output.old) (W.taken output.new) }
+
+    // In turn or not, the stream is the joined header and an interleaving of the tiles' chosen, moved
+    // features, each tile in its own order.
+    ensures interleaved { result ≡ 0 → (counts : List ℕ)
+        × MergedAll R.gives (IsChosen args.now.choice) (base_of args.now.least) Interleaves
+        readers.items counts (W.taken output.old) (W.taken output.new) }
+
     ensures done_flushed { result ≡ 0 → W.is_flushed output.new }
     ensures done_failures { result ≡ 0 → W.failures output.new ≡ W.failures output.old }
     ensures refused { result ≡ 1 → (e : MergeFault)
-        × IsRefusedMerge R.gives (IsChosen args.now.choice) (base_of args.now.least) AreTurns
-        readers.items e (W.taken output.old) (W.taken output.new)
+        × IsRefusedAsked args.now.in_turn R.gives (IsChosen args.now.choice)
+        (base_of args.now.least) readers.items e (W.taken output.old) (W.taken output.new)
         × FlushedOrFailed (W.is_flushed output.new)
         (failures_after_refusal e (W.failures output.old)) (W.failures output.new)
         × WroteOrFailed (fault_line e) (E.taken errors.old) (E.taken errors.new)
         (E.failures errors.old) (E.failures errors.new) }
     ensures silent { result ≡ 0 → errors.new ≡ errors.old }
 {
-    let base = base_of(args.least);
-    let Err(refusal) = merge_in_turn(alloc, readers, &args.choice, base, CAPACITY, output) else {
+    let Err(refusal) = merge_asked(rt, alloc, args, readers, output) else {
         return 0;
     };
     end_refused(&refusal, output, errors)
+}
+
+/// The merge that the options ask for.
+fn merge_asked<H, R, W>(
+    rt: &H,
+    alloc: Global,
+    args: &MergeArgs,
+    readers: Vec<R>,
+    output: &mut W,
+) -> Result<Report, MergeFault>
+where
+    H: Threads + Wait + Copy + Send + 'static,
+    R: Source + Send + Drop + 'static,
+    W: Sink,
+    requires { 0 < length readers.items }
+    ensures ok { IfOk result (λ report. MergedAll R.gives (IsChosen args.now.choice)
+        (base_of args.now.least) (mixes_of args.now.in_turn)
+        readers.items report.counts (W.taken output.old) (W.taken output.new)) }
+    ensures interleaved { IfOk result (λ report. MergedAll R.gives (IsChosen args.now.choice)
+        (base_of args.now.least) Interleaves
+        readers.items report.counts (W.taken output.old) (W.taken output.new)) }
+    ensures flushed { OnOk result (W.is_flushed output.new) }
+    ensures refused { IfErr result (λ e. IsRefusedAsked args.now.in_turn R.gives
+        (IsChosen args.now.choice) (base_of args.now.least)
+        readers.items e (W.taken output.old) (W.taken output.new)) }
+    ensures failures { W.failures output.new ≡ failures_after_merge result (W.failures output.old) }
+{
+    let base = base_of(args.least);
+    if args.in_turn {
+        return merge_in_turn(alloc, readers, &args.choice, base, CAPACITY, output);
+    }
+    merge(rt, alloc, readers, &args.choice, base, CAPACITY, output)
 }
 
 /// Whose translation the tiles share.

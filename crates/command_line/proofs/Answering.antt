@@ -20,7 +20,7 @@ use Rattle.clap.proofs.OnLiterals.{clap_on_literals}
 use Rattle.command_line.proofs.Naming.{enters_no_help, first_none, is_none_of, second_none}
 use Rattle.command_line.specs.Answered.{IsAnswered, is_shown}
 use Rattle.command_line.specs.Asked.{IsAsked}
-use Rattle.command_line.specs.Commands.{citymerge_app, filter_app, merge_app}
+use Rattle.command_line.specs.Commands.{cat_app, citymerge_app, filter_app, merge_app}
 use Rattle.command_line.specs.Matches.{AnswersKind, IsNamed}
 use Rattle.command_line.specs.declared.parsing.Parsed.{Parsed}
 use Rattle.command_line.specs.declared.parsing.Parsed.TheVariants as parsed
@@ -44,6 +44,9 @@ merge_command = built_leaf (inherited (on_top with_leaf_noted (on_top marked_bui
 
 abbrev filter_command : Shape
 filter_command = built_leaf (inherited (on_top with_leaf_noted (on_top marked_built citymerge_app)).top filter_app.top)
+
+abbrev cat_command : Shape
+cat_command = built_leaf (inherited (on_top with_leaf_noted (on_top marked_built citymerge_app)).top cat_app.top)
 
 abbrev help_command : Shape
 help_command = built_leaf help_shape
@@ -91,23 +94,26 @@ differs name other = go (bytes_eq (codes "help") name) refl
         let same : codes "help" ≡ name = (bytes_eq-Decides (codes "help") name).0 e in
         sym ((bytes_eq-Decides name (codes "help")).1 (sym same)) ∙ other
 
-abbrev met_of : (merges filters helps : Bool) → Option Shape
-met_of merges filters helps = cond merges (Some merge_command) (cond filters (Some filter_command) (cond helps (Some help_command) None))
+abbrev met_of : (merges filters cats helps : Bool) → Option Shape
+met_of merges filters cats helps =
+    cond merges (Some merge_command)
+    (cond filters (Some filter_command) (cond cats (Some cat_command) (cond helps (Some help_command) None)))
 
-one_of_three : (words : List Text) (merges filters helps : Bool) → helps ≡ false
-    → is_some (option_map (λ s. rows_at s words) (met_of merges filters helps)) ≡ true
-    → IsNamed (option_map (λ s. rows_at s words) (met_of merges filters helps))
-one_of_three words true filters helps other has = inl refl
-one_of_three words false true helps other has = inr refl
-one_of_three words false false true other has = absurd (true≢false other)
-one_of_three words false false false other has = absurd (true≢false (sym has))
+one_of_them : (words : List Text) (merges filters cats helps : Bool) → helps ≡ false
+    → is_some (option_map (λ s. rows_at s words) (met_of merges filters cats helps)) ≡ true
+    → IsNamed (option_map (λ s. rows_at s words) (met_of merges filters cats helps))
+one_of_them words true filters cats helps other has = inl refl
+one_of_them words false true cats helps other has = inr (inl refl)
+one_of_them words false false true helps other has = inr (inr refl)
+one_of_them words false false false true other has = absurd (true≢false other)
+one_of_them words false false false false other has = absurd (true≢false (sym has))
 
 entered_named : (stop : Option (Text × List Text)) → is_some (entered all_commands stop) ≡ true
     → ((p : Text × List Text) → stop ≡ Some p → bytes_eq p.0 (codes "help") ≡ false) → IsNamed (entered all_commands stop)
 entered_named None has free = absurd (true≢false (sym has))
 entered_named (Some p) has free =
     let other : answers_to p.0 (label_of help_command) ≡ false = ap (λ b. b || false) (differs p.0 (free p refl)) in
-    one_of_three p.1 (answers_to p.0 (label_of merge_command)) (answers_to p.0 (label_of filter_command)) (answers_to p.0 (label_of help_command)) other has
+    one_of_them p.1 (answers_to p.0 (label_of merge_command)) (answers_to p.0 (label_of filter_command)) (answers_to p.0 (label_of cat_command)) (answers_to p.0 (label_of help_command)) other has
 
 names_command : (words : List Text) → fault_of citymerge_app words ≡ [] → IsNamed (subcommand_of citymerge_app words)
 names_command words none =
@@ -137,6 +143,7 @@ kind_answered : (kinds : Kinds) (named : Option (Text × List Row)) (k : ErrorKi
     → (k ≡ OutOfMemory) ⊎ IsAmong k kinds → AnswersKind k answer → IsAnswered kinds named answer
 kind_answered kinds named k (parsed.Merge args) has h = absurd h
 kind_answered kinds named k (parsed.Filter choice) has h = absurd h
+kind_answered kinds named k parsed.Cat has h = absurd h
 kind_answered kinds named k parsed.Memory has h = tt
 kind_answered kinds named k (parsed.Help text) (inl out) h = absurd (true≢false (sym h ∙ ap is_shown out))
 kind_answered kinds named k (parsed.Help text) (inr among) h = any_among is_shown k kinds h among

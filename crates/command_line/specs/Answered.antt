@@ -53,6 +53,7 @@ is_shown _ = false
 abbrev pub IsAnswered : Kinds → Option (Text × List Row) → Parsed → Type 0
 IsAnswered kinds named (parsed.Merge args) = kinds ≡ []
 IsAnswered kinds named (parsed.Filter choice) = kinds ≡ []
+IsAnswered kinds named parsed.Cat = kinds ≡ []
 IsAnswered kinds named (parsed.Help text) = list_any is_shown kinds ≡ true
 IsAnswered kinds named (parsed.Usage text) =
     (list_any (λ kind. not (is_shown kind)) kinds ≡ true)

@@ -55,6 +55,7 @@ IsAsked named (parsed.Merge args) =
     IsSomeAnd named (λ command. (command.0 ≡ codes "merge") × IsMergeIn command.1 args)
 IsAsked named (parsed.Filter choice) =
     IsSomeAnd named (λ command. (command.0 ≡ codes "filter") × IsChoiceIn command.1 choice)
+IsAsked named parsed.Cat = IsSomeAnd named (λ command. command.0 ≡ codes "cat")
 IsAsked named _ = ⊤
 
 -- a merge is asked for of one tile at least

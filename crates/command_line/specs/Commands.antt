@@ -32,6 +32,10 @@ merge_app =
 abbrev pub filter_app : App
 filter_app = choosing (codes "filter")
 
+-- a document is cut with no options
+abbrev pub cat_app : App
+cat_app = new_app (codes "cat")
+
 -- the program above its commands: it has a version, and wants a command
 abbrev pub above_app : App
 above_app = record (new_app (codes "citymerge")) {
@@ -42,7 +46,10 @@ above_app = record (new_app (codes "citymerge")) {
 }
 
 abbrev pub citymerge_app : App
-citymerge_app = with_subcommand (with_subcommand above_app merge_app.top) filter_app.top
+citymerge_app =
+    let with_merge = with_subcommand above_app merge_app.top in
+    let with_filter = with_subcommand with_merge filter_app.top in
+    with_subcommand with_filter cat_app.top
 
 -- the command that the words name, with its rows: a row is what `clap` found for one option
 abbrev pub named_by : List Text → Option (Text × List Row)

@@ -13,6 +13,10 @@ filter words = codes "citymerge" ∷ codes "filter" ∷ words
 abbrev pub merge : List Text → List Text
 merge words = codes "citymerge" ∷ codes "merge" ∷ words
 
+-- the same after the word `cat`
+abbrev pub cat : List Text → List Text
+cat words = codes "citymerge" ∷ codes "cat" ∷ words
+
 abbrev pub Fails : List Text → Kinds → Type 0
 Fails words kinds = faults_of words ≡ kinds
 
@@ -45,6 +49,11 @@ pub record KnownFaults : Type 0 where
   pub in_turn_twice :
       Fails (merge (codes "--in-turn" ∷ codes "a" ∷ codes "--in-turn" ∷ [])) (kind.ArgumentConflict ∷ [])
   pub help_of_merge : Fails (merge (codes "--help" ∷ [])) (kind.DisplayHelp ∷ [])
+  pub bare_cat : Fails (cat []) []
+  pub path_of_cat : Fails (cat (codes "a.city.json" ∷ [])) (kind.UnknownArgument ∷ [])
+  pub option_of_cat : Fails (cat (codes "--exclude" ∷ [])) (kind.UnknownArgument ∷ [])
+  pub help_of_cat : Fails (cat (codes "--help" ∷ [])) (kind.DisplayHelp ∷ [])
+  pub cat_after_filter : Fails (filter (codes "cat" ∷ [])) (kind.UnknownArgument ∷ [])
 
 -- what is found of one option, where the words name a command
 abbrev pub Finds : {A : Type 0} → List Text → (List Row → A) → A → Type 0
@@ -61,6 +70,7 @@ five =
 pub record KnownRows : Type 0 where
   pub taken : takes citymerge_app three ≡ true
   pub merge_taken : takes citymerge_app five ≡ true
+  pub cat_taken : takes citymerge_app (cat []) ≡ true
   pub types : Finds three types_text (Some (codes "A,B"))
   pub area : Finds three area_text (Some (codes "1,2,3,4"))
   pub exclude : Finds three (is_used (codes "exclude")) true

@@ -15,7 +15,8 @@ rows_in matches = rows_of (found_of matches)
 -- the words name a command
 abbrev pub IsNamed : Option (Text × List Row) → Type 0
 IsNamed named =
-    IsSomeAnd named (λ command. (command.0 ≡ codes "merge") ⊎ (command.0 ≡ codes "filter"))
+    IsSomeAnd named (λ command.
+    (command.0 ≡ codes "merge") ⊎ (command.0 ≡ codes "filter") ⊎ (command.0 ≡ codes "cat"))
 
 -- the answer fits an error of `clap` of that kind
 abbrev pub AnswersKind : ErrorKind → Parsed → Type 0
@@ -28,4 +29,5 @@ AnswersKind kind _ = ⊥
 abbrev pub IsTaken : Option (Text × List Row) → Parsed → Type 0
 IsTaken named (parsed.Merge args) = IsAsked named (parsed.Merge args)
 IsTaken named (parsed.Filter choice) = IsAsked named (parsed.Filter choice)
+IsTaken named parsed.Cat = IsAsked named parsed.Cat
 IsTaken named _ = ⊥

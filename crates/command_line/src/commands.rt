@@ -1,7 +1,7 @@
 ghost use Rattle.std.specs.Prelude.{◌≡◌, IfOk, false};
 ghost use Rattle.clap.specs.Words.{app_of, rule_of};
 ghost use Rattle.clap.specs.declared.builder.command.Command.TheViews.{out-Command as fields_of};
-ghost use Rattle.command_line.specs.Commands.{above_app, choosing, citymerge_app, filter_app};
+ghost use Rattle.command_line.specs.Commands.{above_app, cat_app, choosing, citymerge_app, filter_app};
 ghost use Rattle.command_line.specs.Commands.{flag, merge_app, tiles, valued};
 
 use clap::{Arg, ArgAction, Command};
@@ -26,6 +26,7 @@ static PROGRAM_END: &str = with_statuses!(
     "Examples:
   citymerge merge west.city.jsonl east.city.jsonl > both.city.jsonl
   citymerge filter --cotype=Building < tile.city.jsonl > buildings.city.jsonl
+  citymerge cat < town.city.json > town.city.jsonl
 
 `citymerge help COMMAND` says more of a command."
 );
@@ -50,6 +51,15 @@ option all features are written.
 Examples:
   citymerge filter --cotype=Building,Bridge < tile.city.jsonl > chosen.city.jsonl
   citymerge filter --bbox=-5,0,10,10 --exclude < tile.city.jsonl > others.city.jsonl"
+);
+
+static CAT_END: &str = with_statuses!(
+    "A feature is a city object without parents, with all that are reached from it
+through children, and with vertices of its own. A document that is at fault is
+refused whole. It is held in memory.
+
+Example:
+  citymerge cat < town.city.json > town.city.jsonl"
 );
 
 static TILE_HELP: &str = "A file with a CityJSONSeq stream: a header,
@@ -85,7 +95,8 @@ pub fn citymerge_command<'a>(alloc: Global) -> Result<Command<'a>, AllocError>
 {
     above_command(alloc)
         .subcommand(merge_command(alloc)?)?
-        .subcommand(filter_command(alloc)?)
+        .subcommand(filter_command(alloc)?)?
+        .subcommand(cat_command(alloc))
 }
 
 /// The program above its commands, with its version.
@@ -95,7 +106,7 @@ fn above_command<'a>(alloc: Global) -> Command<'a>
 {
     Command::new(alloc, "citymerge")
         .version(VERSION)
-        .about("Merges and filters streams of CityJSON features (CityJSONSeq).")
+        .about("Merges, filters and makes streams of CityJSON features (CityJSONSeq).")
         .after_help(PROGRAM_END)
         .subcommand_required(true)
 }
@@ -135,6 +146,15 @@ fn filter_command<'a>(alloc: Global) -> Result<Command<'a>, AllocError>
             .about("Writes the chosen features of a stream from standard input to standard output.")
             .after_help(FILTER_END),
     )
+}
+
+fn cat_command<'a>(alloc: Global) -> Command<'a>
+    ensures app { app_of result ≡ cat_app }
+    ensures local { (fields_of result).has_globals ≡ false }
+{
+    Command::new(alloc, "cat")
+        .about("Cuts a CityJSON document from standard input into a stream on standard output.")
+        .after_help(CAT_END)
 }
 
 /// A command with the options that choose features.

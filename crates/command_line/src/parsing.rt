@@ -25,6 +25,8 @@ pub enum Parsed {
     Merge(MergeArgs),
     /// To filter a stream by this choice.
     Filter(Choice),
+    /// To make a stream of a document.
+    Cat,
     /// A text for standard output: help, or the version.
     Help(Line),
     /// A text for standard error: the words are wrong.
@@ -37,9 +39,10 @@ pub enum Parsed {
 ///
 /// `filter` takes `--cotype=TYPE,TYPE`, `--bbox=MINX,MINY,MAXX,MAXY` in grid units and `--exclude`.
 /// `merge` takes these, `--in-turn`, `--least` and one path or more, of which `-` is a name as any
-/// other. A value that begins with `-` is given with `=`, such a path after `--`. `--help`, `-h`, `help` and `--version` are
-/// answered with [`Parsed::Help`]. All other words are answered with [`Parsed::Usage`]: what `clap`
-/// says of them, or a line for a bad `--cotype` and else for a bad `--bbox`.
+/// other. `cat` takes nothing. A value that begins with `-` is given with `=`, such a path after `--`.
+/// `--help`, `-h`, `help` and `--version` are answered with [`Parsed::Help`]. All other words are
+/// answered with [`Parsed::Usage`]: what `clap` says of them, or a line for a bad `--cotype` and else
+/// for a bad `--bbox`.
 pub fn parse_words(alloc: Global, words: &Paths) -> Parsed
     ensures asked { IsAsked (named_by words.now) result }
     ensures answered { IsAnswered (faults_of words.now) (named_by words.now) result }
@@ -91,6 +94,9 @@ fn asked(alloc: Global, matches: &ArgMatches<'_>) -> Result<Parsed, Refusal>
     }
     if let Some(filter) = matches.subcommand_matches("filter") {
         return Ok(Parsed::Filter(choice_given(alloc, filter)?));
+    }
+    if matches.subcommand_matches("cat").is_some() {
+        return Ok(Parsed::Cat);
     }
     unreachable!()
 }

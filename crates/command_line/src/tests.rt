@@ -1,3 +1,4 @@
+mod cutting;
 mod merging;
 
 use crate::{Parsed, Paths, parse_words};

@@ -38,23 +38,22 @@ module _ {R : Type 0} where
       ap (λ n. take n shifts) (grind (arith, common_steps)) ∙ take_next shifts (length tiles) shift within ∙ ap (λ s. take (length tiles) shifts ++ s ∷ []) (sym is_shift) in
       rw (longer, grown) (all_three_push (IsFeedOf capacity) tiles (take (length tiles) shifts) feeds tile shift feed all is_feed)
 
-  abbrev last_of : FeedState R → Option End
-  last_of feed = feed.last
+module _ {X : Type 0} (last_of : X → Option End) where
+  only_end : (item : X) (last : Option End) → last_of item ≡ last → filter_map last_of (item ∷ []) ≡ option_to_list last
+  only_end item None is = rw is refl
+  only_end item (Some end) is = rw is refl
 
-  only_end : (feed : FeedState R) (last : Option End) → feed.last ≡ last → filter_map (λ (f : FeedState R). f.last) (feed ∷ []) ≡ option_to_list last
-  only_end feed None is = rw is refl
-  only_end feed (Some end) is = rw is refl
-
-  pub ends_more : (feeds : List (FeedState R)) (n : ℕ) (feed : FeedState R) (last : Option End) → n < length feeds → feed ≡ get_or feeds n feed → last ≡ feed.last
-      → filter_map (λ (f : FeedState R). f.last) (take (n + 1) feeds) ≡ filter_map (λ (f : FeedState R). f.last) (take n feeds) ++ option_to_list last
-  ends_more feeds n feed last within is_feed is_last =
-      ap (filter_map last_of) (take_next feeds n feed within)
-      ∙ filter_map-append last_of (take n feeds) (get_or feeds n feed ∷ [])
-      ∙ ap (λ xs. filter_map last_of (take n feeds) ++ xs) (only_end (get_or feeds n feed) last (ap (λ (f : FeedState R). f.last) (sym is_feed) ∙ sym is_last))
+  -- one end note more
+  pub ends_more : (items : List X) (n : ℕ) (item : X) (last : Option End) → n < length items → item ≡ get_or items n item → last ≡ last_of item
+      → filter_map last_of (take (n + 1) items) ≡ filter_map last_of (take n items) ++ option_to_list last
+  ends_more items n item last within is_item is_last =
+      ap (filter_map last_of) (take_next items n item within)
+      ∙ filter_map-append last_of (take n items) (get_or items n item ∷ [])
+      ∙ ap (λ xs. filter_map last_of (take n items) ++ xs) (only_end (get_or items n item) last (ap last_of (sym is_item) ∙ sym is_last))
 
   -- the ends of tiles that all are over
-  pub are_ends : (feeds : List (FeedState R)) (ended : List Ended) → AllZip (λ (feed : FeedState R) (end : Ended). feed.last ≡ Some (end_of end)) feeds ended → AreEnds (filter_map (λ (f : FeedState R). f.last) feeds) ended
+  pub are_ends : (items : List X) (ended : List Ended) → AllZip (λ (item : X) (end : Ended). last_of item ≡ Some (end_of end)) items ended → AreEnds (filter_map last_of items) ended
   are_ends [] [] all = tt
   are_ends [] (end ∷ ended) all = absurd all
-  are_ends (feed ∷ feeds) [] all = absurd all
-  are_ends (feed ∷ feeds) (end ∷ ended) all = rw all.0 (refl, are_ends feeds ended all.1)
+  are_ends (item ∷ items) [] all = absurd all
+  are_ends (item ∷ items) (end ∷ ended) all = rw all.0 (refl, are_ends items ended all.1)

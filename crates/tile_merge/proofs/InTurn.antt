@@ -32,30 +32,24 @@ use Rattle.tile_merge.proofs.TurnsInterleave.{interleaves}
 
 -- ---- refusals ----
 
-module _ {R : Type 0} (gives : R → List ℕ → Bool → Type 0) (IsWanted : FeatureValue → Type 0) (base : Base) (readers : List R) (old new : Option (List ℕ)) where
-  abbrev Front : Type 0
-  Front = WroteFrontOf gives IsWanted base AreTurns readers old new
-
-  abbrev Refused : MergeFault → Type 0
-  Refused refusal = IsRefusedMerge gives IsWanted base AreTurns readers refusal old new
-
-  of_output : (fault : Fault) → (fault ≡ Write) ⊎ (fault ≡ Memory) → (refusal : MergeFault) → refusal ≡ record { tile = 0; line = 0; fault = fault } → WroteFrontOf gives IsWanted base AreTurns readers old new → IsRefusedMerge gives IsWanted base AreTurns readers refusal old new
+module _ {R : Type 0} (gives : R → List ℕ → Bool → Type 0) (IsWanted : FeatureValue → Type 0) (base : Base) (Mixes : List (List (List ℕ)) → List (List ℕ) → Type 0) (readers : List R) (old new : Option (List ℕ)) where
+  of_output : (fault : Fault) → (fault ≡ Write) ⊎ (fault ≡ Memory) → (refusal : MergeFault) → refusal ≡ record { tile = 0; line = 0; fault = fault } → WroteFrontOf gives IsWanted base Mixes readers old new → IsRefusedMerge gives IsWanted base Mixes readers refusal old new
   of_output fault which refusal is front =
       let Out : MergeFault → Type 0 = λ r. IsOutputFault r in
       inr (inl (subst Out (sym is) ((refl, refl), which), front))
 
-  pub of_write : (fault : Fault) → fault ≡ Write → (refusal : MergeFault) → refusal ≡ record { tile = 0; line = 0; fault = fault } → WroteFrontOf gives IsWanted base AreTurns readers old new → IsRefusedMerge gives IsWanted base AreTurns readers refusal old new
+  pub of_write : (fault : Fault) → fault ≡ Write → (refusal : MergeFault) → refusal ≡ record { tile = 0; line = 0; fault = fault } → WroteFrontOf gives IsWanted base Mixes readers old new → IsRefusedMerge gives IsWanted base Mixes readers refusal old new
   of_write fault is = of_output fault (inl is)
 
-  pub of_memory : (refusal : MergeFault) → refusal ≡ record { tile = 0; line = 0; fault = Memory } → WroteFrontOf gives IsWanted base AreTurns readers old new → IsRefusedMerge gives IsWanted base AreTurns readers refusal old new
+  pub of_memory : (refusal : MergeFault) → refusal ≡ record { tile = 0; line = 0; fault = Memory } → WroteFrontOf gives IsWanted base Mixes readers old new → IsRefusedMerge gives IsWanted base Mixes readers refusal old new
   of_memory = of_output Memory (inr refl)
 
-  pub of_tile : (refusal : MergeFault) → StoppedAtTile gives IsWanted base AreTurns readers refusal old new → IsRefusedMerge gives IsWanted base AreTurns readers refusal old new
+  pub of_tile : (refusal : MergeFault) → StoppedAtTile gives IsWanted base Mixes readers refusal old new → IsRefusedMerge gives IsWanted base Mixes readers refusal old new
   of_tile refusal stopped = inr (inr stopped)
 
 -- before a byte is written
-pub of_early : {R : Type 0} (gives : R → List ℕ → Bool → Type 0) (IsWanted : FeatureValue → Type 0) (base : Base) (readers : List R) (refusal : MergeFault) (old : Option (List ℕ)) → IsRefusedEarly gives base readers refusal → IsRefusedMerge gives IsWanted base AreTurns readers refusal old old
-of_early gives IsWanted base readers refusal old early = inl (early, Keeps-refl old)
+pub of_early : {R : Type 0} (gives : R → List ℕ → Bool → Type 0) (IsWanted : FeatureValue → Type 0) (base : Base) (Mixes : List (List (List ℕ)) → List (List ℕ) → Type 0) (readers : List R) (refusal : MergeFault) (old : Option (List ℕ)) → IsRefusedEarly gives base readers refusal → IsRefusedMerge gives IsWanted base Mixes readers refusal old old
+of_early gives IsWanted base Mixes readers refusal old early = inl (early, Keeps-refl old)
 
 -- a vector whose items were lent and changed has the changed ones
 pub lent_back : {X : Type 0} (items new : List X) (count : ℕ) → length new ≡ count → count ≡ length items → take count (new ++ drop (length new) items) ≡ new
@@ -64,7 +58,7 @@ lent_back items new count long whole =
     ap (λ rest. take count (new ++ rest)) none ∙ ap (take count) (append-nil new) ∙ take_all count new (omega (arith, long))
 
 -- the ends that were taken are those of the courses
-ends_long : (ends : List End) (ended : List Ended) → AreEnds ends ended → length ends ≡ length ended
+pub ends_long : (ends : List End) (ended : List Ended) → AreEnds ends ended → length ends ≡ length ended
 ends_long [] [] are = refl
 ends_long [] (e ∷ ended) are = absurd are
 ends_long (e ∷ ends) [] are = absurd are
@@ -151,8 +145,8 @@ module _ {R : Type 0} (gives : R → List ℕ → Bool → Type 0) (IsWanted : F
             → IfErr result (λ e. (e ≡ record { tile = 0; line = 0; fault = Memory }) ⊎ ((tiles : List Ended) → AreEnds ends tiles → told 1 (outcomes_in tiles) ≡ Some e))
             → IfErr result (λ e. IsRefusedMerge gives IsWanted base AreTurns readers e old newer)
         refused_result (Ok report) says = tt
-        refused_result (Err e) (inl memory) = of_memory gives IsWanted base readers old newer e memory no_flush
-        refused_result (Err e) (inr says) = of_tile gives IsWanted base readers old newer e (stopped e says)
+        refused_result (Err e) (inl memory) = of_memory gives IsWanted base AreTurns readers old newer e memory no_flush
+        refused_result (Err e) (inr says) = of_tile gives IsWanted base AreTurns readers old newer e (stopped e says)
 
 -- ---- what the report says ----
 

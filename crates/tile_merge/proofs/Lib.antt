@@ -1,6 +1,7 @@
 pub mod Coming
 pub mod Comings
 pub mod FaultNumbers
+pub mod Feeder
 pub mod Feeding
 pub mod Feeds
 pub mod Filtering
@@ -10,12 +11,17 @@ pub mod InTurn
 pub mod Joining
 pub mod Leaving
 pub mod MergedTiles
+pub mod Mixing
 pub mod Opening
 pub mod Readying
 pub mod Rounding
+pub mod Starting
 pub mod Steps
+pub mod Taken
 pub mod Telling
+pub mod Threaded
 pub mod Threes
 pub mod Turning
 pub mod TurnsInterleave
 pub mod TurnsLaws
+pub mod Writing

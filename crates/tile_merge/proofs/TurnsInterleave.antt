@@ -11,7 +11,7 @@ use Rattle.tile_merge.proofs.TurnsLaws.{longest_rests}
 module _ {X : Type 0} where
   -- ---- items at the places of a number ----
 
-  at_own : (t n : ℕ) (numbers : List ℕ) (item : X) (out : List X) → n ≡ t → items_at t (n ∷ numbers) (item ∷ out) ≡ item ∷ items_at t numbers out
+  pub at_own : (t n : ℕ) (numbers : List ℕ) (item : X) (out : List X) → n ≡ t → items_at t (n ∷ numbers) (item ∷ out) ≡ item ∷ items_at t numbers out
   at_own t n numbers item out same = rw (eq-eqb n t same) refl
 
   at_other : (t n : ℕ) (numbers : List ℕ) (item : X) (out : List X) → n ≢ t → items_at t (n ∷ numbers) (item ∷ out) ≡ items_at t numbers out
@@ -21,7 +21,7 @@ module _ {X : Type 0} where
   one_more true item items others = refl
   one_more false item items others = refl
 
-  at-append : (t : ℕ) (numbers more : List ℕ) (out others : List X) → length numbers ≡ length out → items_at t (numbers ++ more) (out ++ others) ≡ items_at t numbers out ++ items_at t more others
+  pub at-append : (t : ℕ) (numbers more : List ℕ) (out others : List X) → length numbers ≡ length out → items_at t (numbers ++ more) (out ++ others) ≡ items_at t numbers out ++ items_at t more others
   at-append t [] more [] others long = refl
   at-append t [] more (item ∷ out) others long = absurd (omega (arith, long))
   at-append t (n ∷ numbers) more [] others long = absurd (omega (arith, long))

@@ -13,6 +13,8 @@ pub mod Stream
 pub mod Taking
 pub mod TapeLines
 pub mod Texts
+pub mod Threaded
+pub mod Threads
 pub mod Tile
 pub mod Told
 pub mod Turns

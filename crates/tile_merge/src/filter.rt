@@ -169,7 +169,7 @@ fn write_features<R: Source, W: Sink>(
 }
 
 /// Writes a line, and gives it back empty, for its memory.
-pub(crate) fn write_line<W: Sink>(output: &mut W, line: Line) -> Result<Line, Fault>
+pub fn write_line<W: Sink>(output: &mut W, line: Line) -> Result<Line, Fault>
     ensures all { IfOk result (λ text. (text ≡ [])
         × Appends (W.taken output.old) (W.taken output.new) line) }
     ensures some { OnErr result ((count : ℕ)

@@ -13,10 +13,12 @@ mod merging;
 mod tile_reader;
 
 pub use fault::MergeFault;
-pub use filter::{filter_stream, filter_tile};
+pub use filter::{filter_stream, filter_tile, write_line};
 pub use laws::{tape_leaves_one_list, turns_interleave};
+pub use line_end::end_line;
 pub use lines::{LineFault, Lines, NumberedLine};
 pub use merging::in_turn::merge_in_turn;
 pub use merging::report::{Counts, Report};
+pub use merging::threaded::merge;
 pub use merging::tiles::tile_count;
 pub use tile_reader::{Head, TileReader};

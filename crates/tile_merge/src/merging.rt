@@ -2,4 +2,5 @@ pub(crate) mod ends;
 pub(crate) mod feed;
 pub(crate) mod in_turn;
 pub(crate) mod report;
+pub(crate) mod threaded;
 pub(crate) mod tiles;

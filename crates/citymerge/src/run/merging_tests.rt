@@ -5,7 +5,9 @@ use city_json::{Bin, Line, Tape};
 use command_line::{MergeArgs, Paths};
 use std::alloc::{AllocError, Global};
 use std::process::Abort;
+use std::sync::Wait;
 use std::test::Fail;
+use std::thread::Threads;
 
 pub(super) const FAR_HEADER: &str =
     r#"{"type":"CityJSON","version":"2.0","transform":{"scale":[0.001,0.001,0.001],"translate":[1.5,0,0]},"CityObjects":{},"vertices":[]}"#;
@@ -55,25 +57,45 @@ fn readers_of(
     Ok(readers)
 }
 
-/// Merges with ample memory, at few and at many bytes a read and a write, with and without turns.
-pub(super) fn expect_merge(
-    rt: &(impl Abort + AllocGlobal),
+/// The lines of a stream after the first, sorted.
+fn sorted_lines<'a>(alloc: Global, stream: &'a [u8]) -> Result<Vec<&'a [u8]>, AllocError> {
+    let mut lines = Vec::new(alloc);
+    for line in stream.split(|byte| *byte == b'\n').skip(1) {
+        lines.push(line)?;
+    }
+    lines.sort_unstable();
+    Ok(lines)
+}
+
+/// Merges with ample memory, in turn at few and at many bytes a read and a write, and then with a
+/// thread for each tile, where the lines are the same in some order.
+pub(super) fn expect_merge<H>(
+    rt: &H,
     args: &mut MergeArgs,
     (tiles, fails): (&[&[&str]], bool),
     wanted: &Wanted,
-) -> Result<(), Fail> {
+) -> Result<(), Fail>
+where
+    H: Abort + AllocGlobal + Threads + Wait + Copy + Send + 'static,
+{
     let alloc = rt.alloc();
     let written = stream_of(alloc, wanted.written)?;
-    for step in [1usize, 7, 100_000] {
+    for (step, in_turn) in [(1usize, true), (7, true), (100_000, true), (7, false)] {
         let readers = readers_of(alloc, tiles, step, fails)?;
         assert!(rt; !readers.is_empty());
         let mut output = Bin::new(alloc, 4096, step, false)?;
         let mut errors = Bin::new(alloc, 256, step, false)?;
-        args.in_turn = step != 7;
-        let status = run_merge(alloc, args, readers, &mut output, &mut errors);
+        args.in_turn = in_turn;
+        let status = run_merge(rt, alloc, args, readers, &mut output, &mut errors);
         assert_eq!(rt; status, wanted.status, "step {step}");
-        assert_eq!(rt; output.bytes(), written.as_slice(), "step {step}");
         assert_eq!(rt; errors.bytes(), wanted.said.as_bytes(), "step {step}");
+        if in_turn {
+            assert_eq!(rt; output.bytes(), written.as_slice(), "step {step}");
+            continue;
+        }
+        let header = wanted.written.first().map_or(0, |text| text.len());
+        assert!(rt; output.bytes().get(..header) == written.get(..header));
+        assert!(rt; sorted_lines(alloc, output.bytes())? == sorted_lines(alloc, &written)?);
     }
     Ok(())
 }
@@ -146,7 +168,7 @@ fn more_than_64_tiles_are_too_many(rt: HostRuntime) -> Result<(), Fail> {
         let mut errors = Bin::new(alloc, 256, 256, false)?;
         let args = plain(alloc);
         assert_eq!(rt;
-            run_merge(alloc, &args, readers, &mut output, &mut errors),
+            run_merge(&rt, alloc, &args, readers, &mut output, &mut errors),
             status
         );
         assert!(rt; output.bytes() == bytes);
@@ -236,7 +258,7 @@ fn a_failed_write_of_a_merge_is_told(rt: HostRuntime) -> Result<(), Fail> {
         let mut output = Bin::new(alloc, room, step, flush_fails)?;
         let mut errors = Bin::new(alloc, 64, 64, false)?;
         let args = plain(alloc);
-        let status = run_merge(alloc, &args, readers, &mut output, &mut errors);
+        let status = run_merge(&rt, alloc, &args, readers, &mut output, &mut errors);
         assert_eq!(rt; status, 1, "room {room}");
         assert_eq!(rt;
             output.bytes(),
@@ -276,7 +298,7 @@ fn a_large_merge_is_whole(rt: HostRuntime) -> Result<(), Fail> {
     let mut errors = Bin::new(alloc, 256, 256, false)?;
     let args = plain(alloc);
     assert_eq!(rt;
-        run_merge(alloc, &args, readers, &mut output, &mut errors),
+        run_merge(&rt, alloc, &args, readers, &mut output, &mut errors),
         0
     );
     assert!(rt; output.bytes() == written.as_slice());

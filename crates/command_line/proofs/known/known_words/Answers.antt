@@ -29,6 +29,11 @@ faults = record {
   tile_after_a_dash = refl;
   in_turn_twice = refl;
   help_of_merge = refl;
+  bare_cat = refl;
+  path_of_cat = refl;
+  option_of_cat = refl;
+  help_of_cat = refl;
+  cat_after_filter = refl;
 }
 
 rows : KnownRows
@@ -36,6 +41,7 @@ unfolding clap_on_literals
 rows = record {
   taken = refl;
   merge_taken = refl;
+  cat_taken = refl;
   types = refl;
   area = refl;
   exclude = refl;

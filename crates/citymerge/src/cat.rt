@@ -1,0 +1,46 @@
+ghost use Rattle.std.specs.Prelude.{◌≡◌, ◌⊎◌, ℕ};
+ghost use Rattle.citymerge.specs.FaultLine.{fault_line};
+ghost use Rattle.citymerge.specs.Passing.{FlushedOrFailed, WroteOrFailed};
+ghost use Rattle.document_stream.specs.CutStream.{IsRefusedDocument, WroteCut};
+ghost use Rattle.document_stream.specs.Input.{SomeInput};
+ghost use Rattle.tile_merge.specs.Filtered.{failures_after_write};
+ghost use Rattle.tile_merge.specs.Unread.{failed_reads_after};
+ghost use Rattle.tile_merge.specs.declared.fault.MergeFault.{MergeFault};
+
+#[cfg(test)]
+mod tests;
+
+use crate::report::end_refused;
+use city_json::{Sink, Source};
+use document_stream::cat_source;
+use std::alloc::Global;
+
+/// Writes the stream of the document that the input is to `output`, and answers the status to end with:
+/// 0, or 1 with a fault line on `errors`. What was written is passed on either way.
+pub fn run_cat<R: Source, W: Sink, E: Sink>(
+    alloc: Global,
+    input: &mut R,
+    output: &mut W,
+    errors: &mut E,
+) -> u8
+    ensures status { (result ≡ 0) ⊎ (result ≡ 1) }
+    ensures done { result ≡ 0 → SomeInput (R.gives input.old) (λ document. (count : ℕ)
+        × WroteCut document count (W.taken output.old) (W.taken output.new)) }
+    ensures done_flushed { result ≡ 0 → W.is_flushed output.new }
+    ensures done_failures { result ≡ 0 → W.failures output.new ≡ W.failures output.old }
+    ensures done_reads { result ≡ 0 → R.failures input.new ≡ R.failures input.old }
+    ensures refused { result ≡ 1 → (e : MergeFault)
+        × IsRefusedDocument (R.gives input.old) e.fault e.tile e.line
+        (W.taken output.old) (W.taken output.new)
+        × FlushedOrFailed (W.is_flushed output.new)
+        (failures_after_write e.fault (W.failures output.old)) (W.failures output.new)
+        × (R.failures input.new ≡ failed_reads_after e.fault (R.failures input.old))
+        × WroteOrFailed (fault_line e) (E.taken errors.old) (E.taken errors.new)
+        (E.failures errors.old) (E.failures errors.new) }
+    ensures silent { result ≡ 0 → errors.new ≡ errors.old }
+{
+    match cat_source(alloc, input, output) {
+        Ok(_) => 0,
+        Err(refusal) => end_refused(&refusal, output, errors),
+    }
+}

@@ -1,0 +1,3 @@
+pub mod AllWritten
+pub mod InputTaken
+pub mod LinesWritten

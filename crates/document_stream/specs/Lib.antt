@@ -1,0 +1,4 @@
+pub mod CutStream
+pub mod Input
+pub mod Taking
+pub mod Unwritten

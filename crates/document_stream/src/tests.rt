@@ -1,0 +1,71 @@
+//! Documents, what comes of them, and readers and writers that fail.
+mod documents;
+mod failures;
+mod refusals;
+
+use crate::cat::cat_document;
+use city_json::{Bin, Fault, Line, Tape};
+use std::alloc::{AllocError, AllocGlobal, Global};
+use std::process::Abort;
+use std::test::Fail;
+use tile_merge::MergeFault;
+
+const HEADER: &str =
+    r#"{"type":"CityJSON","version":"2.0","transform":{"scale":[0.001,0.001,0.001],"translate":[0,0,0]},"CityObjects":{},"vertices":[]}"#;
+
+const DOCUMENT: &str =
+    r#"{"type":"CityJSON","version":"2.0","transform":{"scale":[0.001,0.001,0.001],"translate":[0,0,0]},"CityObjects":{"b":{"type":"Building","children":["p1","p2"]},"p1":{"type":"BuildingPart","parents":["b"],"geometry":[{"type":"MultiPoint","lod":"1","boundaries":[3,1]}]},"p2":{"type":"BuildingPart","parents":["b"],"geometry":[{"type":"MultiPoint","lod":"1","boundaries":[1,0]}]}},"vertices":[[0,0,0],[1,1,1],[2,2,2],[3,3,3]]}"#;
+
+const FEATURE: &str =
+    r#"{"type":"CityJSONFeature","id":"b","CityObjects":{"b":{"type":"Building","children":["p1","p2"]},"p1":{"type":"BuildingPart","parents":["b"],"geometry":[{"type":"MultiPoint","lod":"1","boundaries":[0,1]}]},"p2":{"type":"BuildingPart","parents":["b"],"geometry":[{"type":"MultiPoint","lod":"1","boundaries":[1,2]}]}},"vertices":[[3,3,3],[1,1,1],[0,0,0]]}"#;
+
+const NOT_WRITTEN: MergeFault = MergeFault {
+    tile: 0,
+    line: 0,
+    fault: Fault::Write,
+};
+
+/// The answer to a document that is refused.
+fn refused(fault: Fault) -> Result<u64, MergeFault> {
+    Err(MergeFault {
+        tile: 1,
+        line: 0,
+        fault,
+    })
+}
+
+/// These texts, each followed by a newline.
+fn stream_of(alloc: Global, texts: &[&str]) -> Result<Vec<u8>, AllocError> {
+    let mut stream = Vec::new(alloc);
+    for text in texts {
+        stream.extend_from_slice(text.as_bytes())?;
+        stream.push(b'\n')?;
+    }
+    Ok(stream)
+}
+
+/// Reads the document with ample memory, at few and at many bytes a read and a write, and compares all
+/// that is answered and written.
+fn expect_cat(
+    rt: &(impl Abort + AllocGlobal),
+    (input, fails): (&[u8], bool),
+    answer: Result<u64, MergeFault>,
+    written: &[&str],
+) -> Result<(), Fail> {
+    let written = stream_of(rt.alloc(), written)?;
+    for step in [1usize, 7, 100_000] {
+        let tape = Tape::new(
+            Line::from_vec(input.to_vec(rt.alloc())?),
+            step.max(1),
+            fails,
+        );
+        let mut output = Bin::new(rt.alloc(), 8192, step, false)?;
+        assert_eq!(rt;
+            cat_document(rt.alloc(), tape, &mut output),
+            answer,
+            "step {step}"
+        );
+        assert_eq!(rt; output.bytes(), written.as_slice(), "step {step}");
+    }
+    Ok(())
+}

@@ -1,0 +1,61 @@
+-- The lines among the notes that were taken of a tile, and its end note.
+use Rattle.std.proofs.Common.{◌≡◌, ◌++◌, ℕ, List, [], ◌∷◌, Option, Some, None, is_some, length, map, refl, sym, ap, subst, ◌∙◌, true, Bool}
+use Rattle.tile_handoff.specs.declared.note.End.{End}
+use Rattle.tile_handoff.specs.declared.note.Note.{Note}
+use Rattle.tile_handoff.specs.declared.note.Note.TheVariants.{Line as LineNote, End as EndNote}
+use Rattle.tile_handoff.specs.Notes.{has_end}
+use Rattle.tile_merge.specs.EndNotes.{end_of, ended_so, line_note, notes_of}
+use Rattle.tile_merge.specs.Feeds.{Course, course_of}
+use Rattle.tile_merge.specs.Stream.{with_newline}
+use Rattle.tile_merge.specs.Threads.{Fed, IsFed, HasGiven, TellsEnd, lines_in}
+
+-- a line more, and the end note
+pub lines_more : (notes : List Note) (line : List ℕ) → lines_in (notes ++ LineNote line ∷ []) ≡ lines_in notes ++ line ∷ []
+lines_more [] line = refl
+lines_more (LineNote first ∷ notes) line = ap (λ ls. first ∷ ls) (lines_more notes line)
+lines_more (EndNote end ∷ notes) line = lines_more notes line
+
+pub lines_ended : (notes : List Note) (end : End) → lines_in (notes ++ EndNote end ∷ []) ≡ lines_in notes
+lines_ended [] end = refl
+lines_ended (LineNote first ∷ notes) end = ap (λ ls. first ∷ ls) (lines_ended notes end)
+lines_ended (EndNote first ∷ notes) end = lines_ended notes end
+
+-- the lines of texts
+lines_of_notes : (texts : List (List ℕ)) → lines_in (map line_note texts) ≡ map with_newline texts
+lines_of_notes [] = refl
+lines_of_notes (text ∷ texts) = ap (λ ls. with_newline text ∷ ls) (lines_of_notes texts)
+
+-- an end note that stands last is among them
+pub has_its_end : (front : List Note) (end : End) → has_end (front ++ EndNote end ∷ []) ≡ true
+has_its_end [] end = refl
+has_its_end (LineNote line ∷ front) end = has_its_end front end
+has_its_end (EndNote first ∷ front) end = refl
+
+-- the end note of texts is the one that stands last
+same_end : (texts : List (List ℕ)) (end last : End) (front : List Note) → map line_note texts ++ EndNote end ∷ [] ≡ front ++ EndNote last ∷ [] → last ≡ end
+same_end [] end last [] same = cc same
+same_end [] end last (note ∷ []) same = absurd (cc same)
+same_end [] end last (note ∷ other ∷ front) same = absurd (cc same)
+same_end (text ∷ texts) end last [] same = absurd (cc same)
+same_end (text ∷ texts) end last (note ∷ front) same = same_end texts end last front (cc same)
+
+pub some_end : (last : Option End) → is_some last ≡ true → (end : End) × (last ≡ Some end)
+some_end None is = absurd (cc is)
+some_end (Some end) is = (end, refl)
+
+-- what was taken of a tile, all that its thread put, is what the tile gave
+pub has_given : {R : Type 0} (gives : R → List ℕ → Bool → Type 0) (fed : Fed R) (last : Option End) (end : End) → last ≡ Some end → (before carried taken : List Note) → before ≡ [] → IsFed gives fed before carried → taken ≡ carried → TellsEnd last taken
+    → (course : Course) × HasGiven gives (record { fed = fed; lines = lines_in taken; last = last }) course
+has_given gives fed last end is before carried taken empty put whole tells =
+    let told = subst (λ l. TellsEnd l taken) is tells in
+    let are : taken ≡ notes_of put.texts put.outcome = whole ∙ put.put ∙ ap (λ ns. ns ++ notes_of put.texts put.outcome) empty in
+    let ended = ended_so (length put.texts) put.outcome in
+    let notes = map line_note put.texts in (
+      course_of put.texts ended,
+      record {
+        comes = put.comes;
+        counted = refl;
+        lines = ap lines_in are ∙ lines_ended notes (end_of ended) ∙ lines_of_notes put.texts;
+        last = is ∙ ap Some (same_end put.texts (end_of ended) end told.0 (sym are ∙ told.1));
+      },
+    )

@@ -1,0 +1,19 @@
+use Rattle.std.proofs.Common.{◌≤◌, ◌+◌, ◌^◌}
+use Rattle.city_feature.specs.Choice.{IsChosen}
+use Rattle.tile_handoff.specs.Ends.{notes_put, IsSameSender}
+use Rattle.tile_merge.specs.Coming.{MayComeTo}
+use Rattle.tile_merge.specs.Threads.{FedSoFar}
+use Rattle.tile_merge.specs.Unread.{most_left}
+use Rattle.tile_merge.proofs.merging.threaded.feeder.FedTile.feed.Given as goal
+
+abbrev pub invariant-texts : goal.invariant-texts
+invariant-texts g l = record {
+  so_far : FedSoFar (MayComeTo g.R.Source.gives (IsChosen l.initial.choice) l.initial.shift l.initial.reader)
+      (MayComeTo g.R.Source.gives (IsChosen l.choice) l.shift l.reader)
+      l.count (notes_put l.initial.sender) (notes_put l.sender);
+  same : IsSameSender l.initial.sender l.sender;
+  bounded : l.count + most_left l.reader ≤ 2 ^ 40 + 1;
+}
+
+abbrev pub decreases-texts : goal.decreases-texts
+decreases-texts g l = most_left l.reader

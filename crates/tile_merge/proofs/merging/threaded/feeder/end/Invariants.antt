@@ -1,0 +1,7 @@
+use Rattle.std.proofs.Common.{◌≡◌}
+use Rattle.tile_handoff.specs.Ends.{notes_put, IsSameSender}
+use Rattle.tile_merge.proofs.merging.threaded.feeder.end.Given as goal
+
+-- nothing was put yet
+abbrev pub invariant-full : goal.invariant-full
+invariant-full g l = IsSameSender l.initial.sender l.sender × (notes_put l.sender ≡ notes_put l.initial.sender)

@@ -1,0 +1,8 @@
+use Rattle.std.proofs.Common.{◌≡◌}
+use Rattle.tile_handoff.specs.Ends.{notes_put, IsSameSender}
+use Rattle.tile_merge.proofs.merging.threaded.feeder.put.Given as goal
+
+-- nothing was put yet
+abbrev pub invariant-full : goal.invariant-full
+invariant-full g l =
+    IsSameSender l.initial.sender l.sender × (notes_put l.sender ≡ notes_put l.initial.sender) × (l.line ≡ l.initial.line)

@@ -1,0 +1,156 @@
+-- Tiles whose texts threads of their own put into rings, and what the caller took out of these.
+use Rattle.std.specs.Prelude.{◌≡◌, ◌⊎◌, ◌≤◌, ◌<◌, ◌++◌, ℕ, Bool, List, [], ◌∷◌, Option, Some, None, is_some, Result, Ok, Err, IfErr, length, map, take}
+use Rattle.std.specs.Io.KnownBytes.{Appends}
+use Rattle.std.specs.List.{AllZip, AllByRecursion, concat, list_all}
+use Rattle.city_json.specs.Streams.Failures.{after_call}
+use Rattle.city_json.specs.declared.fault.Fault.{Fault}
+use Rattle.city_json.specs.declared.fault.Fault.TheVariants.{Write, Memory, NoThread}
+use Rattle.city_feature.specs.Choice.{IsChosen}
+use Rattle.city_feature.specs.Header.{HeaderValue}
+use Rattle.city_feature.specs.Joined.{IsJoined}
+use Rattle.city_feature.specs.declared.base.Base.{Base}
+use Rattle.city_feature.specs.declared.choices.Choice.{Choice}
+use Rattle.city_grid.specs.Axes.{Triple}
+use Rattle.tile_handoff.specs.declared.note.End.{End}
+use Rattle.tile_handoff.specs.declared.note.Note.{Note}
+use Rattle.tile_handoff.specs.declared.note.Note.TheVariants.{Line as LineNote, End as EndNote}
+use Rattle.tile_merge.specs.Coming.{MayComeTo}
+use Rattle.tile_merge.specs.EndNotes.{end_of, line_note, notes_of}
+use Rattle.tile_merge.specs.Feeds.{Course}
+use Rattle.tile_merge.specs.Interleaves.{Interleaves}
+use Rattle.tile_merge.specs.Opened.{AllThree, OpenState, IsOpened}
+use Rattle.tile_merge.specs.Stream.{with_newline}
+use Rattle.tile_merge.specs.Texts.{Outcome}
+use Rattle.tile_merge.specs.Unread.{Unread}
+use Rattle.tile_merge.specs.declared.fault.MergeFault.{MergeFault}
+
+-- ---- in the thread of a tile ----
+
+-- what the thread of a tile is given
+pub record Fed (R : Type 0) : Type 0 where
+  pub unread : Unread R
+  pub shift : Triple
+  pub choice : Choice
+
+abbrev pub fed_of : {R : Type 0} → Unread R → Triple → Choice → Fed R
+fed_of unread shift choice = record { unread = unread; shift = shift; choice = choice }
+
+-- these texts may come of the tile, and then this end
+abbrev pub MayFeed : {R : Type 0} → (R → List ℕ → Bool → Type 0) → Fed R → List (List ℕ) → Outcome → Type 0
+MayFeed gives fed texts outcome =
+    MayComeTo gives (IsChosen fed.choice) fed.shift fed.unread texts outcome
+
+-- some texts that may come of the tile, and its end note, were put after these notes
+pub record IsFed {R : Type 0} (gives : R → List ℕ → Bool → Type 0) (fed : Fed R) (before after : List Note) : Type 0 where
+  pub texts : List (List ℕ)
+  pub outcome : Outcome
+  pub comes : MayFeed gives fed texts outcome
+  pub put : after ≡ before ++ notes_of texts outcome
+
+-- this many texts were put, and whatever may come now may have come after them
+pub record FedSoFar (before now : List (List ℕ) → Outcome → Type 0) (count : ℕ) (old new : List Note) : Type 0 where
+  pub texts : List (List ℕ)
+  pub back : (others : List (List ℕ)) (outcome : Outcome) → now others outcome → before (texts ++ others) outcome
+  pub counted : count ≡ length texts
+  pub put : new ≡ old ++ map line_note texts
+
+-- ---- in the thread of the caller ----
+
+-- the lines among these notes
+abbrev pub lines_in : List Note → List (List ℕ)
+lines_in [] = []
+lines_in (LineNote line ∷ notes) = line ∷ lines_in notes
+lines_in (EndNote end ∷ notes) = lines_in notes
+
+-- where the end note was taken, it is the last of the notes
+abbrev pub TellsEnd : Option End → List Note → Type 0
+TellsEnd None notes = Unit {0}
+TellsEnd (Some end) notes = (front : List Note) × (notes ≡ front ++ EndNote end ∷ [])
+
+-- what the thread of the tile was given, the lines that were taken, and the end note once it was
+pub record RunningState (R : Type 0) : Type 0 where
+  pub fed : Fed R
+  pub lines : List (List ℕ)
+  pub last : Option End
+
+-- nothing was taken yet
+abbrev pub fresh_run : {R : Type 0} → Fed R → RunningState R
+fresh_run fed = record { fed = fed; lines = []; last = None }
+
+-- the thread of the tile was given its reader, its shift and the choice
+abbrev pub IsRunOf : {R : Type 0} → Choice → OpenState R → Triple → RunningState R → Type 0
+IsRunOf choice tile shift run = run ≡ fresh_run (fed_of tile.unread shift choice)
+
+abbrev pub feds_of : {R : Type 0} → List (RunningState R) → List (Fed R)
+feds_of tiles = map (λ tile. tile.fed) tiles
+
+abbrev pub lines_taken : {R : Type 0} → List (RunningState R) → List (List (List ℕ))
+lines_taken tiles = map (λ tile. tile.lines) tiles
+
+-- the end note was taken
+abbrev pub is_ended : {R : Type 0} → RunningState R → Bool
+is_ended tile = is_some tile.last
+
+abbrev pub are_all_ended : {R : Type 0} → List (RunningState R) → Bool
+are_all_ended tiles = list_all (λ tile. is_ended tile) tiles
+
+-- the lines that were taken are those of the texts that the tile gave, and it ended so
+pub record HasGiven {R : Type 0} (gives : R → List ℕ → Bool → Type 0) (tile : RunningState R) (course : Course) : Type 0 where
+  pub comes : MayFeed gives tile.fed course.texts course.ended.outcome
+  pub counted : course.ended.total ≡ length course.texts
+  pub lines : tile.lines ≡ map with_newline course.texts
+  pub last : tile.last ≡ Some (end_of course.ended)
+
+-- each of the tiles has given one of these courses
+abbrev pub HaveGiven : {R : Type 0} → (R → List ℕ → Bool → Type 0) → List (RunningState R) → List Course → Type 0
+HaveGiven gives tiles courses = AllZip (HasGiven gives) tiles courses
+
+-- ---- what was written ----
+
+-- all these bytes were written, or, where a write failed, the first of them
+abbrev pub WroteUnless : Result (Unit {0}) Fault → List ℕ → Option (List ℕ) → Option (List ℕ) → Type 0
+WroteUnless (Ok done) bytes old new = Appends old new bytes
+WroteUnless (Err fault) bytes old new = (count : ℕ) × Appends old new (take count bytes)
+
+-- The line of the header, and then the lines that were taken in the order in which they were, were
+-- written, up to the first write that failed.
+pub record LinesSoFar {R : Type 0} (feds : List (Fed R)) (header : List ℕ) (tiles : List (RunningState R)) (wrote : Result (Unit {0}) Fault) (old new : Option (List ℕ)) (failures newer : ℕ) : Type 0 where
+  pub fed : feds_of tiles ≡ feds
+  pub out : List (List ℕ)
+  pub mixes : Interleaves (lines_taken tiles) out
+  pub written : WroteUnless wrote (header ++ concat out) old new
+  pub failed : newer ≡ after_call wrote failures
+  pub fault : IfErr wrote (λ fault. fault ≡ Write)
+
+-- whatever lines were written before, those are written now that were taken since
+abbrev pub GoesOnWriting : {R : Type 0} → List (RunningState R) → List (RunningState R) → Result (Unit {0}) Fault → Result (Unit {0}) Fault → Option (List ℕ) → Option (List ℕ) → ℕ → ℕ → Type 0
+GoesOnWriting before now wrote result mid new failures newer =
+    (feds : List (Fed _)) (header : List ℕ) (old : Option (List ℕ)) (count : ℕ)
+    → LinesSoFar feds header before wrote old mid count failures
+    → LinesSoFar feds header now result old new count newer
+
+-- ---- the tiles of a merge ----
+
+-- The tiles of these readers were opened, their headers join to this line, and each has its thread.
+pub record AreStarted {R : Type 0} (gives : R → List ℕ → Bool → Type 0) (choice : Choice) (base : Base) (readers : List R) (running : List (RunningState R)) (line : List ℕ) : Type 0 where
+  pub tiles : List (OpenState R)
+  pub headers : List HeaderValue
+  pub shifts : List Triple
+  pub header : List ℕ
+  pub opened : AllThree (IsOpened gives) readers tiles headers
+  pub joined : IsJoined base headers header shifts
+  pub runs : AllThree (IsRunOf choice) tiles shifts running
+  pub line_is : line ≡ with_newline header
+
+-- nothing was taken of any tile yet
+abbrev pub AreFresh : {R : Type 0} → List (RunningState R) → Type 0
+AreFresh tiles = AllByRecursion (λ tile. tile.lines ≡ []) tiles
+
+-- a tile of so many has no thread, or there was not enough memory
+abbrev pub IsUnstarted : ℕ → MergeFault → Type 0
+IsUnstarted count refusal =
+    (refusal ≡ record { tile = 0; line = 0; fault = Memory })
+    ⊎ ((refusal.fault ≡ NoThread)
+    × (refusal.line ≡ 0)
+    × (0 < refusal.tile)
+    × (refusal.tile ≤ count))

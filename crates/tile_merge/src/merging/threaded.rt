@@ -1,0 +1,291 @@
+ghost use Rattle.std.specs.Prelude.{◌≡◌, ◌⊎◌, ◌≤◌, ◌<◌, ◌+◌, ◌^◌, ℕ, List, All, Err, true, length, filter_map, IfOk, IfErr, OnOk};
+ghost use Rattle.std.specs.List.{AllZip};
+ghost use Rattle.city_feature.specs.Choice.{IsChosen};
+ghost use Rattle.city_feature.specs.declared.base.Base.{Base};
+ghost use Rattle.city_feature.specs.declared.choices.Choice.{Choice};
+ghost use Rattle.tile_merge.specs.Feeds.{Course};
+ghost use Rattle.tile_merge.specs.Filtered.{failures_after_merge, failures_after_refusal};
+ghost use Rattle.tile_merge.specs.Interleaves.{Interleaves};
+ghost use Rattle.tile_merge.specs.Merged.{MergedAll, IsRefusedEarly, IsRefusedMerge};
+ghost use Rattle.tile_merge.specs.Opened.{AllThree};
+ghost use Rattle.tile_merge.specs.Threaded.{HasNoThread, IsRefusedThreaded, WroteInterleaved};
+ghost use Rattle.tile_merge.specs.Threads.{are_all_ended, AreFresh, AreStarted, HaveGiven, IsRunOf, IsUnstarted, fresh_run, fed_of};
+ghost use Rattle.tile_merge.specs.Unread.{most_left};
+
+mod feeder;
+mod running;
+#[cfg(test)]
+mod tests;
+mod writing;
+
+use crate::fault::MergeFault;
+use crate::merging::report::{Report, report_of};
+use crate::merging::threaded::feeder::FedTile;
+use crate::merging::threaded::running::{RunningTile, start};
+use crate::merging::threaded::writing::write_stream;
+use crate::merging::tiles::{JoinedTiles, OpenTile, join_tiles, tile_count};
+use city_feature::{Base, Choice};
+use city_grid::Shift;
+use city_json::{Fault, Line, Sink, Source};
+use std::alloc::{AllocError, Global};
+use std::sync::Wait;
+use std::thread::Threads;
+use tile_handoff::{End, MAX_CAPACITY};
+
+/// Tiles whose threads run, and the line of their header.
+#[derive(Drop)]
+struct StartedTiles<R: Source> {
+    tiles: Vec<RunningTile<R>>,
+    line: Line,
+}
+
+/// Merges the tiles that the readers give, with a thread for each: the joined header, and then the
+/// features that are chosen, each moved by its tile's shift, those of a tile in their order and
+/// those of several as they come. Of a tile up to `capacity` texts wait to be written. The report
+/// has how many features were written of each tile. It waits for the threads, and each has ended
+/// when it returns.
+///
+/// # Errors
+///
+/// Before a byte is written: [`Fault::TooManyTiles`], of no tile, above 64 readers; else that of the
+/// first tile that has no header; else that of joining, at the line of the tile's header; else
+/// [`Fault::NoThread`] of the first tile whose thread could not be started. A faulty line ends its
+/// tile there, and the others are written whole: then that of the lowest tile that ran out of
+/// memory, or else of the lowest that is faulty. Of no tile [`Fault::Write`] where a write or the
+/// flush failed, and [`Fault::Memory`].
+pub fn merge<H, R, W>(
+    rt: &H,
+    alloc: Global,
+    readers: Vec<R>,
+    choice: &Choice,
+    base: Base,
+    capacity: u32,
+    output: &mut W,
+) -> Result<Report, MergeFault>
+where
+    H: Threads + Wait + Copy + Send + 'static,
+    R: Source + Send + Drop + 'static,
+    W: Sink,
+    requires some { 0 < length readers.items }
+    requires capacity { (0 < capacity) × (capacity ≤ MAX_CAPACITY) }
+    ensures ok { IfOk result (λ report. MergedAll R.gives (IsChosen choice.now) base Interleaves
+        readers.items report.counts (W.taken output.old) (W.taken output.new)) }
+    ensures flushed { OnOk result (W.is_flushed output.new) }
+    ensures refused { IfErr result (λ e. IsRefusedThreaded R.gives (IsChosen choice.now) base
+        readers.items e (W.taken output.old) (W.taken output.new)) }
+
+    // Where it succeeds, and the bytes are known, what was written is the joined header and an
+    // interleaving of the tiles' chosen, moved features, each tile in its own order.
+    ensures interleaved { OnOk result (WroteInterleaved R.gives (IsChosen choice.now) base
+        readers.items (W.taken output.old) (W.taken output.new)) }
+
+    ensures too_many { 64 < length readers.items → result ≡ Err (record {
+      tile = 0;
+      line = 0;
+      fault = Fault.TooManyTiles;
+    }) }
+    ensures failures { W.failures output.new ≡ failures_after_merge result (W.failures output.old) }
+{
+    tile_count(readers.len())?;
+    merge_few(rt, alloc, readers, choice, base, capacity, output)
+}
+
+/// The same of tiles that are not too many.
+fn merge_few<H, R, W>(
+    rt: &H,
+    alloc: Global,
+    readers: Vec<R>,
+    choice: &Choice,
+    base: Base,
+    capacity: u32,
+    output: &mut W,
+) -> Result<Report, MergeFault>
+where
+    H: Threads + Wait + Copy + Send + 'static,
+    R: Source + Send + Drop + 'static,
+    W: Sink,
+    requires some { 0 < length readers.items }
+    requires few { length readers.items ≤ 64 }
+    requires capacity { (0 < capacity) × (capacity ≤ MAX_CAPACITY) }
+    ensures ok { IfOk result (λ report. MergedAll R.gives (IsChosen choice.now) base Interleaves
+        readers.items report.counts (W.taken output.old) (W.taken output.new)) }
+    ensures flushed { OnOk result (W.is_flushed output.new) }
+    ensures refused { IfErr result (λ e. IsRefusedThreaded R.gives (IsChosen choice.now) base
+        readers.items e (W.taken output.old) (W.taken output.new)) }
+    ensures failures { W.failures output.new ≡ failures_after_merge result (W.failures output.old) }
+{
+    let StartedTiles { tiles, line } = start_tiles(rt, alloc, readers, choice, base, capacity)?;
+    finish(rt, alloc, tiles, line, output)
+}
+
+/// Opens and joins the tiles, and starts their threads.
+fn start_tiles<H, R>(
+    rt: &H,
+    alloc: Global,
+    readers: Vec<R>,
+    choice: &Choice,
+    base: Base,
+    capacity: u32,
+) -> Result<StartedTiles<R>, MergeFault>
+where
+    H: Threads + Wait + Copy + Send + 'static,
+    R: Source + Send + Drop + 'static,
+    requires some { 0 < length readers.items }
+    requires few { length readers.items ≤ 64 }
+    requires capacity { (0 < capacity) × (capacity ≤ MAX_CAPACITY) }
+    ensures ok { IfOk result (λ started. AreStarted R.gives choice.now base
+        readers.items started.tiles.items started.line) }
+    ensures few { IfOk result (λ started. length started.tiles.items ≤ 64) }
+    ensures refused { IfErr result (λ e. HasNoThread R.gives base readers.items e
+        ⊎ IsRefusedEarly R.gives base readers.items e) }
+    ensures quiet { IfErr result (λ e. (count : ℕ) → failures_after_refusal e count ≡ count) }
+{
+    let JoinedTiles {
+        tiles,
+        line,
+        shifts,
+    } = join_tiles(alloc, readers, base)?;
+    let tiles = start_all(rt, alloc, tiles, shifts.items(), choice, capacity)?;
+    Ok(StartedTiles { tiles, line })
+}
+
+/// Starts a thread for each tile. Where one cannot be started, those that run are stopped.
+fn start_all<H, R>(
+    rt: &H,
+    alloc: Global,
+    tiles: Vec<OpenTile<R>>,
+    shifts: &[Shift],
+    choice: &Choice,
+    capacity: u32,
+) -> Result<Vec<RunningTile<R>>, MergeFault>
+where
+    H: Threads + Wait + Copy + Send + 'static,
+    R: Source + Send + Drop + 'static,
+    requires few { length tiles.items ≤ 64 }
+    requires shifts { length shifts.now ≡ length tiles.items }
+    requires most { All (λ tile. most_left tile.unread ≤ 2 ^ 40 + 1) tiles.items }
+    requires capacity { (0 < capacity) × (capacity ≤ MAX_CAPACITY) }
+    ensures ok { IfOk result (λ running.
+        AllThree (IsRunOf choice.now) tiles.items shifts.now running.items) }
+    ensures refused { IfErr result (IsUnstarted (length tiles.items)) }
+{
+    let mut running = Vec::with_capacity(alloc, tiles.len())?;
+    for tile in tiles {
+        let shift = shifts[running.len()];
+        match start_tile(rt, alloc, tile, shift, choice, capacity) {
+            Ok(started) => running.push_reserved(started),
+            Err(fault) => {
+                let refusal = refusal_at_start(fault, running.len() as u32 + 1);
+                stop_all(rt, running);
+                return Err(refusal);
+            }
+        }
+    }
+    Ok(running)
+}
+
+/// Starts the thread of a tile, with a choice of its own.
+fn start_tile<H, R>(
+    rt: &H,
+    alloc: Global,
+    tile: OpenTile<R>,
+    shift: Shift,
+    choice: &Choice,
+    capacity: u32,
+) -> Result<RunningTile<R>, Fault>
+where
+    H: Threads + Wait + Copy + Send + 'static,
+    R: Source + Send + Drop + 'static,
+    requires most { most_left tile.unread ≤ 2 ^ 40 + 1 }
+    requires capacity { (0 < capacity) × (capacity ≤ MAX_CAPACITY) }
+    ensures ok { IfOk result (IsRunOf choice.now tile shift) }
+    ensures refused { IfErr result (λ fault.
+        (fault ≡ Fault.Memory) ⊎ (fault ≡ Fault.NoThread)) }
+{
+    let fed = FedTile {
+        reader: tile.reader,
+        shift,
+        choice: choice.copy(alloc)?,
+    };
+    start(rt, alloc, fed, capacity)
+}
+
+/// Where a refusal to start belongs: that of a thread to the tile, and that of memory to none.
+fn refusal_at_start(fault: Fault, tile: u32) -> MergeFault
+    ensures thread { fault ≡ Fault.NoThread
+        → result ≡ record { tile = tile; line = 0; fault = Fault.NoThread } }
+    ensures memory { fault ≡ Fault.Memory
+        → result ≡ record { tile = 0; line = 0; fault = Fault.Memory } }
+{
+    match fault {
+        Fault::NoThread => MergeFault {
+            tile,
+            line: 0,
+            fault,
+        },
+        _ => MergeFault::of_no_line(fault),
+    }
+}
+
+/// Takes what is left of the tiles, and joins their threads.
+fn stop_all<H: Threads + Wait, R: Source + Drop>(rt: &H, tiles: Vec<RunningTile<R>>) {
+    for tile in tiles {
+        tile.stop(rt);
+    }
+}
+
+/// Writes the stream of tiles whose threads run, and joins these.
+fn finish<H: Threads + Wait, R: Source + Drop, W: Sink>(
+    rt: &H,
+    alloc: Global,
+    tiles: Vec<RunningTile<R>>,
+    line: Line,
+    output: &mut W,
+) -> Result<Report, MergeFault>
+    requires few { length tiles.items ≤ 64 }
+    requires fresh { AreFresh tiles.items }
+    ensures ok { (choice : Choice) (base : Base) (readers : List R)
+        → AreStarted R.gives choice base readers tiles.items line
+        → IfOk result (λ report. MergedAll R.gives (IsChosen choice) base Interleaves
+        readers report.counts (W.taken output.old) (W.taken output.new)) }
+    ensures refused { (choice : Choice) (base : Base) (readers : List R)
+        → AreStarted R.gives choice base readers tiles.items line
+        → IfErr result (λ e. IsRefusedMerge R.gives (IsChosen choice) base Interleaves
+        readers e (W.taken output.old) (W.taken output.new)) }
+    ensures flushed { OnOk result (W.is_flushed output.new) }
+    ensures failures { W.failures output.new ≡ failures_after_merge result (W.failures output.old) }
+{
+    let mut tiles = tiles;
+    let wrote = write_stream(rt, &mut tiles, line, output);
+    let ends = ends_of(alloc, &tiles);
+    join_all(rt, tiles);
+    wrote?;
+    report_of(alloc, &ends?)
+}
+
+/// The end notes of tiles of which they were taken.
+fn ends_of<R: Source + Drop>(
+    alloc: Global,
+    tiles: &[RunningTile<R>],
+) -> Result<Vec<End>, AllocError>
+    ensures { IfOk result (λ ends. ends.items ≡ filter_map (λ tile. tile.last) tiles.now) }
+{
+    let mut ends = Vec::with_capacity(alloc, tiles.len())?;
+    for tile in tiles {
+        let Some(end) = tile.last() else {
+            continue;
+        };
+        ends.push(end)?;
+    }
+    Ok(ends)
+}
+
+/// Joins the threads of all tiles, and confirms what was taken of each.
+fn join_all<H: Threads, R: Source + Drop>(rt: &H, tiles: Vec<RunningTile<R>>)
+    requires { are_all_ended tiles.items ≡ true }
+    ensures { (courses : List Course) × HaveGiven R.gives tiles.items courses }
+{
+    for tile in tiles {
+        tile.finish(rt);
+    }
+}

@@ -1,0 +1,87 @@
+ghost use Rattle.std.specs.Prelude.{◌≡◌, ◌≤◌, ◌<◌, ◌++◌, ℕ, List, Option, Some, None, true, [], IfOk, IfErr, OnOk, IsTrue, filter_map};
+ghost use Rattle.city_json.specs.Streams.Failures.{after_call};
+ghost use Rattle.tile_merge.specs.Threads.{AreFresh, are_all_ended, GoesOnWriting, LinesSoFar, WroteUnless, feds_of};
+
+use crate::filter::write_line;
+use crate::merging::threaded::running::RunningTile;
+use city_json::{Fault, Line, Sink, Source};
+use crossbeam_utils::Backoff;
+use std::sync::Wait;
+
+/// Writes the line of the header, and then the lines of the tiles as they come, until the end note of
+/// each was taken. A write that fails ends the writing, and not the taking.
+///
+/// # Errors
+///
+/// [`Fault::Write`] where a write or the flush failed.
+pub(super) fn write_stream<H: Wait, R: Source + Drop, W: Sink>(
+    rt: &H,
+    tiles: &mut [RunningTile<R>],
+    header: Line,
+    output: &mut W,
+) -> Result<(), Fault>
+    requires fresh { AreFresh tiles.old }
+    ensures ended { are_all_ended tiles.new ≡ true }
+    ensures written { LinesSoFar (feds_of tiles.old) header tiles.new result
+        (W.taken output.old) (W.taken output.new) (W.failures output.old) (W.failures output.new) }
+    ensures flushed { OnOk result (W.is_flushed output.new) }
+{
+    let backoff = Backoff::new();
+    let mut wrote = write_unless_failed(output, header, Ok(()));
+    'rounds: for _ in rt.forever() {
+        if are_ended(tiles) {
+            break;
+        }
+        wrote = write_round(tiles, output, wrote, &backoff);
+        backoff.snooze();
+    }
+    wrote?;
+    output.flush()
+}
+
+/// Takes a note of each tile whose end note was not taken yet, and writes it where it is a line.
+fn write_round<R: Source + Drop, W: Sink>(
+    tiles: &mut [RunningTile<R>],
+    output: &mut W,
+    wrote: Result<(), Fault>,
+    backoff: &Backoff,
+) -> Result<(), Fault>
+    ensures { GoesOnWriting tiles.old tiles.new wrote result
+        (W.taken output.old) (W.taken output.new) (W.failures output.old) (W.failures output.new) }
+{
+    let mut wrote = wrote;
+    'tiles: for tile in tiles.iter_mut() {
+        let Some(line) = tile.take() else {
+            continue;
+        };
+        backoff.reset();
+        wrote = write_unless_failed(output, line, wrote);
+    }
+    wrote
+}
+
+/// Whether the end note of each tile was taken.
+fn are_ended<R: Source + Drop>(tiles: &[RunningTile<R>]) -> bool
+    ensures { result ≡ are_all_ended tiles.now }
+{
+    tiles.iter().all(|tile| tile.last().is_some())
+}
+
+/// Writes a line, where nothing failed before.
+fn write_unless_failed<W: Sink>(
+    output: &mut W,
+    line: Line,
+    wrote: Result<(), Fault>,
+) -> Result<(), Fault>
+    ensures written { (bytes : List ℕ) (old : Option (List ℕ))
+        → WroteUnless wrote bytes old (W.taken output.old)
+        → WroteUnless result (bytes ++ line) old (W.taken output.new) }
+    ensures failures { (count : ℕ) → W.failures output.old ≡ after_call wrote count
+        → W.failures output.new ≡ after_call result count }
+    ensures fault { IfErr wrote (λ fault. fault ≡ Fault.Write)
+        → IfErr result (λ fault. fault ≡ Fault.Write) }
+{
+    wrote?;
+    write_line(output, line)?;
+    Ok(())
+}
