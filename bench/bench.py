@@ -1,7 +1,7 @@
 #!/usr/bin/env python3
 """How fast `citymerge` is, how much memory it takes, and whether its output is right.
 
-Seven parts, each of which can be left out:
+Eight parts, each of which can be left out:
   right         the output on small streams, compared with that of a compactor, a selection and sums of its own
   speed         MB/s and peak memory, in turn: on building tiles and on tiny features, without options, with two
                 types and with a box, beside jq; on one long line, beside jq; on features with 300 attributes,
@@ -14,6 +14,8 @@ Seven parts, each of which can be left out:
   merges        MB/s of `merge --in-turn` on four building tiles, beside `filter` on the same bytes, of which it
                 must have nine tenths; and its peak memory for tiles of 10 MB and of 100 MB each (1 GB with
                 --giga), which must be the same
+  threads       MB/s by the clock of `merge` beside `merge --in-turn`, of four even tiles, of a large one beside
+                three small ones and of 64, and its peak memory, also where a slow reader takes the output
   hostile       time against size for shapes of text that are hard on a reader
   documents     MB/s and peak memory of `citymerge cat` on a document, beside `citymerge filter` of its stream;
                 time against size for documents that are hard on it
@@ -39,6 +41,7 @@ from memory import memory
 from merges import merges
 from right import right
 from speed import speed
+from threads import threads
 
 PARTS = {
     "right": right,
@@ -46,6 +49,7 @@ PARTS = {
     "memory": memory,
     "instructions": instructions,
     "merges": merges,
+    "threads": threads,
     "hostile": hostile,
     "documents": documents,
 }
@@ -60,6 +64,7 @@ class Bench:
         self.program = os.path.abspath(options.program)
         self.filter = [self.program, "filter"]
         self.merge = [self.program, "merge", "--in-turn"]
+        self.merge_threads = [self.program, "merge"]
         self.cat = [self.program, "cat"]
         self.wrong = []
 

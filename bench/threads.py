@@ -1,0 +1,118 @@
+"""How much faster is a merge with a thread for each tile than one in turn, and does its memory stay the same?
+
+The tiles are building tiles whose headers' translations differ, so that each vertex is moved. What counts is
+the time by the clock: MB/s of all tiles together.
+"""
+
+import os
+import subprocess
+import time
+
+from merges import MOST_MORE, far, features, race
+from running import Run, peak_of
+from speed import MEGA
+
+# How many times as fast a merge with threads is to be, on so many cores that have nothing else to do.
+LEAST_GAIN = 2.5
+CORES = 4
+# What a slow reader of the output takes, in MB/s and at a time in bytes.
+SLOW = 16
+PIECE = 64 * 1024
+
+# The shares of the whole that the tiles have.
+SHAPES = {
+    "4 tiles": [1 / 4] * 4,
+    "1 large tile and 3 small ones": [0.85, 0.05, 0.05, 0.05],
+    "64 tiles": [1 / 64] * 64,
+}
+
+
+def tiles(bench, size, shares):
+    """The paths of tiles that are so many bytes together."""
+    return [
+        bench.write("tile%d" % number, [far(number), *features(bench, number, size * share)])
+        for number, share in enumerate(shares)
+    ]
+
+
+def lines_of(path):
+    with open(path, "rb") as stream:
+        return sorted(stream)
+
+
+def right(bench, paths):
+    """Has the merge with threads the lines of the one in turn?"""
+    targets = [bench.path("threads"), bench.path("turns")]
+    Run([*bench.merge_threads, *paths], os.devnull, targets[0])
+    Run([*bench.merge, *paths], os.devnull, targets[1])
+    if lines_of(targets[0]) != lines_of(targets[1]):
+        bench.fail("%d tiles: a merge with threads has other lines than one in turn" % len(paths))
+    for target in targets:
+        os.remove(target)
+
+
+def gain(bench, name, paths):
+    """How many times as fast the merge with threads is, by the clock."""
+    size = sum(os.path.getsize(path) for path in paths)
+    runs = race(
+        bench,
+        {
+            "in turn": ([*bench.merge, *paths], os.devnull),
+            "with threads": ([*bench.merge_threads, *paths], os.devnull),
+        },
+    )
+    best = {way: min(run.seconds for run in some) for way, some in runs.items()}
+    peaks = {way: max(run.peak for run in some) for way, some in runs.items()}
+    times = best["in turn"] / best["with threads"]
+    for way in runs:
+        shown = (name, way, size / MEGA / best[way], peaks[way] / MEGA)
+        bench.say("  %-30s %-13s %6.0f MB/s by the clock, peak memory %5.1f MB" % shown)
+    bench.say("  %-30s %.2f times as fast" % (name, times))
+    return times
+
+
+def slow_peak(bench, paths):
+    """The peak memory while a slow reader takes the output, for some seconds."""
+    child = subprocess.Popen([*bench.merge_threads, *paths], stdout=subprocess.PIPE, stderr=subprocess.DEVNULL)
+    began, taken, peak = time.monotonic(), 0, 0
+    while time.monotonic() - began < 5:
+        piece = child.stdout.read(PIECE)
+        if not piece:
+            break
+        taken += len(piece)
+        peak = max(peak, peak_of(child.pid))
+        time.sleep(max(0, began + taken / (SLOW * MEGA) - time.monotonic()))
+    child.stdout.close()
+    child.wait()
+    return peak
+
+
+def memory(bench):
+    peaks = []
+    for megabytes in (10, 100):
+        paths = tiles(bench, megabytes * MEGA * CORES, SHAPES["4 tiles"])
+        for reader, peak in (
+            ("", Run([*bench.merge_threads, *paths], os.devnull).peak),
+            (", a slow reader", slow_peak(bench, paths)),
+        ):
+            peaks.append(peak)
+            bench.say("  4 tiles, each %4d MB%s: peak memory %6.1f MB" % (megabytes, reader, peak / MEGA))
+        for path in paths:
+            os.remove(path)
+    if max(peaks) > peaks[0] + 2 * MOST_MORE:
+        bench.fail("the peak memory of a merge with threads grows: %s" % ", ".join("%.1f" % (each / MEGA) for each in peaks))
+
+
+def threads(bench):
+    load, cores = os.getloadavg()[0], os.cpu_count()
+    bench.say("How fast is a merge with a thread for each tile? (%d cores, a load of %.1f)" % (cores, load))
+    for name, shares in SHAPES.items():
+        paths = tiles(bench, bench.options.size * MEGA, shares)
+        right(bench, paths)
+        times = gain(bench, name, paths)
+        if name == "4 tiles" and times < LEAST_GAIN and cores >= CORES and load < 1:
+            bench.fail("%s: a merge with threads is %.2f times as fast, wanted: %.1f" % (name, times, LEAST_GAIN))
+        for path in paths:
+            os.remove(path)
+    bench.say("How much memory does it take?")
+    memory(bench)
