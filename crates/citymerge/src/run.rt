@@ -26,8 +26,12 @@ use std::sync::Wait;
 use std::thread::Threads;
 use tile_merge::{MergeFault, Report, TileReader, filter_tile, merge, merge_in_turn};
 
-/// How many texts of a tile are held at most.
+/// How many texts of a tile are held at most, where each tile has a thread.
 const CAPACITY: u32 = 64;
+
+/// The same where the tiles take turns: few, which stay in the processor's cache until they are
+/// written. The stream is the same whatever their number.
+const IN_TURN_CAPACITY: u32 = 4;
 
 /// Writes the stream of the chosen features of a tile, of which nothing was taken yet, to `output`,
 /// and answers the status to end with: 0, or 1 with a fault line on `errors`. What was written is
@@ -137,7 +141,7 @@ where
 {
     let base = base_of(args.least);
     if args.in_turn {
-        return merge_in_turn(alloc, readers, &args.choice, base, CAPACITY, output);
+        return merge_in_turn(alloc, readers, &args.choice, base, IN_TURN_CAPACITY, output);
     }
     merge(rt, alloc, readers, &args.choice, base, CAPACITY, output)
 }

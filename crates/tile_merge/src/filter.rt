@@ -169,6 +169,10 @@ fn write_features<R: Source, W: Sink>(
 }
 
 /// Writes a line, and gives it back empty, for its memory.
+///
+/// # Errors
+///
+/// [`Fault::Write`] where a write failed; some first bytes of the line were written then.
 pub fn write_line<W: Sink>(output: &mut W, line: Line) -> Result<Line, Fault>
     ensures all { IfOk result (λ text. (text ≡ [])
         × Appends (W.taken output.old) (W.taken output.new) line) }
