@@ -8,11 +8,18 @@ tools/need.sh rt python3 || exit 1
 python3 tools/docs_test.py || exit 1
 python3 tools/must_not_compile.py || exit 1
 
+# As many checks side by side as there are processors and 5 GB of memory for each: left to itself, rt reckons
+# with more memory than they take.
+room=$(($(awk '/^MemAvailable/ { print $2 }' /proc/meminfo) / 5000000))
+lanes=$(nproc)
+[ "$lanes" -le "$room" ] || lanes=$room
+[ "$lanes" -ge 1 ] || lanes=1
+
 echo 'The gate: every proof from nothing, the edits that must fail, the tests.'
 mkdir -p build
 log=build/gate.log
 {
-    tools/at_work.sh 'the gate' rt ci
+    RT_JOBS=${RT_JOBS:-$lanes} tools/at_work.sh 'the gate' rt ci
     echo $? >build/gate.status
 } | tee "$log"
 [ "$(cat build/gate.status)" -eq 0 ] || exit 1

@@ -89,7 +89,8 @@ pub fn selects(choice: &Choice, feature: &Feature) -> bool
     matches(choice, feature) != choice.exclude
 }
 
-/// Whether the choice selects a feature of these vertices that has one of its types, where it gives any, or none.
+/// Whether the choice selects a feature of these vertices; `has_type` says whether the feature has one
+/// of the types, where the choice gives any.
 pub fn selects_of(choice: &Choice, has_type: bool, vertices: &[Vertex]) -> bool
     ensures { (value : Tree)
         → (IsTrue has_type ↔ IfSome choice.now.types (λ types. HasType types value))
