@@ -1,4 +1,4 @@
-ghost use Rattle.std.specs.Prelude.{◌≡◌, ◌≤◌, ◌<◌, ◌+◌, ◌^◌, List, ℕ, false, Some, None, length, IfSome, IfNone, IsTrue};
+ghost use Rattle.std.specs.Prelude.{◌≡◌, ◌≤◌, ◌<◌, ◌+◌, ◌^◌, List, [], ℕ, false, Some, None, length, IfSome, IfNone, IsTrue};
 ghost use Rattle.city_feature.specs.Choice.{IsChosen};
 ghost use Rattle.tile_handoff.specs.Queues.{queue_of, empty_queue};
 ghost use Rattle.tile_merge.specs.Feeds.{fresh_feed, MayTake, SomeCourse, TakesNone, TakesTurn, HasRoom, IsAhead, most_ahead, most_places};
@@ -12,6 +12,7 @@ use city_grid::Shift;
 use city_json::{Line, Source};
 use std::alloc::Global;
 use std::marker::Model;
+use std::mem;
 use tile_handoff::{End, Queues, Took};
 
 /// A tile that is merged in turn: its reader, and a queue of the texts that were read ahead.
@@ -22,10 +23,11 @@ pub(crate) struct Feed<R> {
     notes: Queues,
     count: u64,
     last: Option<End>,
+    spare: Line,
 }
 
 impl<R> Model for Feed<R> {
-    ghost use Rattle.std.specs.Prelude.{◌≡◌, ◌≤◌, ◌<◌, ◌+◌, ◌^◌, false, length};
+    ghost use Rattle.std.specs.Prelude.{◌≡◌, ◌≤◌, ◌<◌, ◌+◌, ◌^◌, [], false, length};
     ghost use Rattle.tile_handoff.specs.Notes.{has_end};
     ghost use Rattle.tile_handoff.specs.Queues.{queue_of};
     ghost use Rattle.tile_merge.specs.Feeds.{FeedState};
@@ -42,7 +44,7 @@ impl<R> Model for Feed<R> {
       last = feed.last;
     } };
 
-    ghost invariant = { λ feed. (length feed.notes.tiles ≡ 1) × (0 < feed.notes.capacity)
+    ghost invariant = { λ feed. (feed.spare ≡ []) × (length feed.notes.tiles ≡ 1) × (0 < feed.notes.capacity)
         × ((queue_of feed.notes 0).closed ≡ false
         → (feed.count + most_left feed.reader ≤ 2 ^ 40 + 1)
         × (has_end (queue_of feed.notes 0).left ≡ false)) };
@@ -50,7 +52,7 @@ impl<R> Model for Feed<R> {
 
 impl<R: Source> Feed<R> {
     /// What the reader gives, moved by the shift; texts are read ahead into the queue of one tile.
-    pub(crate) fn new(reader: TileReader<R>, shift: Shift, notes: Queues) -> Feed<R>
+    pub(crate) fn new(alloc: Global, reader: TileReader<R>, shift: Shift, notes: Queues) -> Feed<R>
         requires one { length notes.tiles ≡ 1 }
         requires capacity { 0 < notes.capacity }
         requires empty { queue_of notes 0 ≡ empty_queue }
@@ -63,6 +65,7 @@ impl<R: Source> Feed<R> {
             notes,
             count: 0,
             last: None,
+            spare: Line::new(alloc),
         }
     }
 
@@ -84,6 +87,14 @@ impl<R: Source> Feed<R> {
             }
             Took::Empty | Took::Drained => return None,
         }
+    }
+
+    /// Takes an empty line back, for its memory.
+    pub(crate) fn keep(&mut self, spare: Line)
+        requires { spare ≡ [] }
+        ensures { self.new ≡ self.old }
+    {
+        self.spare = spare;
     }
 
     /// The end note of the tile, once it was taken.
@@ -125,10 +136,8 @@ impl<R: Source> Feed<R> {
         ensures fewer { most_ahead self.new ≤ most_ahead self.old }
         ensures places { most_places self.new < most_places self.old }
     {
-        match self
-            .reader
-            .take_text(alloc, self.shift, choice, Line::new(alloc))
-        {
+        let spare = mem::replace(&mut self.spare, Line::new(alloc));
+        match self.reader.take_text(alloc, self.shift, choice, spare) {
             Ok(Some(line)) => {
                 self.notes.store_line(0, line);
                 self.count += 1;

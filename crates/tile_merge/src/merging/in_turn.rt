@@ -142,7 +142,7 @@ fn feeds_of<R: Source + Drop>(
     for tile in tiles {
         let shift = shifts[feeds.len()];
         let notes = Queues::new(alloc, 1, capacity)?;
-        feeds.push(Feed::new(tile.reader, shift, notes))?;
+        feeds.push(Feed::new(alloc, tile.reader, shift, notes))?;
     }
     Ok(feeds)
 }
@@ -192,7 +192,10 @@ fn write_round<R: Source, W: Sink>(
             continue;
         };
         match write_line(output, line) {
-            Ok(_) => any = true,
+            Ok(spare) => {
+                feed.keep(spare);
+                any = true;
+            }
             Err(fault) => return Err(fault),
         }
     }

@@ -38,7 +38,7 @@ tiles-preserved g c =
     let text = c.in-Some.ensures.text in
     let wrote = subst (Appends (g.W.Sink.taken c.tiles.output) (g.W.Sink.taken c.write_line.new.output)) (text.1 ∙ sym (append-nil (with_newline text.0))) c.in-Ok.ensures.all.1 in
     record {
-      so_far = turn_taken g.R.Source.gives (IsChosen c.args.choice.now) c.args.feeds.now old c.tiles.feeds c.tiles.feed-index c.tiles.any (g.W.Sink.taken c.tiles.output) c.tiles.invariant.so_far (omega (arith, c.tiles-test.true, c.tiles.auto.feeds)) c.feed-item.result c.take.new.self (Some text.0) text.2 (g.W.Sink.taken c.write_line.new.output) wrote true (sym (any_true c.tiles.any));
+      so_far = turn_taken g.R.Source.gives (IsChosen c.args.choice.now) c.args.feeds.now old c.tiles.feeds c.tiles.feed-index c.tiles.any (g.W.Sink.taken c.tiles.output) c.tiles.invariant.so_far (omega (arith, c.tiles-test.true, c.tiles.auto.feeds)) c.feed-item.result c.keep.new.self (Some text.0) (rw (← c.keep.ensures) at text.2) (g.W.Sink.taken c.write_line.new.output) wrote true (sym (any_true c.tiles.any));
       failures = c.in-Ok.ensures.failures ∙ c.tiles.invariant.failures;
     }
 

@@ -10,8 +10,8 @@ returns-in-Ok-Some-clause-none g c =
     let inside = c.self.inside in
     let is_open = ap (λ feed. feed.notes.closed) c.self.view_is ∙ c.requires.room.0 in
     let text = rw c.in-Ok-Some.field-0-is at c.in-Ok-Some.ensures.text in
-    let is_line = text.1 ∙ ap (λ front. front ++ with_newline text.0) c.new.ensures in
-    let is_new = ap (λ queues. queue_of queues 0) c.store_line.ensures ∙ set_there inside.notes _ c.self.invariant.0 in
+    let is_line = text.1 ∙ ap (λ front. front ++ with_newline text.0) (c.replace-spare.ensures.value ∙ c.self.invariant.0) in
+    let is_new = ap (λ queues. queue_of queues 0) c.store_line.ensures ∙ set_there inside.notes _ c.self.invariant.1 in
     rw (← c.self.view_is) (line_taken g.R.Source.gives (IsChosen c.args.choice.now) inside.shift inside.notes.capacity (c.store_line.new.self).capacity inside.count inside.last inside.reader c.take_text.new.self (queue_of inside.notes 0) is_open text.0 c.in-Ok-Some.line is_line text.2 (queue_of c.store_line.new.self 0) is_new)
 
 pub returns-in-Ok-Some-clause-some : goal.returns-in-Ok-Some-clause-some
@@ -19,17 +19,17 @@ returns-in-Ok-Some-clause-some g c =
     let inside = c.self.inside in
     let is_open = ap (λ feed. feed.notes.closed) c.self.view_is ∙ c.requires.room.0 in
     let text = rw c.in-Ok-Some.field-0-is at c.in-Ok-Some.ensures.text in
-    let is_line = text.1 ∙ ap (λ front. front ++ with_newline text.0) c.new.ensures in
-    let is_new = ap (λ queues. queue_of queues 0) c.store_line.ensures ∙ set_there inside.notes _ c.self.invariant.0 in
+    let is_line = text.1 ∙ ap (λ front. front ++ with_newline text.0) (c.replace-spare.ensures.value ∙ c.self.invariant.0) in
+    let is_new = ap (λ queues. queue_of queues 0) c.store_line.ensures ∙ set_there inside.notes _ c.self.invariant.1 in
     let was = rw (← c.self.view_is) at c.requires.some in
-    line_some g.R.Source.gives (IsChosen c.args.choice.now) inside.shift inside.notes.capacity (c.store_line.new.self).capacity inside.count inside.last inside.reader c.take_text.new.self (queue_of inside.notes 0) is_open text.0 c.in-Ok-Some.line is_line text.2 (queue_of c.store_line.new.self 0) is_new (c.self.invariant.2 is_open).1 c.take_text.ensures.some was
+    line_some g.R.Source.gives (IsChosen c.args.choice.now) inside.shift inside.notes.capacity (c.store_line.new.self).capacity inside.count inside.last inside.reader c.take_text.new.self (queue_of inside.notes 0) is_open text.0 c.in-Ok-Some.line is_line text.2 (queue_of c.store_line.new.self 0) is_new (c.self.invariant.3 is_open).1 c.take_text.ensures.some was
 
 pub returns-in-Ok-None-clause-none : goal.returns-in-Ok-None-clause-none
 returns-in-Ok-None-clause-none g c =
     let inside = c.self.inside in
     let is_open = ap (λ feed. feed.notes.closed) c.self.view_is ∙ c.requires.room.0 in
     let over = rw c.in-Ok-None.field-0-is at c.in-Ok-None.ensures.over in
-    let is_new = ap (λ queues. queue_of queues 0) c.store_end.ensures ∙ set_there inside.notes _ c.self.invariant.0 in
+    let is_new = ap (λ queues. queue_of queues 0) c.store_end.ensures ∙ set_there inside.notes _ c.self.invariant.1 in
     rw (← c.self.view_is) (end_taken g.R.Source.gives (IsChosen c.args.choice.now) inside.shift inside.notes.capacity (c.store_end.new.self).capacity inside.count inside.last inside.reader c.take_text.new.self (queue_of inside.notes 0) is_open None over c.end_note.result c.end_note.ensures (queue_of c.store_end.new.self 0) is_new)
 
 pub returns-in-Ok-None-clause-some : goal.returns-in-Ok-None-clause-some
@@ -37,16 +37,16 @@ returns-in-Ok-None-clause-some g c =
     let inside = c.self.inside in
     let is_open = ap (λ feed. feed.notes.closed) c.self.view_is ∙ c.requires.room.0 in
     let over = rw c.in-Ok-None.field-0-is at c.in-Ok-None.ensures.over in
-    let is_new = ap (λ queues. queue_of queues 0) c.store_end.ensures ∙ set_there inside.notes _ c.self.invariant.0 in
+    let is_new = ap (λ queues. queue_of queues 0) c.store_end.ensures ∙ set_there inside.notes _ c.self.invariant.1 in
     let was = rw (← c.self.view_is) at c.requires.some in
-    end_some g.R.Source.gives (IsChosen c.args.choice.now) inside.shift inside.notes.capacity (c.store_end.new.self).capacity inside.count inside.last inside.reader c.take_text.new.self (queue_of inside.notes 0) is_open None over c.end_note.result c.end_note.ensures (queue_of c.store_end.new.self 0) is_new (c.self.invariant.2 is_open).1 was
+    end_some g.R.Source.gives (IsChosen c.args.choice.now) inside.shift inside.notes.capacity (c.store_end.new.self).capacity inside.count inside.last inside.reader c.take_text.new.self (queue_of inside.notes 0) is_open None over c.end_note.result c.end_note.ensures (queue_of c.store_end.new.self 0) is_new (c.self.invariant.3 is_open).1 was
 
 pub returns-in-Err-clause-none : goal.returns-in-Err-clause-none
 returns-in-Err-clause-none g c =
     let inside = c.self.inside in
     let is_open = ap (λ feed. feed.notes.closed) c.self.view_is ∙ c.requires.room.0 in
     let over = c.in-Err.ensures.refused in
-    let is_new = ap (λ queues. queue_of queues 0) c.store_end-in-Err.ensures ∙ set_there inside.notes _ c.self.invariant.0 in
+    let is_new = ap (λ queues. queue_of queues 0) c.store_end-in-Err.ensures ∙ set_there inside.notes _ c.self.invariant.1 in
     rw (← c.self.view_is) (end_taken g.R.Source.gives (IsChosen c.args.choice.now) inside.shift inside.notes.capacity (c.store_end-in-Err.new.self).capacity inside.count inside.last inside.reader c.take_text.new.self (queue_of inside.notes 0) is_open (Some (record { number = c.in-Err.at.line; fault = c.in-Err.at.fault })) over c.end_note-in-Err.result c.end_note-in-Err.ensures (queue_of c.store_end-in-Err.new.self 0) is_new)
 
 pub returns-in-Err-clause-some : goal.returns-in-Err-clause-some
@@ -54,6 +54,6 @@ returns-in-Err-clause-some g c =
     let inside = c.self.inside in
     let is_open = ap (λ feed. feed.notes.closed) c.self.view_is ∙ c.requires.room.0 in
     let over = c.in-Err.ensures.refused in
-    let is_new = ap (λ queues. queue_of queues 0) c.store_end-in-Err.ensures ∙ set_there inside.notes _ c.self.invariant.0 in
+    let is_new = ap (λ queues. queue_of queues 0) c.store_end-in-Err.ensures ∙ set_there inside.notes _ c.self.invariant.1 in
     let was = rw (← c.self.view_is) at c.requires.some in
-    end_some g.R.Source.gives (IsChosen c.args.choice.now) inside.shift inside.notes.capacity (c.store_end-in-Err.new.self).capacity inside.count inside.last inside.reader c.take_text.new.self (queue_of inside.notes 0) is_open (Some (record { number = c.in-Err.at.line; fault = c.in-Err.at.fault })) over c.end_note-in-Err.result c.end_note-in-Err.ensures (queue_of c.store_end-in-Err.new.self 0) is_new (c.self.invariant.2 is_open).1 was
+    end_some g.R.Source.gives (IsChosen c.args.choice.now) inside.shift inside.notes.capacity (c.store_end-in-Err.new.self).capacity inside.count inside.last inside.reader c.take_text.new.self (queue_of inside.notes 0) is_open (Some (record { number = c.in-Err.at.line; fault = c.in-Err.at.fault })) over c.end_note-in-Err.result c.end_note-in-Err.ensures (queue_of c.store_end-in-Err.new.self 0) is_new (c.self.invariant.3 is_open).1 was

@@ -10,7 +10,7 @@ returns-in-Line-clause-text g c =
     let inside = c.self.inside in
     let before : FeedState g.row.R.Denot = record { unread = inside.reader; shift = inside.shift; capacity = inside.notes.capacity; notes = queue_of inside.notes 0; count = inside.count; last = inside.last } in
     let took = c.in-Line.ensures.took in
-    let is_new = ap (λ queues. queue_of queues 0) took.1 ∙ set_there inside.notes _ c.self.invariant.0 in
+    let is_new = ap (λ queues. queue_of queues 0) took.1 ∙ set_there inside.notes _ c.self.invariant.1 in
     let some = rw (← c.self.view_is) at c.read_ahead.ensures.some in
     let none = rw (← c.self.view_is) at c.read_ahead.ensures.none in
     let fewer = rw (← c.self.view_is) at c.read_ahead.ensures.fewer in
