@@ -65,14 +65,28 @@ impl<R: Source + Drop> FedTile<R> {
         } = self;
         let mut sender = sender;
         let mut count = 0u64;
+        let mut room = 0;
         'texts: loop {
-            match reader.take_text(alloc, shift, &choice, Line::new(alloc)) {
-                Ok(Some(line)) => put(rt, &mut sender, line),
+            match reader.take_text(alloc, shift, &choice, roomy_line(alloc, room)) {
+                Ok(Some(line)) => {
+                    room = line.items().len();
+                    put(rt, &mut sender, line)
+                }
                 Ok(None) => return end(rt, sender, end_note(count, None)),
                 Err(at) => return end(rt, sender, end_note(count, Some(at))),
             }
             count += 1;
         }
+    }
+}
+
+/// An empty line, with room for so many bytes where there is memory for them.
+fn roomy_line(alloc: Global, room: usize) -> Line
+    ensures { result ≡ [] }
+{
+    match Vec::with_capacity(alloc, room) {
+        Ok(bytes) => Line::from_vec(bytes),
+        Err(_) => Line::new(alloc),
     }
 }
 
