@@ -88,19 +88,20 @@ def slow_peak(bench, paths):
 
 
 def memory(bench):
-    peaks = []
+    most = []
     for megabytes in (10, 100):
         paths = tiles(bench, megabytes * MEGA * CORES, SHAPES["4 tiles"])
-        for reader, peak in (
-            ("", Run([*bench.merge_threads, *paths], os.devnull).peak),
-            (", a slow reader", slow_peak(bench, paths)),
-        ):
-            peaks.append(peak)
+        peaks = {
+            "": Run([*bench.merge_threads, *paths], os.devnull).peak,
+            ", a slow reader": slow_peak(bench, paths),
+        }
+        for reader, peak in peaks.items():
             bench.say("  4 tiles, each %4d MB%s: peak memory %6.1f MB" % (megabytes, reader, peak / MEGA))
+        most.append(max(peaks.values()))
         for path in paths:
             os.remove(path)
-    if max(peaks) > peaks[0] + 2 * MOST_MORE:
-        bench.fail("the peak memory of a merge with threads grows: %s" % ", ".join("%.1f" % (each / MEGA) for each in peaks))
+    if most[1] > most[0] + MOST_MORE:
+        bench.fail("the peak memory of a merge with threads grows: %.1f and %.1f MB" % tuple(each / MEGA for each in most))
 
 
 def threads(bench):
