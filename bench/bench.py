@@ -41,6 +41,7 @@ from memory import memory
 from merges import merges
 from right import right
 from speed import speed
+from table import write_table
 from threads import threads
 
 PARTS = {
@@ -53,6 +54,8 @@ PARTS = {
     "hostile": hostile,
     "documents": documents,
 }
+# Those whose figures stand in the README.
+TABLE_PARTS = ("speed", "instructions", "threads")
 
 
 class Bench:
@@ -67,6 +70,9 @@ class Bench:
         self.merge_threads = [self.program, "merge"]
         self.cat = [self.program, "cat"]
         self.wrong = []
+        self.load = os.getloadavg()[0]
+        # of each stream and program, what is to stand in the README's tables
+        self.figures = {}
 
     def say(self, text):
         print(text, flush=True)
@@ -74,6 +80,10 @@ class Bench:
     def fail(self, what):
         self.say("  WRONG: " + what)
         self.wrong.append(what)
+
+    def tell(self, row, column, figure):
+        """Keeps a figure for the README's tables."""
+        self.figures.setdefault((row, column), []).append(figure)
 
     def path(self, name):
         return os.path.join(self.folder, name)
@@ -101,7 +111,10 @@ def read_options():
     reader.add_argument("--tries", type=int, default=3, help="runs of each hostile shape (3)")
     reader.add_argument("--functions", type=int, default=0, metavar="N", help="show the N functions that execute most")
     reader.add_argument("--seed", type=int, default=1, help="of all streams (1)")
+    reader.add_argument("--table", action="store_true", help="run %s and write the README's tables" % ", ".join(TABLE_PARTS))
     options = reader.parse_args()
+    if options.table and not options.only:
+        options.only = ",".join(TABLE_PARTS)
     options.parts = options.only.split(",") if options.only else list(PARTS)
     for part in options.parts:
         if part not in PARTS:
@@ -118,6 +131,8 @@ def main():
         bench = Bench(options, folder)
         for part in options.parts:
             PARTS[part](bench)
+        if options.table:
+            write_table(bench)
     if bench.wrong:
         bench.say("%d wrong:" % len(bench.wrong))
         for what in bench.wrong:

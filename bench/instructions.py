@@ -4,11 +4,10 @@ import os
 import shutil
 
 from running import counted, dominant
-from streams import BUILDINGS, BY_BOX, BY_TYPES, HEADER, MEASURED, TINY, elsewhere
+from streams import BUILDINGS, BY_BOX, BY_TYPES, HEADER, MEASURED, MOVED, TINY, elsewhere
 
-MERGED = "all moved"
 # The most that is wanted for each input byte. None is set for the other streams.
-MOST = {(BUILDINGS, ()): 18, (BUILDINGS, BY_BOX): 22, (BUILDINGS, BY_TYPES): 26, (MERGED, ()): 26}
+MOST = {(BUILDINGS, ()): 18, (BUILDINGS, BY_BOX): 22, (BUILDINGS, BY_TYPES): 26, (MOVED, ()): 26}
 
 
 def each_byte(bench, words, path):
@@ -26,7 +25,8 @@ def measure(bench, name, path, options, words=None):
         return
     most = MOST.get((name, options))
     wanted = "" if most is None else "wanted: at most %d" % most
-    bench.say(("  %-24s %-32s %6.1f   %s" % (name, " ".join(options), found, wanted)).rstrip())
+    bench.say(("  %-38s %-32s %6.1f   %s" % (name, " ".join(options), found, wanted)).rstrip())
+    bench.tell(name, "instructions", "%.1f" % found)
     if bench.options.functions:
         show_functions(bench, os.path.getsize(path))
     if most is not None and found > most:
@@ -38,7 +38,7 @@ def measure_merge(bench):
     """A merge of a tile without features, and of one all of whose vertices are moved onto its grid."""
     first = bench.write("first", (HEADER,))
     second = bench.write("second", elsewhere(bench.options.seed, bench.options.small * 1_000_000))
-    measure(bench, MERGED, second, (), [bench.filter[0], "merge", "--in-turn", first, second])
+    measure(bench, MOVED, second, (), [bench.filter[0], "merge", "--in-turn", first, second])
     os.remove(first)
     os.remove(second)
 

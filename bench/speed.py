@@ -4,9 +4,9 @@ import os
 import shutil
 
 from running import Run
-from streams import BUILDINGS, BY_BOX, BY_TYPES, HEADER, MEASURED, TINY, elsewhere, one_line
+from streams import BUILDINGS, BY_BOX, BY_TYPES, HEADER, MEASURED, MOVED, TINY, elsewhere, one_line
 
-OURS = "citymerge filter"
+OURS = "all features"
 JQ = "jq -c ."
 MEGA = 1_000_000
 # The streams beside the building tiles are this many times shorter.
@@ -17,8 +17,8 @@ ONE_LINE = "one long line"
 def programs_for(bench, name):
     programs = {OURS: bench.filter}
     if name in (BUILDINGS, TINY):
-        programs["with two types"] = [*bench.filter, *BY_TYPES]
-        programs["with a box"] = [*bench.filter, *BY_BOX]
+        programs["two types"] = [*bench.filter, *BY_TYPES]
+        programs["a box"] = [*bench.filter, *BY_BOX]
     if name in (BUILDINGS, TINY, ONE_LINE) and shutil.which("jq"):
         programs[JQ] = ["jq", "-c", "."]
     return programs
@@ -59,6 +59,7 @@ def measure(bench, name, lines, megabytes):
     os.remove(path)
     for program, some in runs.items():
         show(bench, program, some, size)
+        bench.tell(name, program, "%.0f" % (size / MEGA / best_processor(some)))
     if JQ in runs:
         gain = best_processor(runs[JQ]) / best_processor(runs[OURS])
         bench.say("    by processor time %.1f times as fast as %s" % (gain, JQ))
@@ -69,10 +70,11 @@ def measure_merge(bench, megabytes):
     first = bench.write("first", (HEADER,))
     second = bench.write("second", elsewhere(bench.options.seed, megabytes * MEGA))
     size = os.path.getsize(second)
-    bench.say("  building tiles that are moved, %.0f MB" % (size / MEGA))
+    bench.say("  %s, %.0f MB" % (MOVED, size / MEGA))
     words = [bench.filter[0], "merge", "--in-turn", first, second]
-    for program, some in race(bench, {"citymerge merge": words}, second).items():
+    for program, some in race(bench, {OURS: words}, second).items():
         show(bench, program, some, size)
+        bench.tell(MOVED, program, "%.0f" % (size / MEGA / best_processor(some)))
     os.remove(first)
     os.remove(second)
 

@@ -19,6 +19,8 @@ CORES = 4
 SLOW = 16
 PIECE = 64 * 1024
 
+TURNS, THREADS = "in turn", "with a thread for each tile"
+
 # The shares of the whole that the tiles have.
 SHAPES = {
     "4 tiles": [1 / 4] * 4,
@@ -57,16 +59,17 @@ def gain(bench, name, paths):
     runs = race(
         bench,
         {
-            "in turn": ([*bench.merge, *paths], os.devnull),
-            "with threads": ([*bench.merge_threads, *paths], os.devnull),
+            TURNS: ([*bench.merge, *paths], os.devnull),
+            THREADS: ([*bench.merge_threads, *paths], os.devnull),
         },
     )
     best = {way: min(run.seconds for run in some) for way, some in runs.items()}
     peaks = {way: max(run.peak for run in some) for way, some in runs.items()}
-    times = best["in turn"] / best["with threads"]
+    times = best[TURNS] / best[THREADS]
     for way in runs:
         shown = (name, way, size / MEGA / best[way], peaks[way] / MEGA)
-        bench.say("  %-30s %-13s %6.0f MB/s by the clock, peak memory %5.1f MB" % shown)
+        bench.tell(name, way, "%.0f" % (size / MEGA / best[way]))
+        bench.say("  %-30s %-27s %6.0f MB/s by the clock, peak memory %5.1f MB" % shown)
     bench.say("  %-30s %.2f times as fast" % (name, times))
     return times
 
