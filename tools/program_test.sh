@@ -287,6 +287,53 @@ expect 'a merge to a closed pipe' '1|citymerge: the output could not be written'
 timeout 60 "$program" merge "$room/many" no-such-file >"$room/out" 2>/dev/full
 expect 'a file that is not there, and nowhere to say it' '1|0' "$?|$(wc -c <"$room/out")"
 
+# a thread's stack of 1 GB: there is room for none, for one, for both; tiles that take turns need none
+mkfifo "$room/slow"
+
+# merges what comes of `slow` and this file, in so much memory; opens `slow` at last, so that nobody waits for a reader
+beside() {
+    if [ "$2" != unlimited ]; then
+        ulimit -s 1000000
+        ulimit -v "$2"
+    fi
+    timeout 60 "$program" merge "$room/slow" "$1" >"$room/out" 2>"$room/errors"
+    echo "$?|$([ -e "$room/last" ] && echo waited)" >"$room/status"
+    : <>"$room/slow"
+}
+if (ulimit -s 1000000) 2>/dev/null; then
+    for most in '500000|1||citymerge: tile 1: a thread could not be started' '1500000|1||citymerge: tile 2: a thread could not be started' "4000000|0|$(printf '%s\n%s\n%s' "$header" "$one" "$far")|"; do
+        expect "threads in ${most%%|*} KB" "${most#*|}" "$(ulimit -s 1000000; ulimit -v "${most%%|*}"; mixed a b)"
+    done
+    expect 'no thread, in turn' "0|$(printf '%s\n%s\n%s' "$header" "$one" "$far")|" "$(ulimit -s 1000000; ulimit -v 500000; merged --in-turn a b)"
+    beside "$room/b" 1500000 &
+    (
+        printf '%s\n' "$header"
+        sleep 1
+        printf '%s\n' "$one"
+        : >"$room/last"
+    ) >"$room/slow"
+    wait $!
+    expect 'the thread that runs is waited for' '1|waited|citymerge: tile 2: a thread could not be started' "$(cat "$room/status")|$(cat "$room/errors")"
+else
+    echo 'Not run: threads that cannot be started, since stacks of 1 GB are not allowed'
+fi
+
+# the first tile gives its feature when something of the second was written
+rm -f "$room/last"
+beside "$room/others" unlimited &
+(
+    printf '%s\n' "$header"
+    for _ in $(seq 300); do
+        [ -s "$room/out" ] && break
+        sleep 0.1
+    done
+    wc -l <"$room/out" >"$room/early"
+    printf '%s\n' "$one"
+    : >"$room/last"
+) >"$room/slow"
+wait $!
+expect 'tiles beside one another' '0|waited||30002|some' "$(cat "$room/status")|$(cat "$room/errors")|$(wc -l <"$room/out")|$([ "$(cat "$room/early")" -gt 0 ] && echo some)"
+
 # the bundled tiles
 both=examples/west_and_east.expected.city.jsonl
 west=examples/west.expected.city.jsonl
@@ -336,6 +383,54 @@ expect 'a document to a full device' '1|citymerge: the output could not be writt
 timeout 60 "$program" cat <"$room/in" | cat >"$room/out"
 printf '%s\n' "$stream" >"$room/wanted"
 expect 'a document to a pipe' same "$(cmp "$room/out" "$room/wanted" && echo same)"
+
+# the document as the first line of the file `begun`, a text of it changed, and these lines after it
+begun() {
+    old=$1
+    new=$2
+    shift 2
+    { printf '%s\n' "$document" | sed "s/$old/$new/"; [ $# -eq 0 ] || printf '%s\n' "$@"; } >"$room/begun"
+}
+
+# filters such a stream of the document and one line, with these words
+filtered() {
+    begun "$1" "$2" "$3"
+    shift 3
+    cp "$room/begun" "$room/in"
+    answer filter "$@"
+}
+expect 'a document before a line' "0|$(printf '%s\n' "$header" "$cut" "$one")|" "$(filtered nothing nothing "$one")"
+expect 'a document before its own feature' "0|$(printf '%s\n' "$header" "$cut" "$cut")|" "$(filtered nothing nothing "$cut")"
+expect 'a document by a type' "0|$(printf '%s\n' "$header" "$q")|" "$(filtered nothing nothing "$q" --cotype=Bridge)"
+expect 'a document by a box' "0|$(printf '%s\n' "$header" "$cut")|" "$(filtered nothing nothing "$one" --bbox=3,3,9,9)"
+expect 'a document that is first and at fault' '1||citymerge: tile 1 line 1: a child is missing' "$(filtered '"p1","p2"' '"p1","p3"' "$one")"
+expect 'a document over lines in a stream' '1||citymerge: tile 1 line 1: the line is not a JSON text' "$(filtered ',' ',\n' "$one")"
+expect 'a fault after a document' "1|$(printf '%s\n' "$header" "$cut")|citymerge: tile 1 line 2: the line is not a CityJSONFeature" "$(filtered nothing nothing "$header")"
+printf '%s\n%s\n%s\n' "$header" "$one" "$document" >"$room/in"
+expect 'a document among the features' "1|$(printf '%s\n' "$header" "$one")|citymerge: tile 1 line 3: the line is not a CityJSONFeature" "$(answer filter)"
+printf '%s\n%s\n' "$header" "$one" | sed '1s/"vertices":\[\]/"vertices":[[0,0,0]]/' >"$room/in"
+expect 'a header with a vertex' "0|$(printf '%s\n' "$header" "$one")|" "$(answer filter)"
+moved_cut() {
+    printf '%s' "$cut" | sed "s/\[\[3,3,3\],\[1,1,1\],\[0,0,0\]\]/$1/"
+}
+begun '"translate":\[0,0,0\]' '"translate":[1.5,0,0]' "$two"
+mv "$room/begun" "$room/g"
+begun '"translate":\[0,0,0\]\(.*\)\[0,0,0\]' '"translate":[0.001,0,0]\1[9007199254740991,0,0]' "$two" '{'
+mv "$room/begun" "$room/h"
+begun '"translate":\[0,0,0\]\(.*\)\[2,2,2\]' '"translate":[0.001,0,0]\1[9007199254740991,0,0]'
+mv "$room/begun" "$room/i"
+begun '3,1' '4,1' "$two"
+mv "$room/begun" "$room/j"
+for turns in '' --in-turn; do
+    expect "a document as a tile $turns" "0|$(printf '%s\n' "$header" "$one" "$(moved_cut '[[1503,3,3],[1501,1,1],[1500,0,0]]')" "$far")|" "$(mixed $turns a g)"
+    expect "a document that leaves the range $turns" "1|$(printf '%s\n' "$header" "$one")|citymerge: tile 2 line 1: a vertex number is out of range" "$(merged $turns a h)"
+    expect "a vertex that is not used leaves the range $turns" "0|$(printf '%s\n' "$header" "$one" "$(moved_cut '[[4,3,3],[2,1,1],[1,0,0]]')")|" "$(mixed $turns a i)"
+    expect "a tile that is a document at fault $turns" '1||citymerge: tile 2 line 1: a boundary index is wrong' "$(merged $turns a j d)"
+done
+expect 'a document in its turns' "0|$(printf '%s\n' "$header" "$cut" "$one" "$two" "$one" "$one")|" "$(begun nothing nothing "$two"; merged --in-turn begun c)"
+tr -d '\r\n' <examples/town.city.json >"$room/town"
+timeout 60 "$program" filter <"$room/town" >"$room/out" 2>"$room/errors"
+expect 'town on one line' '0||same' "$?|$(cat "$room/errors")|$(cmp "$room/out" examples/town.expected.city.jsonl && echo same)"
 
 # 2^28 bytes are read, and one more is too many
 padded() {

@@ -42,14 +42,6 @@ emptied_array : (there : Option Tree) → WhereThere IsArray (option_map (λ ver
 emptied_array None = tt
 emptied_array (Some value) = tt
 
-no_object : (there : Option Tree) → WhereThere (λ objects. objects ≡ object no_members) (option_map (λ objects. object no_members) there)
-no_object None = tt
-no_object (Some value) = refl
-
-no_array : (there : Option Tree) → WhereThere (λ vertices. vertices ≡ array no_items) (option_map (λ vertices. array no_items) there)
-no_array None = tt
-no_array (Some value) = refl
-
 pub header_grid : (document : Tree) (grid : Grid) → HasGrid (header_tree document) grid → HasGrid document grid
 header_grid document grid has = (has.0, sym (other_member (codes "transform") document refl refl refl) ∙ has.1, has.2, has.3)
 
@@ -64,8 +56,4 @@ is_header document grid city_json version has = (
   ),
   other_member (codes "version") document refl refl refl ∙ version,
   (has.0, other_member (codes "transform") document refl refl refl ∙ has.1, has.2, has.3),
-  (
-    subst (WhereThere (λ objects. objects ≡ object no_members)) (sym (no_objects document)) (no_object _),
-    subst (WhereThere (λ vertices. vertices ≡ array no_items)) (sym (no_vertices document)) (no_array _),
-  ),
 )

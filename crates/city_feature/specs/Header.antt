@@ -1,12 +1,12 @@
 -- Headers: the CityJSON object in the first line of a stream (CityJSON 2.0, CityJSON Object and
 -- Text sequences and streaming with CityJSONFeature).
-use Rattle.std.specs.Prelude.{◌≡◌, Option, Some, None, codes}
+use Rattle.std.specs.Prelude.{◌≡◌, ◌⊎◌, Option, Some, None, codes}
 use Rattle.city_json.specs.Members.{member_of}
-use Rattle.city_json.specs.Tree.{Tree, array, no_items, object, no_members}
+use Rattle.city_json.specs.Tree.{Tree}
 use Rattle.city_json.specs.declared.fault.Fault.{Fault}
-use Rattle.city_json.specs.declared.fault.Fault.TheVariants.{NotCityJson, Version, NoTransform, Decimal, ScaleNotPositive, HeaderNotEmpty}
+use Rattle.city_json.specs.declared.fault.Fault.TheVariants.{NotCityJson, Version, NoTransform, Decimal, ScaleNotPositive}
 use Rattle.city_grid.specs.Transform.{Grid, IsTransform, IsAboveZero, RefusesTransform}
-use Rattle.city_feature.specs.Shapes.{IsObject, IsArray, Says, WhereThere}
+use Rattle.city_feature.specs.Shapes.{IsObject, IsArray, IsFilledArray, IsFilledObject, IsThere, Says, WhereThere}
 
 -- what a header is to a contract: its value, and the grid that its transform stands for
 pub record HeaderValue : Type 0 where
@@ -34,14 +34,14 @@ HasGrid value grid =
     × IsTransform transform grid
     × IsAboveZero grid.scale
 
--- it holds neither city objects nor vertices
-abbrev pub IsEmpty : Tree → Type 0
-IsEmpty value =
-    WhereThere (λ objects. objects ≡ object no_members) (member_of (codes "CityObjects") value)
-    × WhereThere (λ vertices. vertices ≡ array no_items) (member_of (codes "vertices") value)
-
 abbrev pub IsHeader : Tree → Grid → Type 0
-IsHeader value grid = IsCityJson value × IsVersion2 value × HasGrid value grid × IsEmpty value
+IsHeader value grid = IsCityJson value × IsVersion2 value × HasGrid value grid
+
+-- it holds city objects or vertices
+abbrev pub HoldsCity : Tree → Type 0
+HoldsCity value =
+    IsThere IsFilledObject (member_of (codes "CityObjects") value)
+    ⊎ IsThere IsFilledArray (member_of (codes "vertices") value)
 
 -- there is no transform, or it is refused
 abbrev pub RefusesGrid : Fault → Option Tree → Type 0
@@ -54,13 +54,11 @@ HasBadTransform fault value =
     IsCityJson value × IsVersion2 value × RefusesGrid fault (member_of (codes "transform") value)
 
 -- why a value is no header: it is no CityJSON object; or it is one of another version; or its
--- transform is missing, malformed or outside the profile; or it is a header but not empty
+-- transform is missing, malformed or outside the profile
 abbrev pub RefusesHeader : Fault → Tree → Type 0
 RefusesHeader NotCityJson value = ¬ IsCityJson value
 RefusesHeader Version value = IsCityJson value × ¬ IsVersion2 value
 RefusesHeader NoTransform value = HasBadTransform NoTransform value
 RefusesHeader Decimal value = HasBadTransform Decimal value
 RefusesHeader ScaleNotPositive value = HasBadTransform ScaleNotPositive value
-RefusesHeader HeaderNotEmpty value =
-    (grid : Grid) × IsCityJson value × IsVersion2 value × HasGrid value grid × ¬ IsEmpty value
 RefusesHeader other value = ⊥

@@ -2,9 +2,9 @@
 use Rattle.std.specs.Prelude.{◌≡◌, ℕ, List, Option, Some, None, option_map}
 use Rattle.city_json.specs.Compact.{compact}
 use Rattle.city_json.specs.Members.{member_of}
-use Rattle.city_json.specs.Tree.{Tree, string, array, no_items, object, no_members}
+use Rattle.city_json.specs.Tree.{Tree, string, array, item, object, member}
 use Rattle.city_feature.specs.declared.kinds.Kind.{Kind}
-use Rattle.city_feature.specs.declared.kinds.Kind.TheVariants.{Text, Array, EmptyArray, Object, EmptyObject}
+use Rattle.city_feature.specs.declared.kinds.Kind.TheVariants.{Text, Array, FilledArray, Object, FilledObject}
 
 abbrev pub IsObject : Tree → Type 0
 IsObject (object all) = Unit {0}
@@ -18,12 +18,22 @@ abbrev pub IsText : Tree → Type 0
 IsText (string text) = Unit {0}
 IsText other = ⊥
 
+-- an object that has a member
+abbrev pub IsFilledObject : Tree → Type 0
+IsFilledObject (object (member name value others)) = Unit {0}
+IsFilledObject other = ⊥
+
+-- an array that has an item
+abbrev pub IsFilledArray : Tree → Type 0
+IsFilledArray (array (item value others)) = Unit {0}
+IsFilledArray other = ⊥
+
 abbrev pub IsOf : Kind → Tree → Type 0
 IsOf Text value = IsText value
 IsOf Array value = IsArray value
-IsOf EmptyArray value = value ≡ array no_items
+IsOf FilledArray value = IsFilledArray value
 IsOf Object value = IsObject value
-IsOf EmptyObject value = value ≡ object no_members
+IsOf FilledObject value = IsFilledObject value
 
 -- there is a value, and it is such a one
 abbrev pub IsThere : (Tree → Type 0) → Option Tree → Type 0

@@ -44,6 +44,3 @@ impl Choice {
         Ok(Choice::new(types, self.area, self.exclude))
     }
 }
-
-#[cfg(test)]
-mod tests;

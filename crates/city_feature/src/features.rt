@@ -51,6 +51,3 @@ impl Feature {
         &self.vertices
     }
 }
-
-#[cfg(test)]
-mod tests;

@@ -46,6 +46,3 @@ impl Header {
         &self.transform
     }
 }
-
-#[cfg(test)]
-mod tests;

@@ -8,8 +8,6 @@ ghost use Rattle.city_feature.specs.Values.{header_value, lent_members};
 pub(crate) mod extensions;
 pub(crate) mod line;
 pub(crate) mod origin;
-#[cfg(test)]
-mod tests;
 pub(crate) mod tiles;
 
 use crate::base::Base;

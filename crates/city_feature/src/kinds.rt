@@ -11,9 +11,9 @@ use city_json::Json;
 pub(crate) enum Kind {
     Text,
     Array,
-    EmptyArray,
+    FilledArray,
     Object,
-    EmptyObject,
+    FilledObject,
 }
 
 /// Whether the member of that name is that text.
@@ -32,9 +32,9 @@ fn is_of(value: &Json, kind: Kind) -> bool
     match (kind, value) {
         (Kind::Text, Json::Text(_)) => true,
         (Kind::Array, Json::List(_)) => true,
-        (Kind::EmptyArray, Json::List(items)) => items.is_empty(),
+        (Kind::FilledArray, Json::List(items)) => !items.is_empty(),
         (Kind::Object, Json::Map(_)) => true,
-        (Kind::EmptyObject, Json::Map(members)) => members.is_empty(),
+        (Kind::FilledObject, Json::Map(members)) => !members.is_empty(),
         _ => false,
     }
 }

@@ -25,5 +25,5 @@ pub use features::moving::shifted;
 pub use features::reader::feature;
 pub use features::writer::line;
 pub use headers::Header;
-pub use headers::reader::{header, is_city_json, is_version_2, transform_of};
+pub use headers::reader::{header, is_city_json, is_document, is_version_2, transform_of};
 pub use joining::{HeaderFault, Joined, Shifts, join_headers};

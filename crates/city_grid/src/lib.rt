@@ -21,6 +21,3 @@ pub use vertices::reader::vertex;
 pub use vertices::texts::{PlacedVertex, append_vertex, byte_is, vertex_at};
 pub use vertices::writer::{vertex_json, write_vertex};
 pub use vertices::{Vertex, moved};
-
-#[cfg(test)]
-mod tests;

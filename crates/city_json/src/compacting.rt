@@ -17,8 +17,6 @@ mod names;
 mod parts;
 mod scalars;
 mod strings;
-#[cfg(test)]
-mod tests;
 mod values;
 mod whole_arrays;
 

@@ -15,8 +15,6 @@ mod reading;
 mod sequence;
 mod short;
 mod streams;
-#[cfg(test)]
-mod test_texts;
 mod text;
 
 pub use compacting::{Compacted, Part, compact, compact_parts};

@@ -21,8 +21,6 @@ pub(crate) mod names;
 pub(crate) mod numbers;
 pub(crate) mod plain;
 pub(crate) mod strings;
-#[cfg(test)]
-mod tests;
 
 use crate::fault::Fault;
 use crate::json::{Items, Json, Member, Members};

@@ -44,19 +44,19 @@ pub fn run_filter<R: Source, W: Sink, E: Sink>(
     errors: &mut E,
 ) -> u8
     ensures status { (result ≡ 0) ⊎ (result ≡ 1) }
-    ensures done { result ≡ 0 → SomeTile (Leaves R.gives tile.old) (λ lines. (count : ℕ)
+    ensures done { result ≡ 0 → SomeTile (Leaves R.gives tile.old.lines) (λ lines. (count : ℕ)
         × WroteStream lines (IsChosen choice.now) count (W.taken output.old) (W.taken output.new)) }
     ensures done_flushed { result ≡ 0 → W.is_flushed output.new }
     ensures done_failures { result ≡ 0 → W.failures output.new ≡ W.failures output.old }
-    ensures done_reads { result ≡ 0 → has_failed tile.old ≡ false
-        → R.failures tile.new.ahead.reader ≡ R.failures tile.old.ahead.reader }
+    ensures done_reads { result ≡ 0 → has_failed tile.old.lines ≡ false
+        → R.failures tile.new.lines.ahead.reader ≡ R.failures tile.old.lines.ahead.reader }
     ensures refused { result ≡ 1 → (e : MergeFault)
-        × IsRefusedFilter (Leaves R.gives tile.old) (IsChosen choice.now) e.fault e.tile e.line
+        × IsRefusedFilter (Leaves R.gives tile.old.lines) (IsChosen choice.now) e.fault e.tile e.line
         (W.taken output.old) (W.taken output.new)
         × FlushedOrFailed (W.is_flushed output.new)
         (failures_after_write e.fault (W.failures output.old)) (W.failures output.new)
-        × (has_failed tile.old ≡ false → R.failures tile.new.ahead.reader
-        ≡ failed_reads_after e.fault (R.failures tile.old.ahead.reader))
+        × (has_failed tile.old.lines ≡ false → R.failures tile.new.lines.ahead.reader
+        ≡ failed_reads_after e.fault (R.failures tile.old.lines.ahead.reader))
         × WroteOrFailed (fault_line e) (E.taken errors.old) (E.taken errors.new)
         (E.failures errors.old) (E.failures errors.new) }
     ensures silent { result ≡ 0 → errors.new ≡ errors.old }

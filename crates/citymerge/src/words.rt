@@ -7,7 +7,7 @@ ghost use Rattle.command_line.specs.Asked.{HasTiles, IsAsked};
 ghost use Rattle.command_line.specs.Commands.{faults_of, named_by};
 ghost use Rattle.citymerge.specs.Words.{not_utf8_text};
 
-use city_json::{Fault, Line, Str};
+use city_json::{Line, Str};
 use command_line::{Parsed, Paths, parse_words};
 use std::alloc::{AllocError, Global};
 use std::env::Args;
@@ -31,7 +31,7 @@ pub fn parse_args(alloc: Global, args: io::Result<Args>) -> Parsed
     match args {
         Ok(args) => match words_of(alloc, args) {
             Ok(words) => parse_words(alloc, &words),
-            Err(_) => Parsed::Memory,
+            Err(AllocError) => Parsed::Memory,
         },
         Err(e) if e.kind() == ErrorKind::OutOfMemory => Parsed::Memory,
         Err(_) => match not_utf8(alloc) {
@@ -41,12 +41,15 @@ pub fn parse_args(alloc: Global, args: io::Result<Args>) -> Parsed
     }
 }
 
-fn words_of(alloc: Global, args: Args) -> Result<Paths, Fault>
+fn words_of(alloc: Global, args: Args) -> Result<Paths, AllocError>
     ensures { IfOk result (λ words. words ≡ map string_bytes (into_iter_items args)) }
 {
     let mut words = Paths::new(alloc);
     for word in args {
-        words.push(Str::read(alloc, word.as_str())?)?;
+        let Ok(word) = Str::read(alloc, word.as_str()) else {
+            return Err(AllocError);
+        };
+        words.push(word)?;
     }
     Ok(words)
 }

@@ -17,13 +17,20 @@ macro_rules! with_statuses {
             "\n\nStatus:
   0  done, or help was asked for
   1  refused, with one line on standard error
-  2  wrong use"
+  2  wrong use, told on standard error; nothing was read"
         )
     };
 }
 
 static PROGRAM_END: &str = with_statuses!(
-    "Examples:
+    "A tile is a CityJSONSeq stream of CityJSON 2.0: a header on its first line, then one
+feature a line. In place of the header may stand a whole CityJSON document, which
+is cut as by `cat`; its features come first then.
+
+Streams are written to standard output, all messages to standard error. One of a
+refusal is `citymerge: tile T line L: TEXT`; tiles and lines are counted from 1.
+
+Examples:
   citymerge merge west.city.jsonl east.city.jsonl > both.city.jsonl
   citymerge filter --cotype=Building < tile.city.jsonl > buildings.city.jsonl
   citymerge cat < town.city.json > town.city.jsonl
@@ -35,7 +42,8 @@ static MERGE_END: &str = with_statuses!(
     "The tiles are put on the grid of the first, and are joined only where nothing is
 rounded: the same scale and reference system, and translations that lie a whole
 number of grid units apart. Else the tile that does not fit is named, and nothing
-is written. A feature is written where all options that are given choose it.
+is written. A line at fault later ends its own tile; all others are written whole.
+A feature is written where all options that are given choose it.
 
 A TILE that begins with - stands after --, and - itself is a file of that name.
 
@@ -45,7 +53,11 @@ Examples:
 );
 
 static FILTER_END: &str = with_statuses!(
-    "A feature is written where all options that are given choose it. With no
+    "The stream is a header, then one feature a line. In place of the header may stand
+a whole CityJSON document, whose features come first then. The stream ends at the
+first line at fault; what was chosen of the lines before it is written.
+
+A feature is written where all options that are given choose it. With no
 option all features are written.
 
 Examples:
@@ -55,19 +67,23 @@ Examples:
 
 static CAT_END: &str = with_statuses!(
     "A feature is a city object without parents, with all that are reached from it
-through children, and with vertices of its own. A document that is at fault is
-refused whole. It is held in memory.
+through children, and with vertices of its own. A document may be spread over
+lines, and have 2^28 bytes. It is held in memory. One that is at fault is refused
+whole, with nothing written.
 
 Example:
   citymerge cat < town.city.json > town.city.jsonl"
 );
 
 static TILE_HELP: &str = "A file with a CityJSONSeq stream: a header,
-then one feature a line. At most 64.";
+then one feature a line. In place of the
+header may stand a whole CityJSON document.
+At most 64.";
 
 static IN_TURN_HELP: &str = "One feature of each tile in turn, in the
 order of the tiles, so that the same tiles
-give the same stream.";
+give the same stream. Else features are
+written as they come.";
 
 static LEAST_HELP: &str = "Move the origin of the grid to the least
 translation of the tiles in x, y and z, so
@@ -76,17 +92,20 @@ in units of that grid.";
 
 static TYPES_HELP: &str = "Only features of these types, with commas
 between: the type of the city object that
-the feature's id names.";
+the feature's id names. No blanks, as in
+--cotype=Building,Bridge";
 
 static AREA_HELP: &str = "Only features whose extent in x and y meets
 this area, if only at an edge. In grid
 units: the whole numbers of vertices, after
-the shift onto the grid of the output. A
-value that begins with - is given with =,
-as in --bbox=-5,0,10,10";
+the shift onto the grid of the output. The
+least x and y first, then the greatest, as
+in --bbox=0,0,20000,10000. A value that
+begins with - is given with =, as in
+--bbox=-5,0,10,10";
 
 static EXCLUDE_HELP: &str = "Only the features that the other options
-do not choose.";
+do not choose. Without other options, none.";
 
 /// All commands of the program, as `clap` takes them.
 pub fn citymerge_command<'a>(alloc: Global) -> Result<Command<'a>, AllocError>

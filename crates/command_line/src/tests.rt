@@ -318,13 +318,16 @@ fn help_says_what_each_option_does(rt: HostRuntime) -> Result<(), Fail> {
             "--bbox <MINX,MINY,MAXX,MAXY>",
             "meets",
             "units: the whole numbers of vertices, after",
-            "value that begins with - is given with =",
+            "in --bbox=0,0,20000,10000. A value that",
+            "begins with - is given with =",
+            "--cotype=Building,Bridge",
             "--exclude",
             "Only the features that the other options",
+            "a whole CityJSON document, whose features come first then",
             "citymerge filter --bbox=-5,0,10,10 --exclude < tile.city.jsonl",
             "  0  done, or help was asked for\n",
             "  1  refused, with one line on standard error\n",
-            "  2  wrong use\n",
+            "  2  wrong use, told on standard error; nothing was read\n",
         ]
         .as_slice(),
     )?;
@@ -334,11 +337,13 @@ fn help_says_what_each_option_does(rt: HostRuntime) -> Result<(), Fail> {
         [
             "  merge   Joins the streams of several files",
             "  filter  Writes the chosen features",
+            "A tile is a CityJSONSeq stream",
+            "citymerge: tile T line L: TEXT",
             "citymerge merge west.city.jsonl east.city.jsonl > both.city.jsonl",
             "citymerge filter --cotype=Building < tile.city.jsonl",
             "  0  done, or help was asked for\n",
             "  1  refused, with one line on standard error\n",
-            "  2  wrong use\n",
+            "  2  wrong use, told on standard error; nothing was read\n",
         ]
         .as_slice(),
     )

@@ -1,4 +1,4 @@
-//! Tests of what merges several tiles, with whole streams in and out. There is no code but these
+//! Tests of what merges several tiles, and of tiles that begin with a document, with whole streams in and out. There is no code but these
 //! tests, so that the crates whose code they run are not proved once more with them.
 #![tactic(auto)]
 
@@ -7,9 +7,15 @@ mod bounds;
 #[cfg(test)]
 mod devices;
 #[cfg(test)]
+mod documents;
+#[cfg(test)]
 mod faults;
 #[cfg(test)]
 mod headers;
+#[cfg(test)]
+mod interleaving;
+#[cfg(test)]
+mod large_documents;
 #[cfg(test)]
 mod many;
 #[cfg(test)]

@@ -34,6 +34,65 @@ macro_rules! feature {
     };
 }
 
+/// A document of a building with two parts: its translation, the children of the building, the vertices that its
+/// first part names, and all vertices.
+macro_rules! building_document {
+    ($translate:literal, $children:literal, $leaves:literal, $vertices:literal) => {
+        concat!(
+            r#"{"type":"CityJSON","version":"2.0","transform":{"scale":[0.001,0.001,0.001],"translate":["#,
+            $translate,
+            r#"]},"CityObjects":{"b":{"type":"Building","children":"#,
+            $children,
+            r#"},"p1":{"type":"BuildingPart","parents":["b"],"geometry":[{"type":"MultiPoint","lod":"1","boundaries":"#,
+            $leaves,
+            r#"}]},"p2":{"type":"BuildingPart","parents":["b"],"geometry":[{"type":"MultiPoint","lod":"1","boundaries":[1,0]}]}},"vertices":"#,
+            $vertices,
+            "}"
+        )
+    };
+}
+
+/// The feature that such a document is cut into, with its vertices.
+macro_rules! building {
+    ($vertices:literal) => {
+        concat!(
+            r#"{"type":"CityJSONFeature","id":"b","CityObjects":{"b":{"type":"Building","children":["p1","p2"]},"p1":{"type":"BuildingPart","parents":["b"],"geometry":[{"type":"MultiPoint","lod":"1","boundaries":[0,1]}]},"p2":{"type":"BuildingPart","parents":["b"],"geometry":[{"type":"MultiPoint","lod":"1","boundaries":[1,2]}]}},"vertices":"#,
+            $vertices,
+            "}"
+        )
+    };
+}
+
+/// A document of the points x, y and z, of which y is a road, with this translation and these vertices.
+macro_rules! points_document {
+    ($translate:literal, $vertices:literal) => {
+        concat!(
+            r#"{"type":"CityJSON","version":"2.0","transform":{"scale":[0.001,0.001,0.001],"translate":["#,
+            $translate,
+            r#"]},"CityObjects":{"x":{"type":"Building","geometry":[{"type":"MultiPoint","lod":"1","boundaries":[0]}]},"y":{"type":"Road","geometry":[{"type":"MultiPoint","lod":"1","boundaries":[1]}]},"z":{"type":"Building","geometry":[{"type":"MultiPoint","lod":"1","boundaries":[2]}]}},"vertices":"#,
+            $vertices,
+            "}"
+        )
+    };
+}
+
+/// One of the features that it is cut into.
+macro_rules! point {
+    ($name:literal, $type:literal, $vertex:literal) => {
+        concat!(
+            r#"{"type":"CityJSONFeature","id":""#,
+            $name,
+            r#"","CityObjects":{""#,
+            $name,
+            r#"":{"type":""#,
+            $type,
+            r#"","geometry":[{"type":"MultiPoint","lod":"1","boundaries":[0]}]}},"vertices":["#,
+            $vertex,
+            "]}"
+        )
+    };
+}
+
 pub(crate) const HEADER: &str = header!("0.001", "0,0,0", "");
 
 pub(crate) const FAR_HEADER: &str = header!("0.001", "1.5,0,0", "");
@@ -181,3 +240,157 @@ pub(crate) const EAST: [&str; 2] = [
 
 pub(crate) const EAST_FROM_WEST: &str =
     r#"{"type":"CityJSONFeature","id":"x2","CityObjects":{"x2":{"type":"Building","geometry":[{"type":"Solid","lod":"1.2","boundaries":[[[[0,1,2]],[[0,2,3]],[[0,3,1]],[[1,3,2]]]]}],"attributes":{"height":12.30}}},"vertices":[[90250,0,0],[91250,0,0],[90250,1000,0],[90250,0,1000]]}"#;
+
+pub(crate) const DOCUMENT: &str = building_document!(
+    "0,0,0",
+    r#"["p1","p2"]"#,
+    "[3,1]",
+    "[[0,0,0],[1,1,1],[2,2,2],[3,3,3]]"
+);
+
+/// What [`DOCUMENT`] is cut into, after [`HEADER`].
+pub(crate) const BUILDING: &str = building!("[[3,3,3],[1,1,1],[0,0,0]]");
+
+/// [`DOCUMENT`] after [`FAR_HEADER`], and its feature on the grid of [`HEADER`].
+pub(crate) const FAR_DOCUMENT: &str = building_document!(
+    "1.5,0,0",
+    r#"["p1","p2"]"#,
+    "[3,1]",
+    "[[0,0,0],[1,1,1],[2,2,2],[3,3,3]]"
+);
+
+pub(crate) const FAR_BUILDING: &str = building!("[[1503,3,3],[1501,1,1],[1500,0,0]]");
+
+/// Documents after [`NEXT_HEADER`] with a vertex at the end of the range of x, which a boundary names or none
+/// does; and the feature of the second on the grid of [`HEADER`].
+pub(crate) const LAST_DOCUMENT: &str = building_document!(
+    "0.001,0,0",
+    r#"["p1","p2"]"#,
+    "[3,1]",
+    "[[9007199254740991,0,0],[1,1,1],[2,2,2],[3,3,3]]"
+);
+
+pub(crate) const UNUSED_LAST_DOCUMENT: &str = building_document!(
+    "0.001,0,0",
+    r#"["p1","p2"]"#,
+    "[3,1]",
+    "[[0,0,0],[1,1,1],[9007199254740991,0,0],[3,3,3]]"
+);
+
+pub(crate) const NEXT_BUILDING: &str = building!("[[4,3,3],[2,1,1],[1,0,0]]");
+
+/// Documents that cannot be cut.
+pub(crate) const CHILDLESS_DOCUMENT: &str = building_document!(
+    "0,0,0",
+    r#"["p1","p3"]"#,
+    "[3,1]",
+    "[[0,0,0],[1,1,1],[2,2,2],[3,3,3]]"
+);
+
+pub(crate) const ORPHANED_DOCUMENT: &str = building_document!(
+    "0,0,0",
+    r#"["p1"]"#,
+    "[3,1]",
+    "[[0,0,0],[1,1,1],[2,2,2],[3,3,3]]"
+);
+
+pub(crate) const UNBOUNDED_DOCUMENT: &str = building_document!(
+    "0,0,0",
+    r#"["p1","p2"]"#,
+    "[4,1]",
+    "[[0,0,0],[1,1,1],[2,2,2],[3,3,3]]"
+);
+
+pub(crate) const FLAT_DOCUMENT: &str = building_document!(
+    "0,0,0",
+    r#"["p1","p2"]"#,
+    "[3,1]",
+    "[[0,0,0],[1,1,1],[2,2],[3,3,3]]"
+);
+
+pub(crate) const HALF_DOCUMENT: &str = building_document!(
+    "0,0,0",
+    r#"["p1","p2"]"#,
+    "[3,1]",
+    "[[0,0,0],[1,1,1],[2.5,2,2],[3,3,3]]"
+);
+
+pub(crate) const WIDE_DOCUMENT: &str = building_document!(
+    "0,0,0",
+    r#"["p1","p2"]"#,
+    "[3,1]",
+    "[[0,0,0],[1,1,1],[9007199254740992,2,2],[3,3,3]]"
+);
+
+/// Its building names a text as its children.
+pub(crate) const SHAPELESS_DOCUMENT: &str = building_document!(
+    "0,0,0",
+    r#""p1""#,
+    "[3,1]",
+    "[[0,0,0],[1,1,1],[2,2,2],[3,3,3]]"
+);
+
+/// Its faults: a vertex of two numbers, one that is not whole, a missing child, an index without a vertex.
+pub(crate) const FAULTY_DOCUMENT: &str = building_document!(
+    "0,0,0",
+    r#"["p1","p3"]"#,
+    "[4,1]",
+    "[[0,0,0],[1,1],[2.5,2,2],[3,3,3]]"
+);
+
+pub(crate) const POINTS: &str = points_document!("0,0,0", "[[10,0,0],[20,0,0],[30,0,0]]");
+
+pub(crate) const X: &str = point!("x", "Building", "[10,0,0]");
+
+pub(crate) const Y: &str = point!("y", "Road", "[20,0,0]");
+
+pub(crate) const Z: &str = point!("z", "Building", "[30,0,0]");
+
+/// [`POINTS`] after [`FAR_HEADER`], and the road on the grid of [`HEADER`].
+pub(crate) const FAR_POINTS: &str = points_document!("1.5,0,0", "[[10,0,0],[20,0,0],[30,0,0]]");
+
+pub(crate) const FAR_Y: &str = point!("y", "Road", "[1520,0,0]");
+
+/// Points after [`NEXT_HEADER`], of which the road lies at the end of the range of x.
+pub(crate) const LAST_POINTS: &str = points_document!(
+    "0.001,0,0",
+    "[[10,0,0],[9007199254740991,0,0],[30,0,0]]"
+);
+
+/// Headers with a vertex and no city objects, of which the second lacks `CityObjects`; and the second one without its
+/// vertex.
+pub(crate) const VERTEX_HEADER: &str =
+    r#"{"type":"CityJSON","version":"2.0","transform":{"scale":[0.001,0.001,0.001],"translate":[0,0,0]},"CityObjects":{},"vertices":[[0,0,0]]}"#;
+
+pub(crate) const VERTEX_ALONE_HEADER: &str =
+    r#"{"type":"CityJSON","version":"2.0","transform":{"scale":[0.001,0.001,0.001],"translate":[0,0,0]},"vertices":[[0,0,0]]}"#;
+
+pub(crate) const NO_VERTEX_HEADER: &str =
+    r#"{"type":"CityJSON","version":"2.0","transform":{"scale":[0.001,0.001,0.001],"translate":[0,0,0]},"vertices":[]}"#;
+
+/// A document whose city objects have no vertices, its header and its feature.
+pub(crate) const BARE_DOCUMENT: &str =
+    r#"{"type":"CityJSON","version":"2.0","transform":{"scale":[0.001,0.001,0.001],"translate":[0,0,0]},"CityObjects":{"l":{"type":"LandUse"}}}"#;
+
+pub(crate) const BARE_HEADER: &str =
+    r#"{"type":"CityJSON","version":"2.0","transform":{"scale":[0.001,0.001,0.001],"translate":[0,0,0]},"CityObjects":{}}"#;
+
+pub(crate) const BARE: &str =
+    r#"{"type":"CityJSONFeature","id":"l","CityObjects":{"l":{"type":"LandUse"}},"vertices":[]}"#;
+
+/// A document with an extent and an appearance; its header in a stream of its own and in a merge, and its feature.
+pub(crate) const SHADED_DOCUMENT: &str =
+    r#"{"type":"CityJSON","version":"2.0","transform":{"scale":[0.001,0.001,0.001],"translate":[0,0,0]},"appearance":{"materials":[{"name":"brick"}]},"CityObjects":{"l":{"type":"LandUse"}},"vertices":[],"metadata":{"geographicalExtent":[0,0,0,1,1,1],"title":"t"}}"#;
+
+pub(crate) const SHADED: &str =
+    r#"{"type":"CityJSONFeature","id":"l","CityObjects":{"l":{"type":"LandUse"}},"vertices":[],"appearance":{"materials":[{"name":"brick"}]}}"#;
+
+/// A document with geometry templates, which may refer to its appearance; and its header.
+pub(crate) const TEMPLATES_DOCUMENT: &str =
+    r#"{"type":"CityJSON","version":"2.0","transform":{"scale":[0.001,0.001,0.001],"translate":[0,0,0]},"CityObjects":{"l":{"type":"LandUse"}},"vertices":[],"geometry-templates":{"templates":[],"vertices-templates":[]},"appearance":{"materials":[{"name":"brick"}]}}"#;
+
+pub(crate) const SHADED_TEMPLATES_HEADER: &str = header!(
+    "0.001",
+    "0,0,0",
+    r#","geometry-templates":{"templates":[],"vertices-templates":[]},"appearance":{"materials":[{"name":"brick"}]}"#
+);

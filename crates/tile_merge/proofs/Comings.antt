@@ -6,7 +6,7 @@ use Rattle.city_json.specs.declared.fault.Fault.TheVariants.{Memory, Read, Write
 use Rattle.city_feature.specs.Feature.{FeatureValue}
 use Rattle.city_feature.specs.FeatureLine.{GivesFeature, RefusesFeatureLine}
 use Rattle.city_grid.specs.Axes.{Triple}
-use Rattle.tile_merge.specs.Coming.{MayComeTo, GivesText, SomethingComes}
+use Rattle.tile_merge.specs.Coming.{LeftComesTo, LinesMayComeTo, GivesText, SomethingComes}
 use Rattle.tile_merge.specs.Stream.{with_newline}
 use Rattle.tile_merge.specs.Texts.{Outcome, EndsAfter, LinesComeTo}
 use Rattle.tile_merge.specs.Tile.{Part, FaultyLine, TileLines, part_of, line_before, nothing_left, only_fault}
@@ -24,6 +24,12 @@ memory_in Gives Refuses [] None number begins = (refl, refl)
 memory_in Gives Refuses [] (Some fault) number begins = (refl, inr (refl, begins))
 memory_in Gives Refuses (line ∷ others) fault number begins = inl (refl, inr (refl, begins))
 
+-- what begins at a number begins at each lower one
+begins_before : (first number : ℕ) (lines : List Part) (fault : Option FaultyLine) → first ≤ number → BeginsFrom number lines fault → BeginsFrom first lines fault
+begins_before first number [] None low begins = tt
+begins_before first number [] (Some fault) low begins = omega (arith, low, begins)
+begins_before first number (line ∷ others) fault low begins = omega (arith, low, begins)
+
 pub ends_after : (number next : ℕ) (outcome : Outcome) → number < next → IsFaultFrom next outcome → EndsAfter number outcome
 ends_after number next None below from = tt
 ends_after number next (Some at) below from = omega (arith, below, from)
@@ -32,24 +38,24 @@ ends_from : (first number : ℕ) (outcome : Outcome) → first ≤ number → En
 ends_from first number None low after = tt
 ends_from first number (Some at) low after = omega (arith, low, after)
 
+-- something comes of the lines that are left
+pub left_comes : (IsWanted : FeatureValue → Type 0) (k : Triple) (number : ℕ) (left : TileLines) → BeginsFrom number left.lines left.fault → SomethingComes (LeftComesTo IsWanted k number left)
+left_comes IsWanted k number left begins =
+    ([], (Some (at_line number Memory), (omega arith, memory_in (GivesFeature IsWanted k) (RefusesFeatureLine k) left.lines left.fault number begins)))
+
 module _ {R : Type 0} (gives : R → List ℕ → Bool → Type 0) (IsWanted : FeatureValue → Type 0) (k : Triple) where
   abbrev Comes : Unread R → List (List ℕ) → Outcome → Type 0
-  Comes lines texts outcome = MayComeTo gives IsWanted k lines texts outcome
-
-  pub something_comes : (lines : Unread R) → (left : TileLines) × Leaves gives lines left × BeginsFrom lines.number left.lines left.fault → SomethingComes (MayComeTo gives IsWanted k lines)
-  something_comes lines some =
-      let left = some.0 in
-      let memory = memory_in (GivesFeature IsWanted k) (RefusesFeatureLine k) left.lines left.fault lines.number some.2 in
-      ([], (Some (at_line lines.number Memory), (left, some.1, memory, omega arith)))
+  Comes lines texts outcome = LinesMayComeTo gives IsWanted k lines texts outcome
 
   module _ (before : Unread R) where
     pub nothing_comes : Leaves gives before nothing_left → Comes before [] None
-    nothing_comes over = (nothing_left, over, (refl, tt), tt)
+    nothing_comes over = (nothing_left, (over, tt), (tt, (refl, tt)))
 
     pub fault_comes : (fault : Fault) (number : ℕ) → before.number ≤ number → IsRefused fault number (Leaves gives before) → Comes before [] (Some (at_line number fault))
     fault_comes Memory number from refused =
-        (refused.0, refused.1, memory_in (GivesFeature IsWanted k) (RefusesFeatureLine k) refused.0.lines refused.0.fault number refused.2, from)
-    fault_comes other number from refused = (only_fault number other, refused, (refl, inl refl), from)
+        let left = refused.0 in
+        (left, (refused.1, begins_before before.number number left.lines left.fault from refused.2), (from, memory_in (GivesFeature IsWanted k) (RefusesFeatureLine k) left.lines left.fault number refused.2))
+    fault_comes other number from refused = (only_fault number other, (refused, from), (from, (refl, inl refl)))
 
     module _ (after : Unread R) (number : ℕ) (bytes : List ℕ) (taken : GivesLine (Leaves gives before) (Leaves gives after) number bytes) (from : before.number ≤ number) where
       abbrev line : Part
@@ -58,21 +64,20 @@ module _ {R : Type 0} (gives : R → List ℕ → Bool → Type 0) (IsWanted : F
       pub line_comes : number < after.number → (given : Option (List ℕ)) → GivesFeature IsWanted k bytes given → (texts : List (List ℕ)) (outcome : Outcome) → Comes after texts outcome → Comes before (option_to_list given ++ texts) outcome
       line_comes later given feature texts outcome comes =
           let left = comes.0 in
-          let ends = ends_after number after.number outcome later comes.3 in (
+          let ends = ends_after number after.number outcome later comes.2.0 in (
             line_before line left,
-            taken.1 left comes.1,
-            inr (given, texts, feature, ends, comes.2, refl),
-            ends_from before.number number outcome from ends,
+            (taken.1 left comes.1.0, from),
+            (ends_from before.number number outcome from ends, inr (given, texts, feature, ends, comes.2.1, refl)),
           )
 
       pub refusal_comes : (left : TileLines) → Leaves gives after left → (fault : Fault) → RefusesFeatureLine k fault bytes → Comes before [] (Some (at_line number fault))
       refusal_comes left leaves fault refused =
-          (line_before line left, taken.1 left leaves, inl (refl, inl (refl, refused)), from)
+          (line_before line left, (taken.1 left leaves, from), (from, inl (refl, inl (refl, refused))))
 
       module _ (start : Unread R) (back : (texts : List (List ℕ)) (outcome : Outcome) → Comes before texts outcome → Comes start texts outcome) where
         pub text_comes : number < after.number → (given : Option (List ℕ)) (is_chosen : Bool) → GivesFeature IsWanted k bytes given → is_some given ≡ is_chosen → is_chosen ≡ true
             → (text old new longer : List ℕ) → old ≡ text → new ≡ old ++ unwrap_or given [] → longer ≡ with_newline new
-            → (x : List ℕ) × (longer ≡ text ++ with_newline x) × GivesText (MayComeTo gives IsWanted k start) (MayComeTo gives IsWanted k after) x
+            → (x : List ℕ) × (longer ≡ text ++ with_newline x) × GivesText (LinesMayComeTo gives IsWanted k start) (LinesMayComeTo gives IsWanted k after) x
         text_comes later None is_chosen feature some chosen text old new longer same appended ended = absurd (false_is_true (some ∙ chosen))
         text_comes later (Some x) is_chosen feature some chosen text old new longer same appended ended = (
           x,

@@ -22,10 +22,9 @@ module _ (before : List (List ℕ) → Outcome → Type 0) (old : List Note) whe
 
   module _ (now : List (List ℕ) → Outcome → Type 0) (count : ℕ) (new : List Note) (so_far : FedSoFar before now count old new) where
     -- one text more was put
-    pub fed_text : (after : List (List ℕ) → Outcome → Type 0) (text front line : List ℕ) → front ≡ [] → line ≡ front ++ with_newline text → GivesText now after text
+    pub fed_text : (after : List (List ℕ) → Outcome → Type 0) (text line : List ℕ) → line ≡ with_newline text → GivesText now after text
         → (newer : List Note) → newer ≡ new ++ LineNote line ∷ [] → FedSoFar before after (count + 1) old newer
-    fed_text after text front line empty is gives newer put =
-        let is_line : line ≡ with_newline text = is ∙ ap (λ l. l ++ with_newline text) empty in
+    fed_text after text line is_line gives newer put =
         let notes = map line_note so_far.texts in
         let more : map line_note (so_far.texts ++ text ∷ []) ≡ notes ++ LineNote line ∷ [] =
         map-append line_note so_far.texts (text ∷ []) ∙ ap (λ l. notes ++ LineNote l ∷ []) (sym is_line) in

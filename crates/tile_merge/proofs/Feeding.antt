@@ -14,7 +14,7 @@ use Rattle.tile_merge.specs.EndNotes.{Ended, end_of, ended_so}
 use Rattle.tile_merge.specs.Feeds.{FeedState, Course, course_of, ThenComes, NotesCome, MayTake, TakesNone, TakesTurn, SomeCourse}
 use Rattle.tile_merge.specs.Stream.{with_newline}
 use Rattle.tile_merge.specs.Texts.{Outcome}
-use Rattle.tile_merge.specs.Unread.{Unread, most_left}
+use Rattle.tile_merge.specs.TileState.{TileState, most_to_come}
 use Rattle.tile_merge.proofs.FaultNumbers.{end_tells}
 
 not_empty : (left : List Note) (note : Note) → left ++ note ∷ [] ≡ [] → ⊥
@@ -62,11 +62,11 @@ pub set_there : (queues : QueuesState) (queue : Queue) → length queues.tiles �
 set_there queues queue one = get_or-set_same queues.tiles 0 queue _ (omega (arith, one))
 
 -- a feed before and after one more note was read
-module _ {R : Type 0} (gives : R → List ℕ → Bool → Type 0) (IsWanted : FeatureValue → Type 0) (shift : Triple) (places later_places count : ℕ) (last : Option End) (before after : Unread R) where
-  abbrev feed : Unread R → ℕ → ℕ → Queue → FeedState R
+module _ {R : Type 0} (gives : R → List ℕ → Bool → Type 0) (IsWanted : FeatureValue → Type 0) (shift : Triple) (places later_places count : ℕ) (last : Option End) (before after : TileState R) where
+  abbrev feed : TileState R → ℕ → ℕ → Queue → FeedState R
   feed unread capacity lines queue = record { unread = unread; shift = shift; capacity = capacity; notes = queue; count = lines; last = last }
 
-  abbrev Comes : Unread R → List (List ℕ) → Outcome → Type 0
+  abbrev Comes : TileState R → List (List ℕ) → Outcome → Type 0
   Comes unread texts outcome = MayComeTo gives IsWanted shift unread texts outcome
 
   module _ (queue : Queue) (is_open : queue.closed ≡ false) where
@@ -145,7 +145,7 @@ line_turn gives IsWanted before queue line is same was =
     let Then : Bool → Course → Type 0 = λ closed course. ThenComes closed gives IsWanted before.shift before.unread before.count before.last course in
     let first = line_first (Then before.notes.closed) line queue.left before.notes.left is was in
     let Comes : Course → Bool → Type 0 = λ course closed. NotesCome (Then closed) queue.left course.texts course.ended in
-    let open_part = ap (λ closed. if closed then 0 else 1 + most_left before.unread) same in (
+    let open_part = ap (λ closed. if closed then 0 else 1 + most_to_come before.unread) same in (
       first.0,
       first.1,
       (

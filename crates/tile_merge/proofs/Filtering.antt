@@ -1,5 +1,5 @@
 -- From the features that were written to the answer of the whole call.
-use Rattle.std.proofs.Common.{◌≡◌, ◌≢◌, ◌↔◌, ◌<◌, ◌+◌, ℕ, Bool, Result, Ok, Err, IfOk, IfErr, List, Option, Some, None, length, take, flat_map, refl, sym, ap, subst, ◌∙◌, inl, inr, take_all, le_refl}
+use Rattle.std.proofs.Common.{◌≡◌, ◌≢◌, ◌↔◌, ◌<◌, ◌+◌, ℕ, Bool, Result, Ok, Err, IfOk, IfErr, List, [], Option, Some, None, length, take, flat_map, refl, sym, ap, subst, ◌∙◌, inl, inr, take_all, le_refl}
 use Rattle.std.proofs.Math.Seq.{take-append-add}
 use Rattle.std.specs.Io.KnownBytes.{Appends, Keeps}
 use Rattle.std.proofs.KnownBytes.{Appends-trans, Keeps-refl}
@@ -11,13 +11,15 @@ use Rattle.city_feature.specs.Header.{HeaderValue}
 use Rattle.tile_merge.specs.Coming.{MayComeTo, SomethingComes}
 use Rattle.tile_merge.specs.Filtered.{FiltersTo, WroteStream, StoppedAt, WrotePart, IsRefusedFilter, no_steps}
 use Rattle.tile_merge.specs.Head.{HasNoHead, SomeTile, GivesHead}
+use Rattle.tile_merge.specs.Held.{held_value}
 use Rattle.tile_merge.specs.Progress.{WroteTexts, IsRefusedAfter}
 use Rattle.tile_merge.specs.Stream.{stream, with_newline}
 use Rattle.tile_merge.specs.Texts.{Outcome}
 use Rattle.tile_merge.specs.Tile.{TileLines}
 use Rattle.tile_merge.specs.declared.fault.MergeFault.{MergeFault}
-use Rattle.tile_merge.specs.Unread.{Unread, Leaves}
-use Rattle.tile_merge.proofs.Comings.{ends_after}
+use Rattle.tile_merge.specs.TileState.{TileState}
+use Rattle.tile_merge.specs.Unread.{Leaves}
+use Rattle.tile_merge.proofs.HeldFirst.{tile_comes}
 use Rattle.tile_merge.proofs.Steps.{first_of_longer}
 
 -- known bytes that grew and then stayed
@@ -34,14 +36,14 @@ module _ (MayBe : TileLines → Type 0) (IsWanted : FeatureValue → Type 0) whe
   of_no_head number other not old refused = (refl, (refused.0, refused.1, inl (refused.2, Keeps-refl old)))
 
   -- what is read of a tile whose head was given
-  module _ {R : Type 0} (gives : R → List ℕ → Bool → Type 0) (now : Unread R) (number : ℕ) (header : HeaderValue) (later : number < now.number) (given : GivesHead MayBe (Leaves gives now) number header) where
+  module _ {R : Type 0} (gives : R → List ℕ → Bool → Type 0) (now : TileState R) (header : HeaderValue) (none : now.ready ≡ []) (later : now.held.line < now.lines.number) (given : GivesHead MayBe (Leaves gives now.lines) header (held_value now.held)) where
     abbrev Comes : List (List ℕ) → Outcome → Type 0
     Comes texts outcome = MayComeTo gives IsWanted no_steps now texts outcome
 
     filters : (texts : List (List ℕ)) (outcome : Outcome) → Comes texts outcome → SomeTile MayBe (λ tile. FiltersTo tile IsWanted header texts outcome)
     filters texts outcome comes =
-        let head = given comes.0 comes.1 in
-        (head.0, head.1, (number, comes.0, head.2, ends_after number now.number outcome later comes.3, comes.2))
+        let head = given comes.0 comes.1.0 in
+        (head.0, head.1, (held_value now.held, comes.0, head.2, tile_comes gives IsWanted no_steps now none later texts outcome comes))
 
     abbrev line : List ℕ
     line = with_newline (compact header.value)

@@ -1,15 +1,18 @@
 -- The head of a tile, from its first line.
-use Rattle.std.proofs.Common.{◌≡◌, ◌≢◌, ◌<◌, ℕ, List, [], ◌∷◌, Option, Some, None, Result, Ok, Err, IfOk, IfErr, refl, sym, subst, inl, inr, arith}
+use Rattle.std.proofs.Common.{◌≡◌, ◌≢◌, ◌<◌, ℕ, Bool, true, false, map, List, [], ◌∷◌, Option, Some, None, Result, Ok, Err, IfOk, IfErr, refl, sym, ap, subst, ◌∙◌, inl, inr, arith}
 use Rattle.city_json.specs.Compact.{compact}
 use Rattle.city_json.specs.Fits.{Fits}
 use Rattle.city_json.specs.Grammar.{Spells}
-use Rattle.city_json.specs.Tree.{tree}
+use Rattle.city_json.specs.Tree.{Tree, tree}
 use Rattle.city_json.specs.declared.json.Json.{Json}
 use Rattle.city_json.specs.declared.fault.Fault.{Fault}
 use Rattle.city_json.specs.declared.fault.Fault.TheVariants.{NoHeader, Memory, Write}
-use Rattle.city_feature.specs.Header.{HeaderValue, IsHeader, RefusesHeader}
-use Rattle.city_feature.specs.Values.{HeaderJson, header_value}
-use Rattle.tile_merge.specs.Head.{SpellsHeader, RefusesHead, HasNoHead, LinesHaveNoHead, SomeTile, GivesHead}
+use Rattle.city_cut.specs.Cut.{IsCut, IsCuttable, RefusesCut}
+use Rattle.city_feature.specs.Feature.{FeatureValue}
+use Rattle.city_feature.specs.Header.{HeaderValue, HoldsCity, IsHeader, RefusesHeader}
+use Rattle.city_feature.specs.Values.{HeaderJson, FeatureJson, header_value, feature_value}
+use Rattle.tile_merge.specs.Head.{SpellsHead, StandsFor, RefusesFirst, RefusesHead, HasNoHead, LinesHaveNoHead, SomeTile, GivesHead}
+use Rattle.tile_merge.specs.Held.{Held}
 use Rattle.tile_merge.specs.Stream.{with_newline}
 use Rattle.tile_merge.specs.Tile.{Part, FaultyLine, TileLines, part_of, line_before, nothing_left, only_fault}
 use Rattle.tile_merge.specs.declared.lines.state.LineFault.{LineFault}
@@ -18,17 +21,27 @@ use Rattle.tile_merge.specs.Unread.{GivesLine, IsRefused, BeginsFrom}
 abbrev at_line : ℕ → Fault → FaultyLine
 at_line number fault = record { number = number; fault = fault }
 
--- a value that the line spells was taken as a header, or refused
-module _ (line : List ℕ) (json : Json) (spells : Spells line (tree json)) (fits : Fits (tree json)) where
-  pub head_read : (result : Result HeaderJson Fault) → IfOk result (λ header. (header.json ≡ json) × IsHeader (tree json) header.grid) → IfOk result (λ header. SpellsHeader line (header_value header))
-  head_read (Ok header) is =
-      let IsRead : Json → Type 0 = λ j. Spells line (tree j) × Fits (tree j) × IsHeader (tree j) header.grid in
-      subst IsRead (sym is.0) (spells, fits, is.1)
-  head_read (Err fault) is = tt
+true_is_false : (answer : Bool) → answer ≡ true → answer ≡ false → ⊥
+true_is_false answer is not = cc (sym is ∙ not)
 
-  pub head_refused : (result : Result HeaderJson Fault) → IfErr result (λ fault. RefusesHeader fault (tree json)) → IfErr result (λ fault. RefusesHead fault line)
-  head_refused (Ok header) is = tt
-  head_refused (Err fault) is = inr (tree json, spells, fits, is)
+-- a value with city objects was cut; each other one was taken as a header
+module _ (json : Json) (header : HeaderJson) (items : List FeatureJson) where
+  pub document_cut : HoldsCity (tree json) → (features : List FeatureJson) → items ≡ features → IsCuttable (tree json) → IsCut (tree json) (header_value header) (map feature_value features) → StandsFor (tree json) (header_value header) (map feature_value items)
+  document_cut holds features same cuttable is = rw same (inl (holds, cuttable, is))
+
+  pub header_taken : (answer : Bool) → answer ≡ false → (HoldsCity (tree json) → answer ≡ true) → (header.json ≡ json) × IsHeader (tree json) header.grid → items ≡ [] → StandsFor (tree json) (header_value header) (map feature_value items)
+  header_taken answer not would is none =
+      inr ((λ holds. true_is_false answer (would holds) not), is.1, ap tree is.0, ap (map feature_value) none)
+
+-- a value that the line spells was taken as a head, or refused
+module _ (line : List ℕ) (value : Tree) (spells : Spells line value) (fits : Fits value) {X : Type 0} where
+  pub head_read : (header : X → HeaderValue) (features : X → List FeatureValue) (result : Result X Fault) → IfOk result (λ x. StandsFor value (header x) (features x)) → IfOk result (λ x. SpellsHead line (header x) (features x))
+  head_read header features (Ok x) stands = (value, spells, fits, stands)
+  head_read header features (Err fault) stands = tt
+
+  pub head_refused : (result : Result X Fault) → IfErr result (λ fault. RefusesFirst fault value) → IfErr result (λ fault. RefusesHead fault line)
+  head_refused (Ok x) is = tt
+  head_refused (Err fault) is = inr (value, spells, fits, is)
 
 memory_in : (lines : List Part) (fault : Option FaultyLine) (number : ℕ) → BeginsFrom number lines fault → LinesHaveNoHead lines fault (at_line number Memory)
 memory_in [] None number begins = inr refl
@@ -44,8 +57,8 @@ module _ (before : TileLines → Type 0) where
   no_head other number refused = (only_fault number other, refused, inl refl)
 
   module _ (after : TileLines → Type 0) (number : ℕ) (bytes : List ℕ) (gives : GivesLine before after number bytes) where
-    pub gives_head : (header : HeaderValue) → SpellsHeader bytes header → GivesHead before after number header
-    gives_head header spells left leaves =
+    pub gives_head : (header : HeaderValue) (features : List FeatureValue) → SpellsHead bytes header features → GivesHead before after header (record { line = number; features = features })
+    gives_head header features spells left leaves =
         let line = part_of number gives.0 bytes in
         (line_before line left, gives.1 left leaves, (line, refl, refl, spells))
 
@@ -57,27 +70,31 @@ module _ (before : TileLines → Type 0) where
 pub no_failed_write : (line : List ℕ) (fault : Fault) → RefusesHead fault line → fault ≢ Write
 no_failed_write line fault refused is = never (subst (λ (f : Fault). RefusesHead f line) is refused)
   where
+    first : (value : Tree) → RefusesFirst Write value → ⊥
+    first value (inl cut) = cut.1
+    first value (inr header) = header.1
+
     never : RefusesHead Write line → ⊥
     never (inl text) = text
-    never (inr value) = value.3
+    never (inr value) = first value.0 value.3
 
 -- the line of a header was made of it, or there was no memory for it
-module _ (before after : TileLines → Type 0) (number : ℕ) (header : HeaderValue) (gives : GivesHead before after number header) where
-  pub line_given : (next : ℕ) → number < next → (result : Result (List ℕ) LineFault) → IfOk result (λ l. l ≡ with_newline (compact header.value))
-      → IfOk result (λ l. (n : ℕ) × (h : HeaderValue) × (l ≡ with_newline (compact h.value)) × (n < next) × GivesHead before after n h)
-  line_given next later (Ok l) is = (number, header, is, later, gives)
-  line_given next later (Err e) is = tt
+module _ (before after : TileLines → Type 0) (header : HeaderValue) (held : Held) (gives : GivesHead before after header held) where
+  pub line_given : (result : Result (List ℕ) LineFault) → IfOk result (λ l. l ≡ with_newline (compact header.value))
+      → IfOk result (λ l. (h : HeaderValue) × (l ≡ with_newline (compact h.value)) × GivesHead before after h held)
+  line_given (Ok l) is = (header, is, gives)
+  line_given (Err e) is = tt
 
-  pub no_memory : (left : TileLines) → after left → SomeTile before (λ tile. HasNoHead tile (at_line number Memory))
+  pub no_memory : (left : TileLines) → after left → SomeTile before (λ tile. HasNoHead tile (at_line held.line Memory))
   no_memory left leaves =
       let given = gives left leaves in
       let line = given.2.0 in
-      let out : LinesHaveNoHead (line ∷ left.lines) left.fault (at_line number Memory) = inr (refl, omega (arith, given.2.2)) in
-      (given.0, given.1, subst (λ (tile : TileLines). HasNoHead tile (at_line number Memory)) (sym given.2.1) out)
+      let out : LinesHaveNoHead (line ∷ left.lines) left.fault (at_line held.line Memory) = inr (refl, omega (arith, given.2.2)) in
+      (given.0, given.1, subst (λ (tile : TileLines). HasNoHead tile (at_line held.line Memory)) (sym given.2.1) out)
 
-  pub line_refused : (left : TileLines) → after left → (result : Result (List ℕ) LineFault) → IfErr result (λ e. e ≡ record { line = number; fault = Memory })
+  pub line_refused : (number : ℕ) → number ≡ held.line → (left : TileLines) → after left → (result : Result (List ℕ) LineFault) → IfErr result (λ e. e ≡ record { line = number; fault = Memory })
       → IfErr result (λ e. SomeTile before (λ tile. HasNoHead tile (at_line e.line e.fault)))
-  line_refused left leaves (Ok l) is = tt
-  line_refused left leaves (Err e) is =
+  line_refused number at left leaves (Ok l) is = tt
+  line_refused number at left leaves (Err e) is =
       let Refused : LineFault → Type 0 = λ at. SomeTile before (λ tile. HasNoHead tile (at_line at.line at.fault)) in
-      subst Refused (sym is) (no_memory left leaves)
+      subst Refused (sym (is ∙ ap (λ n. record { line = n; fault = Memory }) at)) (no_memory left leaves)

@@ -48,7 +48,7 @@ record StandsAt (heads : List HeadedTile) (place : ℕ) (P : ℕ → Type 0) : T
   others : List HeadedTile
   heads_are : heads ≡ before ++ head ∷ others
   place_is : length before ≡ place
-  holds : P head.number
+  holds : P head.held.line
 
 one_later : (first : HeadedTile) (heads : List HeadedTile) (place : ℕ) (P : ℕ → Type 0) → StandsAt heads place P → StandsAt (first ∷ heads) (suc place) P
 one_later first heads place P stands = record {
@@ -61,11 +61,11 @@ one_later first heads place P stands = record {
 }
 
 module _ {X : Type 0} (line : X → ℕ) (P : ℕ → Type 0) where
-  at_place : (heads : List HeadedTile) (items : List X) → map (λ (head : HeadedTile). head.number) heads ≡ map line items → (place : ℕ) → IsSomeAnd (slice_get items place) (λ item. P (line item)) → StandsAt heads place P
+  at_place : (heads : List HeadedTile) (items : List X) → map (λ (head : HeadedTile). head.held.line) heads ≡ map line items → (place : ℕ) → IsSomeAnd (slice_get items place) (λ item. P (line item)) → StandsAt heads place P
   at_place heads [] same place some = absurd some
   at_place [] (item ∷ items) same place some = cc same
   at_place (head ∷ heads) (item ∷ items) same zero some =
-      let number : head.number ≡ line item = cc same in
+      let number : head.held.line ≡ line item = cc same in
       record {
         before = [];
         head = head;
@@ -75,7 +75,7 @@ module _ {X : Type 0} (line : X → ℕ) (P : ℕ → Type 0) where
         holds = subst P (sym number) some;
       }
   at_place (head ∷ heads) (item ∷ items) same (suc place) some =
-      let numbers : map (λ (h : HeadedTile). h.number) heads ≡ map line items = cc same in
+      let numbers : map (λ (h : HeadedTile). h.held.line) heads ≡ map line items = cc same in
       one_later head heads place P (at_place heads items numbers place some)
 
 -- a refusal of joining, at the line of the tile's header

@@ -7,6 +7,8 @@ pub mod Feeds
 pub mod Filtering
 pub mod FirstParts
 pub mod Heads
+pub mod HeldFirst
+pub mod HeldTexts
 pub mod InTurn
 pub mod Joining
 pub mod Leaving

@@ -11,8 +11,11 @@ use Rattle.tile_merge.specs.EndNotes.{ended_so, outcomes_in, totals_in}
 use Rattle.tile_merge.specs.Feeds.{FeedState, Course, course_of, MayTake}
 use Rattle.tile_merge.specs.Merged.{HeadedTile, MergedTile, HaveHeads, headers_of, shifts_of, texts_of, outcomes_of, ComesToTexts, Merges}
 use Rattle.tile_merge.specs.Opened.{AllThree, OpenState, IsOpened}
+use Rattle.tile_merge.specs.TileState.{AreLines}
 use Rattle.tile_merge.specs.Rounds.{IsFeedOf, MayTakeAll, SomeCourses, texts_in, ends_in}
-use Rattle.tile_merge.proofs.Comings.{something_comes, ends_after}
+use Rattle.tile_merge.specs.Held.{held_value}
+use Rattle.tile_merge.proofs.Comings.{ends_after}
+use Rattle.tile_merge.proofs.HeldFirst.{something, tile_comes}
 
 module _ {R : Type 0} (gives : R → List ℕ → Bool → Type 0) (IsWanted : FeatureValue → Type 0) where
   -- what may come of a tile that was opened, moved by its shift
@@ -42,7 +45,7 @@ module _ {R : Type 0} (gives : R → List ℕ → Bool → Type 0) (IsWanted : F
     pub some_ahead : (readers : List R) (tiles : List (OpenState R)) (headers : List HeaderValue) (shifts : List Triple) (feeds : List (FeedState R)) → AllThree (IsOpened gives) readers tiles headers → AllThree (IsFeedOf capacity) tiles shifts feeds → SomeCourses (MayTakeAll gives IsWanted feeds)
     some_ahead [] [] [] [] [] opened fed = ([], tt)
     some_ahead (reader ∷ readers) (tile ∷ tiles) (header ∷ headers) (shift ∷ shifts) (feed ∷ feeds) opened fed =
-        let one = something_comes gives IsWanted shift tile.unread opened.0.some in
+        let one = something gives IsWanted shift tile.unread (subst AreLines (sym opened.0.none_ready) tt) opened.0.some in
         let course = course_of one.0 (ended_so (0 + length one.0) one.1.0) in
         let may = subst (λ (f : FeedState R). MayTake gives IsWanted f course) (sym fed.0) (one.1.1, refl) in
         let more = some_ahead readers tiles headers shifts feeds opened.1 fed.1 in
@@ -71,14 +74,14 @@ module _ {R : Type 0} (gives : R → List ℕ → Bool → Type 0) (IsWanted : F
   are_merged [] [] [] [] [] opened given = record { merged = []; heads = tt; comes = tt; headers_are = refl; shifts_are = refl; texts_are = refl; outcomes_are = refl; totals_are = refl }
   are_merged (reader ∷ readers) (tile ∷ tiles) (header ∷ headers) (shift ∷ shifts) (course ∷ courses) opened given =
       let comes = given.0.0 in
-      let head = opened.0.head comes.0 comes.1 in
-      let headed : HeadedTile = record { lines = head.0; number = tile.line; header = header; after = comes.0 } in
+      let head = opened.0.head comes.0 comes.1.0 in
+      let headed : HeadedTile = record { lines = head.0; header = header; held = held_value tile.unread.held; after = comes.0 } in
       let one : MergedTile = record { tile = headed; shift = shift; texts = course.texts; outcome = course.ended.outcome } in
       let more = are_merged readers tiles headers shifts courses opened.1 given.1 in
       record {
         merged = one ∷ more.merged;
         heads = ((head.1, head.2), more.heads);
-        comes = ((ends_after tile.line tile.unread.number course.ended.outcome opened.0.later comes.3, comes.2), more.comes);
+        comes = (tile_comes gives IsWanted shift tile.unread opened.0.none_ready (omega (arith, opened.0.line, opened.0.later)) course.texts course.ended.outcome comes, more.comes);
         headers_are = ap (λ xs. header ∷ xs) more.headers_are;
         shifts_are = ap (λ xs. shift ∷ xs) more.shifts_are;
         texts_are = ap (λ xs. course.texts ∷ xs) more.texts_are;

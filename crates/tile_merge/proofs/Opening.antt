@@ -4,6 +4,7 @@ use Rattle.std.proofs.lemmas.List.{map-append}
 use Rattle.city_feature.specs.Header.{HeaderValue}
 use Rattle.city_feature.specs.Values.{HeaderJson, header_value}
 use Rattle.tile_merge.specs.Head.{SomeTile, HasNoHead, GivesHead}
+use Rattle.tile_merge.specs.Held.{Held, held_value}
 use Rattle.tile_merge.specs.Merged.{HeadedTile, HaveHeads, headers_of, IsFirstHeadless}
 use Rattle.tile_merge.specs.Opened.{AllThree, OpenState, IsOpened}
 use Rattle.tile_merge.specs.Tile.{TileLines, stream_limits}
@@ -14,8 +15,8 @@ use Rattle.tile_merge.proofs.Threes.{all_three_push}
 
 -- a head that was given of lines that may be left is one of a tile that the reader may give
 module _ (MayBe MayGive : TileLines → Type 0) (same : (tile : TileLines) → MayBe tile → MayGive tile) where
-  pub head_given : (after : TileLines → Type 0) (number : ℕ) (header : HeaderValue) → GivesHead MayBe after number header → GivesHead MayGive after number header
-  head_given after number header gives left leaves =
+  pub head_given : (after : TileLines → Type 0) (header : HeaderValue) (held : Held) → GivesHead MayBe after header held → GivesHead MayGive after header held
+  head_given after header held gives left leaves =
       let head = gives left leaves in
       (head.0, same head.0 head.1, head.2)
 
@@ -58,15 +59,15 @@ module _ {R : Type 0} (gives : R → List ℕ → Bool → Type 0) where
   abbrev head_of : (reader : R) (tile : OpenState R) (header : HeaderValue) → IsOpened gives reader tile header → HeadedTile
   head_of reader tile header opened =
       record {
-        lines = (opened.head opened.some.0 opened.some.1).0;
-        number = tile.line;
+        lines = (opened.head opened.some.0 opened.some.1.0).0;
         header = header;
+        held = held_value tile.unread.held;
         after = opened.some.0;
       }
 
   -- tiles that were opened have heads, with their headers at their lines
   pub have_heads : (readers : List R) (tiles : List (OpenState R)) (headers : List HeaderValue) → AllThree (IsOpened gives) readers tiles headers
-      → (heads : List HeadedTile) × HaveHeads gives readers heads × (headers_of heads ≡ headers) × (map (λ (head : HeadedTile). head.number) heads ≡ map (λ (tile : OpenState R). tile.line) tiles)
+      → (heads : List HeadedTile) × HaveHeads gives readers heads × (headers_of heads ≡ headers) × (map (λ (head : HeadedTile). head.held.line) heads ≡ map (λ (tile : OpenState R). tile.line) tiles)
   have_heads [] [] [] all = ([], tt, refl, refl)
   have_heads [] [] (header ∷ headers) all = absurd all
   have_heads [] (tile ∷ tiles) headers all = absurd all
@@ -75,11 +76,11 @@ module _ {R : Type 0} (gives : R → List ℕ → Bool → Type 0) where
   have_heads (reader ∷ readers) (tile ∷ tiles) (header ∷ headers) all =
       let opened = all.0 in
       let others = have_heads readers tiles headers all.1 in
-      let given = opened.head opened.some.0 opened.some.1 in (
+      let given = opened.head opened.some.0 opened.some.1.0 in (
         head_of reader tile header opened ∷ others.0,
         ((given.1, given.2), others.1),
         ap (λ (l : List HeaderValue). header ∷ l) others.2,
-        ap (λ (l : List ℕ). tile.line ∷ l) others.3,
+        ap (λ (n : ℕ). n ∷ map (λ (head : HeadedTile). head.held.line) others.0) (sym opened.line) ∙ ap (λ (l : List ℕ). tile.line ∷ l) others.3,
       )
 
   -- those before a tile with no head were opened

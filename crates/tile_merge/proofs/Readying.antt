@@ -7,7 +7,7 @@ use Rattle.city_feature.specs.declared.base.Base.{Base}
 use Rattle.tile_merge.specs.Filtered.{failures_after_refusal, failures_after_write}
 use Rattle.tile_merge.specs.Merged.{IsFirstHeadless, IsFirstUnfit, IsOfNoTile, IsRefusedEarly}
 use Rattle.tile_merge.specs.Opened.{AllThree, OpenState, IsOpened}
-use Rattle.tile_merge.specs.Unread.{most_left}
+use Rattle.tile_merge.specs.TileState.{most_to_come, most_texts}
 use Rattle.tile_merge.specs.declared.fault.MergeFault.{MergeFault}
 
 -- a refusal that names a tile is no failed write
@@ -30,9 +30,9 @@ module _ {R : Type 0} (gives : R → List ℕ → Bool → Type 0) (base : Base)
   quiet_early refusal (inr (inr memory)) count = quiet_memory refusal memory.0 memory.1 count
 
   abbrev Few : OpenState R → Type 0
-  Few tile = most_left tile.unread ≤ 2 ^ 40 + 1
+  Few tile = most_to_come tile.unread ≤ most_texts
 
-  pub few_left : (all : List R) (tiles : List (OpenState R)) (headers : List HeaderValue) → AllThree (IsOpened gives) all tiles headers → All (λ (tile : OpenState R). most_left tile.unread ≤ 2 ^ 40 + 1) tiles
+  pub few_left : (all : List R) (tiles : List (OpenState R)) (headers : List HeaderValue) → AllThree (IsOpened gives) all tiles headers → All (λ (tile : OpenState R). most_to_come tile.unread ≤ most_texts) tiles
   few_left [] [] [] opened k default within = absurd (omega (arith, within))
   few_left (reader ∷ all) (tile ∷ tiles) (header ∷ headers) opened zero default within = opened.0.most
   few_left (reader ∷ all) (tile ∷ tiles) (header ∷ headers) opened (suc k) default within = few_left all tiles headers opened.1 k default (omega (arith, within))

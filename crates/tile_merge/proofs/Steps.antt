@@ -42,10 +42,7 @@ module _ (before : List (List ℕ) → Outcome → Type 0) (old : Option (List �
     pub at_fault : (at : FaultyLine) → now [] (Some at) → StoppedAfter before at old new
     at_fault at refused = (so_far.texts, comes_last (Some at) refused, so_far.written)
 
-    module _ (after : List (List ℕ) → Outcome → Type 0) (text front line : List ℕ) (empty : front ≡ []) (is : line ≡ front ++ with_newline text) (gives : GivesText now after text) where
-      is_line : line ≡ with_newline text
-      is_line = is ∙ ap (λ l. l ++ with_newline text) empty
-
+    module _ (after : List (List ℕ) → Outcome → Type 0) (text line : List ℕ) (is_line : line ≡ with_newline text) (gives : GivesText now after text) where
       pub at_text : (newer : Option (List ℕ)) → Appends new newer line → SoFar before after (count + 1) old newer
       at_text newer appends =
           let written = flat_map with_newline so_far.texts in

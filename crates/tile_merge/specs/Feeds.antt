@@ -9,12 +9,12 @@ use Rattle.tile_handoff.specs.declared.note.Note.TheVariants.{Line as LineNote, 
 use Rattle.tile_merge.specs.Coming.{MayComeTo}
 use Rattle.tile_merge.specs.EndNotes.{Ended, end_of}
 use Rattle.tile_merge.specs.Stream.{with_newline}
-use Rattle.tile_merge.specs.Unread.{Unread, most_left}
+use Rattle.tile_merge.specs.TileState.{TileState, most_to_come}
 
 -- The reader, the shift, how many notes may be read ahead, those that were, how many lines were put
 -- among them, and the end note once it was taken.
 pub record FeedState (R : Type 0) : Type 0 where
-  pub unread : Unread R
+  pub unread : TileState R
   pub shift : Triple
   pub capacity : ℕ
   pub notes : Queue
@@ -22,7 +22,7 @@ pub record FeedState (R : Type 0) : Type 0 where
   pub last : Option End
 
 -- nothing was read ahead yet
-abbrev pub fresh_feed : {R : Type 0} → ℕ → Unread R → Triple → FeedState R
+abbrev pub fresh_feed : {R : Type 0} → ℕ → TileState R → Triple → FeedState R
 fresh_feed capacity unread shift = record { unread = unread; shift = shift; capacity = capacity; notes = empty_queue; count = 0; last = None }
 
 -- the texts that a tile still gives, and how it has ended then
@@ -38,7 +38,7 @@ abbrev pub text_before : List ℕ → Course → Course
 text_before text course = record { texts = text ∷ course.texts; ended = course.ended }
 
 -- what follows the notes: what may be read, or once the tile was closed nothing more than its end
-abbrev pub ThenComes : {R : Type 0} → Bool → (R → List ℕ → Bool → Type 0) → (FeatureValue → Type 0) → Triple → Unread R → ℕ → Option End → Course → Type 0
+abbrev pub ThenComes : {R : Type 0} → Bool → (R → List ℕ → Bool → Type 0) → (FeatureValue → Type 0) → Triple → TileState R → ℕ → Option End → Course → Type 0
 ThenComes true gives IsWanted shift unread count last course =
     (course.texts ≡ []) × (last ≡ Some (end_of course.ended))
 ThenComes false gives IsWanted shift unread count last course =
@@ -87,7 +87,7 @@ HasRoom feed = (feed.notes.closed ≡ false) × (length feed.notes.left < feed.c
 
 -- how many notes may be ahead at most
 abbrev pub most_ahead : {R : Type 0} → FeedState R → ℕ
-most_ahead feed = (if feed.notes.closed then 0 else 1 + most_left feed.unread) + length feed.notes.left
+most_ahead feed = (if feed.notes.closed then 0 else 1 + most_to_come feed.unread) + length feed.notes.left
 
 -- how many more notes may be read ahead at most
 abbrev pub most_places : {R : Type 0} → FeedState R → ℕ

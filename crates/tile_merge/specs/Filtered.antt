@@ -6,12 +6,12 @@ use Rattle.city_json.specs.Streams.Failures.{one_more}
 use Rattle.city_json.specs.declared.fault.Fault.{Fault}
 use Rattle.city_json.specs.declared.fault.Fault.TheVariants.{Write}
 use Rattle.city_feature.specs.Feature.{FeatureValue}
-use Rattle.city_feature.specs.FeatureLine.{GivesFeature, RefusesFeatureLine}
 use Rattle.city_feature.specs.Header.{HeaderValue}
 use Rattle.city_grid.specs.Axes.{Triple, triple}
 use Rattle.tile_merge.specs.Head.{HasHead, HasNoHead, SomeTile}
+use Rattle.tile_merge.specs.Held.{Held, TileComesTo}
 use Rattle.tile_merge.specs.Stream.{stream}
-use Rattle.tile_merge.specs.Texts.{Outcome, EndsAfter, ComesTo}
+use Rattle.tile_merge.specs.Texts.{Outcome}
 use Rattle.tile_merge.specs.Tile.{FaultyLine, TileLines}
 use Rattle.tile_merge.specs.Unread.{failed_reads_after}
 use Rattle.tile_merge.specs.declared.fault.MergeFault.{MergeFault}
@@ -21,14 +21,13 @@ abbrev pub no_steps : Triple
 no_steps = triple (pos 0) (pos 0) (pos 0)
 
 -- The tile has this header, and its wanted features, moved by nothing, come to these texts and this
--- end, after the header's line.
+-- end.
 abbrev pub FiltersTo : TileLines → (FeatureValue → Type 0) → HeaderValue → List (List ℕ) → Outcome → Type 0
 FiltersTo tile IsWanted header texts outcome =
-    (number : ℕ)
+    (held : Held)
     × (after : TileLines)
-    × HasHead tile number header after
-    × EndsAfter number outcome
-    × ComesTo (GivesFeature IsWanted no_steps) (RefusesFeatureLine no_steps) after texts outcome
+    × HasHead tile header held after
+    × TileComesTo IsWanted no_steps held after texts outcome
 
 -- Nothing is wrong with the tile, this many features are wanted, and their stream was written.
 abbrev pub WroteStream : TileLines → (FeatureValue → Type 0) → ℕ → Option (List ℕ) → Option (List ℕ) → Type 0
@@ -39,8 +38,8 @@ WroteStream tile IsWanted count old new =
     × (count ≡ length texts)
     × Appends old new (stream (compact header.value) texts)
 
--- A line is at fault, or memory ran out there: the header's, and nothing was written; or one after
--- it, and the stream of the texts before it was.
+-- A line is at fault, or memory ran out there: the tile has no head, and nothing was written; or it has
+-- one, and the stream of the texts before the fault was.
 abbrev pub StoppedAt : TileLines → (FeatureValue → Type 0) → FaultyLine → Option (List ℕ) → Option (List ℕ) → Type 0
 StoppedAt tile IsWanted at old new =
     (HasNoHead tile at × Keeps old new)

@@ -1,4 +1,4 @@
--- The head of a tile: the header that its first line spells, or why it has none.
+-- The head of a tile: the header and the features for which its first line stands, or why it has none.
 use Rattle.std.specs.Prelude.{◌≡◌, ◌⊎◌, ℕ, List, [], ◌∷◌, Option, Some, None}
 use Rattle.city_json.specs.Fits.{Fits}
 use Rattle.city_json.specs.Grammar.{Spells}
@@ -6,27 +6,42 @@ use Rattle.city_json.specs.Refusals.{RefusesText}
 use Rattle.city_json.specs.Tree.{Tree}
 use Rattle.city_json.specs.declared.fault.Fault.{Fault}
 use Rattle.city_json.specs.declared.fault.Fault.TheVariants.{NoHeader, Memory}
-use Rattle.city_feature.specs.Header.{HeaderValue, IsHeader, RefusesHeader}
+use Rattle.city_cut.specs.Cut.{IsCut, IsCuttable, RefusesCut}
+use Rattle.city_feature.specs.Feature.{FeatureValue}
+use Rattle.city_feature.specs.Header.{HeaderValue, HoldsCity, IsHeader, RefusesHeader}
+use Rattle.tile_merge.specs.Held.{Held}
 use Rattle.tile_merge.specs.Texts.{IsOutOfMemory}
 use Rattle.tile_merge.specs.Tile.{Part, FaultyLine, TileLines, line_before}
 
-abbrev pub SpellsHeader : List ℕ → HeaderValue → Type 0
-SpellsHeader line header =
-    Spells line header.value × Fits header.value × IsHeader header.value header.grid
+-- A value with city objects or vertices is a document and is cut; each other one is a header, and
+-- holds no features.
+abbrev pub StandsFor : Tree → HeaderValue → List FeatureValue → Type 0
+StandsFor value header features =
+    (HoldsCity value × IsCuttable value × IsCut value header features)
+    ⊎ ((¬ HoldsCity value) × IsHeader value header.grid × (header.value ≡ value) × (features ≡ []))
 
--- the line spells no value that is taken, or one that is no header
+-- the document is not cut, or the value is no header
+abbrev pub RefusesFirst : Fault → Tree → Type 0
+RefusesFirst fault value =
+    (HoldsCity value × RefusesCut fault value) ⊎ ((¬ HoldsCity value) × RefusesHeader fault value)
+
+abbrev pub SpellsHead : List ℕ → HeaderValue → List FeatureValue → Type 0
+SpellsHead line header features =
+    (value : Tree) × Spells line value × Fits value × StandsFor value header features
+
+-- the line spells no value that is taken, or one that is no head
 abbrev pub RefusesHead : Fault → List ℕ → Type 0
 RefusesHead fault line =
     RefusesText fault line
-    ⊎ ((value : Tree) × Spells line value × Fits value × RefusesHeader fault value)
+    ⊎ ((value : Tree) × Spells line value × Fits value × RefusesFirst fault value)
 
--- the first line has this number and spells this header, and these lines come after it
-abbrev pub HasHead : TileLines → ℕ → HeaderValue → TileLines → Type 0
-HasHead tile number header after =
+-- the first line stands for this header and holds these features, and these lines come after it
+abbrev pub HasHead : TileLines → HeaderValue → Held → TileLines → Type 0
+HasHead tile header held after =
     (line : Part)
     × (tile ≡ line_before line after)
-    × (line.number ≡ number)
-    × SpellsHeader line.bytes header
+    × (line.number ≡ held.line)
+    × SpellsHead line.bytes header held.features
 
 -- why there is none: there is no line; or the tile is at fault before its first line ends; or that
 -- line is refused; memory may run out before
@@ -43,7 +58,8 @@ HasNoHead tile at = LinesHaveNoHead tile.lines tile.fault at
 abbrev pub SomeTile : (TileLines → Type 0) → (TileLines → Type 0) → Type 0
 SomeTile MayBe P = (tile : TileLines) × MayBe tile × P tile
 
--- Whatever lines may be left now may, after a line that spells this header, have been left before.
-abbrev pub GivesHead : (TileLines → Type 0) → (TileLines → Type 0) → ℕ → HeaderValue → Type 0
-GivesHead before after number header =
-    (left : TileLines) → after left → SomeTile before (λ tile. HasHead tile number header left)
+-- Whatever lines may be left now may, after a line that stands for this header and holds these
+-- features, have been left before.
+abbrev pub GivesHead : (TileLines → Type 0) → (TileLines → Type 0) → HeaderValue → Held → Type 0
+GivesHead before after header held =
+    (left : TileLines) → after left → SomeTile before (λ tile. HasHead tile header held left)

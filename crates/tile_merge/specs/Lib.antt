@@ -4,6 +4,7 @@ pub mod EndNotes
 pub mod Feeds
 pub mod Filtered
 pub mod Head
+pub mod Held
 pub mod Interleaves
 pub mod Merged
 pub mod Opened
@@ -16,6 +17,7 @@ pub mod Texts
 pub mod Threaded
 pub mod Threads
 pub mod Tile
+pub mod TileState
 pub mod Told
 pub mod Turns
 pub mod Unread

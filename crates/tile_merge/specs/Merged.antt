@@ -5,14 +5,14 @@ use Rattle.std.specs.Io.KnownBytes.{Appends, Keeps}
 use Rattle.std.specs.List.{AllZip, AllByRecursion}
 use Rattle.city_json.specs.declared.fault.Fault.TheVariants.{Write, Memory, TooManyTiles}
 use Rattle.city_feature.specs.Feature.{FeatureValue}
-use Rattle.city_feature.specs.FeatureLine.{GivesFeature, RefusesFeatureLine}
 use Rattle.city_feature.specs.Header.{HeaderValue}
 use Rattle.city_feature.specs.Joined.{IsJoined, RefusesJoin}
 use Rattle.city_feature.specs.declared.base.Base.{Base}
 use Rattle.city_grid.specs.Axes.{Triple}
 use Rattle.tile_merge.specs.Head.{HasHead, HasNoHead, SomeTile}
+use Rattle.tile_merge.specs.Held.{Held, TileComesTo}
 use Rattle.tile_merge.specs.Stream.{stream}
-use Rattle.tile_merge.specs.Texts.{Outcome, EndsAfter, ComesTo}
+use Rattle.tile_merge.specs.Texts.{Outcome}
 use Rattle.tile_merge.specs.Tile.{TileLines, stream_limits}
 use Rattle.tile_merge.specs.Unread.{IsOfTile}
 use Rattle.tile_merge.specs.Told.{told}
@@ -20,12 +20,12 @@ use Rattle.tile_merge.specs.declared.fault.MergeFault.{MergeFault}
 
 -- ---- tiles ----
 
--- a tile with a head: its lines, the header, the number of the line that spells it, and the lines
+-- a tile with a head: its lines, the header, the features that the header's line holds, and the lines
 -- after it
 pub record HeadedTile : Type 0 where
   pub lines : TileLines
-  pub number : ℕ
   pub header : HeaderValue
+  pub held : Held
   pub after : TileLines
 
 -- these readers' tiles, one of each, have these heads
@@ -33,7 +33,7 @@ abbrev pub HaveHeads : {R : Type 0} → (R → List ℕ → Bool → Type 0) →
 HaveHeads gives readers tiles =
     AllZip (λ reader tile.
     IsOfTile (gives reader) stream_limits tile.lines
-    × HasHead tile.lines tile.number tile.header tile.after) readers tiles
+    × HasHead tile.lines tile.header tile.held tile.after) readers tiles
 
 abbrev pub headers_of : List HeadedTile → List HeaderValue
 headers_of tiles = map (λ tile. tile.header) tiles
@@ -54,11 +54,10 @@ texts_of tiles = map (λ merged. merged.texts) tiles
 abbrev pub outcomes_of : List MergedTile → List Outcome
 outcomes_of tiles = map (λ merged. merged.outcome) tiles
 
--- its wanted features, moved by its shift, come to these texts and this end, after the header's line
+-- its wanted features, moved by its shift, come to these texts and this end
 abbrev pub ComesToTexts : (FeatureValue → Type 0) → MergedTile → Type 0
 ComesToTexts IsWanted merged =
-    EndsAfter merged.tile.number merged.outcome
-    × ComesTo (GivesFeature IsWanted merged.shift) (RefusesFeatureLine merged.shift) merged.tile.after merged.texts merged.outcome
+    TileComesTo IsWanted merged.shift merged.tile.held merged.tile.after merged.texts merged.outcome
 
 -- The tiles of these readers have headers that join to this line, each with its shift, and come to
 -- their texts and ends.
@@ -124,7 +123,7 @@ pub record IsFirstUnfit {R : Type 0} (gives : R → List ℕ → Bool → Type 0
   pub others : List HeadedTile
   pub tiles_are : tiles ≡ before ++ tile ∷ others
   pub number : refusal.tile ≡ length before + 1
-  pub line : refusal.line ≡ tile.number
+  pub line : refusal.line ≡ tile.held.line
   pub misfit : RefusesJoin base (headers_of tiles) refusal.tile refusal.fault
 
 -- ---- refusals ----

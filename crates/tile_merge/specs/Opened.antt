@@ -1,9 +1,12 @@
 -- Tiles whose headers were taken, and of which the features are still to be read.
-use Rattle.std.specs.Prelude.{◌≤◌, ◌<◌, ◌+◌, ◌^◌, ℕ, Bool, List, [], ◌∷◌}
+use Rattle.std.specs.Prelude.{◌≡◌, ◌≤◌, ◌<◌, ℕ, Bool, List, [], ◌∷◌}
 use Rattle.city_feature.specs.Header.{HeaderValue}
+use Rattle.tile_merge.specs.Coming.{MayLeave}
 use Rattle.tile_merge.specs.Head.{GivesHead}
+use Rattle.tile_merge.specs.Held.{held_value}
 use Rattle.tile_merge.specs.Tile.{TileLines, stream_limits}
-use Rattle.tile_merge.specs.Unread.{Unread, Leaves, IsOfTile, BeginsFrom, most_left}
+use Rattle.tile_merge.specs.TileState.{TileState, most_to_come, most_texts}
+use Rattle.tile_merge.specs.Unread.{Leaves, IsOfTile}
 
 -- This holds of the items of three lists, place by place.
 abbrev pub AllThree : {A B C : Type 0} → (A → B → C → Type 0) → List A → List B → List C → Type 0
@@ -13,13 +16,15 @@ AllThree R xs ys zs = ⊥
 
 -- what is still to be read of a tile, and the number of its header's line
 pub record OpenState (R : Type 0) : Type 0 where
-  pub unread : Unread R
+  pub unread : TileState R
   pub line : ℕ
 
--- The reader's tile was opened: the header is that of the line of this number, and what may be left
--- comes after it.
+-- The reader's tile was opened: the header is that of the line of this number, which holds the
+-- features that come first, and what may be left comes after it.
 pub record IsOpened {R : Type 0} (gives : R → List ℕ → Bool → Type 0) (reader : R) (tile : OpenState R) (header : HeaderValue) : Type 0 where
-  pub later : tile.line < tile.unread.number
-  pub head : GivesHead (IsOfTile (gives reader) stream_limits) (Leaves gives tile.unread) tile.line header
-  pub some : (left : TileLines) × Leaves gives tile.unread left × BeginsFrom tile.unread.number left.lines left.fault
-  pub most : most_left tile.unread ≤ 2 ^ 40 + 1
+  pub line : tile.line ≡ tile.unread.held.line
+  pub none_ready : tile.unread.ready ≡ []
+  pub later : tile.line < tile.unread.lines.number
+  pub head : GivesHead (IsOfTile (gives reader) stream_limits) (Leaves gives tile.unread.lines) header (held_value tile.unread.held)
+  pub some : (left : TileLines) × MayLeave gives tile.unread.lines left
+  pub most : most_to_come tile.unread ≤ most_texts

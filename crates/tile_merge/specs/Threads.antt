@@ -21,18 +21,18 @@ use Rattle.tile_merge.specs.Interleaves.{Interleaves}
 use Rattle.tile_merge.specs.Opened.{AllThree, OpenState, IsOpened}
 use Rattle.tile_merge.specs.Stream.{with_newline}
 use Rattle.tile_merge.specs.Texts.{Outcome}
-use Rattle.tile_merge.specs.Unread.{Unread}
+use Rattle.tile_merge.specs.TileState.{TileState}
 use Rattle.tile_merge.specs.declared.fault.MergeFault.{MergeFault}
 
 -- ---- in the thread of a tile ----
 
 -- what the thread of a tile is given
 pub record Fed (R : Type 0) : Type 0 where
-  pub unread : Unread R
+  pub unread : TileState R
   pub shift : Triple
   pub choice : Choice
 
-abbrev pub fed_of : {R : Type 0} → Unread R → Triple → Choice → Fed R
+abbrev pub fed_of : {R : Type 0} → TileState R → Triple → Choice → Fed R
 fed_of unread shift choice = record { unread = unread; shift = shift; choice = choice }
 
 -- these texts may come of the tile, and then this end

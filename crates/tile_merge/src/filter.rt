@@ -1,23 +1,25 @@
-ghost use Rattle.std.specs.Prelude.{◌≡◌, ◌≢◌, ◌≤◌, ◌<◌, ◌+◌, ◌^◌, ℕ, List, [], length, take, false, Some, None, IfOk, IfErr, OnOk, OnErr};
+ghost use Rattle.std.specs.Prelude.{◌≡◌, ◌≢◌, ◌≤◌, ◌<◌, ℕ, List, [], length, take, false, Some, None, IfOk, IfErr, OnOk, OnErr};
 ghost use Rattle.std.specs.Io.KnownBytes.{Appends};
 ghost use Rattle.city_json.specs.Compact.{compact};
 ghost use Rattle.city_json.specs.Streams.Failures.{after_call};
 ghost use Rattle.city_feature.specs.Choice.{IsChosen};
 ghost use Rattle.city_feature.specs.Header.{HeaderValue};
 ghost use Rattle.city_feature.specs.Values.{header_value};
-ghost use Rattle.tile_merge.specs.Coming.{MayComeTo};
+ghost use Rattle.tile_merge.specs.Coming.{MayComeTo, MayLeave};
 ghost use Rattle.tile_merge.specs.Filtered.{WroteStream, IsRefusedFilter, failures_after_filter, failed_reads_after_filter, no_steps};
 ghost use Rattle.tile_merge.specs.Head.{HasNoHead, SomeTile, GivesHead};
+ghost use Rattle.tile_merge.specs.Held.{held_value};
 ghost use Rattle.tile_merge.specs.Progress.{WroteTexts, IsRefusedAfter};
 ghost use Rattle.tile_merge.specs.Stream.{with_newline};
 ghost use Rattle.tile_merge.specs.Tile.{TileLines, stream_limits};
-ghost use Rattle.tile_merge.specs.Unread.{IsOfTile, Leaves, BeginsFrom, most_left, has_failed, is_read, failed_reads_between};
+ghost use Rattle.tile_merge.specs.TileState.{most_to_come, most_texts};
+ghost use Rattle.tile_merge.specs.Unread.{IsOfTile, Leaves, has_failed, is_read, failed_reads_between};
 
 #[cfg(test)]
 mod tests;
 
 use crate::fault::MergeFault;
-use crate::line_end::end_line;
+use crate::line_end::{emptied, end_line};
 use crate::lines::LineFault;
 use crate::tile_reader::{Head, TileReader};
 use city_feature::Choice;
@@ -32,8 +34,8 @@ use std::alloc::Global;
 ///
 /// Of tile 1: [`Fault::NoHeader`] at line 0 where all lines are blank; else that of the first line
 /// at fault, or [`Fault::Memory`] at the line that did not find room. A fault of the header's line
-/// leaves nothing written, one of a later line the stream of the features before it. Of no tile and
-/// no line: [`Fault::Write`] where a write or the flush failed.
+/// leaves nothing written, but [`Fault::Memory`], which may come once its text is; one of a later line
+/// leaves the stream of the features before it. Of no tile and no line: [`Fault::Write`] where a write or the flush failed.
 pub fn filter_stream<R: Source + Drop, W: Sink>(
     alloc: Global,
     reader: R,
@@ -64,15 +66,15 @@ pub fn filter_tile<R: Source, W: Sink>(
     choice: &Choice,
     output: &mut W,
 ) -> Result<u64, MergeFault>
-    ensures ok { IfOk result (λ count. SomeTile (Leaves R.gives tile.old) (λ lines.
+    ensures ok { IfOk result (λ count. SomeTile (Leaves R.gives tile.old.lines) (λ lines.
         WroteStream lines (IsChosen choice.now) count (W.taken output.old) (W.taken output.new))) }
     ensures flushed { OnOk result (W.is_flushed output.new) }
-    ensures refused { IfErr result (λ e. IsRefusedFilter (Leaves R.gives tile.old)
+    ensures refused { IfErr result (λ e. IsRefusedFilter (Leaves R.gives tile.old.lines)
         (IsChosen choice.now) e.fault e.tile e.line (W.taken output.old) (W.taken output.new)) }
     ensures failures { W.failures output.new
         ≡ failures_after_filter result (W.failures output.old) }
-    ensures reads { has_failed tile.old ≡ false → R.failures tile.new.ahead.reader
-        ≡ failed_reads_after_filter result (R.failures tile.old.ahead.reader) }
+    ensures reads { has_failed tile.old.lines ≡ false → R.failures tile.new.lines.ahead.reader
+        ≡ failed_reads_after_filter result (R.failures tile.old.lines.ahead.reader) }
 {
     let line = match take_header_line(alloc, tile) {
         Ok(line) => line,
@@ -91,20 +93,22 @@ pub fn filter_tile<R: Source, W: Sink>(
 
 /// Takes the header of a tile, and gives its line in the stream.
 fn take_header_line<R: Source>(alloc: Global, tile: &mut TileReader<R>) -> Result<Line, LineFault>
-    ensures ok { IfOk result (λ line. (number : ℕ) × (header : HeaderValue)
-        × (line ≡ with_newline (compact header.value)) × (number < tile.new.number)
-        × GivesHead (Leaves R.gives tile.old) (Leaves R.gives tile.new) number header) }
-    ensures refused { IfErr result (λ e. SomeTile (Leaves R.gives tile.old) (λ lines.
+    ensures ok { IfOk result (λ line. (header : HeaderValue)
+        × (line ≡ with_newline (compact header.value))
+        × GivesHead (Leaves R.gives tile.old.lines) (Leaves R.gives tile.new.lines)
+        header (held_value tile.new.held)) }
+    ensures none_ready { OnOk result (tile.new.ready ≡ []) }
+    ensures later { OnOk result (tile.new.held.line < tile.new.lines.number) }
+    ensures refused { IfErr result (λ e. SomeTile (Leaves R.gives tile.old.lines) (λ lines.
         HasNoHead lines (record { number = e.line; fault = e.fault }))) }
     ensures not_written { IfErr result (λ e. e.fault ≢ Fault.Write) }
-    ensures some { (left : TileLines) × Leaves R.gives tile.new left
-        × BeginsFrom tile.new.number left.lines left.fault }
-    ensures most { most_left tile.new ≤ 2 ^ 40 + 1 }
-    ensures had_not_failed { OnOk result (has_failed tile.old ≡ false) }
-    ensures not_failed { OnOk result (has_failed tile.new ≡ false) }
-    ensures failed { IfErr result (λ e. has_failed tile.new ≡ is_read e.fault) }
-    ensures failures { R.failures tile.new.ahead.reader ≡ failed_reads_between
-        (has_failed tile.old) (has_failed tile.new) (R.failures tile.old.ahead.reader) }
+    ensures some { (left : TileLines) × MayLeave R.gives tile.new.lines left }
+    ensures most { OnOk result (most_to_come tile.new ≤ most_texts) }
+    ensures had_not_failed { OnOk result (has_failed tile.old.lines ≡ false) }
+    ensures not_failed { OnOk result (has_failed tile.new.lines ≡ false) }
+    ensures failed { IfErr result (λ e. has_failed tile.new.lines ≡ is_read e.fault) }
+    ensures failures { R.failures tile.new.lines.ahead.reader ≡ failed_reads_between
+        (has_failed tile.old.lines) (has_failed tile.new.lines) (R.failures tile.old.lines.ahead.reader) }
 {
     let head = match tile.take_head(alloc) {
         Ok(head) => head,
@@ -130,7 +134,7 @@ fn header_line(alloc: Global, head: &Head) -> Result<Line, LineFault>
 }
 
 /// Writes the lines of the features of a tile that are chosen, and says how many there are. The text
-/// is empty, and taken for its memory.
+/// is taken for its memory alone.
 fn write_features<R: Source, W: Sink>(
     alloc: Global,
     tile: &mut TileReader<R>,
@@ -138,9 +142,8 @@ fn write_features<R: Source, W: Sink>(
     text: Line,
     output: &mut W,
 ) -> Result<u64, MergeFault>
-    requires empty { text ≡ [] }
-    requires most { most_left tile.old ≤ 2 ^ 40 + 1 }
-    requires had_not_failed { has_failed tile.old ≡ false }
+    requires most { most_to_come tile.old ≤ most_texts }
+    requires had_not_failed { has_failed tile.old.lines ≡ false }
     ensures ok { IfOk result (λ count. WroteTexts
         (MayComeTo R.gives (IsChosen choice.now) no_steps tile.old) count
         (W.taken output.old) (W.taken output.new)) }
@@ -149,8 +152,8 @@ fn write_features<R: Source, W: Sink>(
         (W.taken output.old) (W.taken output.new)) }
     ensures failures { W.failures output.new
         ≡ failures_after_filter result (W.failures output.old) }
-    ensures reads { R.failures tile.new.ahead.reader
-        ≡ failed_reads_after_filter result (R.failures tile.old.ahead.reader) }
+    ensures reads { R.failures tile.new.lines.ahead.reader
+        ≡ failed_reads_after_filter result (R.failures tile.old.lines.ahead.reader) }
 {
     let mut text = text;
     let mut count = 0u64;
@@ -182,7 +185,5 @@ pub fn write_line<W: Sink>(output: &mut W, line: Line) -> Result<Line, Fault>
     ensures fault { IfErr result (λ fault. fault ≡ Fault.Write) }
 {
     write_all(output, line.items())?;
-    let mut bytes = line.into_vec();
-    bytes.clear();
-    Ok(Line::from_vec(bytes))
+    Ok(emptied(line))
 }

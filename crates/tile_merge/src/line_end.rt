@@ -1,4 +1,4 @@
-ghost use Rattle.std.specs.Prelude.{◌≡◌, IfOk, IfErr};
+ghost use Rattle.std.specs.Prelude.{◌≡◌, [], IfOk, IfErr};
 ghost use Rattle.tile_merge.specs.Stream.{with_newline};
 
 use crate::lines::LineFault;
@@ -21,4 +21,13 @@ pub fn end_line(text: Line, number: u64) -> Result<Line, LineFault>
         });
     }
     Ok(Line::from_vec(bytes))
+}
+
+/// A line with no bytes, in the memory of this one.
+pub(crate) fn emptied(line: Line) -> Line
+    ensures { result ≡ [] }
+{
+    let mut bytes = line.into_vec();
+    bytes.clear();
+    Line::from_vec(bytes)
 }

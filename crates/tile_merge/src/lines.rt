@@ -63,6 +63,7 @@ impl<R: Source> Lines<R> {
             ↔ IsOfTile (R.gives reader) stream_limits left }
         ensures number { result.number ≡ 1 }
         ensures most { most_left result ≤ 2 ^ 40 + 1 }
+        ensures is_open { result.ended ≡ None }
         ensures not_failed { has_failed result ≡ false }
         ensures failures { R.failures result.ahead.reader ≡ R.failures reader }
     {
@@ -77,6 +78,7 @@ impl<R: Source> Lines<R> {
             ↔ IsOfTile (R.gives reader) (limits_of line tile) left }
         ensures number { result.number ≡ 1 }
         ensures most { most_left result ≤ tile + 1 }
+        ensures is_open { result.ended ≡ None }
         ensures not_failed { has_failed result ≡ false }
         ensures failures { R.failures result.ahead.reader ≡ R.failures reader }
     {
@@ -115,6 +117,7 @@ impl<R: Source> Lines<R> {
         ensures most { most_left self.new ≤ 2 ^ 40 + 1 }
         ensures some { (left : TileLines) × Leaves R.gives self.new left
             × BeginsFrom self.new.number left.lines left.fault }
+        ensures ended { EndsFrom self.new.number self.new.ended }
         ensures had_not_failed { IfOk result (λ next. has_failed self.old ≡ false) }
         ensures not_failed { IfOk result (λ next. has_failed self.new ≡ false) }
         ensures failures { R.failures self.new.ahead.reader ≡ failed_reads_between

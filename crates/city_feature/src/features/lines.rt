@@ -3,9 +3,6 @@ ghost use Rattle.city_feature.specs.Choice.{IsChosen};
 ghost use Rattle.city_feature.specs.FeatureLine.{GivesFeature, RefusesFeatureLine, SpellsMoved};
 ghost use Rattle.city_feature.specs.Values.{feature_value};
 
-#[cfg(test)]
-mod tests;
-
 use crate::choices::Choice;
 use crate::choices::selecting::selects;
 use crate::features::Feature;

@@ -11,8 +11,6 @@ ghost use Rattle.city_feature.specs.Feature.{FeatureValue, IsFeature, moved_vert
 ghost use Rattle.city_feature.specs.FeatureLine.{GivesFeature, SpellsMoved};
 ghost use Rattle.city_feature.specs.Quick.{HasOtherMembers, IsLine, IsPartNamed, IsPlaceOf, no_steps};
 
-#[cfg(test)]
-mod tests;
 mod types;
 
 use crate::choices::Choice;

@@ -2,11 +2,11 @@ ghost use Rattle.std.specs.Prelude.{◌≡◌, ◌↔◌, IsTrue, IfOk, IfErr, I
 ghost use Rattle.city_json.specs.Members.{member_of};
 ghost use Rattle.city_json.specs.Tree.{tree};
 ghost use Rattle.city_grid.specs.Transform.{Grid};
-ghost use Rattle.city_feature.specs.Header.{HasGrid, IsCityJson, IsEmpty, IsHeader, IsVersion2};
+ghost use Rattle.city_feature.specs.Header.{HasGrid, HoldsCity, IsCityJson, IsHeader, IsVersion2};
 ghost use Rattle.city_feature.specs.Header.{RefusesGrid, RefusesHeader};
 
 use crate::headers::Header;
-use crate::kinds::{Kind, is_where_there, says};
+use crate::kinds::{Kind, is_there, is_where_there, says};
 use city_grid::{Transform, transform};
 use city_json::{Fault, Json};
 
@@ -29,12 +29,13 @@ pub fn is_version_2(value: &Json) -> bool
     says(value, "version", "2.0")
 }
 
-/// Whether it holds neither city objects nor vertices.
-fn is_empty(value: &Json) -> bool
-    ensures { IsTrue result ↔ IsEmpty (tree value.now) }
+/// Whether it holds city objects or vertices: its `CityObjects` is an object with a member, or its `vertices`
+/// an array with an item. It says nothing else of the value.
+pub fn is_document(value: &Json) -> bool
+    ensures { IsTrue result ↔ HoldsCity (tree value.now) }
 {
-    is_where_there(value, "CityObjects", Kind::EmptyObject)
-        && is_where_there(value, "vertices", Kind::EmptyArray)
+    is_there(value, "CityObjects", Kind::FilledObject)
+        || is_there(value, "vertices", Kind::FilledArray)
 }
 
 /// The transform of the member `transform` (CityJSON 2.0, Transform Object).
@@ -67,22 +68,17 @@ fn header_transform(value: &Json) -> Result<Transform, Fault>
     if !is_version_2(value) {
         return Err(Fault::Version);
     }
-    let transform = transform_of(value)?;
-    if !is_empty(value) {
-        return Err(Fault::HeaderNotEmpty);
-    }
-    Ok(transform)
+    transform_of(value)
 }
 
-/// Takes a value as a header.
+/// Takes a value as a header, whether or not it holds city objects or vertices ([`is_document`]).
 ///
 /// # Errors
 ///
 /// [`Fault::NotCityJson`] where it is no object, or its `type` is not the text `CityJSON`, or its
 /// `metadata`, `extensions` or `CityObjects` are there and no object, or its `vertices` and no
 /// array; else [`Fault::Version`] where its `version` is not the text `2.0`; else
-/// [`Fault::NoTransform`], [`Fault::Decimal`] or [`Fault::ScaleNotPositive`] by its `transform`;
-/// else [`Fault::HeaderNotEmpty`] where it holds city objects or vertices.
+/// [`Fault::NoTransform`], [`Fault::Decimal`] or [`Fault::ScaleNotPositive`] by its `transform`.
 pub fn header(json: Json) -> Result<Header, Fault>
     ensures ok { IfOk result (λ header.
         (header.json ≡ json) × IsHeader (tree json) header.grid) }

@@ -114,30 +114,3 @@ impl Sink for Bin {
         Ok(())
     }
 }
-
-#[cfg(test)]
-mod tests {
-    use super::*;
-    use std::test::Fail;
-
-    #[test]
-    fn a_bin_takes_what_it_has_room_for(rt: HostRuntime) -> Result<(), Fail> {
-        let mut bin = Bin::new(rt.alloc(), 5, 3, false)?;
-        assert_eq!(rt; bin.write(b"abcdef"), Ok(3));
-        assert_eq!(rt; bin.write(b"def"), Ok(2));
-        assert_eq!(rt; bin.write(b"f"), Err(Fault::Write));
-        assert_eq!(rt; bin.write(b""), Ok(0));
-        assert_eq!(rt; bin.flush(), Ok(()));
-        assert_eq!(rt; bin.bytes(), b"abcde".as_slice());
-        Ok(())
-    }
-
-    #[test]
-    fn a_bin_may_take_nothing_and_fail_to_flush(rt: HostRuntime) -> Result<(), Fail> {
-        let mut bin = Bin::new(rt.alloc(), 5, 0, true)?;
-        assert_eq!(rt; bin.write(b"abc"), Ok(0));
-        assert_eq!(rt; bin.flush(), Err(Fault::Write));
-        assert_eq!(rt; bin.bytes(), b"".as_slice());
-        Ok(())
-    }
-}

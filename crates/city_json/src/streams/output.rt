@@ -28,29 +28,3 @@ pub fn write_all<W: Sink>(sink: &mut W, bytes: &[u8]) -> Result<(), Fault>
     }
     Ok(())
 }
-
-#[cfg(test)]
-mod tests {
-    use super::*;
-    use crate::streams::bin::Bin;
-    use std::test::Fail;
-
-    #[test]
-    fn all_is_written_or_a_front_of_it(rt: HostRuntime) -> Result<(), Fail> {
-        for (room, step, answer, taken) in [
-            (9, 9, Ok(()), b"abcde".as_slice()),
-            (5, 2, Ok(()), b"abcde".as_slice()),
-            (4, 3, Err(Fault::Write), b"abcd".as_slice()),
-            (9, 0, Err(Fault::Write), b"".as_slice()),
-        ] {
-            let mut bin = Bin::new(rt.alloc(), room, step, false)?;
-            assert_eq!(rt;
-                write_all(&mut bin, b"abcde"),
-                answer,
-                "room {room}, step {step}"
-            );
-            assert_eq!(rt; bin.bytes(), taken, "room {room}, step {step}");
-        }
-        Ok(())
-    }
-}

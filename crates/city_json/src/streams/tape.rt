@@ -83,35 +83,3 @@ impl Source for Tape {
         Ok(count)
     }
 }
-
-#[cfg(test)]
-mod tests {
-    use super::*;
-    use std::test::Fail;
-
-    #[test]
-    fn a_tape_gives_its_bytes_by_steps_and_ends(rt: HostRuntime) -> Result<(), Fail> {
-        let mut tape = Tape::new(Line::from_vec(b"abc".to_vec(rt.alloc())?), 2, false);
-        let mut to = [b'.'; 4];
-        assert_eq!(rt; tape.read(&mut to), Ok(2));
-        assert_eq!(rt; &to, b"ab..");
-        assert_eq!(rt; tape.read(&mut to[..0]), Ok(0));
-        assert_eq!(rt; tape.read(&mut to), Ok(1));
-        assert_eq!(rt; &to, b"cb..");
-        assert_eq!(rt; tape.read(&mut to), Ok(0));
-        assert_eq!(rt; tape.read(&mut to), Ok(0));
-        Ok(())
-    }
-
-    #[test]
-    fn a_failing_tape_fails_after_its_last_byte(rt: HostRuntime) -> Result<(), Fail> {
-        let mut tape = Tape::new(Line::from_vec(b"abc".to_vec(rt.alloc())?), 8, true);
-        let mut to = [b'.'; 4];
-        assert_eq!(rt; tape.read(&mut to), Ok(3));
-        assert_eq!(rt; &to, b"abc.");
-        assert_eq!(rt; tape.read(&mut to), Err(Fault::Read));
-        assert_eq!(rt; tape.read(&mut to), Err(Fault::Read));
-        assert_eq!(rt; &to, b"abc.");
-        Ok(())
-    }
-}

@@ -16,6 +16,13 @@ pub(super) const HEADER: &str =
 const HEADER_WITH_VERTICES: &str =
     r#"{"type":"CityJSON","version":"2.0","transform":{"scale":[0.001,0.001,0.001],"translate":[0,0,0]},"CityObjects":{},"vertices":[[0,0,0]]}"#;
 
+/// Documents of a building; the second names a child that is missing.
+const DOCUMENT: &str =
+    r#"{"type":"CityJSON","version":"2.0","transform":{"scale":[0.001,0.001,0.001],"translate":[0,0,0]},"CityObjects":{"a":{"type":"Building"}},"vertices":[]}"#;
+
+const CHILDLESS_DOCUMENT: &str =
+    r#"{"type":"CityJSON","version":"2.0","transform":{"scale":[0.001,0.001,0.001],"translate":[0,0,0]},"CityObjects":{"a":{"type":"Building","children":["b"]}},"vertices":[]}"#;
+
 pub(super) const FEATURE_A: &str =
     r#"{"type":"CityJSONFeature","id":"a","CityObjects":{"a":{"type":"Building"}},"vertices":[]}"#;
 
@@ -142,6 +149,16 @@ fn the_choice_decides_what_is_written(rt: HostRuntime) -> Result<(), Fail> {
     expect_run(&rt, &choice, input, &done(&[HEADER]))
 }
 
+#[test]
+fn a_document_gives_its_features_first(rt: HostRuntime) -> Result<(), Fail> {
+    let input = stream_of(rt.alloc(), &[DOCUMENT, FEATURE_B])?;
+    let wanted = done(&[HEADER, FEATURE_A, FEATURE_B]);
+    expect_run(&rt, &every_feature(), (&input, false), &wanted)?;
+    let input = stream_of(rt.alloc(), &[HEADER_WITH_VERTICES, FEATURE_B])?;
+    let wanted = done(&[HEADER, FEATURE_B]);
+    expect_run(&rt, &every_feature(), (&input, false), &wanted)
+}
+
 /// The stream of a header, this line and a feature is refused at the line, with this text.
 fn expect_second_line(rt: &(impl Abort + AllocGlobal), line: &str, text: &str) -> Result<(), Fail> {
     let said = format!(in rt.alloc(); "citymerge: tile 1 line 2: {text}\n")?;
@@ -163,10 +180,7 @@ fn a_fault_is_told_with_its_line(rt: HostRuntime) -> Result<(), Fail> {
     }
     for (line, text) in [
         ("[]", "the object is not a CityJSON object"),
-        (
-            HEADER_WITH_VERTICES,
-            "the header holds city objects or vertices",
-        ),
+        (CHILDLESS_DOCUMENT, "a child is missing"),
     ] {
         let said = format!(in rt.alloc(); "citymerge: tile 1 line 1: {text}\n")?;
         let input = stream_of(rt.alloc(), &[line, FEATURE_A])?;

@@ -25,6 +25,7 @@ fn help_says_what_cat_does(rt: HostRuntime) -> Result<(), Fail> {
         [
             "Cuts a CityJSON document from standard input",
             "It is held in memory.",
+            "A document may be spread over\nlines, and have 2^28 bytes",
             "citymerge cat < town.city.json > town.city.jsonl",
             "  1  refused, with one line on standard error\n",
         ]

@@ -130,7 +130,9 @@ fn help_of_merge_says_what_is_joined(rt: HostRuntime) -> Result<(), Fail> {
         ["merge", "--help"].as_slice(),
         [
             "<TILE>...",
+            "header may stand a whole CityJSON document.",
             "At most 64.",
+            "A line at fault later ends its own tile",
             "--in-turn",
             "--least",
             "--bbox <MINX,MINY,MAXX,MAXY>",

@@ -16,9 +16,6 @@ const HEADER: &str =
 const HEADER_WITH_METADATA: &str =
     r#"{"type":"CityJSON","version":"2.0","transform":{"scale":[0.001,0.001,0.001],"translate":[0,0,0]},"CityObjects":{},"vertices":[],"metadata":{"geographicalExtent":[0,0,0,1,1,1],"title":"t"}}"#;
 
-const HEADER_WITH_VERTICES: &str =
-    r#"{"type":"CityJSON","version":"2.0","transform":{"scale":[0.001,0.001,0.001],"translate":[0,0,0]},"CityObjects":{},"vertices":[[0,0,0]]}"#;
-
 const FEATURE_A: &str =
     r#"{"type":"CityJSONFeature","id":"a","CityObjects":{"a":{"type":"Building"}},"vertices":[]}"#;
 
@@ -235,11 +232,6 @@ fn lines_are_refused_where_they_stand(rt: HostRuntime) -> Result<(), Fail> {
             [HEADER, HEADER],
             at_line(2, Fault::NotAFeature),
             [HEADER].as_slice(),
-        ),
-        (
-            [HEADER_WITH_VERTICES, FEATURE_A],
-            at_line(1, Fault::HeaderNotEmpty),
-            &[],
         ),
         (["[]", FEATURE_A], at_line(1, Fault::NotCityJson), &[]),
         (["[", FEATURE_A], at_line(1, Fault::Syntax), &[]),

@@ -1,9 +1,9 @@
-ghost use Rattle.std.specs.Prelude.{◌≡◌, ◌≤◌, ◌<◌, ◌+◌, ◌^◌, List, [], ℕ, false, Some, None, length, IfSome, IfNone, IsTrue};
+ghost use Rattle.std.specs.Prelude.{◌≡◌, ◌≤◌, ◌<◌, ◌+◌, List, [], ℕ, false, Some, None, length, IfSome, IfNone, IsTrue};
 ghost use Rattle.city_feature.specs.Choice.{IsChosen};
 ghost use Rattle.tile_handoff.specs.Queues.{queue_of, empty_queue};
 ghost use Rattle.tile_merge.specs.Feeds.{fresh_feed, MayTake, SomeCourse, TakesNone, TakesTurn, HasRoom, IsAhead, most_ahead, most_places};
 ghost use Rattle.tile_merge.specs.Stream.{with_newline};
-ghost use Rattle.tile_merge.specs.Unread.{most_left};
+ghost use Rattle.tile_merge.specs.TileState.{most_to_come, most_texts};
 
 use crate::merging::ends::end_note;
 use crate::tile_reader::TileReader;
@@ -27,13 +27,17 @@ pub(crate) struct Feed<R> {
 }
 
 impl<R> Model for Feed<R> {
-    ghost use Rattle.std.specs.Prelude.{◌≡◌, ◌≤◌, ◌<◌, ◌+◌, ◌^◌, [], false, length};
+    ghost use Rattle.std.specs.Coded.{codes};
+    ghost use Rattle.city_feature.specs.contracts.features.Feature as feature_type;
+    ghost use Rattle.std.specs.Prelude.{◌≡◌, ◌≤◌, ◌<◌, ◌+◌, [], false, length};
     ghost use Rattle.tile_handoff.specs.Notes.{has_end};
     ghost use Rattle.tile_handoff.specs.Queues.{queue_of};
     ghost use Rattle.tile_merge.specs.Feeds.{FeedState};
-    ghost use Rattle.tile_merge.specs.Unread.{most_left};
+    ghost use Rattle.tile_merge.specs.TileState.{most_to_come, most_texts};
 
     ghost Value = { FeedState R };
+
+    ghost coded = { Prim.hlevel (codes, feature_type.the_row.coded) };
 
     ghost view = { λ feed. record {
       unread = feed.reader;
@@ -46,7 +50,7 @@ impl<R> Model for Feed<R> {
 
     ghost invariant = { λ feed. (feed.spare ≡ []) × (length feed.notes.tiles ≡ 1) × (0 < feed.notes.capacity)
         × ((queue_of feed.notes 0).closed ≡ false
-        → (feed.count + most_left feed.reader ≤ 2 ^ 40 + 1)
+        → (feed.count + most_to_come feed.reader ≤ most_texts)
         × (has_end (queue_of feed.notes 0).left ≡ false)) };
 }
 
@@ -56,7 +60,7 @@ impl<R: Source> Feed<R> {
         requires one { length notes.tiles ≡ 1 }
         requires capacity { 0 < notes.capacity }
         requires empty { queue_of notes 0 ≡ empty_queue }
-        requires most { most_left reader ≤ 2 ^ 40 + 1 }
+        requires most { most_to_come reader ≤ most_texts }
         ensures { result ≡ fresh_feed notes.capacity reader shift }
     {
         Feed {

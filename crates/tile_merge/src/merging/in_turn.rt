@@ -1,12 +1,12 @@
-ghost use Rattle.std.specs.Prelude.{◌≡◌, ◌≤◌, ◌<◌, ◌+◌, ◌^◌, ℕ, All, Err, length, filter_map, IfOk, IfErr, OnOk, OnErr};
+ghost use Rattle.std.specs.Prelude.{◌≡◌, ◌⊎◌, ◌≤◌, ◌<◌, ◌+◌, ◌^◌, ℕ, All, Err, length, filter_map, IfOk, IfErr, OnOk, OnErr};
 ghost use Rattle.city_json.specs.Streams.Failures.{after_call};
 ghost use Rattle.city_feature.specs.Choice.{IsChosen};
 ghost use Rattle.tile_merge.specs.Filtered.{failures_after_merge, failures_after_refusal};
 ghost use Rattle.tile_merge.specs.Interleaves.{Interleaves};
-ghost use Rattle.tile_merge.specs.Merged.{MergedAll, IsRefusedEarly, IsRefusedMerge};
+ghost use Rattle.tile_merge.specs.Merged.{MergedAll, IsOutputFault, IsRefusedEarly, IsRefusedMerge};
 ghost use Rattle.tile_merge.specs.Opened.{AllThree};
 ghost use Rattle.tile_merge.specs.Turns.{AreTurns};
-ghost use Rattle.tile_merge.specs.Unread.{most_left};
+ghost use Rattle.tile_merge.specs.TileState.{most_to_come, most_texts};
 ghost use Rattle.tile_merge.specs.Rounds.{AreReady, IsFeedOf, MayTakeAll, SomeCourses, WroteRound, WroteTurns, WroteTurnsFront};
 
 use crate::fault::MergeFault;
@@ -60,6 +60,10 @@ pub fn merge_in_turn<R: Source + Drop, W: Sink>(
     ensures interleaved { IfOk result (λ report. MergedAll R.gives (IsChosen choice.now) base
         Interleaves readers.items report.counts (W.taken output.old) (W.taken output.new)) }
 
+    // The fault of a tile that stopped is answered once what was written was passed on.
+    ensures passed_on { IfErr result (λ e. IsRefusedEarly R.gives base readers.items e
+        ⊎ IsOutputFault e ⊎ W.is_flushed output.new) }
+
     ensures too_many { 64 < length readers.items → result ≡ Err (record {
       tile = 0;
       line = 0;
@@ -88,6 +92,8 @@ fn merge_few<R: Source + Drop, W: Sink>(
     ensures flushed { OnOk result (W.is_flushed output.new) }
     ensures refused { IfErr result (λ e. IsRefusedMerge R.gives (IsChosen choice.now) base AreTurns
         readers.items e (W.taken output.old) (W.taken output.new)) }
+    ensures passed_on { IfErr result (λ e. IsRefusedEarly R.gives base readers.items e
+        ⊎ IsOutputFault e ⊎ W.is_flushed output.new) }
     ensures failures { W.failures output.new ≡ failures_after_merge result (W.failures output.old) }
 {
     let ReadyTiles { mut feeds, line } = make_ready(alloc, readers, base, capacity)?;
@@ -132,7 +138,7 @@ fn feeds_of<R: Source + Drop>(
 ) -> Result<Vec<Feed<R>>, Fault>
     requires few { length tiles.items ≤ 64 }
     requires shifts { length shifts.now ≡ length tiles.items }
-    requires most { All (λ tile. most_left tile.unread ≤ 2 ^ 40 + 1) tiles.items }
+    requires most { All (λ tile. most_to_come tile.unread ≤ most_texts) tiles.items }
     requires capacity { (0 < capacity) × (capacity ≤ MAX_CAPACITY) }
     ensures ok { IfOk result (λ feeds.
         AllThree (IsFeedOf capacity) tiles.items shifts.now feeds.items) }

@@ -6,11 +6,11 @@ ghost use Rattle.city_feature.specs.declared.choices.Choice.{Choice};
 ghost use Rattle.tile_merge.specs.Feeds.{Course};
 ghost use Rattle.tile_merge.specs.Filtered.{failures_after_merge, failures_after_refusal};
 ghost use Rattle.tile_merge.specs.Interleaves.{Interleaves};
-ghost use Rattle.tile_merge.specs.Merged.{MergedAll, IsRefusedEarly, IsRefusedMerge};
+ghost use Rattle.tile_merge.specs.Merged.{MergedAll, IsOutputFault, IsRefusedEarly, IsRefusedMerge};
 ghost use Rattle.tile_merge.specs.Opened.{AllThree};
 ghost use Rattle.tile_merge.specs.Threaded.{HasNoThread, IsRefusedThreaded, WroteInterleaved};
 ghost use Rattle.tile_merge.specs.Threads.{are_all_ended, AreFresh, AreStarted, HaveGiven, IsRunOf, IsUnstarted, fresh_run, fed_of};
-ghost use Rattle.tile_merge.specs.Unread.{most_left};
+ghost use Rattle.tile_merge.specs.TileState.{most_to_come, most_texts};
 
 mod feeder;
 mod running;
@@ -79,6 +79,11 @@ where
     ensures interleaved { OnOk result (WroteInterleaved R.gives (IsChosen choice.now) base
         readers.items (W.taken output.old) (W.taken output.new)) }
 
+    // The fault of a tile that stopped is answered once what was written was passed on.
+    ensures passed_on { IfErr result (λ e. HasNoThread R.gives base readers.items e
+        ⊎ IsRefusedEarly R.gives base readers.items e ⊎ IsOutputFault e
+        ⊎ W.is_flushed output.new) }
+
     ensures too_many { 64 < length readers.items → result ≡ Err (record {
       tile = 0;
       line = 0;
@@ -112,6 +117,9 @@ where
     ensures flushed { OnOk result (W.is_flushed output.new) }
     ensures refused { IfErr result (λ e. IsRefusedThreaded R.gives (IsChosen choice.now) base
         readers.items e (W.taken output.old) (W.taken output.new)) }
+    ensures passed_on { IfErr result (λ e. HasNoThread R.gives base readers.items e
+        ⊎ IsRefusedEarly R.gives base readers.items e ⊎ IsOutputFault e
+        ⊎ W.is_flushed output.new) }
     ensures failures { W.failures output.new ≡ failures_after_merge result (W.failures output.old) }
 {
     let StartedTiles { tiles, line } = start_tiles(rt, alloc, readers, choice, base, capacity)?;
@@ -163,7 +171,7 @@ where
     R: Source + Send + Drop + 'static,
     requires few { length tiles.items ≤ 64 }
     requires shifts { length shifts.now ≡ length tiles.items }
-    requires most { All (λ tile. most_left tile.unread ≤ 2 ^ 40 + 1) tiles.items }
+    requires most { All (λ tile. most_to_come tile.unread ≤ most_texts) tiles.items }
     requires capacity { (0 < capacity) × (capacity ≤ MAX_CAPACITY) }
     ensures ok { IfOk result (λ running.
         AllThree (IsRunOf choice.now) tiles.items shifts.now running.items) }
@@ -196,7 +204,7 @@ fn start_tile<H, R>(
 where
     H: Threads + Wait + Copy + Send + 'static,
     R: Source + Send + Drop + 'static,
-    requires most { most_left tile.unread ≤ 2 ^ 40 + 1 }
+    requires most { most_to_come tile.unread ≤ most_texts }
     requires capacity { (0 < capacity) × (capacity ≤ MAX_CAPACITY) }
     ensures ok { IfOk result (IsRunOf choice.now tile shift) }
     ensures refused { IfErr result (λ fault.
@@ -253,6 +261,7 @@ fn finish<H: Threads + Wait, R: Source + Drop, W: Sink>(
         → IfErr result (λ e. IsRefusedMerge R.gives (IsChosen choice) base Interleaves
         readers e (W.taken output.old) (W.taken output.new)) }
     ensures flushed { OnOk result (W.is_flushed output.new) }
+    ensures passed_on { IfErr result (λ e. IsOutputFault e ⊎ W.is_flushed output.new) }
     ensures failures { W.failures output.new ≡ failures_after_merge result (W.failures output.old) }
 {
     let mut tiles = tiles;

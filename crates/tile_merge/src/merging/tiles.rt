@@ -29,9 +29,13 @@ pub(crate) struct OpenTile<R> {
 }
 
 impl<R> Model for OpenTile<R> {
+    ghost use Rattle.std.specs.Coded.{codes};
+    ghost use Rattle.city_feature.specs.contracts.features.Feature as feature_type;
     ghost use Rattle.tile_merge.specs.Opened.{OpenState};
 
     ghost Value = { OpenState R };
+
+    ghost coded = { Prim.hlevel (codes, feature_type.the_row.coded) };
 
     ghost view = { λ tile. record { unread = tile.reader; line = tile.line } };
 }

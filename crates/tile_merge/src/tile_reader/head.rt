@@ -1,9 +1,12 @@
-ghost use Rattle.std.specs.Prelude.{◌≡◌, IfOk, IfErr};
-ghost use Rattle.city_feature.specs.Values.{header_value};
-ghost use Rattle.tile_merge.specs.Head.{SpellsHeader, RefusesHead};
+ghost use Rattle.std.specs.Prelude.{◌≡◌, IfOk, IfErr, map};
+ghost use Rattle.city_json.specs.Fits.{IsDistinct};
+ghost use Rattle.city_json.specs.Tree.{tree};
+ghost use Rattle.city_feature.specs.Values.{feature_value, header_value};
+ghost use Rattle.tile_merge.specs.Head.{SpellsHead, RefusesHead, StandsFor, RefusesFirst};
 
-use city_feature::{Header, header};
-use city_json::{Fault, read};
+use city_cut::{Cut, cut};
+use city_feature::{Feature, Header, header, is_document};
+use city_json::{Fault, Json, read};
 use std::alloc::Global;
 
 /// The header of a tile, and the number of the line that spells it, from 1.
@@ -13,14 +16,39 @@ pub struct Head {
     pub line: u64,
 }
 
-/// The header that a line spells.
+/// What a first line stands for: a header, and the features that the line holds itself.
+#[derive(Debug, Drop)]
+pub(crate) struct FirstLine {
+    pub(crate) header: Header,
+    pub(crate) features: Vec<Feature>,
+}
+
+/// What a first line stands for.
 ///
 /// # Errors
 ///
-/// Why it spells no value that is taken; else why that is no header.
-pub(crate) fn read_header(alloc: Global, bytes: &[u8]) -> Result<Header, Fault>
-    ensures ok { IfOk result (λ read. SpellsHeader bytes.now (header_value read)) }
+/// Why it spells no value that is taken; else why that is no header, or why a document is not cut.
+pub(crate) fn read_first_line(alloc: Global, bytes: &[u8]) -> Result<FirstLine, Fault>
+    ensures ok { IfOk result (λ first. SpellsHead bytes.now (header_value first.header)
+        (map feature_value first.features.items)) }
     ensures refused { IfErr result (λ fault. RefusesHead fault bytes.now) }
 {
-    header(read(alloc, bytes)?)
+    first_line(alloc, read(alloc, bytes)?)
+}
+
+/// A value with city objects or vertices is cut, each other one is a header.
+fn first_line(alloc: Global, value: Json) -> Result<FirstLine, Fault>
+    requires { IsDistinct (tree value) }
+    ensures ok { IfOk result (λ first. StandsFor (tree value) (header_value first.header)
+        (map feature_value first.features.items)) }
+    ensures refused { IfErr result (λ fault. RefusesFirst fault (tree value)) }
+{
+    if is_document(&value) {
+        let Cut { header, features } = cut(alloc, value)?;
+        let features = features.into_vec();
+        return Ok(FirstLine { header, features });
+    }
+    let header = header(value)?;
+    let features = Vec::new(alloc);
+    Ok(FirstLine { header, features })
 }

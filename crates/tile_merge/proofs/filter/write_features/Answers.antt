@@ -29,7 +29,7 @@ returns-in-Err-write_line-clause-refused g c =
     let text = rw (c.in-Ok-Some.field-0-is, c.zero.ensures) at c.in-Ok-Some.ensures.text in
     let some = rw c.zero.ensures at c.take_text.ensures.some in
     let wrote = c.in-Err-write_line.ensures.some in
-    let part = at_failed_write (comes c.args.tile.now) old (comes c.features.tile) c.features.count new c.features.invariant.so_far (comes c.take_text.new.self) text.0 c.features.text c.in-Ok-Some.line c.features.invariant.empty text.1 text.2 some (g.W.Sink.taken c.write_line.new.output) wrote.0 wrote.1 in
+    let part = at_failed_write (comes c.args.tile.now) old (comes c.features.tile) c.features.count new c.features.invariant.so_far (comes c.take_text.new.self) text.0 c.in-Ok-Some.line text.1 text.2 some (g.W.Sink.taken c.write_line.new.output) wrote.0 wrote.1 in
     rw c.of_no_line.ensures (refl, refl, part)
 
 pub features-preserved : goal.features-preserved
@@ -40,11 +40,11 @@ features-preserved g c =
     let text = rw (c.in-Ok-Some.field-0-is, c.zero.ensures) at c.in-Ok-Some.ensures.text in
     let fewer = rw c.in-Ok-Some.field-0-is at c.in-Ok-Some.ensures.fewer in
     let wrote = c.in-Ok.ensures.all in
+    let not_failed = c.in-Ok-Some.ensures.not_failed c.features.invariant.not_failed in
     record {
-      so_far = at_text (comes c.args.tile.now) old (comes c.features.tile) c.features.count new c.features.invariant.so_far (comes c.take_text.new.self) text.0 c.features.text c.in-Ok-Some.line c.features.invariant.empty text.1 text.2 (g.W.Sink.taken c.write_line.new.output) wrote.1;
-      empty = wrote.0;
+      so_far = at_text (comes c.args.tile.now) old (comes c.features.tile) c.features.count new c.features.invariant.so_far (comes c.take_text.new.self) text.0 c.in-Ok-Some.line text.1 text.2 (g.W.Sink.taken c.write_line.new.output) wrote.1;
       bounded = omega (arith, c.features.invariant.bounded, fewer);
-      not_failed = c.in-Ok-Some.ensures.not_failed;
-      reads = rw (c.in-Ok-Some.ensures.had_not_failed, c.in-Ok-Some.ensures.not_failed) at c.take_text.ensures.failures ∙ c.features.invariant.reads;
+      not_failed = not_failed;
+      reads = rw (c.features.invariant.not_failed, not_failed) at c.take_text.ensures.failures ∙ c.features.invariant.reads;
       failures = c.in-Ok.ensures.failures ∙ c.features.invariant.failures;
     }

@@ -1,9 +1,10 @@
-use Rattle.std.proofs.Common.{◌≡◌, ◌≤◌, ◌+◌, ◌^◌, [], false}
+use Rattle.std.proofs.Common.{◌≡◌, ◌≤◌, ◌+◌, false}
 use Rattle.city_feature.specs.Choice.{IsChosen}
 use Rattle.tile_merge.specs.Coming.{MayComeTo}
 use Rattle.tile_merge.specs.Filtered.{no_steps}
 use Rattle.tile_merge.specs.Progress.{SoFar}
-use Rattle.tile_merge.specs.Unread.{most_left, has_failed}
+use Rattle.tile_merge.specs.TileState.{most_to_come, most_texts}
+use Rattle.tile_merge.specs.Unread.{has_failed}
 use Rattle.tile_merge.proofs.filter.write_features.Given as goal
 
 abbrev pub invariant-features : goal.invariant-features
@@ -11,12 +12,11 @@ invariant-features g l = record {
   so_far : SoFar (MayComeTo g.R.Source.gives (IsChosen l.choice) no_steps l.initial.tile)
       (MayComeTo g.R.Source.gives (IsChosen l.choice) no_steps l.tile)
       l.count (g.W.Sink.taken l.initial.output) (g.W.Sink.taken l.output);
-  empty : l.text ≡ [];
-  bounded : l.count + most_left l.tile ≤ 2 ^ 40 + 1;
-  not_failed : has_failed l.tile ≡ false;
-  reads : g.R.Source.failures l.tile.ahead.reader ≡ g.R.Source.failures l.initial.tile.ahead.reader;
+  bounded : l.count + most_to_come l.tile ≤ most_texts;
+  not_failed : has_failed l.tile.lines ≡ false;
+  reads : g.R.Source.failures l.tile.lines.ahead.reader ≡ g.R.Source.failures l.initial.tile.lines.ahead.reader;
   failures : g.W.Sink.failures l.output ≡ g.W.Sink.failures l.initial.output;
 }
 
 abbrev pub decreases-features : goal.decreases-features
-decreases-features g l = most_left l.tile
+decreases-features g l = most_to_come l.tile

@@ -2,7 +2,7 @@ ghost use Rattle.std.specs.Prelude.{◌≡◌, ◌≤◌, ◌+◌, ◌^◌, ◌+
 ghost use Rattle.tile_handoff.specs.Ends.{notes_put, notes_carried, IsSameSender, EndedIn};
 ghost use Rattle.tile_handoff.specs.declared.note.Note.{Note};
 ghost use Rattle.tile_merge.specs.Threads.{IsFed};
-ghost use Rattle.tile_merge.specs.Unread.{most_left};
+ghost use Rattle.tile_merge.specs.TileState.{most_to_come, most_texts};
 
 use crate::merging::ends::end_note;
 use crate::tile_reader::TileReader;
@@ -26,9 +26,13 @@ pub(super) struct FedTile<R> {
 }
 
 impl<R> Model for FedTile<R> {
+    ghost use Rattle.std.specs.Coded.{codes};
+    ghost use Rattle.city_feature.specs.contracts.features.Feature as feature_type;
     ghost use Rattle.tile_merge.specs.Threads.{Fed};
 
     ghost Value = { Fed R };
+
+    ghost coded = { Prim.hlevel (codes, feature_type.the_row.coded) };
 
     ghost view = { λ tile. record {
       unread = tile.reader;
@@ -54,7 +58,7 @@ impl<R: Source + Drop> FedTile<R> {
     /// Reads the tile to its end, or to where it stops, and puts its texts and then its end note.
     /// While the ring is full it waits.
     pub(super) fn feed<H: Wait>(self, rt: &H, alloc: Global, sender: Sender) -> Closed
-        requires most { most_left self.unread ≤ 2 ^ 40 + 1 }
+        requires most { most_to_come self.unread ≤ most_texts }
         ensures own { EndedIn sender result }
         ensures fed { IsFed R.gives self (notes_put sender) (notes_carried result) }
     {

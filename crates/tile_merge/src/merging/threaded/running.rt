@@ -1,7 +1,8 @@
 ghost use Rattle.std.specs.Prelude.{◌≡◌, ◌⊎◌, ◌≤◌, ◌<◌, ◌+◌, ◌^◌, ◌++◌, [], ◌∷◌, IfOk, IfErr, IfSome, IfNone, true};
+ghost use Rattle.tile_handoff.specs.Ends.{ArePair, notes_put, notes_taken};
 ghost use Rattle.tile_merge.specs.Feeds.{Course};
 ghost use Rattle.tile_merge.specs.Threads.{fresh_run, is_ended, HasGiven};
-ghost use Rattle.tile_merge.specs.Unread.{most_left};
+ghost use Rattle.tile_merge.specs.TileState.{most_to_come, most_texts};
 
 use crate::merging::threaded::feeder::{FedTile, Feeds};
 use city_json::{Fault, Line, Source};
@@ -12,7 +13,7 @@ use std::snapshot::Snapshot;
 use std::sync::Wait;
 use std::thread;
 use std::thread::{PromisedHandle, Threads};
-use tile_handoff::{Closed, End, MAX_CAPACITY, Note, Receiver, ends};
+use tile_handoff::{Closed, End, MAX_CAPACITY, Note, Receiver, Sender, ends};
 
 /// A tile whose thread runs: the end of its ring that takes notes, and the thread.
 #[derive(Drop)]
@@ -23,11 +24,15 @@ pub(super) struct RunningTile<R: Source> {
 }
 
 impl<R: Source> Model for RunningTile<R> {
+    ghost use Rattle.std.specs.Coded.{codes};
+    ghost use Rattle.city_feature.specs.contracts.features.Feature as feature_type;
     ghost use Rattle.std.specs.Prelude.{◌≡◌, []};
     ghost use Rattle.tile_handoff.specs.Ends.{notes_put, notes_taken, ArePair};
     ghost use Rattle.tile_merge.specs.Threads.{RunningState, TellsEnd, lines_in};
 
     ghost Value = { RunningState R };
+
+    ghost coded = { Prim.hlevel (codes, feature_type.the_row.coded) };
 
     ghost view = { λ tile. record {
       fed = tile.thread.promise.tile.value;
@@ -55,13 +60,37 @@ pub(super) fn start<H, R>(
 where
     H: Threads + Wait + Copy + Send + 'static,
     R: Source + Send + Drop + 'static,
-    requires most { most_left tile.unread ≤ 2 ^ 40 + 1 }
+    requires most { most_to_come tile.unread ≤ most_texts }
     requires capacity { (0 < capacity) × (capacity ≤ MAX_CAPACITY) }
     ensures ok { IfOk result (λ running. running ≡ fresh_run tile) }
     ensures refused { IfErr result (λ fault.
         (fault ≡ Fault.Memory) ⊎ (fault ≡ Fault.NoThread)) }
 {
     let (sender, receiver) = ends(alloc, capacity)?;
+    start_with(rt, alloc, tile, sender, receiver)
+}
+
+/// Starts a thread that puts the texts of the tile through this sender, whose ring is new.
+///
+/// # Errors
+///
+/// [`Fault::NoThread`] where no thread can be started.
+fn start_with<H, R>(
+    rt: &H,
+    alloc: Global,
+    tile: FedTile<R>,
+    sender: Sender,
+    receiver: Receiver,
+) -> Result<RunningTile<R>, Fault>
+where
+    H: Threads + Wait + Copy + Send + 'static,
+    R: Source + Send + Drop + 'static,
+    requires most { most_to_come tile.unread ≤ most_texts }
+    requires pair { ArePair sender receiver }
+    requires unused { (notes_put sender ≡ []) × (notes_taken receiver ≡ []) }
+    ensures ok { IfOk result (λ running. running ≡ fresh_run tile) }
+    ensures refused { IfErr result (λ fault. fault ≡ Fault.NoThread) }
+{
     let feeds = Feeds {
         tile: Snapshot::of(&tile),
         sender: Snapshot::of(&sender),

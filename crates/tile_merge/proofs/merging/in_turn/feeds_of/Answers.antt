@@ -6,7 +6,7 @@ use Rattle.tile_handoff.specs.Queues.{QueuesState}
 use Rattle.tile_merge.specs.Feeds.{fresh_feed}
 use Rattle.tile_merge.specs.Opened.{OpenState}
 use Rattle.tile_merge.specs.Rounds.{IsFeedOf}
-use Rattle.tile_merge.specs.Unread.{most_left}
+use Rattle.tile_merge.specs.TileState.{most_to_come, most_texts}
 use Rattle.tile_merge.proofs.Feeds.{feed_more, feeds_all, all_at}
 use Rattle.tile_merge.proofs.Opening.{all_three_long, goes_on, is_longer}
 use Rattle.tile_merge.proofs.merging.in_turn.feeds_of.Goals as goal
@@ -26,7 +26,7 @@ pub new-requires-in-loop-tile-clause-most : goal.new-requires-in-loop-tile-claus
 new-requires-in-loop-tile-clause-most g c =
     let loop = c.loop-tile in
     let tiles = c.args.tiles.items in
-    let Few : OpenState g.row.R.Denot → Type 0 = λ tile. most_left tile.unread ≤ 2 ^ 40 + 1 in
+    let Few : OpenState g.row.R.Denot → Type 0 = λ tile. most_to_come tile.unread ≤ most_texts in
     let few = all_at Few tiles loop.yielded c.in-Some.tile _ (goes_on tiles loop.yielded _ c.in-Some.tile _ loop.invariant.left c.in-Some.ensures.steps.0) c.requires.most in
     subst Few (sym c.tile.view_is) few
 

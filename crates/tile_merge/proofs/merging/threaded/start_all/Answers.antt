@@ -1,8 +1,11 @@
-use Rattle.std.proofs.Common.{◌≡◌, ◌+◌, ◌∷◌, [], length, take, get_or, sym, subst, ◌∙◌, arith, append_assoc}
+use Rattle.std.proofs.Common.{◌≡◌, ◌≤◌, ◌+◌, ◌∷◌, [], length, take, get_or, sym, subst, ◌∙◌, arith, append_assoc}
 use Rattle.std.proofs.lemmas.List.{map-id}
 use Rattle.std.proofs.lemmas.Iterator.Adapters.{YieldsList-from_vec}
 use Rattle.std.proofs.lemmas.Iterator.Consumers.{YieldsList-end}
+use Rattle.tile_merge.specs.Opened.{OpenState}
 use Rattle.tile_merge.specs.Threads.{IsRunOf}
+use Rattle.tile_merge.specs.TileState.{most_to_come, most_texts}
+use Rattle.tile_merge.proofs.Feeds.{all_at}
 use Rattle.tile_merge.proofs.Opening.{all_three_long, goes_on, is_longer}
 use Rattle.tile_merge.proofs.Starting.{threes_all, threes_more, unstarted}
 use Rattle.tile_merge.proofs.merging.threaded.start_all.Goals as goal
@@ -14,6 +17,13 @@ bounds-shifts-len g c =
     let long = all_three_long (IsRunOf c.args.choice.now) loop.yielded (take (length loop.yielded) c.args.shifts.now) loop.running.items loop.invariant.runs in
     let within = is_longer tiles loop.yielded c.in-Some.tile _ (goes_on tiles loop.yielded _ c.in-Some.tile _ loop.invariant.left c.in-Some.ensures.steps.0) in
     omega (arith, long.1, within, c.len-in-loop-tile.ensures, loop.running.ok.0, c.requires.shifts)
+
+pub start_tile-requires-clause-most : goal.start_tile-requires-clause-most
+start_tile-requires-clause-most g c κs within =
+    let loop = c.loop-tile in
+    let tiles = c.args.tiles.items in
+    let Few : OpenState g.row.R.Denot → Type 0 = λ tile. most_to_come tile.unread ≤ most_texts in
+    all_at Few tiles loop.yielded c.in-Some.tile _ (goes_on tiles loop.yielded _ c.in-Some.tile _ loop.invariant.left c.in-Some.ensures.steps.0) c.requires.most
 
 pub push_reserved-requires : goal.push_reserved-requires
 push_reserved-requires g c =

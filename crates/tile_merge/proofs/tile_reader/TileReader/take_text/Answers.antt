@@ -1,69 +1,38 @@
-use Rattle.std.proofs.Common.{◌∙◌, sym, arith}
+use Rattle.std.proofs.Common.{sym, subst}
 use Rattle.city_feature.specs.Choice.{IsChosen}
-use Rattle.tile_merge.proofs.Comings.{something_comes, nothing_comes, fault_comes, refusal_comes, text_comes, none_comes, memory_comes, same_text}
+use Rattle.tile_merge.specs.Coming.{MayComeTo, ComesBack}
+use Rattle.tile_merge.specs.TileState.{TileState, IsPassed}
+use Rattle.tile_merge.proofs.HeldFirst.{something, line_given, lines_over, lines_refused}
+use Rattle.tile_merge.proofs.Leaving.{something_left}
 use Rattle.tile_merge.proofs.tile_reader.TileReader.take_text.Goals as goal
 
-pub returns-in-Ok-None-clause-over : goal.returns-in-Ok-None-clause-over
-returns-in-Ok-None-clause-over g c =
-    let over = rw c.in-Ok-None.field-0-is at c.in-Ok-None.ensures.over in
-    rw (← c.self.view_is) (c.lines.invariant.back _ _ (nothing_comes g.R.Source.gives (IsChosen c.args.choice.now) c.args.shift c.lines.self-inside.lines over))
+pub returns-in-None-clause-text : goal.returns-in-None-clause-text
+returns-in-None-clause-text g c =
+    let s = c.self.inside in
+    let now : TileState g.row.R.Denot = record { ready = s.ready.items; held = record { line = s.held.line; features = s.held.features.items }; lines = s.lines } in
+    let Over : TileState g.row.R.Denot → Type 0 = λ tile. IsPassed tile × ComesBack (MayComeTo g.R.Source.gives (IsChosen c.args.choice.now) c.args.shift c.args.self.now) (MayComeTo g.R.Source.gives (IsChosen c.args.choice.now) c.args.shift tile) in
+    let over = subst Over (sym c.self.view_is) (rw c.in-None.is at c.in_ok-line.ensures.over) in
+    line_given g.R.Source.gives (IsChosen c.args.choice.now) c.args.shift c.args.self.now now over.1 over.0 c.take_feature.new.lines c.emptied.result c.emptied.ensures c.take_feature.result c.take_feature.ensures.text
 
-pub returns-in-Ok-None-clause-some : goal.returns-in-Ok-None-clause-some
-returns-in-Ok-None-clause-some g c = something_comes g.R.Source.gives (IsChosen c.args.choice.now) c.args.shift c.next.new.self c.next.ensures.some
+pub returns-in-None-clause-over : goal.returns-in-None-clause-over
+returns-in-None-clause-over g c =
+    let s = c.self.inside in
+    let now : TileState g.row.R.Denot = record { ready = s.ready.items; held = record { line = s.held.line; features = s.held.features.items }; lines = s.lines } in
+    let Over : TileState g.row.R.Denot → Type 0 = λ tile. IsPassed tile × ComesBack (MayComeTo g.R.Source.gives (IsChosen c.args.choice.now) c.args.shift c.args.self.now) (MayComeTo g.R.Source.gives (IsChosen c.args.choice.now) c.args.shift tile) in
+    let over = subst Over (sym c.self.view_is) (rw c.in-None.is at c.in_ok-line.ensures.over) in
+    lines_over g.R.Source.gives (IsChosen c.args.choice.now) c.args.shift c.args.self.now now over.1 over.0 c.take_feature.result c.take_feature.ensures.over
 
-pub returns-in-Err-clause-refused : goal.returns-in-Err-clause-refused
-returns-in-Err-clause-refused g c =
-    let at = c.in-Err.at in
-    rw (← c.self.view_is) (c.lines.invariant.back _ _ (fault_comes g.R.Source.gives (IsChosen c.args.choice.now) c.args.shift c.lines.self-inside.lines at.fault at.line c.in-Err.ensures.at c.in-Err.ensures.refused))
+pub returns-in-None-clause-refused : goal.returns-in-None-clause-refused
+returns-in-None-clause-refused g c =
+    let s = c.self.inside in
+    let now : TileState g.row.R.Denot = record { ready = s.ready.items; held = record { line = s.held.line; features = s.held.features.items }; lines = s.lines } in
+    let Over : TileState g.row.R.Denot → Type 0 = λ tile. IsPassed tile × ComesBack (MayComeTo g.R.Source.gives (IsChosen c.args.choice.now) c.args.shift c.args.self.now) (MayComeTo g.R.Source.gives (IsChosen c.args.choice.now) c.args.shift tile) in
+    let over = subst Over (sym c.self.view_is) (rw c.in-None.is at c.in_ok-line.ensures.over) in
+    lines_refused g.R.Source.gives (IsChosen c.args.choice.now) c.args.shift c.args.self.now now over.1 over.0 c.take_feature.result c.take_feature.ensures.refused
 
-pub returns-in-Err-clause-some : goal.returns-in-Err-clause-some
-returns-in-Err-clause-some g c = something_comes g.R.Source.gives (IsChosen c.args.choice.now) c.args.shift c.next.new.self c.next.ensures.some
-
-pub returns-in-Ok-clause-text : goal.returns-in-Ok-clause-text
-returns-in-Ok-clause-text g c =
-    let taken = rw c.in-Ok-Some.field-0-is at c.in-Ok-Some.ensures.line in
-    let from = rw c.in-Ok-Some.field-0-is at c.in-Ok-Some.ensures.first in
-    let later = rw c.in-Ok-Some.field-0-is at c.in-Ok-Some.ensures.later in
-    let given = rw c.items.ensures at c.in-Ok-true.ensures.ok in
-    rw (← c.self.view_is) (text_comes g.R.Source.gives (IsChosen c.args.choice.now) c.args.shift c.lines.self-inside.lines c.next.new.self c.in-Ok-Some.line.number c.in-Ok-Some.line.bytes taken from c.self.inside.lines c.lines.invariant.back later given.0 c.in-Ok-true.field-0 given.1 given.2 c.in-Ok-true.field-0-test c.args.text c.lines.text c.feature_line.new.text c.in-Ok.text c.lines.invariant.text given.3 c.in-Ok.ensures.ok)
-
-pub returns-in-Ok-clause-some : goal.returns-in-Ok-clause-some
-returns-in-Ok-clause-some g c = something_comes g.R.Source.gives (IsChosen c.args.choice.now) c.args.shift c.next.new.self c.next.ensures.some
-
-pub returns-in-Err-end_line-clause-refused : goal.returns-in-Err-end_line-clause-refused
-returns-in-Err-end_line-clause-refused g c =
-    let taken = rw c.in-Ok-Some.field-0-is at c.in-Ok-Some.ensures.line in
-    let from = rw c.in-Ok-Some.field-0-is at c.in-Ok-Some.ensures.first in
-    let given = rw c.items.ensures at c.in-Ok-true.ensures.ok in
-    let some = c.next.ensures.some in
-    rw (← c.self.view_is, c.in-Err-end_line.ensures.err) (memory_comes g.R.Source.gives (IsChosen c.args.choice.now) c.args.shift c.lines.self-inside.lines c.next.new.self c.in-Ok-Some.line.number c.in-Ok-Some.line.bytes taken from c.self.inside.lines c.lines.invariant.back some.0 some.1 given.0 given.1)
-
-pub returns-in-Err-end_line-clause-some : goal.returns-in-Err-end_line-clause-some
-returns-in-Err-end_line-clause-some g c = something_comes g.R.Source.gives (IsChosen c.args.choice.now) c.args.shift c.next.new.self c.next.ensures.some
-
-pub returns-in-Err-feature_line-clause-refused : goal.returns-in-Err-feature_line-clause-refused
-returns-in-Err-feature_line-clause-refused g c =
-    let taken = rw c.in-Ok-Some.field-0-is at c.in-Ok-Some.ensures.line in
-    let from = rw c.in-Ok-Some.field-0-is at c.in-Ok-Some.ensures.first in
-    let refused = rw c.items.ensures at c.in-Err-feature_line.ensures.refusal in
-    let some = c.next.ensures.some in
-    rw (← c.self.view_is) (c.lines.invariant.back _ _ (refusal_comes g.R.Source.gives (IsChosen c.args.choice.now) c.args.shift c.lines.self-inside.lines c.next.new.self c.in-Ok-Some.line.number c.in-Ok-Some.line.bytes taken from some.0 some.1 c.in-Err-feature_line.fault refused))
-
-pub returns-in-Err-feature_line-clause-some : goal.returns-in-Err-feature_line-clause-some
-returns-in-Err-feature_line-clause-some g c = something_comes g.R.Source.gives (IsChosen c.args.choice.now) c.args.shift c.next.new.self c.next.ensures.some
-
-pub lines-preserved : goal.lines-preserved
-lines-preserved g c =
-    let taken = rw c.in-Ok-Some.field-0-is at c.in-Ok-Some.ensures.line in
-    let from = rw c.in-Ok-Some.field-0-is at c.in-Ok-Some.ensures.first in
-    let later = rw c.in-Ok-Some.field-0-is at c.in-Ok-Some.ensures.later in
-    let fewer = rw c.in-Ok-Some.field-0-is at c.in-Ok-Some.ensures.fewer in
-    let given = rw c.items.ensures at c.in-Ok-false.ensures.ok in
-    let still = c.in-Ok-Some.ensures.not_failed ∙ sym c.in-Ok-Some.ensures.had_not_failed in
-    record {
-      back = none_comes g.R.Source.gives (IsChosen c.args.choice.now) c.args.shift c.lines.self-inside.lines c.next.new.self c.in-Ok-Some.line.number c.in-Ok-Some.line.bytes taken from c.self.inside.lines c.lines.invariant.back later given.0 c.in-Ok-false.field-0 given.1 given.2 c.in-Ok-false.field-0-test;
-      text = same_text given.0 c.in-Ok-false.field-0 given.2 c.in-Ok-false.field-0-test c.args.text c.lines.text c.feature_line.new.text c.lines.invariant.text given.3;
-      fewer = omega (arith, fewer, c.lines.invariant.fewer);
-      failed = still ∙ c.lines.invariant.failed;
-      failures = rw (c.in-Ok-Some.ensures.had_not_failed, c.in-Ok-Some.ensures.not_failed) at c.next.ensures.failures ∙ c.lines.invariant.failures;
-    }
+pub returns-in-None-clause-some : goal.returns-in-None-clause-some
+returns-in-None-clause-some g c =
+    let s = c.self.inside in
+    let after : TileState g.row.R.Denot = record { ready = s.ready.items; held = record { line = s.held.line; features = s.held.features.items }; lines = c.take_feature.new.lines } in
+    let some = something_left g.R.Source.gives g.met.R.Source.gives_something c.take_feature.new.lines c.take_feature.ensures.ended in
+    something g.R.Source.gives (IsChosen c.args.choice.now) c.args.shift after c.self.invariant.0 (some.0, (some.1, some.2))

@@ -10,19 +10,17 @@ returns-in-Ok-Some-clause-none g c =
     let inside = c.self.inside in
     let is_open = ap (λ feed. feed.notes.closed) c.self.view_is ∙ c.requires.room.0 in
     let text = rw c.in-Ok-Some.field-0-is at c.in-Ok-Some.ensures.text in
-    let is_line = text.1 ∙ ap (λ front. front ++ with_newline text.0) (c.replace-spare.ensures.value ∙ c.self.invariant.0) in
     let is_new = ap (λ queues. queue_of queues 0) c.store_line.ensures ∙ set_there inside.notes _ c.self.invariant.1 in
-    rw (← c.self.view_is) (line_taken g.R.Source.gives (IsChosen c.args.choice.now) inside.shift inside.notes.capacity (c.store_line.new.self).capacity inside.count inside.last inside.reader c.take_text.new.self (queue_of inside.notes 0) is_open text.0 c.in-Ok-Some.line is_line text.2 (queue_of c.store_line.new.self 0) is_new)
+    rw (← c.self.view_is) (line_taken g.R.Source.gives (IsChosen c.args.choice.now) inside.shift inside.notes.capacity (c.store_line.new.self).capacity inside.count inside.last inside.reader c.take_text.new.self (queue_of inside.notes 0) is_open text.0 c.in-Ok-Some.line text.1 text.2 (queue_of c.store_line.new.self 0) is_new)
 
 pub returns-in-Ok-Some-clause-some : goal.returns-in-Ok-Some-clause-some
 returns-in-Ok-Some-clause-some g c =
     let inside = c.self.inside in
     let is_open = ap (λ feed. feed.notes.closed) c.self.view_is ∙ c.requires.room.0 in
     let text = rw c.in-Ok-Some.field-0-is at c.in-Ok-Some.ensures.text in
-    let is_line = text.1 ∙ ap (λ front. front ++ with_newline text.0) (c.replace-spare.ensures.value ∙ c.self.invariant.0) in
     let is_new = ap (λ queues. queue_of queues 0) c.store_line.ensures ∙ set_there inside.notes _ c.self.invariant.1 in
     let was = rw (← c.self.view_is) at c.requires.some in
-    line_some g.R.Source.gives (IsChosen c.args.choice.now) inside.shift inside.notes.capacity (c.store_line.new.self).capacity inside.count inside.last inside.reader c.take_text.new.self (queue_of inside.notes 0) is_open text.0 c.in-Ok-Some.line is_line text.2 (queue_of c.store_line.new.self 0) is_new (c.self.invariant.3 is_open).1 c.take_text.ensures.some was
+    line_some g.R.Source.gives (IsChosen c.args.choice.now) inside.shift inside.notes.capacity (c.store_line.new.self).capacity inside.count inside.last inside.reader c.take_text.new.self (queue_of inside.notes 0) is_open text.0 c.in-Ok-Some.line text.1 text.2 (queue_of c.store_line.new.self 0) is_new (c.self.invariant.3 is_open).1 c.take_text.ensures.some was
 
 pub returns-in-Ok-None-clause-none : goal.returns-in-Ok-None-clause-none
 returns-in-Ok-None-clause-none g c =

@@ -27,7 +27,7 @@ texts-preserved g c =
     let text = rw c.in-Ok-Some.field-0-is at c.in-Ok-Some.ensures.text in
     let fewer = rw c.in-Ok-Some.field-0-is at c.in-Ok-Some.ensures.fewer in
     record {
-      so_far = fed_text (comes c.self.inside.reader) (notes_put c.args.sender) (comes c.texts.reader) c.texts.count (notes_put c.texts.sender) c.texts.invariant.so_far (comes c.take_text.new.self) text.0 c.roomy_line.result c.in-Ok-Some.line c.roomy_line.ensures text.1 text.2 (notes_put c.put.new.sender) c.put.ensures.put;
+      so_far = fed_text (comes c.self.inside.reader) (notes_put c.args.sender) (comes c.texts.reader) c.texts.count (notes_put c.texts.sender) c.texts.invariant.so_far (comes c.take_text.new.self) text.0 c.in-Ok-Some.line text.1 text.2 (notes_put c.put.new.sender) c.put.ensures.put;
       same = search rules;
       bounded = omega (arith, c.texts.invariant.bounded, fewer);
     }

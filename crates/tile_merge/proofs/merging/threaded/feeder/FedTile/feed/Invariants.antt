@@ -1,9 +1,9 @@
-use Rattle.std.proofs.Common.{◌≤◌, ◌+◌, ◌^◌}
+use Rattle.std.proofs.Common.{◌≤◌, ◌+◌}
 use Rattle.city_feature.specs.Choice.{IsChosen}
 use Rattle.tile_handoff.specs.Ends.{notes_put, IsSameSender}
 use Rattle.tile_merge.specs.Coming.{MayComeTo}
 use Rattle.tile_merge.specs.Threads.{FedSoFar}
-use Rattle.tile_merge.specs.Unread.{most_left}
+use Rattle.tile_merge.specs.TileState.{most_to_come, most_texts}
 use Rattle.tile_merge.proofs.merging.threaded.feeder.FedTile.feed.Given as goal
 
 abbrev pub invariant-texts : goal.invariant-texts
@@ -12,8 +12,8 @@ invariant-texts g l = record {
       (MayComeTo g.R.Source.gives (IsChosen l.choice) l.shift l.reader)
       l.count (notes_put l.initial.sender) (notes_put l.sender);
   same : IsSameSender l.initial.sender l.sender;
-  bounded : l.count + most_left l.reader ≤ 2 ^ 40 + 1;
+  bounded : l.count + most_to_come l.reader ≤ most_texts;
 }
 
 abbrev pub decreases-texts : goal.decreases-texts
-decreases-texts g l = most_left l.reader
+decreases-texts g l = most_to_come l.reader

@@ -1,0 +1,12 @@
+//! Tests of `city_grid` by its public calls. There is no code but these tests, so that the crate whose
+//! code they run is not proved once more with them.
+#![tactic(auto)]
+
+#[cfg(test)]
+mod decimals;
+#[cfg(test)]
+mod shifts;
+#[cfg(test)]
+mod transforms;
+#[cfg(test)]
+mod vertices;

@@ -1,0 +1,30 @@
+//! Tests of `city_json` by its public calls. There is no code but these tests, so that the crate whose
+//! code they run is not proved once more with them.
+#![tactic(auto)]
+
+#[cfg(test)]
+mod compacting;
+#[cfg(test)]
+mod depth;
+#[cfg(test)]
+mod devices;
+#[cfg(test)]
+mod faults;
+#[cfg(test)]
+mod names;
+#[cfg(test)]
+mod numbers;
+#[cfg(test)]
+mod printing;
+#[cfg(test)]
+mod reading;
+#[cfg(test)]
+mod sequences;
+#[cfg(test)]
+mod streams;
+#[cfg(test)]
+mod strings;
+#[cfg(test)]
+mod texts;
+#[cfg(test)]
+mod values;

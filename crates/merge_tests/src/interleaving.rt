@@ -1,0 +1,105 @@
+//! Merges with a thread for each tile, whose features stand as they come.
+
+use crate::merging::{Asked, Wanted, answer_of, expect_merge, readers_of, stream_of};
+use city_json::Bin;
+use std::alloc::{AllocError, Global};
+use std::process::Abort;
+use std::sync::Wait;
+use std::test::Fail;
+use std::thread::Threads;
+use tile_handoff::MAX_CAPACITY;
+use tile_merge::{MergeFault, merge};
+
+/// What a merge answers, the header that it writes, if it does, and the lines of each tile. No two tiles share a line.
+#[derive(Clone, Copy)]
+pub(crate) struct Mixed<'a> {
+    pub(crate) answer: Result<&'a [u64], MergeFault>,
+    pub(crate) header: &'a [&'a str],
+    pub(crate) lines: &'a [&'a [&'a str]],
+}
+
+/// Whether the lines that are texts of the tile are these texts in their order.
+fn is_picked(lines: &[u8], texts: &[&str]) -> bool {
+    let mut left = texts;
+    for line in lines.split(|byte| *byte == b'\n') {
+        if !texts.iter().any(|text| text.as_bytes() == line) {
+            continue;
+        }
+        let [next, others @ ..] = left else {
+            return false;
+        };
+        if next.as_bytes() != line {
+            return false;
+        }
+        left = others;
+    }
+    left.is_empty()
+}
+
+/// Whether the header was written, after it the lines of each tile in their order, and nothing else.
+fn is_mixed(alloc: Global, written: &[u8], wanted: &Mixed) -> Result<bool, AllocError> {
+    let header = stream_of(alloc, wanted.header)?;
+    let Some(lines) = written.strip_prefix(header.as_slice()) else {
+        return Ok(false);
+    };
+    let mut length = 0usize;
+    for texts in wanted.lines {
+        if !is_picked(lines, texts) {
+            return Ok(false);
+        }
+        length = length.saturating_add(stream_of(alloc, texts)?.len());
+    }
+    Ok(lines.len() == length)
+}
+
+/// Merges with ample memory and threads, with few and with many texts held and bytes a read and a write.
+pub(crate) fn expect_mixed<H>(
+    rt: &H,
+    asked: &Asked,
+    tiles: &[&[&str]],
+    wanted: &Mixed,
+) -> Result<(), Fail>
+where
+    H: Abort + AllocGlobal + Threads + Wait + Copy + Send + 'static,
+{
+    let alloc = rt.alloc();
+    for (capacity, step, is_ended) in [(1u32, 7usize, true), (2, 100_000, false), (64, 500, true)] {
+        let readers = readers_of(alloc, tiles, step, is_ended)?;
+        assert!(rt; !readers.is_empty());
+        assert!(rt; 0 < capacity && capacity <= MAX_CAPACITY);
+        let mut output = Bin::new(alloc, 65_536, step, false)?;
+        let merged = merge(
+            rt,
+            alloc,
+            readers,
+            &asked.choice,
+            asked.base,
+            capacity,
+            &mut output,
+        );
+        assert_eq!(rt; answer_of(&merged), wanted.answer, "capacity {capacity}");
+        let is_right = is_mixed(alloc, output.bytes(), wanted)?;
+        assert!(rt; is_right, "capacity {capacity}");
+    }
+    Ok(())
+}
+
+/// Merges in turn, and then with threads, where these are the lines of each tile.
+pub(crate) fn expect_both<H>(
+    rt: &H,
+    asked: &Asked,
+    tiles: &[&[&str]],
+    wanted: &Wanted,
+    lines: &[&[&str]],
+) -> Result<(), Fail>
+where
+    H: Abort + AllocGlobal + Threads + Wait + Copy + Send + 'static,
+{
+    expect_merge(rt, asked, tiles, wanted)?;
+    let mixed = Mixed {
+        answer: wanted.answer,
+        header: &wanted.written[..wanted.written.len().min(1)],
+        lines,
+    };
+    expect_mixed(rt, asked, tiles, &mixed)
+}

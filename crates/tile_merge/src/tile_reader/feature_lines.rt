@@ -1,0 +1,67 @@
+ghost use Rattle.std.specs.Prelude.{◌≡◌, ◌≢◌, ◌<◌, ◌++◌, ℕ, List, [], false, Some, None, IfOk, IfErr, IfSome, IfNone, OnOk};
+ghost use Rattle.city_feature.specs.Choice.{IsChosen};
+ghost use Rattle.tile_merge.specs.Coming.{LinesMayComeTo, GivesText};
+ghost use Rattle.tile_merge.specs.Stream.{with_newline};
+ghost use Rattle.tile_merge.specs.Unread.{EndsFrom, most_left, has_failed, is_read, failed_reads_between};
+
+use crate::line_end::end_line;
+use crate::lines::{LineFault, Lines};
+use city_feature::{Choice, feature_line};
+use city_grid::Shift;
+use city_json::{Fault, Line, Source};
+use std::alloc::Global;
+
+/// Takes the lines up to the next feature that is chosen when it is moved by the shift, and appends
+/// its compact text, so moved, and a newline. None after the last line.
+///
+/// # Errors
+///
+/// The first line at fault, or [`Fault::Memory`] at the line that did not
+/// find room.
+pub(crate) fn take_feature<R: Source>(
+    alloc: Global,
+    lines: &mut Lines<R>,
+    shift: Shift,
+    choice: &Choice,
+    text: Line,
+) -> Result<Option<Line>, LineFault>
+    ensures text { IfOk result (λ taken. IfSome taken (λ longer. (given : List ℕ)
+        × (longer ≡ text ++ with_newline given)
+        × GivesText (LinesMayComeTo R.gives (IsChosen choice.now) shift lines.old)
+        (LinesMayComeTo R.gives (IsChosen choice.now) shift lines.new) given)) }
+    ensures over { IfOk result (λ taken. IfNone taken
+        (LinesMayComeTo R.gives (IsChosen choice.now) shift lines.old [] None)) }
+    ensures refused { IfErr result (λ e. LinesMayComeTo R.gives (IsChosen choice.now) shift
+        lines.old [] (Some (record { number = e.line; fault = e.fault }))) }
+    ensures not_written { IfErr result (λ e. e.fault ≢ Fault.Write) }
+    ensures ended { EndsFrom lines.new.number lines.new.ended }
+    ensures fewer { IfOk result (λ taken. IfSome taken (λ longer.
+        most_left lines.new < most_left lines.old)) }
+    ensures had_not_failed { OnOk result (has_failed lines.old ≡ false) }
+    ensures not_failed { OnOk result (has_failed lines.new ≡ false) }
+    ensures failed { IfErr result (λ e. has_failed lines.new ≡ is_read e.fault) }
+    ensures failures { R.failures lines.new.ahead.reader ≡ failed_reads_between
+        (has_failed lines.old) (has_failed lines.new) (R.failures lines.old.ahead.reader) }
+{
+    let mut text = text;
+    'lines: loop {
+        let line = match lines.next() {
+            Ok(Some(line)) => line,
+            Ok(None) => return Ok(None),
+            Err(at) => return Err(at),
+        };
+        match feature_line(alloc, line.bytes.items(), shift, choice, &mut text) {
+            Ok(true) => match end_line(text, line.number) {
+                Ok(text) => return Ok(Some(text)),
+                Err(at) => return Err(at),
+            },
+            Ok(false) => {}
+            Err(fault) => {
+                return Err(LineFault {
+                    line: line.number,
+                    fault,
+                });
+            }
+        }
+    }
+}
