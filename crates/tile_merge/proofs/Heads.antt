@@ -1,5 +1,5 @@
 -- The head of a tile, from its first line.
-use Rattle.std.proofs.Common.{◌≡◌, ◌≢◌, ◌<◌, ℕ, Bool, true, false, map, List, [], ◌∷◌, Option, Some, None, Result, Ok, Err, IfOk, IfErr, refl, sym, ap, subst, ◌∙◌, inl, inr, arith}
+use Rattle.std.proofs.Common.{◌≡◌, ◌≢◌, ℕ, Bool, true, false, map, List, [], ◌∷◌, Option, Some, None, Result, Ok, Err, IfOk, IfErr, refl, sym, ap, subst, ◌∙◌, inl, inr, arith}
 use Rattle.city_json.specs.Compact.{compact}
 use Rattle.city_json.specs.Fits.{Fits}
 use Rattle.city_json.specs.Grammar.{Spells}
@@ -7,9 +7,9 @@ use Rattle.city_json.specs.Tree.{Tree, tree}
 use Rattle.city_json.specs.declared.json.Json.{Json}
 use Rattle.city_json.specs.declared.fault.Fault.{Fault}
 use Rattle.city_json.specs.declared.fault.Fault.TheVariants.{NoHeader, Memory, Write}
-use Rattle.city_cut.specs.Cut.{IsCut, IsCuttable, RefusesCut}
+use Rattle.city_cut.specs.Cut.{IsCut, IsCuttable}
 use Rattle.city_feature.specs.Feature.{FeatureValue}
-use Rattle.city_feature.specs.Header.{HeaderValue, HoldsCity, IsHeader, RefusesHeader}
+use Rattle.city_feature.specs.Header.{HeaderValue, HoldsCity, IsHeader}
 use Rattle.city_feature.specs.Values.{HeaderJson, FeatureJson, header_value, feature_value}
 use Rattle.tile_merge.specs.Head.{SpellsHead, StandsFor, RefusesFirst, RefusesHead, HasNoHead, LinesHaveNoHead, SomeTile, GivesHead}
 use Rattle.tile_merge.specs.Held.{Held}

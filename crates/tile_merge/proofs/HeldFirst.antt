@@ -1,19 +1,20 @@
 -- The texts of the features that a first line holds, before those of the lines after it.
-use Rattle.std.proofs.Common.{◌≡◌, ◌≢◌, ◌<◌, ◌++◌, ◌==◌, ℕ, Bool, true, List, [], ◌∷◌, Option, Some, None, IfSome, IfNone, IfOk, IfErr, Result, Ok, Err, map, option_map, option_to_list, refl, sym, ap, subst, ◌∙◌, inl, inr, arith, append_assoc}
+use Rattle.std.proofs.Common.{◌≡◌, ◌≢◌, ◌≤◌, ◌<◌, ◌++◌, ◌==◌, ℕ, Bool, true, false, List, [], ◌∷◌, Option, Some, None, IfSome, IfNone, IfOk, IfErr, Result, Ok, Err, length, map, option_to_list, refl, sym, ap, subst, ◌∙◌, inl, inr, arith}
+use Rattle.std.proofs.lemmas.Bool.{false_from_ne_true}
 use Rattle.std.proofs.lemmas.Bool.Decides.{nat_tests}
 use Rattle.std.proofs.lemmas.List.{append_cancel_right}
 use Rattle.city_json.specs.Bytes.{newline}
 use Rattle.city_json.specs.declared.fault.Fault.{Fault}
 use Rattle.city_json.specs.declared.fault.Fault.TheVariants.{VertexRange, Memory}
-use Rattle.city_feature.specs.Feature.{FeatureValue, IsMovable, moved}
-use Rattle.city_feature.specs.FeatureLine.{IsTextOf, GivesFeature, RefusesFeatureLine}
+use Rattle.city_feature.specs.Feature.{FeatureValue}
+use Rattle.city_feature.specs.FeatureLine.{GivesFeature, RefusesFeatureLine}
 use Rattle.city_feature.specs.Values.{feature_value}
 use Rattle.city_grid.specs.Axes.{Triple}
 use Rattle.tile_merge.specs.Coming.{LinesMayComeTo, LeftComesTo, MayComeTo, MayLeave, ReadyFirst, GivesText, ComesBack, SomethingComes}
 use Rattle.tile_merge.specs.Held.{Held, HeldJson, held_value, GiveTexts, RefusesHeld, HeldFirst, TileComesTo}
 use Rattle.tile_merge.specs.Stream.{with_newline}
 use Rattle.tile_merge.specs.Texts.{Outcome, ComesTo, EndsAfter}
-use Rattle.tile_merge.specs.Tile.{FaultyLine, TileLines}
+use Rattle.tile_merge.specs.Tile.{TileLines}
 use Rattle.tile_merge.specs.TileState.{TileState, AreLines, IsPassed}
 use Rattle.tile_merge.specs.Unread.{Unread}
 use Rattle.tile_merge.specs.declared.lines.state.LineFault.{LineFault}
@@ -52,6 +53,17 @@ ready_some Then (line ∷ lines) are some =
 pub lines_left : (result : Option (List ℕ)) (lines rest : List (List ℕ)) → lines ≡ option_to_list result ++ rest → AreLines lines → AreLines rest
 lines_left None lines rest is are = subst AreLines is are
 lines_left (Some line) lines rest is are = (subst AreLines is are).1
+
+-- what gave a line had not failed
+pub had_not_failed : (result : Option (List ℕ)) (lines rest : List (List ℕ)) → lines ≡ option_to_list result ++ rest → (failed : Bool) → (failed ≡ true → lines ≡ []) → IfSome result (λ line. failed ≡ false)
+had_not_failed None lines rest is failed passed = tt
+had_not_failed (Some line) lines rest is failed passed = false_from_ne_true failed (λ yes. cc (sym is ∙ passed yes))
+
+-- lines of no features
+pub none_made : {X : Type 0} (lines : List (List ℕ)) (features : List X) → length lines ≤ length features → features ≡ [] → lines ≡ []
+none_made [] features fewer none = refl
+none_made (line ∷ lines) [] fewer none = absurd (omega (arith, fewer))
+none_made (line ∷ lines) (feature ∷ others) fewer none = absurd (cc none)
 
 -- the lines of texts
 pub are_lines : (given : List (List ℕ)) → AreLines (map with_newline given)

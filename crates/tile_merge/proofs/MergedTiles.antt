@@ -14,7 +14,6 @@ use Rattle.tile_merge.specs.Opened.{AllThree, OpenState, IsOpened}
 use Rattle.tile_merge.specs.TileState.{AreLines}
 use Rattle.tile_merge.specs.Rounds.{IsFeedOf, MayTakeAll, SomeCourses, texts_in, ends_in}
 use Rattle.tile_merge.specs.Held.{held_value}
-use Rattle.tile_merge.proofs.Comings.{ends_after}
 use Rattle.tile_merge.proofs.HeldFirst.{something, tile_comes}
 
 module _ {R : Type 0} (gives : R → List ℕ → Bool → Type 0) (IsWanted : FeatureValue → Type 0) where

@@ -1,5 +1,5 @@
 -- Tiles that are ready to be merged in turn, or why they are not.
-use Rattle.std.proofs.Common.{◌≡◌, ◌≤◌, ◌+◌, ◌^◌, ◌⊎◌, ◌==◌, ℕ, zero, suc, Bool, false, All, List, [], ◌∷◌, length, inl, inr, refl, ap, arith, if◌then◌else◌}
+use Rattle.std.proofs.Common.{◌≡◌, ◌≤◌, ◌+◌, ◌⊎◌, ◌==◌, ℕ, zero, suc, Bool, false, All, List, [], ◌∷◌, length, inl, inr, refl, ap, arith, if◌then◌else◌}
 use Rattle.std.proofs.lemmas.Bool.Decides.{nat_tests}
 use Rattle.city_json.specs.declared.fault.Fault.TheVariants.{Memory}
 use Rattle.city_feature.specs.Header.{HeaderValue}

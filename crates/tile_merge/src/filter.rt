@@ -34,8 +34,9 @@ use std::alloc::Global;
 ///
 /// Of tile 1: [`Fault::NoHeader`] at line 0 where all lines are blank; else that of the first line
 /// at fault, or [`Fault::Memory`] at the line that did not find room. A fault of the header's line
-/// leaves nothing written, but [`Fault::Memory`], which may come once its text is; one of a later line
-/// leaves the stream of the features before it. Of no tile and no line: [`Fault::Write`] where a write or the flush failed.
+/// leaves nothing written, but [`Fault::Memory`], which may come once its text is; one of a later
+/// line leaves the stream of the features before it. Of no tile and no line: [`Fault::Write`] where
+/// a write or the flush failed.
 pub fn filter_stream<R: Source + Drop, W: Sink>(
     alloc: Global,
     reader: R,

@@ -37,10 +37,11 @@ pub struct TileReader<R> {
 }
 
 impl<R> Model for TileReader<R> {
+    ghost use Rattle.std.specs.Prelude.{◌≡◌, [], true};
     ghost use Rattle.std.specs.Coded.{codes};
     ghost use Rattle.city_feature.specs.contracts.features.Feature as feature_type;
     ghost use Rattle.tile_merge.specs.TileState.{TileState, AreLines};
-    ghost use Rattle.tile_merge.specs.Unread.{EndsFrom};
+    ghost use Rattle.tile_merge.specs.Unread.{EndsFrom, has_failed};
 
     ghost Value = { TileState R };
 
@@ -53,7 +54,8 @@ impl<R> Model for TileReader<R> {
     } };
 
     ghost invariant = { λ tile. AreLines tile.ready.items
-        × EndsFrom tile.lines.number tile.lines.ended };
+        × EndsFrom tile.lines.number tile.lines.ended
+        × (has_failed tile.lines ≡ true → (tile.ready.items ≡ []) × (tile.held.features.items ≡ [])) };
 }
 
 impl<R: Source> TileReader<R> {
@@ -100,6 +102,8 @@ impl<R: Source> TileReader<R> {
             (has_failed self.old.lines) (has_failed self.new.lines)
             (R.failures self.old.lines.ahead.reader) }
     {
+        self.held.features = Vec::new(alloc);
+        self.ready = VecDeque::new(alloc);
         let line = match self.lines.next() {
             Ok(Some(line)) => line,
             Ok(None) => {
@@ -117,7 +121,6 @@ impl<R: Source> TileReader<R> {
                     line: number,
                     features,
                 };
-                self.ready = VecDeque::new(alloc);
                 Ok(Head {
                     header,
                     line: number,
@@ -157,10 +160,9 @@ impl<R: Source> TileReader<R> {
         ensures some { SomethingComes (MayComeTo R.gives (IsChosen choice.now) shift self.new) }
         ensures fewer { IfOk result (λ taken. IfSome taken (λ line.
             most_to_come self.new < most_to_come self.old)) }
-        ensures not_failed { has_failed self.old.lines ≡ false
-            → OnOk result (has_failed self.new.lines ≡ false) }
-        ensures failed { has_failed self.old.lines ≡ false
-            → IfErr result (λ e. has_failed self.new.lines ≡ is_read e.fault) }
+        ensures had_not_failed { OnOk result (has_failed self.old.lines ≡ false) }
+        ensures not_failed { OnOk result (has_failed self.new.lines ≡ false) }
+        ensures failed { IfErr result (λ e. has_failed self.new.lines ≡ is_read e.fault) }
         ensures failures { R.failures self.new.lines.ahead.reader ≡ failed_reads_between
             (has_failed self.old.lines) (has_failed self.new.lines)
             (R.failures self.old.lines.ahead.reader) }
@@ -193,6 +195,9 @@ impl<R: Source> TileReader<R> {
             most_to_come self.new < most_to_come self.old)) }
         ensures no_more { most_to_come self.new ≤ most_to_come self.old }
         ensures lines { self.new.lines ≡ self.old.lines }
+        ensures had_not_failed { IfOk result (λ taken. IfSome taken (λ line.
+            has_failed self.old.lines ≡ false)) }
+        ensures not_failed { OnErr result (has_failed self.old.lines ≡ false) }
     {
         self.make_ready(alloc, shift, choice)?;
         Ok(self.ready.pop_front())
@@ -211,8 +216,12 @@ impl<R: Source> TileReader<R> {
         ensures none_held { OnOk result (self.new.ready ≡ [] → self.new.held.features ≡ []) }
         ensures no_more { most_to_come self.new ≤ most_to_come self.old }
         ensures lines { self.new.lines ≡ self.old.lines }
+        ensures not_failed { OnErr result (has_failed self.old.lines ≡ false) }
     {
         if !self.ready.is_empty() {
+            return Ok(());
+        }
+        if self.held.features.is_empty() {
             return Ok(());
         }
         let features = mem::replace(&mut self.held.features, Vec::new(alloc));

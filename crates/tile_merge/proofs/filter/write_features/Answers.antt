@@ -40,11 +40,10 @@ features-preserved g c =
     let text = rw (c.in-Ok-Some.field-0-is, c.zero.ensures) at c.in-Ok-Some.ensures.text in
     let fewer = rw c.in-Ok-Some.field-0-is at c.in-Ok-Some.ensures.fewer in
     let wrote = c.in-Ok.ensures.all in
-    let not_failed = c.in-Ok-Some.ensures.not_failed c.features.invariant.not_failed in
     record {
       so_far = at_text (comes c.args.tile.now) old (comes c.features.tile) c.features.count new c.features.invariant.so_far (comes c.take_text.new.self) text.0 c.in-Ok-Some.line text.1 text.2 (g.W.Sink.taken c.write_line.new.output) wrote.1;
       bounded = omega (arith, c.features.invariant.bounded, fewer);
-      not_failed = not_failed;
-      reads = rw (c.features.invariant.not_failed, not_failed) at c.take_text.ensures.failures ∙ c.features.invariant.reads;
+      not_failed = c.in-Ok-Some.ensures.not_failed;
+      reads = rw (c.in-Ok-Some.ensures.had_not_failed, c.in-Ok-Some.ensures.not_failed) at c.take_text.ensures.failures ∙ c.features.invariant.reads;
       failures = c.in-Ok.ensures.failures ∙ c.features.invariant.failures;
     }

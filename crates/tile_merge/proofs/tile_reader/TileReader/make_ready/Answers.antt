@@ -3,14 +3,18 @@ use Rattle.std.proofs.lemmas.List.{nil_from_length}
 use Rattle.city_feature.specs.Choice.{IsChosen}
 use Rattle.tile_merge.specs.Coming.{MayComeTo, ComesBack}
 use Rattle.tile_merge.specs.TileState.{TileState, AreLines}
-use Rattle.tile_merge.proofs.HeldFirst.{are_lines, ready_made, held_stops, something, is_zero}
+use Rattle.tile_merge.proofs.HeldFirst.{are_lines, ready_made, none_made, held_stops, something, is_zero}
 use Rattle.tile_merge.proofs.Leaving.{something_left}
 use Rattle.tile_merge.proofs.tile_reader.TileReader.make_ready.Goals as goal
 
 pub invariant_of-self : goal.invariant_of-self
 invariant_of-self g c =
     let made = c.in-Ok.ensures.ok in
-    (subst AreLines (sym made.1) (are_lines made.0), c.self.invariant.1)
+    let fewer = rw c.replace-features.ensures.value at c.in-Ok.ensures.fewer in (
+      subst AreLines (sym made.1) (are_lines made.0),
+      c.self.invariant.1,
+      λ failed. (none_made c.in-Ok.lines.items c.self.inside.held.features.items fewer (c.self.invariant.2 failed).1, rw c.replace-features.ensures.after c.new.ensures.items),
+    )
 
 pub returns-in-Ok-clause-back : goal.returns-in-Ok-clause-back
 returns-in-Ok-clause-back g c =

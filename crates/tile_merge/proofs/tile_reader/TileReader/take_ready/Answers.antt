@@ -3,7 +3,8 @@ use Rattle.std.proofs.lemmas.List.{nil_from_length}
 use Rattle.city_feature.specs.Choice.{IsChosen}
 use Rattle.tile_merge.specs.Coming.{MayComeTo, ComesBack}
 use Rattle.tile_merge.specs.TileState.{TileState}
-use Rattle.tile_merge.proofs.HeldFirst.{something, first_given, none_given, lines_left}
+use Rattle.tile_merge.specs.Unread.{has_failed}
+use Rattle.tile_merge.proofs.HeldFirst.{something, first_given, none_given, lines_left, had_not_failed}
 use Rattle.tile_merge.proofs.Leaving.{something_left}
 use Rattle.tile_merge.proofs.tile_reader.TileReader.take_ready.Goals as goal
 
@@ -28,3 +29,8 @@ returns-clause-some g c =
     let after : TileState g.row.R.Denot = record { ready = c.pop_front.new.self.items; held = record { line = s.held.line; features = s.held.features.items }; lines = s.lines } in
     let some = something_left g.R.Source.gives g.met.R.Source.gives_something s.lines c.self.invariant.1 in
     something g.R.Source.gives (IsChosen c.args.choice.now) c.args.shift after (lines_left c.pop_front.result s.ready.items c.pop_front.new.self.items c.pop_front.ensures.items c.self.invariant.0) (some.0, (some.1, some.2))
+
+pub returns-clause-had_not_failed : goal.returns-clause-had_not_failed
+returns-clause-had_not_failed g c =
+    let s = c.self.inside in
+    rw (← c.in_ok-make_ready.ensures.lines, ← c.self.view_is) (had_not_failed c.pop_front.result s.ready.items c.pop_front.new.self.items c.pop_front.ensures.items (has_failed s.lines) (λ failed. (c.self.invariant.2 failed).0))

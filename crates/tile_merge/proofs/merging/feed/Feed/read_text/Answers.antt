@@ -1,7 +1,6 @@
-use Rattle.std.proofs.Common.{◌∙◌, ◌++◌, Some, None, ap}
+use Rattle.std.proofs.Common.{◌∙◌, Some, None, ap}
 use Rattle.city_feature.specs.Choice.{IsChosen}
 use Rattle.tile_handoff.specs.Queues.{queue_of}
-use Rattle.tile_merge.specs.Stream.{with_newline}
 use Rattle.tile_merge.proofs.Feeding.{line_taken, line_some, end_taken, end_some, set_there}
 use Rattle.tile_merge.proofs.merging.feed.Feed.read_text.Goals as goal
 
