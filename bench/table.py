@@ -2,6 +2,8 @@
 
 import os
 
+from threads import LARGER
+
 README = os.path.join(os.path.dirname(os.path.dirname(os.path.abspath(__file__))), "README.md")
 BEGIN, END = "<!-- tables -->\n", "<!-- /tables -->\n"
 FILTERED = ("all features", "two types", "a box", "jq -c .", "instructions")
@@ -28,7 +30,7 @@ def text(bench):
     yield ""
     yield from rows(bench.figures, FILTERED)
     yield ""
-    yield "Merges of building tiles, %g MB together, each vertex moved; MB/s by the clock:" % options.size
+    yield "Merges of building tiles, %g MB together, each vertex moved; MB/s by the clock:" % (LARGER * options.size)
     yield ""
     yield from rows(bench.figures, MERGED)
 

@@ -12,6 +12,8 @@ from merges import MOST_MORE, far, features, race
 from running import Run, peak_of
 from speed import MEGA
 
+# The tiles are so many times as large as those of a merge in turn, since a start takes some milliseconds.
+LARGER = 4
 # How many times as fast a merge with threads is to be, on so many cores that have nothing else to do.
 LEAST_GAIN = 2.5
 CORES = 4
@@ -111,7 +113,7 @@ def threads(bench):
     load, cores = os.getloadavg()[0], os.cpu_count()
     bench.say("How fast is a merge with a thread for each tile? (%d cores, a load of %.1f)" % (cores, load))
     for name, shares in SHAPES.items():
-        paths = tiles(bench, bench.options.size * MEGA, shares)
+        paths = tiles(bench, LARGER * bench.options.size * MEGA, shares)
         right(bench, paths)
         times = gain(bench, name, paths)
         if name == "4 tiles" and times < LEAST_GAIN and cores >= CORES and load < 1:

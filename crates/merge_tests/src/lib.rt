@@ -1,5 +1,6 @@
-//! Tests of what merges several tiles, and of tiles that begin with a document, with whole streams in and out. There is no code but these
-//! tests, so that the crates whose code they run are not proved once more with them.
+//! Tests of what merges several tiles, and of tiles that begin with a document, with whole streams in and
+//! out. There is no code but these tests, so that the crates whose code they run are not proved once more
+//! with them.
 #![tactic(auto)]
 
 #[cfg(test)]
