@@ -11,7 +11,7 @@ use std::sync::atomic::Ordering::SeqCst;
 use std::test::Fail;
 use tile_merge::MergeFault;
 
-const NOT_WRITTEN: MergeFault = MergeFault {
+pub(crate) const NOT_WRITTEN: MergeFault = MergeFault {
     tile: 0,
     line: 0,
     fault: Fault::Write,

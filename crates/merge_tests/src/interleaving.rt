@@ -37,13 +37,18 @@ fn is_picked(lines: &[u8], texts: &[&str]) -> bool {
 }
 
 /// Whether the header was written, after it the lines of each tile in their order, and nothing else.
-fn is_mixed(alloc: Global, written: &[u8], wanted: &Mixed) -> Result<bool, AllocError> {
-    let header = stream_of(alloc, wanted.header)?;
+pub(crate) fn is_mixed(
+    alloc: Global,
+    written: &[u8],
+    header: &[&str],
+    tiles: &[&[&str]],
+) -> Result<bool, AllocError> {
+    let header = stream_of(alloc, header)?;
     let Some(lines) = written.strip_prefix(header.as_slice()) else {
         return Ok(false);
     };
     let mut length = 0usize;
-    for texts in wanted.lines {
+    for texts in tiles {
         if !is_picked(lines, texts) {
             return Ok(false);
         }
@@ -78,7 +83,7 @@ where
             &mut output,
         );
         assert_eq!(rt; answer_of(&merged), wanted.answer, "capacity {capacity}");
-        let is_right = is_mixed(alloc, output.bytes(), wanted)?;
+        let is_right = is_mixed(alloc, output.bytes(), wanted.header, wanted.lines)?;
         assert!(rt; is_right, "capacity {capacity}");
     }
     Ok(())

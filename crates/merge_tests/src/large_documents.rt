@@ -1,18 +1,13 @@
 //! Documents of many features, and outputs that fail.
 
+use crate::devices::NOT_WRITTEN;
 use crate::merging::{answer_of, merge_readers, plain, readers_of, stream_of};
 use crate::texts::{A1, B1, BUILDING, DOCUMENT, HEADER, POINTS, X, Y, Z};
 use city_json::{Bin, Fault};
 use std::alloc::{AllocError, Global};
 use std::test::Fail;
 use tile_handoff::MAX_CAPACITY;
-use tile_merge::{MergeFault, merge};
-
-const NOT_WRITTEN: MergeFault = MergeFault {
-    tile: 0,
-    line: 0,
-    fault: Fault::Write,
-};
+use tile_merge::merge;
 
 /// How many features a large document has.
 const COUNT: u32 = 200;

@@ -26,4 +26,6 @@ mod origins;
 #[cfg(test)]
 mod texts;
 #[cfg(test)]
+mod threads;
+#[cfg(test)]
 mod turns;

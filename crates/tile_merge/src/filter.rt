@@ -15,9 +15,6 @@ ghost use Rattle.tile_merge.specs.Tile.{TileLines, stream_limits};
 ghost use Rattle.tile_merge.specs.TileState.{most_to_come, most_texts};
 ghost use Rattle.tile_merge.specs.Unread.{IsOfTile, Leaves, has_failed, is_read, failed_reads_between};
 
-#[cfg(test)]
-mod tests;
-
 use crate::fault::MergeFault;
 use crate::line_end::{emptied, end_line};
 use crate::lines::LineFault;

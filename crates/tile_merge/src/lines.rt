@@ -6,8 +6,6 @@ mod part;
 mod read_ahead;
 mod state;
 mod taking;
-#[cfg(test)]
-mod tests;
 
 use crate::limits::{Limits, STREAM_LIMITS};
 use crate::lines::part::NextPart;

@@ -14,8 +14,6 @@ ghost use Rattle.tile_merge.specs.TileState.{most_to_come, most_texts};
 
 mod feeder;
 mod running;
-#[cfg(test)]
-mod tests;
 mod writing;
 
 use crate::fault::MergeFault;

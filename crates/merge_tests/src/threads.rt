@@ -1,7 +1,9 @@
-use crate::fault::MergeFault;
-use crate::merging::in_turn::merge_in_turn;
-use crate::merging::threaded::merge;
-use city_feature::{Base, Choice};
+//! Merges with a thread for each tile: that the threads run beside one another and wait for each other's places.
+
+use crate::devices::NOT_WRITTEN;
+use crate::interleaving::is_mixed;
+use crate::merging::{plain, stream_of};
+use crate::texts::{A1, A2, A3, B1, C1, C2, CUT, HEADER};
 use city_json::{Bin, Device, Fault, Line, Tape};
 use std::alloc::{AllocError, Global};
 use std::io::{self, ErrorKind, Read, Write};
@@ -10,54 +12,10 @@ use std::sync::Arc;
 use std::sync::atomic::AtomicU64;
 use std::sync::atomic::Ordering::SeqCst;
 use std::test::Fail;
-
-const HEADER: &str =
-    r#"{"type":"CityJSON","version":"2.0","transform":{"scale":[0.001,0.001,0.001],"translate":[0,0,0]},"CityObjects":{},"vertices":[]}"#;
-
-const A1: &str =
-    r#"{"type":"CityJSONFeature","id":"a1","CityObjects":{"a1":{"type":"Building"}},"vertices":[[1,2,3]]}"#;
-
-const A2: &str =
-    r#"{"type":"CityJSONFeature","id":"a2","CityObjects":{"a2":{"type":"Building"}},"vertices":[[1,2,3]]}"#;
-
-const A3: &str =
-    r#"{"type":"CityJSONFeature","id":"a3","CityObjects":{"a3":{"type":"Building"}},"vertices":[[1,2,3]]}"#;
-
-const B1: &str =
-    r#"{"type":"CityJSONFeature","id":"b1","CityObjects":{"b1":{"type":"Building"}},"vertices":[[1,2,3]]}"#;
-
-const C1: &str =
-    r#"{"type":"CityJSONFeature","id":"c1","CityObjects":{"c1":{"type":"Building"}},"vertices":[[1,2,3]]}"#;
-
-const C2: &str =
-    r#"{"type":"CityJSONFeature","id":"c2","CityObjects":{"c2":{"type":"Building"}},"vertices":[[1,2,3]]}"#;
-
-/// A line that is cut short.
-const CUT: &str = r#"{"type":"CityJSONFeature","id":"b2"#;
+use tile_merge::{MergeFault, merge, merge_in_turn};
 
 /// How many turns of one load a reader waits at most.
 const TURNS: u64 = 1_000_000_000;
-
-const NOT_WRITTEN: MergeFault = MergeFault {
-    tile: 0,
-    line: 0,
-    fault: Fault::Write,
-};
-
-/// A choice of all features.
-fn every_feature() -> Choice {
-    Choice::new(None, None, false)
-}
-
-/// These texts, each followed by a newline.
-fn stream_of(alloc: Global, texts: &[&str]) -> Result<Vec<u8>, AllocError> {
-    let mut stream = Vec::new(alloc);
-    for text in texts {
-        stream.extend_from_slice(text.as_bytes())?;
-        stream.push(b'\n')?;
-    }
-    Ok(stream)
-}
 
 /// The readers of streams of these texts, each after a header.
 fn tapes(alloc: Global, tiles: &[&[&str]]) -> Result<Vec<Tape>, AllocError> {
@@ -70,41 +28,6 @@ fn tapes(alloc: Global, tiles: &[&[&str]]) -> Result<Vec<Tape>, AllocError> {
     Ok(readers)
 }
 
-/// Whether the header stands first, and then the texts of each tile, picked out, in their order, and
-/// nothing else. No two tiles share a text.
-fn is_interleaved(alloc: Global, written: &[u8], tiles: &[&[&str]]) -> Result<bool, AllocError> {
-    let header = stream_of(alloc, &[HEADER])?;
-    let Some(lines) = written.strip_prefix(header.as_slice()) else {
-        return Ok(false);
-    };
-    let mut length = 0usize;
-    for texts in tiles {
-        if !is_picked(lines, texts) {
-            return Ok(false);
-        }
-        length = length.saturating_add(stream_of(alloc, texts)?.len());
-    }
-    Ok(lines.len() == length)
-}
-
-/// Whether the lines that are texts of the tile are these texts in their order.
-fn is_picked(lines: &[u8], texts: &[&str]) -> bool {
-    let mut left = texts;
-    for line in lines.split(|byte| *byte == b'\n') {
-        if !texts.iter().any(|text| text.as_bytes() == line) {
-            continue;
-        }
-        let [next, others @ ..] = left else {
-            return false;
-        };
-        if next.as_bytes() != line {
-            return false;
-        }
-        left = others;
-    }
-    left.is_empty()
-}
-
 #[test]
 fn tiles_keep_their_order(rt: HostRuntime) -> Result<(), Fail> {
     let alloc = rt.alloc();
@@ -113,18 +36,18 @@ fn tiles_keep_their_order(rt: HostRuntime) -> Result<(), Fail> {
         let readers = tapes(alloc, tiles)?;
         assert!(rt; !readers.is_empty());
         let mut output = Bin::new(alloc, 4096, 100, false)?;
-        let choice = every_feature();
+        let asked = plain();
         let report = merge(
             &rt,
             alloc,
             readers,
-            &choice,
-            Base::First,
+            &asked.choice,
+            asked.base,
             capacity,
             &mut output,
         )?;
         assert_eq!(rt; report.counts.items(), [3u64, 1, 2].as_slice());
-        assert!(rt; is_interleaved(alloc, output.bytes(), tiles)?);
+        assert!(rt; is_mixed(alloc, output.bytes(), &[HEADER], tiles)?);
     }
     Ok(())
 }
@@ -132,7 +55,7 @@ fn tiles_keep_their_order(rt: HostRuntime) -> Result<(), Fail> {
 #[test]
 fn a_faulty_tile_ends_and_the_others_are_written_whole(rt: HostRuntime) -> Result<(), Fail> {
     let alloc = rt.alloc();
-    let choice = every_feature();
+    let asked = plain();
     for capacity in [1u32, 64] {
         for (tiles, whole, tile) in [
             (
@@ -153,8 +76,8 @@ fn a_faulty_tile_ends_and_the_others_are_written_whole(rt: HostRuntime) -> Resul
                 &rt,
                 alloc,
                 readers,
-                &choice,
-                Base::First,
+                &asked.choice,
+                asked.base,
                 capacity,
                 &mut output,
             );
@@ -164,7 +87,7 @@ fn a_faulty_tile_ends_and_the_others_are_written_whole(rt: HostRuntime) -> Resul
                 fault: Fault::Syntax,
             };
             assert!(rt; matches!(answer, Err(fault) if fault == refusal));
-            assert!(rt; is_interleaved(alloc, output.bytes(), whole.as_slice())?);
+            assert!(rt; is_mixed(alloc, output.bytes(), &[HEADER], whole.as_slice())?);
         }
     }
     Ok(())
@@ -177,8 +100,16 @@ fn the_lowest_faulty_tile_is_told(rt: HostRuntime) -> Result<(), Fail> {
     let readers = tapes(alloc, tiles)?;
     assert!(rt; !readers.is_empty());
     let mut output = Bin::new(alloc, 4096, 100, false)?;
-    let choice = every_feature();
-    let answer = merge(&rt, alloc, readers, &choice, Base::First, 1, &mut output);
+    let asked = plain();
+    let answer = merge(
+        &rt,
+        alloc,
+        readers,
+        &asked.choice,
+        asked.base,
+        1,
+        &mut output,
+    );
     let refusal = MergeFault {
         tile: 2,
         line: 3,
@@ -186,7 +117,7 @@ fn the_lowest_faulty_tile_is_told(rt: HostRuntime) -> Result<(), Fail> {
     };
     assert!(rt; matches!(answer, Err(fault) if fault == refusal));
     let whole: &[&[&str]] = &[&[A1, A2, A3], &[B1], &[]];
-    assert!(rt; is_interleaved(alloc, output.bytes(), whole)?);
+    assert!(rt; is_mixed(alloc, output.bytes(), &[HEADER], whole)?);
     Ok(())
 }
 
@@ -194,7 +125,7 @@ fn the_lowest_faulty_tile_is_told(rt: HostRuntime) -> Result<(), Fail> {
 fn a_failed_write_leaves_the_front_of_a_stream(rt: HostRuntime) -> Result<(), Fail> {
     let alloc = rt.alloc();
     let tiles: &[&[&str]] = &[&[A1, A2], &[B1, CUT]];
-    let choice = every_feature();
+    let asked = plain();
     for capacity in [1u32, 64] {
         let readers = tapes(alloc, tiles)?;
         assert!(rt; !readers.is_empty());
@@ -203,8 +134,8 @@ fn a_failed_write_leaves_the_front_of_a_stream(rt: HostRuntime) -> Result<(), Fa
             &rt,
             alloc,
             readers,
-            &choice,
-            Base::First,
+            &asked.choice,
+            asked.base,
             capacity,
             &mut output,
         );
@@ -229,8 +160,16 @@ fn drain(rt: HostRuntime) -> Result<(), Fail> {
     let readers = tapes(alloc, tiles.as_slice())?;
     assert!(rt; !readers.is_empty());
     let mut output = Bin::new(alloc, 200, 200, false)?;
-    let choice = every_feature();
-    let answer = merge(&rt, alloc, readers, &choice, Base::First, 1, &mut output);
+    let asked = plain();
+    let answer = merge(
+        &rt,
+        alloc,
+        readers,
+        &asked.choice,
+        asked.base,
+        1,
+        &mut output,
+    );
     assert!(rt; matches!(answer, Err(fault) if fault == NOT_WRITTEN));
     assert_eq!(rt; output.bytes().len(), 200);
     Ok(())
@@ -244,7 +183,7 @@ fn many(rt: HostRuntime) -> Result<(), Fail> {
     for _ in 0..64u32 {
         tiles.push(texts.as_slice())?;
     }
-    let choice = every_feature();
+    let asked = plain();
     for capacity in [1u32, 64] {
         let readers = tapes(alloc, tiles.as_slice())?;
         assert!(rt; !readers.is_empty());
@@ -253,8 +192,8 @@ fn many(rt: HostRuntime) -> Result<(), Fail> {
             &rt,
             alloc,
             readers,
-            &choice,
-            Base::First,
+            &asked.choice,
+            asked.base,
             capacity,
             &mut output,
         )?;
@@ -333,7 +272,7 @@ fn shared(alloc: Global) -> Result<Arc<AtomicU64, Global>, AllocError> {
 #[test]
 fn gate(rt: HostRuntime) -> Result<(), Fail> {
     let alloc = rt.alloc();
-    let choice = every_feature();
+    let asked = plain();
     for capacity in [1u32, 64] {
         let one = shared(alloc)?;
         let two = shared(alloc)?;
@@ -354,8 +293,8 @@ fn gate(rt: HostRuntime) -> Result<(), Fail> {
             &rt,
             alloc,
             readers,
-            &choice,
-            Base::First,
+            &asked.choice,
+            asked.base,
             capacity,
             &mut output,
         )?;
@@ -403,7 +342,7 @@ impl Write for Watched {
 #[test]
 fn flow(rt: HostRuntime) -> Result<(), Fail> {
     let alloc = rt.alloc();
-    let choice = every_feature();
+    let asked = plain();
     for capacity in [1u32, 64] {
         let begun = shared(alloc)?;
         let taken = shared(alloc)?;
@@ -428,8 +367,8 @@ fn flow(rt: HostRuntime) -> Result<(), Fail> {
             &rt,
             alloc,
             readers,
-            &choice,
-            Base::First,
+            &asked.choice,
+            asked.base,
             capacity,
             &mut output,
         )?;
@@ -443,7 +382,7 @@ fn flow(rt: HostRuntime) -> Result<(), Fail> {
 #[test]
 fn bound(rt: HostRuntime) -> Result<(), Fail> {
     let alloc = rt.alloc();
-    let choice = every_feature();
+    let asked = plain();
     for in_turn in [false, true] {
         let begun = shared(alloc)?;
         let mut readers = Vec::new(alloc);
@@ -464,9 +403,17 @@ fn bound(rt: HostRuntime) -> Result<(), Fail> {
             most: 2,
         });
         let report = if in_turn {
-            merge_in_turn(alloc, readers, &choice, Base::First, 1, &mut output)?
+            merge_in_turn(alloc, readers, &asked.choice, asked.base, 1, &mut output)?
         } else {
-            merge(&rt, alloc, readers, &choice, Base::First, 1, &mut output)?
+            merge(
+                &rt,
+                alloc,
+                readers,
+                &asked.choice,
+                asked.base,
+                1,
+                &mut output,
+            )?
         };
         assert_eq!(rt; report.counts.items(), [100u64].as_slice());
     }

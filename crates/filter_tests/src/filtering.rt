@@ -1,6 +1,5 @@
-use crate::fault::MergeFault;
-use crate::filter::{filter_stream, filter_tile};
-use crate::tile_reader::TileReader;
+//! One tile, filtered: what is written, and what is refused where.
+
 use city_feature::{Choice, area, types};
 use city_json::{Bin, Device, Fault, Line, Source, Tape};
 use std::alloc::{AllocError, Global};
@@ -9,6 +8,7 @@ use std::process::Abort;
 use std::sync::atomic::AtomicU64;
 use std::sync::atomic::Ordering::SeqCst;
 use std::test::Fail;
+use tile_merge::{MergeFault, TileReader, filter_stream, filter_tile};
 
 const HEADER: &str =
     r#"{"type":"CityJSON","version":"2.0","transform":{"scale":[0.001,0.001,0.001],"translate":[0,0,0]},"CityObjects":{},"vertices":[]}"#;

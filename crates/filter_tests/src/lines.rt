@@ -1,4 +1,5 @@
-use crate::lines::{LineFault, Lines};
+//! Lines by readers that give few or many bytes a read, fail, or have no end.
+
 use city_json::{Device, Fault, Line, Source, Tape};
 use std::alloc::{AllocError, Global};
 use std::io::{self, ErrorKind, Read};
@@ -6,6 +7,7 @@ use std::process::Abort;
 use std::sync::atomic::AtomicU64;
 use std::sync::atomic::Ordering::SeqCst;
 use std::test::Fail;
+use tile_merge::{LineFault, Lines};
 
 const HEADER: &str =
     r#"{"type":"CityJSON","version":"2.0","transform":{"scale":[0.001,0.001,0.001],"translate":[0,0,0]},"CityObjects":{},"vertices":[]}"#;
