@@ -1,9 +1,9 @@
-# The short commands. `make` alone prints them.
+# The short commands. `make` alone prints those for users; docs/CONTRIBUTING.md has the others.
 
 .PHONY: help build check demo install uninstall test program-test install-test docs-test compile-test bench clean
 
 help:
-	@echo 'citymerge: filters streams of 3D city features (CityJSONSeq)'
+	@echo 'citymerge: merges, filters and makes streams of 3D city features (CityJSONSeq)'
 	@echo
 	@echo '  make build   prove the program and build it: build/citymerge'
 	@echo '  make check   prove what has changed, in all crates; in one with CRATE=city_json, and of that'

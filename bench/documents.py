@@ -10,7 +10,7 @@ from shapes import Shape
 from streams import attributes
 
 MEGA = 1_000_000
-# The peak memory is to be at most so many times the document.
+# What is aimed at, in times of the document: a higher peak is told, and nothing fails.
 MOST_PEAK = 6
 HEAD = (
     b'{"type":"CityJSON","version":"2.0","transform":{"scale":[0.001,0.001,0.001],'

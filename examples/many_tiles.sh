@@ -7,7 +7,7 @@
 #   TILE..           the tiles in order; without any, standard input gives their names, one a line
 #   --steps=FOLDER   one level of groups after the other, as many merges at once as there are processors, with
 #                    files in FOLDER between. Without it all merges run at once and pipes lie between them, in
-#                    memory that does not grow with the tiles.
+#                    memory that grows with the number of tiles and not with their size.
 #   --bbox=.., --cotype=..   values are given with =
 #
 # In the environment: CITYMERGE, the program; GROUP, how many tiles a merge takes, from 2 to 64.
