@@ -1,5 +1,5 @@
 -- What a merge with a thread for each tile may answer, and what was written then.
-use Rattle.std.specs.Prelude.{◌≡◌, ◌⊎◌, ◌≤◌, ◌<◌, ◌++◌, ℕ, Bool, List, Option, Some, length}
+use Rattle.std.specs.Prelude.{◌≡◌, ◌⊎◌, ◌≤◌, ◌<◌, ◌++◌, ℕ, Bool, List, Option, Some, None, length}
 use Rattle.std.specs.Io.KnownBytes.{Keeps}
 use Rattle.city_json.specs.declared.fault.Fault.TheVariants.{NoThread}
 use Rattle.city_feature.specs.Feature.{FeatureValue}
@@ -7,8 +7,9 @@ use Rattle.city_feature.specs.Joined.{IsJoined}
 use Rattle.city_feature.specs.declared.base.Base.{Base}
 use Rattle.city_grid.specs.Axes.{Triple}
 use Rattle.tile_merge.specs.Interleaves.{Interleaves}
-use Rattle.tile_merge.specs.Merged.{HeadedTile, HaveHeads, headers_of, MergedTile, Merges, texts_of, IsRefusedMerge}
+use Rattle.tile_merge.specs.Merged.{HeadedTile, HaveHeads, headers_of, MergedTile, Merges, outcomes_of, texts_of, IsRefusedMerge}
 use Rattle.tile_merge.specs.Stream.{stream}
+use Rattle.tile_merge.specs.Told.{told}
 use Rattle.tile_merge.specs.declared.fault.MergeFault.{MergeFault}
 
 -- the tiles of these readers have headers, and these join
@@ -36,14 +37,15 @@ IsRefusedThreaded gives IsWanted base readers refusal old new =
     (HasNoThread gives base readers refusal × Keeps old new)
     ⊎ IsRefusedMerge gives IsWanted base Interleaves readers refusal old new
 
--- These bytes are a merged header and an interleaving of the wanted, moved features of the tiles,
--- each tile in its own order, every feature in its line.
+-- These bytes are a merged header and an interleaving of all wanted, moved features of the tiles,
+-- each tile in its own order, every feature in its line; no tile stopped before its end.
 abbrev pub IsInterleavedStream : {R : Type 0} → (R → List ℕ → Bool → Type 0) → (FeatureValue → Type 0) → Base → List R → List ℕ → Type 0
 IsInterleavedStream gives IsWanted base readers bytes =
     (tiles : List MergedTile)
     × (line : List ℕ)
     × (out : List (List ℕ))
     × Merges gives IsWanted base readers tiles line
+    × (told 1 (outcomes_of tiles) ≡ None)
     × Interleaves (texts_of tiles) out
     × (bytes ≡ stream line out)
 
