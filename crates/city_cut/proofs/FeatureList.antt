@@ -1,7 +1,7 @@
 -- The features, family by family.
-use Rattle.std.proofs.Common.{◌≡◌, ◌<◌, ◌≤◌, ◌+◌, ◌++◌, ℕ, zero, suc, Bool, true, false, List, [], ◌∷◌, Option, Some, length, get_or, map, take, take_all, sym, refl, ap, subst, ◌∙◌, arith, ◌==◌, bytes_eq}
+use Rattle.std.proofs.Common.{◌≡◌, ◌<◌, ◌≤◌, ◌+◌, ◌++◌, ℕ, zero, suc, Bool, true, false, List, [], ◌∷◌, Option, Some, length, get_or, take, take_all, sym, refl, ap, subst, ◌∙◌, arith, ◌==◌, bytes_eq}
 use Rattle.std.proofs.lemmas.Bool.{eqb-true, eqb-false}
-use Rattle.std.proofs.lemmas.List.{get_or_default, take_more, map-append}
+use Rattle.std.proofs.lemmas.List.{get_or_default, take_more}
 use Rattle.std.proofs.lemmas.Slice.Eq.{bytes_eq-Decides}
 use Rattle.std.specs.List.{AllByRecursion, AllZip, Contains}
 use Rattle.city_json.specs.Members.{first_named, names}
@@ -9,7 +9,6 @@ use Rattle.city_json.specs.Tree.{Tree, MemberTrees, no_members, member, members_
 use Rattle.city_json.specs.declared.json.Member.{Member}
 use Rattle.city_grid.specs.Axes.{Triple}
 use Rattle.city_feature.specs.Feature.{FeatureValue}
-use Rattle.city_feature.specs.Values.{FeatureJson, feature_value}
 use Rattle.city_cut.specs.Boundaries.{IsBounded}
 use Rattle.city_cut.specs.Chosen.{object_at}
 use Rattle.city_cut.specs.CityObjects.{AllBelong, IsReached, roots}
@@ -39,17 +38,16 @@ pub family_at : (objects : MemberTrees) (families : List Family) (i : ℕ) (fami
 family_at objects families i family all within is =
     subst (λ (f : Family). IsFamily objects f.root f.places.items) (sym is) (zip_at (Begins objects) (roots objects) families i [] family all within).1
 
-pub features_more : (objects : MemberTrees) (appearance : Option Tree) (points : List Triple) (families : List Family) (i : ℕ) (family : Family) (features features' : List FeatureJson) (feature : FeatureJson)
+pub features_more : (objects : MemberTrees) (appearance : Option Tree) (points : List Triple) (families : List Family) (i : ℕ) (family : Family) (features : List FeatureValue) (feature : FeatureValue)
     → AllZip (Begins objects) (roots objects) families
-    → AllZip (IsFeatureOf objects appearance points) (take i (roots objects)) (map feature_value features)
+    → AllZip (IsFeatureOf objects appearance points) (take i (roots objects)) features
     → i < length families
     → family ≡ get_or families i family
-    → IsFeatureOf objects appearance points (name_at objects family.root) (feature_value feature)
-    → features' ≡ features ++ feature ∷ []
-    → AllZip (IsFeatureOf objects appearance points) (take (i + 1) (roots objects)) (map feature_value features')
-features_more objects appearance points families i family features features' feature begun all within is one pushed =
-    rw (pushed, map-append, take_more (roots objects) i [] (omega (arith, within, zip_long (Begins objects) (roots objects) families begun)))
-    (zip_push (IsFeatureOf objects appearance points) (take i (roots objects)) (map feature_value features) (get_or (roots objects) i []) (feature_value feature) all (subst (λ id. IsFeatureOf objects appearance points id (feature_value feature)) name one))
+    → IsFeatureOf objects appearance points (name_at objects family.root) feature
+    → AllZip (IsFeatureOf objects appearance points) (take (i + 1) (roots objects)) (features ++ feature ∷ [])
+features_more objects appearance points families i family features feature begun all within is one =
+    rw (take_more (roots objects) i [] (omega (arith, within, zip_long (Begins objects) (roots objects) families begun)))
+    (zip_push (IsFeatureOf objects appearance points) (take i (roots objects)) features (get_or (roots objects) i []) feature all (subst (λ id. IsFeatureOf objects appearance points id feature) name one))
   where
     name : name_at objects family.root ≡ get_or (roots objects) i []
     name = ap (λ (f : Family). name_at objects f.root) is ∙ (zip_at (Begins objects) (roots objects) families i [] family begun within).0

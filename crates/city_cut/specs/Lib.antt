@@ -6,6 +6,7 @@ pub mod Cut
 pub mod Families
 pub mod Items
 pub mod Leaves
+pub mod Lines
 pub mod Numbered
 pub mod Places
 pub mod Points

@@ -1,5 +1,5 @@
 use city_feature::{Feature, Header};
-use city_json::Sequence;
+use city_json::{Line, Sequence};
 
 /// The features of a document, in the order of the city objects that begin them.
 pub type Features = Sequence<Feature>;
@@ -9,4 +9,14 @@ pub type Features = Sequence<Feature>;
 pub struct Cut {
     pub header: Header,
     pub features: Features,
+}
+
+/// A document that was cut, its features written out.
+#[derive(Debug, Drop)]
+pub struct CutLines {
+    pub header: Header,
+    /// The lines of the features, in their order: the compact text of each, and a newline.
+    pub lines: Line,
+    /// How many features there are.
+    pub count: u64,
 }

@@ -1,22 +1,27 @@
-ghost use Rattle.std.specs.Prelude.{◌≡◌, IfOk, IfErr, OnOk, map};
+ghost use Rattle.std.specs.Prelude.{◌≡◌, [], List, IfOk, IfErr, OnOk, length, map};
 ghost use Rattle.city_json.specs.Fits.{IsDistinct};
 ghost use Rattle.city_json.specs.Tree.{tree};
+ghost use Rattle.city_feature.specs.Feature.{FeatureValue};
 ghost use Rattle.city_feature.specs.Values.{feature_value, header_value};
 ghost use Rattle.city_cut.specs.Cut.{HasFeatures, IsCut, IsCuttable, RefusesCut};
+ghost use Rattle.city_cut.specs.Lines.{lines_of};
 
-use crate::cuts::{Cut, Features};
+use crate::cuts::{Cut, CutLines};
 use crate::documents::check_document;
 use crate::families::families;
-use crate::features::features;
+use crate::features::keep_features;
 use crate::headers::document_header;
+use crate::keeping::Keep;
 use crate::values::{items_named, members_named};
-use city_json::{Fault, Json};
+use city_json::{Fault, Json, Line, Sequence};
 use std::alloc::Global;
 
-/// The features of a document, once nothing of it is refused.
-fn document_features(alloc: Global, document: &Json) -> Result<Features, Fault>
-    requires { IsDistinct (tree document.now) }
-    ensures ok { IfOk result (λ features. HasFeatures (tree document.now) (map feature_value features)) }
+/// Keeps the features of a document, once nothing of it is refused, and says how many there are.
+fn keep_document<K: Keep>(alloc: Global, document: &Json, kept: &mut K) -> Result<u64, Fault>
+    requires distinct { IsDistinct (tree document.now) }
+    requires none { K.keeps kept.old [] }
+    ensures ok { IfOk result (λ count. (features : List FeatureValue) × K.keeps kept.new features
+        × (length features ≡ count) × HasFeatures (tree document.now) features) }
     ensures cuttable { OnOk result (IsCuttable (tree document.now)) }
     ensures refusal { IfErr result (λ fault. RefusesCut fault (tree document.now)) }
 {
@@ -24,13 +29,9 @@ fn document_features(alloc: Global, document: &Json) -> Result<Features, Fault>
     let objects = members_named(document, "CityObjects");
     let families = families(alloc, objects)?;
     let vertices = items_named(document, "vertices");
-    features(
-        alloc,
-        objects,
-        vertices,
-        document.get("appearance"),
-        &families,
-    )
+    let appearance = document.get("appearance");
+    keep_features(alloc, objects, vertices, appearance, &families, kept)?;
+    Ok(families.len() as u64)
 }
 
 /// Cuts a document into a header and features (CityJSON 2.0, Text sequences and streaming with
@@ -54,7 +55,33 @@ pub fn cut(alloc: Global, document: Json) -> Result<Cut, Fault>
     ensures cuttable { OnOk result (IsCuttable (tree document)) }
     ensures refusal { IfErr result (λ fault. RefusesCut fault (tree document)) }
 {
-    let features = document_features(alloc, &document)?;
+    let mut features = Vec::new(alloc);
+    keep_document(alloc, &document, &mut features)?;
     let header = document_header(alloc, document)?;
+    let features = Sequence::from_vec(features);
     Ok(Cut { header, features })
+}
+
+/// Cuts a document as [`cut`] does, and writes each feature out once it is made, so that no more than one
+/// is held as a value.
+///
+/// # Errors
+///
+/// Those of [`cut`].
+pub fn cut_lines(alloc: Global, document: Json) -> Result<CutLines, Fault>
+    requires { IsDistinct (tree document) }
+    ensures ok { IfOk result (λ cut. (features : List FeatureValue)
+        × IsCut (tree document) (header_value cut.header) features
+        × (cut.lines ≡ lines_of features) × (cut.count ≡ length features)) }
+    ensures cuttable { OnOk result (IsCuttable (tree document)) }
+    ensures refusal { IfErr result (λ fault. RefusesCut fault (tree document)) }
+{
+    let mut lines = Line::new(alloc);
+    let count = keep_document(alloc, &document, &mut lines)?;
+    let header = document_header(alloc, document)?;
+    Ok(CutLines {
+        header,
+        lines,
+        count,
+    })
 }

@@ -46,6 +46,7 @@ fn family_of(
         → slice_index marks.new k ≡ slice_index marks.old k) }
     ensures fault { IfErr result (λ fault. fault ≡ Fault.Memory) }
 {
+    // the contract alone speaks of the objects
     let _ = objects;
     let mut places = reached(alloc, graph, root, marks)?;
     places.sort_unstable();

@@ -1,5 +1,5 @@
 //! The features of a document.
-ghost use Rattle.std.specs.Prelude.{◌≡◌, ◌⊎◌, ◌<◌, ℕ, List, All, Some, Contains, IfOk, IfErr, OnOk, codes, length, map};
+ghost use Rattle.std.specs.Prelude.{◌≡◌, ◌⊎◌, ◌<◌, ℕ, List, All, Some, Contains, IfOk, IfErr, OnOk, [], codes, length, map};
 ghost use Rattle.std.specs.Prelude.{option_copied, option_map};
 ghost use Rattle.std.specs.List.{AllByRecursion, AllZip};
 ghost use Rattle.city_json.specs.Fits.{IsDistinct};
@@ -7,7 +7,7 @@ ghost use Rattle.city_json.specs.Members.{first_named};
 ghost use Rattle.city_json.specs.Tree.{Tree, array, items_tree, members_tree, named_tree, no_members, object, string, tree};
 ghost use Rattle.city_grid.specs.Axes.{Triple};
 ghost use Rattle.city_feature.specs.Changes.{with_member};
-ghost use Rattle.city_feature.specs.Feature.{AreVertices};
+ghost use Rattle.city_feature.specs.Feature.{AreVertices, FeatureValue};
 ghost use Rattle.city_feature.specs.Values.{feature_value};
 ghost use Rattle.city_cut.specs.Boundaries.{IsBounded};
 ghost use Rattle.city_cut.specs.Chosen.{appearance_added, chosen_objects, object_at};
@@ -18,12 +18,12 @@ ghost use Rattle.city_cut.specs.Items.{values};
 ghost use Rattle.city_cut.specs.Places.{IsFamily, name_at};
 
 use crate::assembling::{Assembled, assemble};
-use crate::cuts::Features;
 use crate::families::Family;
+use crate::keeping::Keep;
 use crate::numbering::Numbering;
 use crate::values::name_of;
 use city_feature::{Feature, feature, set_member};
-use city_json::{Fault, Json, Member, Sequence, Str};
+use city_json::{Fault, Json, Member, Str};
 use std::alloc::Global;
 
 /// The objects at these places. The only fault is [`Fault::Memory`].
@@ -150,25 +150,28 @@ fn feature_of(
     feature(alloc, json)
 }
 
-/// The features that the families are, in their order.
+/// Keeps the features that the families are, in their order.
 ///
 /// # Errors
 ///
 /// [`Fault::BoundaryIndex`] where a boundary in one is none, and [`Fault::Memory`].
-pub(crate) fn features(
+pub(crate) fn keep_features<K: Keep>(
     alloc: Global,
     objects: &[Member],
     vertices: &[Json],
     appearance: Option<&Json>,
     families: &[Family],
-) -> Result<Features, Fault>
+    kept: &mut K,
+) -> Result<(), Fault>
     requires distinct { IsDistinct (object (members_tree objects.now)) }
     requires families { AllZip (Begins (members_tree objects.now))
         (roots (members_tree objects.now)) families.now }
-    ensures ok { IfOk result (λ features. (points : List Triple)
-        → AreVertices (items_tree vertices.now) points
+    requires none { K.keeps kept.old [] }
+    ensures ok { OnOk result ((features : List FeatureValue) × K.keeps kept.new features
+        × (length features ≡ length families.now)
+        × ((points : List Triple) → AreVertices (items_tree vertices.now) points
         → AreFeatures (members_tree objects.now) (option_map tree (option_copied appearance.entry))
-        points (map feature_value features)) }
+        points features)) }
     ensures bounded { OnOk result ((id name : List ℕ) (value : Tree)
         → Contains (roots (members_tree objects.now)) id
         → IsReached (members_tree objects.now) id name
@@ -183,10 +186,9 @@ pub(crate) fn features(
         table: vec![in alloc; 0usize; vertices.len()]?,
         order: Vec::new(alloc),
     };
-    let mut features = Vec::with_capacity(alloc, families.len())?;
     for family in families {
         let feature = feature_of(alloc, objects, vertices, appearance, family, &mut numbering)?;
-        features.push(feature)?;
+        kept.keep(feature)?;
     }
-    Ok(Sequence::from_vec(features))
+    Ok(())
 }

@@ -11,6 +11,7 @@ mod documents;
 mod families;
 mod features;
 mod headers;
+mod keeping;
 mod leaves;
 mod numbering;
 mod objects;
@@ -20,5 +21,5 @@ mod relabelling;
 mod tests;
 mod values;
 
-pub use cuts::{Cut, Features};
-pub use cutting::cut;
+pub use cuts::{Cut, CutLines, Features};
+pub use cutting::{cut, cut_lines};

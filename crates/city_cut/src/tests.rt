@@ -3,7 +3,7 @@ mod refusals;
 mod shapes;
 
 use crate::cuts::Cut;
-use crate::cutting::cut;
+use crate::cutting::{cut, cut_lines};
 use city_feature::line;
 use city_json::{Fault, Line, print, read};
 use std::alloc::{AllocGlobal, Global};
@@ -22,6 +22,37 @@ fn document(alloc: Global, objects: &str) -> Result<String, Fail> {
 
 fn cut_text(alloc: Global, text: &str) -> Result<Cut, Fault> {
     cut(alloc, read(alloc, text.as_bytes())?)
+}
+
+/// Cut as lines, a text comes to the same header, and to the lines that those of its features are, or to the same
+/// fault.
+fn expect_same_lines(
+    rt: &(impl Abort + AllocGlobal),
+    text: &str,
+    want: Result<&[Line], Fault>,
+) -> Result<(), Fail> {
+    let alloc = rt.alloc();
+    let cut = cut_lines(alloc, read(alloc, text.as_bytes())?);
+    let want = match want {
+        Ok(want) => want,
+        Err(fault) => {
+            assert_eq!(rt; cut.err(), Some(fault), "{text}");
+            return Ok(());
+        }
+    };
+    let cut = cut?;
+    assert!(rt; !want.is_empty());
+    let mut header = Line::new(alloc);
+    print(cut.header.json(), &mut header)?;
+    assert_eq!(rt; header.items(), want[0].items(), "{text}");
+    let mut lines = Line::new(alloc);
+    for line in &want[1..] {
+        lines.append(line.items())?;
+        lines.append(b"\n")?;
+    }
+    assert_eq!(rt; cut.lines.items(), lines.items(), "{text}");
+    assert_eq!(rt; cut.count, want.len() as u64 - 1, "{text}");
+    Ok(())
 }
 
 /// The lines of the header and the features.
@@ -44,7 +75,7 @@ fn expect_lines(rt: &(impl Abort + AllocGlobal), text: &str, want: &[&str]) -> R
     for (line, want) in lines.iter().zip(want) {
         assert_eq!(rt; line.items(), want.as_bytes(), "{text}");
     }
-    Ok(())
+    expect_same_lines(rt, text, Ok(&lines))
 }
 
 /// The document of these objects is cut into the header and these features.

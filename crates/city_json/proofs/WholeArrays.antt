@@ -21,7 +21,7 @@ use Rattle.std.specs.Simd.Lanes.{mask_l, zip2, top}
 use Rattle.std.specs.Char.{digit_value, is_ascii_digit}
 use Rattle.std.specs.Str.Parse.{AllDigits}
 use Rattle.city_json.specs.Bytes.{digit_zero, comma, open_bracket, close_bracket}
-use Rattle.city_json.specs.Compact.{compact, compact_items, compact_more_items}
+use Rattle.city_json.specs.Compact.{compact_items, compact_more_items}
 use Rattle.city_json.specs.Number.{IsNumber, IsWhole}
 use Rattle.city_json.specs.Tree.{Tree, number, array, ItemTrees, no_items, item}
 use Rattle.city_json.specs.Whole.{Stage, at_start, after_comma, after_item, in_number, IsLeft, Inside, Closes, is_place, is_wrong, begins_zero, stage_of, up, down, AreFine, StaysOpen, ups, downs, last_of, zeroed_by, IsItemsText, lag}

@@ -27,7 +27,7 @@ use crate::json::{Items, Json, Member, Members};
 use crate::text::NumText;
 use depth::{MOST_DEPTH, is_deep};
 use distinct::is_distinct;
-use std::alloc::Global;
+use std::alloc::{AllocError, Global};
 use strings::string;
 
 /// What kind of value a first byte begins.
@@ -133,6 +133,24 @@ fn read_scalar(alloc: Global, start: Start, bytes: &[u8]) -> Result<(Json, &[u8]
     }
 }
 
+/// The most items that are moved to memory of their own: a longer list is cut short where it lies.
+const MOST_MOVED: usize = 64;
+
+/// The items, in no more memory than they need. A block that is cut short leaves a piece that is too small for much,
+/// and so a few items get a new one.
+fn fitted<T: Drop>(alloc: Global, items: Vec<T>) -> Result<Vec<T>, AllocError>
+    ensures { IfOk result (λ fitted. fitted.items ≡ items.items) }
+{
+    let mut items = items;
+    if items.len() == items.capacity() || items.len() > MOST_MOVED {
+        items.shrink_to_fit();
+        return Ok(items);
+    }
+    let mut fitted = Vec::with_capacity(alloc, items.len())?;
+    fitted.append(&mut items)?;
+    Ok(fitted)
+}
+
 #[cycle(value)]
 fn read_value(alloc: Global, levels: usize, bytes: &[u8]) -> Result<(Json, &[u8]), Fault>
     ensures { Gives (λ p. (tree p.0, p.1.now)) result (value_at levels bytes.now) }
@@ -160,7 +178,7 @@ fn read_array(alloc: Global, levels: usize, bytes: &[u8]) -> Result<(Json, &[u8]
         return Ok((Json::List(Vec::new(alloc)), rest));
     }
     let (items, rest) = read_items(alloc, levels, bytes)?;
-    Ok((Json::List(items), rest))
+    Ok((Json::List(fitted(alloc, items)?), rest))
 }
 
 #[cycle(value)]
@@ -192,7 +210,7 @@ fn read_object(alloc: Global, levels: usize, bytes: &[u8]) -> Result<(Json, &[u8
         return Ok((Json::Map(Vec::new(alloc)), rest));
     }
     let (members, rest) = read_members(alloc, levels, bytes)?;
-    Ok((Json::Map(members), rest))
+    Ok((Json::Map(fitted(alloc, members)?), rest))
 }
 
 #[cycle(value)]

@@ -1,7 +1,8 @@
 -- From what was read of an input to why it is refused, or what it is cut into.
-use Rattle.std.proofs.Common.{◌≡◌, ◌≤◌, ◌<◌, ◌++◌, ℕ, Bool, false, List, length, map, Result, Ok, Err, IfOk, IfErr, OnOk, refl, inl, inr, arith, [], ◌∷◌, ◌&&◌, true, true≢false, ap, sym, ◌∙◌}
+use Rattle.std.proofs.Common.{◌≡◌, ◌≤◌, ◌<◌, ◌++◌, ℕ, Bool, false, List, length, Result, Ok, Err, IfOk, IfErr, refl, inl, inr, arith, [], ◌∷◌, ◌&&◌, true, true≢false, ap, sym, ◌∙◌}
 use Rattle.std.proofs.lemmas.List.{length-append}
 use Rattle.city_json.proofs.Scanning.{IsWhite-is_white, is_white-IsWhite}
+use Rattle.city_json.specs.Compact.{compact}
 use Rattle.city_json.specs.Grammar.{IsBlank}
 use Rattle.city_json.specs.Reading.{is_white}
 use Rattle.city_json.specs.Refusals.{RefusesText}
@@ -10,10 +11,12 @@ use Rattle.city_json.specs.Tree.{Tree, tree}
 use Rattle.city_json.specs.declared.fault.Fault.{Fault}
 use Rattle.city_json.specs.declared.fault.Fault.TheVariants.{LineTooLong, Memory, NoHeader, Read}
 use Rattle.city_json.specs.declared.json.Json.{Json}
-use Rattle.city_feature.specs.Values.{feature_value, header_value}
+use Rattle.city_feature.specs.Feature.{FeatureValue}
+use Rattle.city_feature.specs.Header.{HeaderValue}
 use Rattle.city_cut.specs.Cut.{IsCut, IsCuttable, RefusesCut}
-use Rattle.city_cut.specs.declared.cuts.Cut.{Cut}
-use Rattle.document_stream.specs.CutStream.{CutsTo}
+use Rattle.city_cut.specs.Lines.{lines_of}
+use Rattle.tile_merge.specs.Stream.{with_newline}
+use Rattle.document_stream.specs.CutStream.{IsStreamOf, cut_stream}
 use Rattle.document_stream.specs.Input.{IsTextOf, RefusesInput, SomeInput, most_bytes}
 use Rattle.document_stream.specs.Taking.{GivesText, IsRefusedInput, RefusesReading, is_blank}
 
@@ -70,21 +73,19 @@ module _ (gives : List ℕ → Bool → Type 0) where
 
   -- the input spells this document
   module _ (document : Tree) (given : GivesText gives document) where
-    pub cut_given : (answer : Result Cut Fault) → IfOk answer (λ cut. IsCut document (header_value cut.header) (map feature_value cut.features)) → OnOk answer (IsCuttable document) → IfOk answer (λ cut. SomeInput gives (λ input. CutsTo input (header_value cut.header) (map feature_value cut.features)))
-    cut_given (Ok cut) is_cut is_cuttable =
+    pub stream_given : (header : HeaderValue) (line lines : List ℕ) (count : ℕ) → (features : List FeatureValue) × IsCut document header features × (lines ≡ lines_of features) × (count ≡ length features) → IsCuttable document → line ≡ with_newline (compact header.value) → SomeInput gives (λ input. IsStreamOf input count (line ++ lines))
+    stream_given header line lines count is cuttable head =
         let text = given.3 in
-        (given.0, given.1, given.2, (text.0, (document, text.2, is_cuttable, is_cut)))
-    cut_given (Err fault) is_cut is_cuttable = tt
+        (given.0, given.1, given.2, (header, is.0, (text.0, (document, text.2, cuttable, is.1)), is.3, bytes))
+      where
+        bytes : line ++ lines ≡ cut_stream header is.0
+        bytes = rw (head, is.2) refl
 
-    refused : (fault : Fault) → RefusesCut fault document → IsRefusedInput gives fault
-    refused Memory cause = tt
-    refused NoHeader cause = absurd cause
-    refused LineTooLong cause = absurd cause
-    refused Read cause = absurd cause
-    refused other cause =
+    pub cut_refused : (fault : Fault) → RefusesCut fault document → IsRefusedInput gives fault
+    cut_refused Memory cause = tt
+    cut_refused NoHeader cause = absurd cause
+    cut_refused LineTooLong cause = absurd cause
+    cut_refused Read cause = absurd cause
+    cut_refused other cause =
         let text = given.3 in
         (given.0, given.1, given.2, (text.0, text.1, inr (document, text.2, cause)))
-
-    pub cut_refused : (answer : Result Cut Fault) → IfErr answer (λ fault. RefusesCut fault document) → IfErr answer (λ fault. IsRefusedInput gives fault)
-    cut_refused (Ok cut) cause = tt
-    cut_refused (Err fault) cause = refused fault cause

@@ -1,3 +1,3 @@
 pub mod AllWritten
 pub mod InputTaken
-pub mod LinesWritten
+pub mod StreamWritten

@@ -1,4 +1,3 @@
 pub mod CutStream
 pub mod Input
 pub mod Taking
-pub mod Unwritten

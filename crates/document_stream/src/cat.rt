@@ -3,25 +3,24 @@ ghost use Rattle.document_stream.specs.CutStream.{IsRefusedDocument, WroteCut};
 ghost use Rattle.document_stream.specs.Input.{SomeInput};
 ghost use Rattle.tile_merge.specs.Filtered.{failed_reads_after_filter, failures_after_filter};
 
-use crate::taking::take_cut;
+use crate::taking::take_stream;
 use crate::writing::write_stream;
-use city_json::{Sink, Source};
+use city_json::{Fault, Sink, Source};
 use std::alloc::Global;
 use tile_merge::MergeFault;
 
 /// Reads a document to its end, and writes the stream of the features that it is cut into: the header's
-/// line, and one for each feature, in order. Answers how many features were written. The document is held
-/// in memory, and nothing is written before it was cut.
+/// line, and one for each feature, in order. Answers how many features were written. The document and then
+/// the whole stream are held in memory, and nothing is written before it was cut.
 ///
 /// # Errors
 ///
 /// Of tile 1 and line 0, the first of these: [`Fault::LineTooLong`](city_json::Fault::LineTooLong) where
 /// the input has more than 2^28 bytes, or [`Fault::Read`](city_json::Fault::Read) where a read of those
 /// failed; [`Fault::NoHeader`](city_json::Fault::NoHeader) where it is blank; that of
-/// [`read`](city_json::read); that of [`cut`](city_cut::cut). They leave nothing written.
-/// [`Fault::Memory`](city_json::Fault::Memory), of tile 1 and line 0 too, may come in place of each of
-/// them, and after some lines. Of no tile and no line: [`Fault::Write`](city_json::Fault::Write) where a
-/// write or the flush failed.
+/// [`read`](city_json::read); that of [`cut`](city_cut::cut). [`Fault::Memory`](city_json::Fault::Memory),
+/// of tile 1 and line 0 too, may come in place of each of them. They leave nothing written. Of no tile and
+/// no line: [`Fault::Write`](city_json::Fault::Write) where a write or the flush failed.
 pub fn cat_document<R: Source + Drop, W: Sink>(
     alloc: Global,
     reader: R,
@@ -59,9 +58,12 @@ pub fn cat_source<R: Source, W: Sink>(
     ensures reads { R.failures source.new
         ≡ failed_reads_after_filter result (R.failures source.old) }
 {
-    let cut = match take_cut(alloc, source) {
-        Ok(cut) => cut,
+    let stream = match take_stream(alloc, source) {
+        Ok(stream) => stream,
         Err(fault) => return Err(MergeFault::of_line(0, fault)),
     };
-    write_stream(alloc, &cut, output)
+    match write_stream(&stream, output) {
+        Ok(()) => Ok(stream.count),
+        Err(_) => Err(MergeFault::of_no_line(Fault::Write)),
+    }
 }

@@ -1,35 +1,66 @@
 //! A document that is read whole, and cut.
-ghost use Rattle.std.specs.Prelude.{◌≡◌, ◌≢◌, IfOk, IfErr, map};
+ghost use Rattle.std.specs.Prelude.{◌≡◌, ◌≢◌, ◌++◌, IfOk, IfErr};
+ghost use Rattle.city_json.specs.Compact.{compact};
 ghost use Rattle.city_json.specs.Fits.{IsDistinct};
 ghost use Rattle.city_json.specs.Grammar.{IsBlank};
 ghost use Rattle.city_json.specs.Tree.{tree};
-ghost use Rattle.city_feature.specs.Values.{feature_value, header_value};
-ghost use Rattle.document_stream.specs.CutStream.{CutsTo};
+ghost use Rattle.city_feature.specs.Values.{header_value};
+ghost use Rattle.document_stream.specs.CutStream.{IsStreamOf};
 ghost use Rattle.document_stream.specs.Input.{IsTextOf, SomeInput};
 ghost use Rattle.document_stream.specs.Taking.{GivesText, IsRefusedInput, RefusesReading, failed_reads_after_taking, is_blank};
+ghost use Rattle.tile_merge.specs.Stream.{with_newline};
 
-use city_cut::{Cut, cut};
-use city_json::{Fault, Json, Source, Stop, read, read_all};
+use city_cut::cut_lines;
+use city_feature::Header;
+use city_json::{Fault, Json, Line, Source, Stop, print, read, read_all};
 use std::alloc::Global;
 
 /// The most bytes that a document may have.
 const MOST_BYTES: u64 = 1 << 28;
 
-/// Takes the document that the input is, and cuts it.
+/// The stream of a document that was cut.
+#[derive(Drop)]
+pub(crate) struct CutStream {
+    /// The line of the header.
+    pub(crate) header: Line,
+    /// The lines of the features.
+    pub(crate) features: Line,
+    /// How many features there are.
+    pub(crate) count: u64,
+}
+
+/// Takes the document that the input is, cuts it, and gives its stream.
 ///
 /// # Errors
 ///
-/// Those of [`take_document`], and then those of [`cut`].
-pub(crate) fn take_cut<R: Source>(alloc: Global, source: &mut R) -> Result<Cut, Fault>
-    ensures ok { IfOk result (λ cut. SomeInput (R.gives source.old) (λ input.
-        CutsTo input (header_value cut.header) (map feature_value cut.features))) }
+/// Those of [`take_document`], and then those of [`cut_lines`].
+pub(crate) fn take_stream<R: Source>(alloc: Global, source: &mut R) -> Result<CutStream, Fault>
+    ensures ok { IfOk result (λ stream. SomeInput (R.gives source.old) (λ input.
+        IsStreamOf input stream.count (stream.header ++ stream.features))) }
     ensures refused { IfErr result (λ fault. IsRefusedInput (R.gives source.old) fault) }
     ensures not_written { IfErr result (λ fault. fault ≢ Fault.Write) }
     ensures failures { R.failures source.new
         ≡ failed_reads_after_taking result (R.failures source.old) }
 {
     let document = take_document(alloc, source)?;
-    cut(alloc, document)
+    let cut = cut_lines(alloc, document)?;
+    let header = header_line(alloc, &cut.header)?;
+    Ok(CutStream {
+        header,
+        features: cut.lines,
+        count: cut.count,
+    })
+}
+
+/// The line of a header: its compact text and a newline. The only fault is [`Fault::Memory`].
+fn header_line(alloc: Global, header: &Header) -> Result<Line, Fault>
+    ensures ok { IfOk result (λ line. line ≡ with_newline (compact (header_value header.now).value)) }
+    ensures fault { IfErr result (λ fault. fault ≡ Fault.Memory) }
+{
+    let mut text = Line::new(alloc);
+    print(header.json(), &mut text)?;
+    text.append(b"\n")?;
+    Ok(text)
 }
 
 /// Takes the value that the input spells.

@@ -151,7 +151,9 @@ impl<'a> Write for CountedWriter<'a> {
 }
 
 #[test]
-fn each_line_is_one_write_and_none_follows_a_failure(rt: HostRuntime) -> Result<(), Fail> {
+fn the_lines_of_features_are_one_write_and_none_follows_a_failure(
+    rt: HostRuntime,
+) -> Result<(), Fail> {
     let objects = r#""a":{"type":"Road"},"b":{"type":"Road"},"c":{"type":"Road"}"#;
     let three = HEADER.replace(
         rt.alloc(),
@@ -160,10 +162,9 @@ fn each_line_is_one_write_and_none_follows_a_failure(rt: HostRuntime) -> Result<
     )?;
     let three = three.replace(rt.alloc(), "OBJECTS", objects)?;
     for (failing, answer, written, flushed) in [
-        (None, Ok(3), 4u64, 1u64),
+        (None, Ok(3), 2u64, 1u64),
         (Some(0u64), Err(NOT_WRITTEN), 1, 0),
         (Some(1), Err(NOT_WRITTEN), 2, 0),
-        (Some(3), Err(NOT_WRITTEN), 4, 0),
     ] {
         let writes = AtomicU64::new(0);
         let flushes = AtomicU64::new(0);

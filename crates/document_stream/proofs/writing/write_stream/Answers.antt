@@ -1,56 +1,25 @@
-use Rattle.std.proofs.Common.{map, subst}
 use Rattle.std.proofs.lemmas.Result.{err_from_is_err_and}
-use Rattle.std.specs.Io.KnownBytes.{Appends}
-use Rattle.city_json.specs.Compact.{compact}
-use Rattle.city_json.specs.Tree.{tree}
-use Rattle.city_feature.specs.Values.{feature_value, header_value}
-use Rattle.tile_merge.specs.Stream.{with_newline}
-use Rattle.document_stream.specs.Unwritten.{AreUnwritten, IsUnwrittenLine}
-use Rattle.document_stream.proofs.LinesWritten.{features_unwritten, flush_failed, header_unwritten, lines_of, stream_written}
+use Rattle.document_stream.proofs.StreamWritten.{all_of_it, of_features, of_header, on_err}
 use Rattle.document_stream.proofs.writing.write_stream.Goals as goal
 
-pub returns-in_err-text-clause-refused : goal.returns-in_err-text-clause-refused
-returns-in_err-text-clause-refused g c =
-    let header = header_value c.args.cut.now.header in
-    let features = map feature_value c.args.cut.now.features in
-    let old = g.W.Sink.taken c.args.output.now in
-    let mid = g.W.Sink.taken c.write_value.new.output in
-    let e = c.in_err-text.field-0.0 in
-    let unwritten = subst (λ json. IsUnwrittenLine e.fault e.tile e.line (with_newline (compact (tree json))) old mid) c.json.ensures.value c.in_err-text.ensures.refused in
+pub returns-in_err-write_all-clause-some : goal.returns-in_err-write_all-clause-some
+returns-in_err-write_all-clause-some g c =
+    let stream = c.args.stream.now in
+    let some = rw c.items.ensures at c.in_err-write_all.ensures.some in
     let refusal = err_from_is_err_and c.from_residual.result c.from_residual.ensures.1 in
-    rw (refusal.1, refusal.2) (header_unwritten header features old e.fault e.tile e.line mid unwritten)
+    rw refusal.1 (of_header stream.header stream.features (g.W.Sink.taken c.args.output.now) (g.W.Sink.taken c.write_all.new.sink) some)
 
-pub returns-in_err-write_features-clause-refused : goal.returns-in_err-write_features-clause-refused
-returns-in_err-write_features-clause-refused g c =
-    let header = header_value c.args.cut.now.header in
-    let features = map feature_value c.args.cut.now.features in
-    let old = g.W.Sink.taken c.args.output.now in
-    let mid = g.W.Sink.taken c.write_value.new.output in
-    let new = g.W.Sink.taken c.write_features.new.output in
-    let e = c.in_err-write_features.field-0.0 in
-    let wrote = subst (λ json. Appends old mid (with_newline (compact (tree json)))) c.json.ensures.value c.in_ok-text.ensures.ok in
-    let unwritten = subst (λ list. AreUnwritten e.fault e.tile e.line (map feature_value list) mid new) c.items-features.ensures c.in_err-write_features.ensures.refused in
-    let refusal = err_from_is_err_and c.from_residual-in_err-write_features.result c.from_residual-in_err-write_features.ensures.1 in
-    rw (refusal.1, refusal.2) (features_unwritten header features old mid wrote e.fault e.tile e.line new unwritten)
+pub returns-in_err-write_all-2-clause-some : goal.returns-in_err-write_all-2-clause-some
+returns-in_err-write_all-2-clause-some g c =
+    let stream = c.args.stream.now in
+    let wrote = rw c.items.ensures at c.in_ok-write_all.ensures.all in
+    let some = rw c.items-2.ensures at c.in_err-write_all-2.ensures.some in
+    let refusal = err_from_is_err_and c.from_residual-in_err-write_all-2.result c.from_residual-in_err-write_all-2.ensures.1 in
+    rw refusal.1 (of_features stream.header stream.features (g.W.Sink.taken c.args.output.now) (g.W.Sink.taken c.write_all.new.sink) wrote (g.W.Sink.taken c.write_all-2.new.sink) some)
 
-pub returns-in-Ok-clause-ok : goal.returns-in-Ok-clause-ok
-returns-in-Ok-clause-ok g c =
-    let header = header_value c.args.cut.now.header in
-    let features = map feature_value c.args.cut.now.features in
-    let old = g.W.Sink.taken c.args.output.now in
-    let mid = g.W.Sink.taken c.write_value.new.output in
-    let last = g.W.Sink.taken c.write_features.new.output in
-    let wrote = subst (λ json. Appends old mid (with_newline (compact (tree json)))) c.json.ensures.value c.in_ok-text.ensures.ok in
-    let more = subst (λ list. Appends mid last (lines_of (map feature_value list))) c.items-features.ensures c.in_ok-write_features.ensures.ok in
-    stream_written header features old mid wrote last (g.W.Sink.taken c.flush.new.self) more c.flush.ensures.bytes
-
-pub returns-in-Err-clause-refused : goal.returns-in-Err-clause-refused
-returns-in-Err-clause-refused g c =
-    let header = header_value c.args.cut.now.header in
-    let features = map feature_value c.args.cut.now.features in
-    let old = g.W.Sink.taken c.args.output.now in
-    let mid = g.W.Sink.taken c.write_value.new.output in
-    let last = g.W.Sink.taken c.write_features.new.output in
-    let wrote = subst (λ json. Appends old mid (with_newline (compact (tree json)))) c.json.ensures.value c.in_ok-text.ensures.ok in
-    let more = subst (λ list. Appends mid last (lines_of (map feature_value list))) c.items-features.ensures c.in_ok-write_features.ensures.ok in
-    rw c.of_no_line.ensures (flush_failed header features old mid wrote last (g.W.Sink.taken c.flush.new.self) more c.flush.ensures.bytes)
+pub returns-clause-some : goal.returns-clause-some
+returns-clause-some g c =
+    let stream = c.args.stream.now in
+    let wrote = rw c.items.ensures at c.in_ok-write_all.ensures.all in
+    let more = rw c.items-2.ensures at c.in_ok-write_all-2.ensures.all in
+    on_err c.flush.result (all_of_it stream.header stream.features (g.W.Sink.taken c.args.output.now) (g.W.Sink.taken c.write_all.new.sink) wrote (g.W.Sink.taken c.write_all-2.new.sink) (g.W.Sink.taken c.flush.new.self) more c.flush.ensures.bytes)
