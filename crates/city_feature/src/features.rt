@@ -38,6 +38,7 @@ impl Model for Feature {
 }
 
 impl Feature {
+    /// Its whole value, the vertices among it.
     pub fn json(&self) -> &Json
         ensures value { result.now ≡ self.now.json }
         ensures feature { IsFeature (tree self.now.json) self.now.vertices }
@@ -45,6 +46,7 @@ impl Feature {
         &self.json
     }
 
+    /// Its vertices, in their order, in grid units.
     pub fn vertices(&self) -> &[Vertex]
         ensures { result.now ≡ self.now.vertices }
     {

@@ -33,6 +33,7 @@ impl Model for Header {
 }
 
 impl Header {
+    /// Its whole value.
     pub fn json(&self) -> &Json
         ensures value { result.now ≡ self.now.json }
         ensures header { IsHeader (tree self.now.json) self.now.grid }
@@ -40,6 +41,7 @@ impl Header {
         &self.json
     }
 
+    /// The grid of the vertices of the features that follow it.
     pub fn transform(&self) -> &Transform
         ensures { result.now ≡ self.now.grid }
     {

@@ -39,6 +39,7 @@ impl FaultLine {
         line
     }
 
+    /// Its bytes, the newline among them.
     pub fn as_bytes(&self) -> &[u8]
         ensures { result.now ≡ self.now }
     {

@@ -1,6 +1,7 @@
 //! The row: a queue of bounded capacity for each tile, for one thread. For every list of puts,
 //! takes and closes, what was taken from each tile is a prefix of what it put, all of it after
-//! close and drain, and nothing is accepted after close ([`run`]).
+//! close and drain, and nothing is accepted after close ([`run`]). Beneath it stand its queues
+//! alone ([`Queues`]), which keep no history and so do not grow.
 //!
 //! The ends: a ring of bounded capacity for one tile, between two threads. Whatever the schedule,
 //! what was taken is a prefix of what was put, all of it where nothing is left, and nothing can be

@@ -1,6 +1,8 @@
 //! Streams, line by line: [`Lines`] gives the lines of what a reader gives, while it is read, and
 //! [`TileReader`] what they come to, the header of the tile and the texts of its features.
-//! [`filter_stream`] writes the stream of those features that are chosen.
+//! [`filter_stream`] writes the stream of those features that are chosen; [`merge_in_turn`] and
+//! [`merge`], this with a thread for each tile, that of the features of several tiles, each moved
+//! onto the grid that they share. What either writes is an interleaving ([`turns_interleave`]).
 #![tactic(auto)]
 
 mod fault;

@@ -20,7 +20,7 @@ use crate::features::moving::moved_all;
 use crate::features::texts::{append_vertices, vertices_of};
 use city_grid::{Shift, Vertex, byte_is};
 use city_json::{Line, Part, compact_parts};
-use std::alloc::{AllocError, Global};
+use std::alloc::Global;
 use std::mem::swap;
 use types::has_given_type;
 
@@ -179,19 +179,15 @@ fn moved_line(
 }
 
 /// Appends the line with the vertices in their place.
-fn append_moved(moved: &MovedLine, to: &mut Line) -> Result<(), AllocError>
-    ensures { OnOk result (to.new ≡ to.old ++ with_value moved.now.line moved.now.part (compact (vertices_tree moved.now.vertices.items))) }
+fn append_moved(moved: &MovedLine, to: &mut Line) -> Option<()>
+    ensures { OnSome result (to.new ≡ to.old ++ with_value moved.now.line moved.now.part (compact (vertices_tree moved.now.vertices.items))) }
 {
     let line = moved.line.items();
-    let Some(front) = between(line, 0, moved.part.value) else {
-        return Err(AllocError);
-    };
-    let Some(back) = between(line, moved.part.end, line.len()) else {
-        return Err(AllocError);
-    };
-    to.append(front)?;
-    append_vertices(&moved.vertices, to)?;
-    to.append(back)
+    let front = between(line, 0, moved.part.value)?;
+    let back = between(line, moved.part.end, line.len())?;
+    to.append(front).ok()?;
+    append_vertices(&moved.vertices, to).ok()?;
+    to.append(back).ok()
 }
 
 /// The line with the vertices in their place: the one that was read, where they stand there already.
@@ -203,10 +199,11 @@ fn written(alloc: Global, moved: MovedLine, shift: Shift) -> Option<Line>
     if is_still(shift) {
         return Some(moved.line);
     }
-    let mut line = Line::new(alloc);
-    let Ok(_) = append_moved(&moved, &mut line) else {
-        return None;
-    };
+    // vertices that are moved away from 0 have more digits
+    let length = moved.line.items().len();
+    let room = length.saturating_add(length / 4);
+    let mut line = Line::from_vec(Vec::with_capacity(alloc, room).ok()?);
+    append_moved(&moved, &mut line)?;
     Some(line)
 }
 

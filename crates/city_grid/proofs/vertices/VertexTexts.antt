@@ -1,5 +1,5 @@
 -- Vertices in a compact text, from place to place.
-use Rattle.std.proofs.Common.{◌≡◌, ◌≢◌, ◌∙◌, ◌++◌, ◌+◌, ◌-◌, ◌*◌, ◌^◌, ◌<◌, ◌≤◌, ℕ, zero, suc, List, [], ◌∷◌, length, length-drop, take, drop, get_or, refl, ap, sym, subst, arith, append_assoc, slice_range, ℤ, pos, neg_ℤ, unsigned_abs}
+use Rattle.std.proofs.Common.{◌≡◌, ◌≢◌, ◌∙◌, ◌++◌, ◌+◌, ◌-◌, ◌*◌, ◌^◌, ◌<◌, ◌≤◌, ℕ, zero, suc, List, [], ◌∷◌, length, length-drop, drop, get_or, refl, ap, sym, subst, arith, append_assoc, slice_range, ℤ, pos, neg_ℤ}
 use Rattle.std.proofs.lemmas.Fmt.{decimal-digits_value, decimal_digit, length-decimal-le}
 use Rattle.std.proofs.lemmas.Int.Digits.{digits_value-lt}
 use Rattle.std.proofs.lemmas.List.{append-nil, length-take-le}
@@ -11,7 +11,7 @@ use Rattle.std.specs.Str.Parse.{AllDigits, digits_value}
 use Rattle.city_json.proofs.Places.{slice_more, slice_one}
 use Rattle.city_json.specs.Bytes.{comma, minus, open_bracket, close_bracket}
 use Rattle.city_json.specs.Compact.{compact}
-use Rattle.city_grid.specs.Axes.{Triple, triple, most_steps}
+use Rattle.city_grid.specs.Axes.{Triple, most_steps}
 use Rattle.city_grid.specs.Vertex.{vertex_tree}
 use Rattle.city_grid.proofs.decimals.DigitValues.{digit_byte, value_after-append, all_digits-append}
 

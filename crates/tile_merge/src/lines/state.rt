@@ -1,6 +1,6 @@
 use city_json::Fault;
 
-/// Why the line of this number was refused.
+/// Why the line of this number was refused. Lines count from 1; 0 is the tile as a whole, which has no line.
 #[derive(Clone, Copy, Debug, PartialEq, Eq)]
 pub struct LineFault {
     pub line: u64,

@@ -39,9 +39,9 @@ struct StartedTiles<R: Source> {
 
 /// Merges the tiles that the readers give, with a thread for each: the joined header, and then the
 /// features that are chosen, each moved by its tile's shift, those of a tile in their order and
-/// those of several as they come. Of a tile up to `capacity` texts wait to be written. The report
-/// has how many features were written of each tile. It waits for the threads, and each has ended
-/// when it returns.
+/// those of several as they come. Of a tile up to `capacity` texts wait to be written, beside those
+/// of a first line that is a document. The report has how many features were written of each tile.
+/// It waits for the threads, and each has ended when it returns.
 ///
 /// # Errors
 ///

@@ -1,4 +1,4 @@
-use Rattle.std.proofs.Common.{◌≤◌, ◌<◌, ◌+◌, arith, length}
+use Rattle.std.proofs.Common.{◌<◌, arith, length}
 use Rattle.city_grid.proofs.vertices.VertexTexts.{digits_more, value_more, few_digits}
 use Rattle.city_grid.proofs.vertices.texts.digits_at.Goals as goal
 

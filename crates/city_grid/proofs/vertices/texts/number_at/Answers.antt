@@ -1,4 +1,4 @@
-use Rattle.std.proofs.Common.{◌<◌, arith}
+use Rattle.std.proofs.Common.{arith}
 use Rattle.city_grid.proofs.vertices.VertexTexts.{zero_text, digits_text, few_digits}
 use Rattle.city_grid.proofs.vertices.texts.number_at.Goals as goal
 
