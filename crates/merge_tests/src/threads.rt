@@ -268,6 +268,85 @@ fn shared(alloc: Global) -> Result<Arc<AtomicU64, Global>, AllocError> {
     Ok(Arc::new(alloc, AtomicU64::new(0))?)
 }
 
+/// A reader of one feature that says in `begun` how many of its reads have begun.
+fn counted(alloc: Global, begun: &Arc<AtomicU64, Global>) -> Result<Device<Gated>, AllocError> {
+    Ok(Device::new(Gated {
+        features: 1,
+        reads: 0,
+        begun: Arc::try_clone(begun)?,
+        waits_at: 0,
+        seen: shared(alloc)?,
+        least: 0,
+    }))
+}
+
+#[test]
+fn sixty_five_tiles_are_refused_before_one_is_read(rt: HostRuntime) -> Result<(), Fail> {
+    let alloc = rt.alloc();
+    let begun = shared(alloc)?;
+    let mut readers = Vec::new(alloc);
+    for _ in 0..65u32 {
+        readers.push(counted(alloc, &begun)?)?;
+    }
+    assert!(rt; !readers.is_empty());
+    let mut output = Bin::new(alloc, 4096, 4096, false)?;
+    let asked = plain();
+    let answer = merge(
+        &rt,
+        alloc,
+        readers,
+        &asked.choice,
+        asked.base,
+        64,
+        &mut output,
+    );
+    let refusal = MergeFault::of_no_line(Fault::TooManyTiles);
+    assert!(rt; matches!(answer, Err(fault) if fault == refusal));
+    assert!(rt; output.bytes().is_empty());
+    assert_eq!(rt; begun.load(SeqCst), 0);
+    Ok(())
+}
+
+#[test]
+fn tiles_after_one_with_no_header_are_not_read(rt: HostRuntime) -> Result<(), Fail> {
+    let alloc = rt.alloc();
+    let first = shared(alloc)?;
+    let third = shared(alloc)?;
+    let mut readers = Vec::new(alloc);
+    readers.push(counted(alloc, &first)?)?;
+    readers.push(Device::new(Gated {
+        features: 0,
+        reads: 1,
+        begun: shared(alloc)?,
+        waits_at: 0,
+        seen: shared(alloc)?,
+        least: 0,
+    }))?;
+    readers.push(counted(alloc, &third)?)?;
+    assert!(rt; !readers.is_empty());
+    let mut output = Bin::new(alloc, 4096, 4096, false)?;
+    let asked = plain();
+    let answer = merge(
+        &rt,
+        alloc,
+        readers,
+        &asked.choice,
+        asked.base,
+        64,
+        &mut output,
+    );
+    let refusal = MergeFault {
+        tile: 2,
+        line: 0,
+        fault: Fault::NoHeader,
+    };
+    assert!(rt; matches!(answer, Err(fault) if fault == refusal));
+    assert!(rt; output.bytes().is_empty());
+    assert_eq!(rt; first.load(SeqCst), 1);
+    assert_eq!(rt; third.load(SeqCst), 0);
+    Ok(())
+}
+
 /// Two tiles, of which neither gives its feature before the other's thread has come as far.
 #[test]
 fn gate(rt: HostRuntime) -> Result<(), Fail> {
