@@ -8,16 +8,13 @@ tools/need.sh rt python3 || exit 1
 python3 tools/docs_test.py || exit 1
 python3 tools/must_not_compile.py || exit 1
 
-# Left to itself, rt gives a proof the processors that nothing else waits for, which is what the chain of the
-# crates wants. It reckons with more memory than checks take, so where there are few processors it gets as many
-# checks side by side as there are of them and 5 GB of memory for each.
-lanes=
-if [ "$(nproc)" -lt 4 ]; then
-    room=$(($(awk '/^MemAvailable/ { print $2 }' /proc/meminfo) / 5000000))
-    lanes=$(nproc)
-    [ "$lanes" -le "$room" ] || lanes=$room
-    [ "$lanes" -ge 1 ] || lanes=1
-fi
+# Left to itself, rt reckons with more memory than checks take, and the longest of them, that of tile_merge, finds no
+# room beside smaller ones until these have ended. So it gets as many checks side by side as there are processors, and
+# 5 GB of memory for each.
+room=$(($(awk '/^MemAvailable/ { print $2 }' /proc/meminfo) / 5000000))
+lanes=$(nproc)
+[ "$lanes" -le "$room" ] || lanes=$room
+[ "$lanes" -ge 1 ] || lanes=1
 
 echo 'The gate: every proof from nothing, the edits that must fail, the tests.'
 mkdir -p build
