@@ -29,7 +29,7 @@ class Watch(threading.Thread):
         self.over = threading.Event()
 
     def run(self):
-        while not self.over.wait(0.02):
+        while not self.over.wait(0.002):
             self.peak = max(self.peak, peak_of(self.process))
 
 
