@@ -37,7 +37,7 @@ program-test: build
 
 install-test: build
 	@tools/install_test.sh
-	@tools/many_tiles_test.sh build/citymerge
+	@python3 tools/many_tiles_test.py build/citymerge
 
 docs-test:
 	@tools/need.sh python3

@@ -28,5 +28,5 @@ cp crates/citymerge/out/citymerge build/citymerge.new
 mv build/citymerge.new build/citymerge
 tools/program_test.sh build/citymerge || exit 1
 tools/install_test.sh || exit 1
-tools/many_tiles_test.sh build/citymerge || exit 1
+python3 tools/many_tiles_test.py build/citymerge || exit 1
 tail -n 1 "$log"
