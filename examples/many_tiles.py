@@ -189,7 +189,7 @@ def names_from_input(end: bytes) -> list[str]:
 
 def find_program() -> str:
     """The path of citymerge."""
-    beside = os.path.join(os.path.dirname(os.path.realpath(__file__)), "citymerge")
+    beside = os.path.join(os.path.dirname(os.path.abspath(__file__)), "citymerge")
     for name in (os.environ.get("CITYMERGE"), beside, "citymerge"):
         found = shutil.which(name) if name else None
         if found:

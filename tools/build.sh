@@ -21,4 +21,5 @@ rm build/first_output
 # a new file, so that a program that is running stays as it is
 cp crates/citymerge/out/citymerge build/citymerge.new
 mv build/citymerge.new build/citymerge
+cp examples/many_tiles.py build/citymerge-many
 echo 'Built: build/citymerge'

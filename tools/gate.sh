@@ -1,7 +1,7 @@
 #!/bin/sh
 # All that has to hold. The documents and what must not compile come first, then the gate: every proof from
 # nothing, the edits that must fail, the tests. The program that the gate built is then tried at its edges,
-# installed, and given many tiles. Ends in the gate's own last line.
+# installed, given many tiles and the documents' commands, and packed. Ends in the gate's own last line.
 set -u
 cd "$(dirname "$0")/.."
 tools/need.sh rt python3 || exit 1
@@ -26,7 +26,10 @@ log=build/gate.log
 [ "$(cat build/gate.status)" -eq 0 ] || exit 1
 cp crates/citymerge/out/citymerge build/citymerge.new
 mv build/citymerge.new build/citymerge
+cp examples/many_tiles.py build/citymerge-many
 tools/program_test.sh build/citymerge || exit 1
 tools/install_test.sh || exit 1
 python3 tools/many_tiles_test.py build/citymerge || exit 1
+python3 tools/commands_test.py build/citymerge || exit 1
+tools/dist_test.sh || exit 1
 tail -n 1 "$log"

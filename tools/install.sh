@@ -1,33 +1,39 @@
 #!/bin/sh
-# Installs the built program with its manual page and its completions below PREFIX, or removes them.
+# Installs the built program with citymerge-many, their manual pages, completions and documents below PREFIX, or
+# removes them. DESTDIR is put before PREFIX, for whoever makes a package.
 # Use: tools/install.sh install|uninstall PREFIX
 set -eu
 cd "$(dirname "$0")/.."
 what=$1
-prefix=$2
+prefix=${DESTDIR-}$2
 share=$prefix/share
 manual=build/manual
 
-# where a Debian system looks for each file
-program_to=$prefix/bin/citymerge
-page_to=$share/man/man1/citymerge.1
-bash_to=$share/bash-completion/completions/citymerge
-zsh_to=$share/zsh/site-functions/_citymerge
-fish_to=$share/fish/vendor_completions.d/citymerge.fish
+# each file: its mode, where it comes from, and where a Debian system looks for it
+files="755 build/citymerge bin/citymerge
+755 examples/many_tiles.py bin/citymerge-many
+644 $manual/citymerge.1 share/man/man1/citymerge.1
+644 $manual/citymerge-many.1 share/man/man1/citymerge-many.1
+644 $manual/citymerge.bash share/bash-completion/completions/citymerge
+644 $manual/_citymerge share/zsh/site-functions/_citymerge
+644 $manual/citymerge.fish share/fish/vendor_completions.d/citymerge.fish
+644 docs/GUIDE.md share/doc/citymerge/GUIDE.md
+644 docs/FAULTS.md share/doc/citymerge/FAULTS.md"
 
 case $what in
 install)
     tools/manual.sh "$manual"
-    install -D -m 755 build/citymerge "$program_to"
-    install -D -m 644 "$manual/citymerge.1" "$page_to"
-    install -D -m 644 "$manual/citymerge.bash" "$bash_to"
-    install -D -m 644 "$manual/_citymerge" "$zsh_to"
-    install -D -m 644 "$manual/citymerge.fish" "$fish_to"
-    echo "Installed: $program_to, its manual page and completions below $share"
+    echo "$files" | while read -r mode from to; do
+        install -D -m "$mode" "$from" "$prefix/$to"
+    done
+    echo "Installed: $prefix/bin/citymerge and citymerge-many, their manual pages, completions and documents below $share"
     ;;
 uninstall)
-    rm -f "$program_to" "$page_to" "$bash_to" "$zsh_to" "$fish_to"
-    echo "Removed: $program_to, its manual page and completions below $share"
+    echo "$files" | while read -r _ _ to; do
+        rm -f "$prefix/$to"
+    done
+    rmdir "$share/doc/citymerge" 2>/dev/null || true
+    echo "Removed: $prefix/bin/citymerge and citymerge-many, their manual pages, completions and documents below $share"
     ;;
 *)
     echo "use: tools/install.sh install|uninstall PREFIX" >&2

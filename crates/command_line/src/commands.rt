@@ -23,53 +23,58 @@ macro_rules! with_statuses {
 }
 
 static PROGRAM_END: &str = with_statuses!(
-    "A tile is a CityJSONSeq stream of CityJSON 2.0: a header on its first line, then one
-feature a line. In place of the header may stand a whole CityJSON document, which
-is cut as by `cat`; its features come first then.
+    "A tile is a CityJSONSeq stream of CityJSON 2.0: a header on its first line,
+then one feature a line. In place of the header may stand a whole CityJSON
+document, which is cut as by `cat`; its features come first then.
 
-Streams are written to standard output, all messages to standard error. One of a
-refusal is `citymerge: tile T line L: TEXT`; tiles and lines are counted from 1.
+Streams are written to standard output, all messages to standard error. One of
+a refusal is `citymerge: tile T line L: TEXT`; tiles and lines are counted
+from 1. More than 64 tiles go through `citymerge-many`.
 
 Examples:
   citymerge merge west.city.jsonl east.city.jsonl > both.city.jsonl
-  citymerge filter --cotype=Building < tile.city.jsonl > buildings.city.jsonl
+  citymerge filter --cotype=Building < tile.city.jsonl > part.city.jsonl
   citymerge cat < town.city.json > town.city.jsonl
 
 `citymerge help COMMAND` says more of a command."
 );
 
 static MERGE_END: &str = with_statuses!(
-    "The tiles are put on the grid of the first, and are joined only where nothing is
-rounded: the same scale and reference system, and translations that lie a whole
-number of grid units apart. Else the tile that does not fit is named, and nothing
-is written. A line at fault later ends its own tile; all others are written whole.
-A feature is written where all options that are given choose it.
+    "The tiles are put on the grid of the first, and are joined only where nothing
+is rounded: the same scale and reference system, and translations that lie a
+whole number of grid units apart. Else the tile that does not fit is named,
+and nothing is written. A line at fault later ends its own tile; all others
+are written whole. A feature is written where all options choose it.
 
-A TILE that begins with - stands after --, and - itself is a file of that name.
+The header is the first tile's, its title with it, but with the extensions of
+all tiles and without the geographical extent.
+
+A TILE that begins with - stands after --, and - itself is a file so named.
 
 Examples:
   citymerge merge west.city.jsonl east.city.jsonl > both.city.jsonl
-  citymerge merge --least --bbox=-5,0,10,10 west.city.jsonl east.city.jsonl > part.city.jsonl"
+  citymerge merge --least --bbox=-5,0,10,10 west.city.jsonl > part.city.jsonl"
 );
 
 static FILTER_END: &str = with_statuses!(
-    "The stream is a header, then one feature a line. In place of the header may stand
-a whole CityJSON document, whose features come first then. The stream ends at the
-first line at fault; what was chosen of the lines before it is written.
+    "The stream is a header, then one feature a line. In place of the header may
+stand a whole CityJSON document, whose features come first then. The stream
+ends at the first line at fault; what was chosen of the lines before it is
+written.
 
 A feature is written where all options that are given choose it. With no
 option all features are written.
 
 Examples:
-  citymerge filter --cotype=Building,Bridge < tile.city.jsonl > chosen.city.jsonl
-  citymerge filter --bbox=-5,0,10,10 --exclude < tile.city.jsonl > others.city.jsonl"
+  citymerge filter --cotype=Building,Road < tile.city.jsonl > part.city.jsonl
+  citymerge filter --bbox=-5,0,10,10 < tile.city.jsonl > part.city.jsonl"
 );
 
 static CAT_END: &str = with_statuses!(
     "A feature is a city object without parents, with all that are reached from it
 through children, and with vertices of its own. A document may be spread over
-lines, and have 2^28 bytes. It is held in memory. One that is at fault is refused
-whole, with nothing written.
+lines, and have 2^28 bytes. It is held in memory. One that is at fault is
+refused whole, with nothing written.
 
 Example:
   citymerge cat < town.city.json > town.city.jsonl"
@@ -87,25 +92,29 @@ written as they come.";
 
 static LEAST_HELP: &str = "Move the origin of the grid to the least
 translation of the tiles in x, y and z, so
-that no vertex is moved below 0. The area is
-in units of that grid.";
+that no vertex is moved below 0. The area
+is in units of that grid.";
 
 static TYPES_HELP: &str = "Only features of these types, with commas
 between: the type of the city object that
 the feature's id names. No blanks, as in
---cotype=Building,Bridge";
+--cotype=Building,Bridge. Any name is
+taken, and compared as it is written:
+there is no type building.";
 
-static AREA_HELP: &str = "Only features whose extent in x and y meets
-this area, if only at an edge. In grid
-units: the whole numbers of vertices, after
-the shift onto the grid of the output. The
-least x and y first, then the greatest, as
-in --bbox=0,0,20000,10000. A value that
-begins with - is given with =, as in
---bbox=-5,0,10,10";
+static AREA_HELP: &str = "Only features whose extent in x and y
+meets this area, if only at an edge. Four
+whole numbers: the least x and y, then the
+greatest, in grid units, as vertices have
+after the shift onto the grid of the
+output. Coordinates come to them by
+(coordinate - translate) / scale, rounded;
+GUIDE.md has a line that does it. As in
+--bbox=0,0,20000,10000, and below 0 with
+the =, as in --bbox=-5,0,10,10";
 
 static EXCLUDE_HELP: &str = "Only the features that the other options
-do not choose. Without other options, none.";
+do not choose. Without others, none.";
 
 /// All commands of the program, as `clap` takes them.
 pub fn citymerge_command<'a>(alloc: Global) -> Result<Command<'a>, AllocError>
@@ -137,7 +146,7 @@ fn merge_command<'a>(alloc: Global) -> Result<Command<'a>, AllocError>
     let command = merging_command(alloc)?;
     Ok(
         command
-            .about("Joins the streams of several files into one on standard output.")
+            .about("Joins the streams of several files into one.")
             .after_help(MERGE_END),
     )
 }
@@ -162,7 +171,8 @@ fn filter_command<'a>(alloc: Global) -> Result<Command<'a>, AllocError>
     let command = choosing_command(alloc, "filter")?;
     Ok(
         command
-            .about("Writes the chosen features of a stream from standard input to standard output.")
+            .about("Writes the chosen features of a stream on standard input.")
+            .override_usage("citymerge filter [OPTIONS] < TILE")
             .after_help(FILTER_END),
     )
 }
@@ -172,7 +182,8 @@ fn cat_command<'a>(alloc: Global) -> Command<'a>
     ensures local { (fields_of result).has_globals ≡ false }
 {
     Command::new(alloc, "cat")
-        .about("Cuts a CityJSON document from standard input into a stream on standard output.")
+        .about("Writes a CityJSON document on standard input as a stream.")
+        .override_usage("citymerge cat < DOCUMENT")
         .after_help(CAT_END)
 }
 

@@ -1,11 +1,20 @@
 use crate::text::{takes_files, takes_value};
+use crate::types::TYPES;
 use clap::Command;
 use std::io;
 
-/// Prints the completions for bash.
+/// Prints the completions for bash. It takes `--cotype=A` for three words, since `=` parts words.
 pub(crate) fn print(rt: &HostRuntime, command: &Command<'_>) -> io::Result<()> {
     println!(rt; "_citymerge() {{")?;
-    println!(rt; "    local word=${{COMP_WORDS[COMP_CWORD]}} words= files=")?;
+    println!(rt; "    local word=${{COMP_WORDS[COMP_CWORD]}} words= files= option= listed=")?;
+    println!(rt; "    if [[ $word == '=' ]]; then")?;
+    println!(rt; "        option=${{COMP_WORDS[COMP_CWORD-1]}} word=")?;
+    println!(rt; "    elif [[ ${{COMP_WORDS[COMP_CWORD-1]}} == '=' && $COMP_CWORD -gt 2 ]]; then")?;
+    println!(rt; "        option=${{COMP_WORDS[COMP_CWORD-2]}}")?;
+    println!(rt; "    elif [[ ${{COMP_WORDS[COMP_CWORD-1]}} == --@(cotype|bbox) ]]; then")?;
+    println!(rt; "        option=${{COMP_WORDS[COMP_CWORD-1]}}")?;
+    println!(rt; "    fi")?;
+    print_value(rt)?;
     println!(rt; "    case $COMP_CWORD:${{COMP_WORDS[1]}} in")?;
     print!(rt; "    1:*) words='help --help --version")?;
     for sub in command.get_subcommands() {
@@ -30,6 +39,23 @@ pub(crate) fn print(rt: &HostRuntime, command: &Command<'_>) -> io::Result<()> {
     println!(rt; "        compopt -o nospace")?;
     println!(rt; "    fi")?;
     println!(rt; "}}\ncomplete -F _citymerge citymerge")
+}
+
+/// Prints what is offered for the value of an option: the types, after those that are there.
+fn print_value(rt: &HostRuntime) -> io::Result<()> {
+    println!(rt; "    if [[ $option == --cotype ]]; then")?;
+    println!(rt; "        [[ $word != *,* ]] || listed=${{word%,*}},")?;
+    print!(rt; "        words='")?;
+    for name in TYPES {
+        print!(rt; "{name} ")?;
+    }
+    println!(rt; "'")?;
+    println!(rt;
+        "        mapfile -t COMPREPLY < <(compgen -P \"$listed\" -W \"$words\" -- \"${{word#\"$listed\"}}\")"
+    )?;
+    println!(rt; "        compopt -o nospace")?;
+    println!(rt; "    fi")?;
+    println!(rt; "    [[ -z $option ]] || return 0")
 }
 
 fn print_command(rt: &HostRuntime, command: &Command<'_>) -> io::Result<()> {

@@ -1,4 +1,5 @@
 use crate::text::{print_sentence, takes_value};
+use crate::types::TYPES;
 use clap::{Arg, Command};
 use std::io;
 
@@ -32,8 +33,17 @@ fn print_argument(rt: &HostRuntime, command: &str, arg: &Arg<'_>) -> io::Result<
     let Some(long) = arg.get_long() else {
         return println!(rt; " -F");
     };
-    let value = if takes_value(arg) { " -x" } else { "" };
-    print!(rt; "{value} -l {long} -d '")?;
+    if takes_value(arg) {
+        print!(rt; " -x")?;
+    }
+    if long == "cotype" {
+        print!(rt; " -a '(__fish_append ,")?;
+        for name in TYPES {
+            print!(rt; " {name}")?;
+        }
+        print!(rt; ")'")?;
+    }
+    print!(rt; " -l {long} -d '")?;
     print_sentence(rt, arg.get_help().unwrap_or(""), "\\'", "\\")?;
     println!(rt; "'")
 }

@@ -7,6 +7,7 @@ mod bash;
 mod fish;
 mod page;
 mod text;
+mod types;
 mod zsh;
 
 use command_line::citymerge_command;

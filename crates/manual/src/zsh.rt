@@ -1,4 +1,5 @@
 use crate::text::{print_sentence, takes_value};
+use crate::types::TYPES;
 use clap::{Arg, Command};
 use std::io;
 
@@ -42,6 +43,15 @@ fn print_argument(rt: &HostRuntime, arg: &Arg<'_>) -> io::Result<()> {
     let value = if takes_value(arg) { "=" } else { "" };
     print!(rt; "        '--{long}{value}[")?;
     print_sentence(rt, arg.get_help().unwrap_or(""), QUOTE, "\\:[]")?;
-    let message = if takes_value(arg) { ":value:" } else { "" };
-    println!(rt; "]{message}' \\")
+    print!(rt; "]")?;
+    if takes_value(arg) {
+        print!(rt; ":value:")?;
+    }
+    if long == "cotype" {
+        print!(rt; "_values -s , type")?;
+        for name in TYPES {
+            print!(rt; " {name}")?;
+        }
+    }
+    println!(rt; "' \\")
 }

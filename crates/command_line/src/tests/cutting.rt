@@ -23,7 +23,8 @@ fn help_says_what_cat_does(rt: HostRuntime) -> Result<(), Fail> {
         &rt,
         ["cat", "--help"].as_slice(),
         [
-            "Cuts a CityJSON document from standard input",
+            "Writes a CityJSON document on standard input as a stream.",
+            "Usage: citymerge cat < DOCUMENT\n",
             "It is held in memory.",
             "A document may be spread over\nlines, and have 2^28 bytes",
             "citymerge cat < town.city.json > town.city.jsonl",
@@ -40,7 +41,7 @@ fn help_says_what_cat_does(rt: HostRuntime) -> Result<(), Fail> {
         &rt,
         ["--help"].as_slice(),
         [
-            "  cat     Cuts a CityJSON document",
+            "  cat     Writes a CityJSON document",
             "citymerge cat < town.city.json > town.city.jsonl",
         ]
         .as_slice(),

@@ -137,7 +137,7 @@ fn help_of_merge_says_what_is_joined(rt: HostRuntime) -> Result<(), Fail> {
             "--least",
             "--bbox <MINX,MINY,MAXX,MAXY>",
             "citymerge merge west.city.jsonl east.city.jsonl > both.city.jsonl",
-            "and - itself is a file of that name",
+            "and - itself is a file so named",
             "  1  refused, with one line on standard error\n",
         ]
         .as_slice(),
