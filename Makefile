@@ -1,6 +1,6 @@
 # The short commands. `make` alone prints those for users; docs/CONTRIBUTING.md has the others.
 
-.PHONY: help build check demo install uninstall test program-test install-test docs-test compile-test bench clean
+.PHONY: help build check demo install uninstall dist test program-test install-test docs-test compile-test bench clean
 
 help:
 	@echo 'citymerge: merges, filters and makes streams of 3D city features (CityJSONSeq)'
@@ -9,8 +9,9 @@ help:
 	@echo '  make check   prove what has changed, in all crates; in one with CRATE=city_json, and of that'
 	@echo '               one function or module with ONLY=reading::read'
 	@echo '  make demo    build it, run it on the tiles in examples/ and show what came out'
-	@echo '  make install put the program, its manual page and its completions below PREFIX (/usr/local);'
-	@echo '               make uninstall takes them away'
+	@echo '  make install put the program, citymerge-many, manual pages, completions and documents below PREFIX'
+	@echo '               (/usr/local); make uninstall takes them away'
+	@echo '  make dist    an archive and a Debian package of the program, in build/dist'
 	@echo '  make test    all that has to hold: the documents, what must not compile, the gate (every proof from nothing, the edits'
 	@echo '               that must fail, the tests), and the program that it built; takes long'
 	@echo '  make bench   how fast it is, beside jq, and how much memory it takes (BENCH="--help" lists the options)'
@@ -38,6 +39,8 @@ program-test: build
 install-test: build
 	@tools/install_test.sh
 	@python3 tools/many_tiles_test.py build/citymerge
+	@python3 tools/commands_test.py build/citymerge
+	@tools/dist_test.sh
 
 docs-test:
 	@tools/need.sh python3
@@ -51,7 +54,7 @@ compile-test:
 test:
 	@tools/gate.sh
 
-# PREFIX is where the program, its manual page and its completions go.
+# PREFIX is where the programs, their manual pages, completions and documents go.
 PREFIX = /usr/local
 
 install: build
@@ -59,6 +62,10 @@ install: build
 
 uninstall:
 	@tools/install.sh uninstall '$(PREFIX)'
+
+# What users download who have no kit: the same bytes from each clone of a release.
+dist: build
+	@tools/dist.sh
 
 bench: build
 	@tools/need.sh python3

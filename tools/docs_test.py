@@ -3,8 +3,8 @@
 
 docs/CONTRACTS.md quotes contracts whole. docs/DEFINITIONS.md tells each file of specs/ and each name in a public
 clause, and sets apart exactly the files that no public promise needs. The clauses that README.md and
-docs/PROVED.md name are there. docs/FAULTS.md has the table of faults of the code. Files and links that are named
-are there.
+docs/PROVED.md name are there. docs/FAULTS.md has the table of faults of the code. Version and day of the release are
+the same everywhere. Files and links that are named are there.
 """
 
 import glob
@@ -121,6 +121,17 @@ def fault_table():
         yield "the table of docs/FAULTS.md is not that of " + FAULTS
 
 
+def release():
+    """The program, citymerge-many and the manual page are of the release that CHANGELOG.md begins with."""
+    version, day = re.search(r"^## (\S+) \((.*)\)$", read("CHANGELOG.md"), re.MULTILINE).groups()
+    for path, text in (("crates/command_line/src/commands.rt", 'VERSION: &str = "%s"' % version),
+                       ("examples/many_tiles.py", 'VERSION = "%s"' % version),
+                       ("crates/manual/stdout", '.TH CITYMERGE 1 "%s" "citymerge %s"' % (day, version)),
+                       ("README.md", "citymerge_%s_" % version), ("README.md", "citymerge-%s-linux" % version)):
+        if text not in read(path):
+            yield "%s is not of the release %s of %s, with which CHANGELOG.md begins" % (path, version, day)
+
+
 def links():
     for path in DOCUMENTS:
         for target in re.findall(r"\]\(([^)#:]+)\)", read(path)):
@@ -129,7 +140,7 @@ def links():
 
 
 def main():
-    tests = (quoted_contracts, told_definitions, told_files, named_files, named_clauses, fault_table, links)
+    tests = (quoted_contracts, told_definitions, told_files, named_files, named_clauses, fault_table, release, links)
     wrong = [line for test in tests for line in test()]
     for line in wrong:
         print("FAILED: " + line)

@@ -24,7 +24,7 @@ offered_by_fish() {
     (cd "$room" && fish --no-config -c "source $share/fish/vendor_completions.d/citymerge.fish; complete -C '$*'" | cut -f 1 | sort | tr '\n' ' ')
 }
 
-# zsh, typed at a terminal: the line as the tab key leaves it
+# zsh, typed at a terminal: the line as the tab key leaves it; a comma that is left there goes with the next blank
 cat >"$room/.zshrc" <<'END'
 PS1=
 fpath=($ZDOTDIR/share/zsh/site-functions $fpath)
@@ -49,8 +49,21 @@ typed_in_zsh() {
 
 tools/install.sh install "$room" >"$room/said" || exit 1
 expect 'the program' 'citymerge 0.1.0' "$("$room/bin/citymerge" --version)"
+expect 'citymerge-many' 'citymerge-many 0.1.0' "$("$room/bin/citymerge-many" --version)"
+expect 'citymerge-many finds the program beside it' same \
+    "$(env -u CITYMERGE PATH=/usr/bin:/bin "$room/bin/citymerge-many" examples/west.city.jsonl | cmp - examples/west.expected.city.jsonl && echo same)"
+expect 'the documents' 'FAULTS.md GUIDE.md ' "$(ls "$share/doc/citymerge" | tr '\n' ' ')"
 if command -v man >/dev/null; then
-    expect 'the manual page' 'NAME' "$(man --warnings -l "$share/man/man1/citymerge.1" 2>&1 | sed -n 3p)"
+    for page in citymerge citymerge-many; do
+        MANWIDTH=80 man --warnings -l "$share/man/man1/$page.1" 2>&1 | col -bx >"$room/$page"
+        expect "the parts of the page of $page" 'NAME SYNOPSIS DESCRIPTION EXIT STATUS FILES SEE ALSO ' \
+            "$(grep -xE 'NAME|SYNOPSIS|DESCRIPTION|EXIT STATUS|FILES|SEE ALSO' "$room/$page" | tr '\n' ' ')"
+        expect "lines above 80 columns in that of $page" '' "$(awk 'length > 80' "$room/$page")"
+        expect "the day of the release in that of $page" "$(sed -n 's/^## [^ ]* (\(.*\))$/\1/p' CHANGELOG.md | head -n 1)" \
+            "$(tail -n 1 "$room/$page" | grep -oE '[0-9]{4}-[0-9]{2}-[0-9]{2}')"
+    done
+    expect 'texts of faults that the page lacks' '' "$(sed -n 's/^| [0-9]* | `\([^`]*\)`.*/\1/p' docs/FAULTS.md |
+        while read -r text; do grep -qF "$text" "$room/citymerge" || echo "$text"; done)"
 else
     echo 'man is not installed: the manual page was not tried'
 fi
@@ -59,11 +72,22 @@ expect 'bash: an option with a value' '--cotype=' "$(offered_by_bash citymerge f
 expect 'bash: no option of another command' '' "$(offered_by_bash citymerge filter --l)"
 expect 'bash: a tile' 'west.city.jsonl' "$(offered_by_bash citymerge merge w)"
 expect 'bash: a command to be helped with' 'filter' "$(offered_by_bash citymerge help f)"
+expect 'bash: a type' 'TINRelief' "$(offered_by_bash citymerge filter --cotype = TINR)"
+expect 'bash: the next type' 'Road,Waterway' "$(offered_by_bash citymerge merge --cotype = Road,Waterw)"
+expect 'bash: all types' 32 "$(offered_by_bash citymerge merge --cotype = | wc -w)"
+for words in 'filter w' 'cat w' 'help w' 'merge --bbox = w' 'merge --bbox ='; do
+    expect "bash: nothing after $words" '' "$(offered_by_bash citymerge $words)"
+done
 if command -v fish >/dev/null; then
     expect 'fish: the commands' 'merge ' "$(offered_by_fish citymerge me)"
     expect 'fish: an option with a value' '--cotype ' "$(offered_by_fish citymerge filter --c)"
     expect 'fish: no option of another command' '' "$(offered_by_fish citymerge filter --l)"
     expect 'fish: a tile' 'west.city.jsonl ' "$(offered_by_fish citymerge merge w)"
+    expect 'fish: a type' '--cotype=TINRelief ' "$(offered_by_fish citymerge filter --cotype=TINR)"
+    expect 'fish: the next type' '--cotype=Road,Waterway ' "$(offered_by_fish citymerge merge --cotype=Road,Waterw)"
+    for words in 'filter w' 'cat w' 'help w' 'merge --bbox=w'; do
+        expect "fish: nothing after $words" '' "$(offered_by_fish citymerge $words)"
+    done
 else
     echo 'fish is not installed: its completions were not tried'
 fi
@@ -71,11 +95,16 @@ if command -v zsh >/dev/null; then
     expect 'zsh: the commands' 'citymerge merge ' "$(typed_in_zsh 'citymerge me')"
     expect 'zsh: an option with a value' 'citymerge filter --cotype=' "$(typed_in_zsh 'citymerge filter --c')"
     expect 'zsh: a tile' 'citymerge merge west.city.jsonl ' "$(typed_in_zsh 'citymerge merge w')"
+    expect 'zsh: a type' 'citymerge filter --cotype=TINRelief,' "$(typed_in_zsh 'citymerge filter --cotype=TINR')"
+    expect 'zsh: the next type' 'citymerge merge --cotype=Road,Waterway,' "$(typed_in_zsh 'citymerge merge --cotype=Road,Waterw')"
+    for words in 'filter w' 'cat w' 'help w' 'merge --bbox=w'; do
+        expect "zsh: nothing after $words" "citymerge $words" "$(typed_in_zsh "citymerge $words")"
+    done
 else
     echo 'zsh is not installed: its completions were not tried'
 fi
 
 tools/install.sh uninstall "$room" >"$room/said"
-expect 'nothing is left' '' "$(find "$room/bin" "$share" -type f)"
+expect 'nothing is left' '' "$(find "$room/bin" "$share" -type f; ls "$share/doc")"
 
 counted 'Installed'
