@@ -256,20 +256,6 @@ def is_utf8(name: str) -> bool:
     return True
 
 
-def read_heads(names: Sequence[str], terminal: Terminal) -> tuple[list[Head], list[Misfit]]:
-    """The headers of the tiles, and those that cannot be read."""
-    heads, misfits = [], []
-    for number, name in enumerate(names, 1):
-        terminal.progress(f"headers: {number} of {len(names)} read")
-        try:
-            heads.append(read_head(name))
-        except OSError as error:
-            misfits.append(Misfit(name, 0, f"the tile could not be read: {error.strerror}"))
-        except ValueError as error:
-            misfits.append(Misfit(name, 0, f"the tile could not be read: {error}"))
-    return heads, misfits
-
-
 @contextlib.contextmanager
 def files_in_memory(texts: Sequence[bytes]) -> Iterator[list[int]]:
     """Files that hold these texts, which are nowhere on a disk."""
@@ -290,15 +276,29 @@ def path_of(descriptor: int) -> str:
 class Comparison:
     """The headers of tiles, joined by citymerge in the order in which they are added."""
 
-    def __init__(self, program: str, joined: bytes = b"", option: str = "--exclude") -> None:
+    def __init__(self, program: str, joined: bytes = b"", is_least: bool = False) -> None:
         self.program = program
         self.joined = joined
-        self.options = ["--exclude"] if option == "--exclude" else ["--exclude", option]
+        self.is_least = is_least
         self.misfits: list[Misfit] = []
+
+    def add_tiles(self, names: Sequence[str], terminal: Terminal) -> None:
+        """Adds the headers of these tiles, some at a time, since one may be a whole document."""
+        for start in range(0, len(names), MOST_IN_A_MERGE):
+            terminal.progress(f"headers: {start} of {len(names)} compared")
+            heads = []
+            for name in names[start:start + MOST_IN_A_MERGE]:
+                try:
+                    heads.append(read_head(name))
+                except OSError as error:
+                    self.misfits.append(Misfit(name, 0, f"the tile could not be read: {error.strerror}"))
+                except ValueError as error:
+                    self.misfits.append(Misfit(name, 0, f"the tile could not be read: {error}"))
+            self.add(heads)
 
     def add(self, heads: Sequence[Head]) -> None:
         """Adds these headers. Where some of them do not fit, each is tried by itself."""
-        fault = self._try(heads)
+        fault = self._try(heads) if heads else None
         if fault is None:
             return
         if len(heads) > 1:
@@ -313,7 +313,8 @@ class Comparison:
         if self.joined:
             texts.insert(0, self.joined)
         with files_in_memory(texts) as files:
-            words = [self.program, "merge", *self.options, "--", *map(path_of, files)]
+            words = [self.program, "merge", "--in-turn", "--exclude", *(["--least"] if self.is_least else [])]
+            words += ["--", *map(path_of, files)]
             ended = subprocess.run(words, capture_output=True, pass_fds=files, check=False)
         if ended.returncode == 0:
             self.joined = ended.stdout.rstrip(b"\n")
@@ -348,32 +349,19 @@ def distance_text(off: Sequence[decimal.Decimal]) -> str:
 
 def compared(program: str, names: Sequence[str], is_least: bool, terminal: Terminal) -> bytes:
     """The joined header of all tiles, where all fit. Else every tile that does not is refused."""
-    heads, misfits = read_heads(names, terminal)
     comparison = Comparison(program)
-    add_all(comparison, heads, terminal)
-    if is_least and not misfits and not comparison.misfits:
-        comparison = moved_to_least(program, comparison.joined, heads, terminal)
-    misfits += comparison.misfits
-    if not misfits:
+    comparison.add_tiles(names, terminal)
+    for with_least in (True, False) if is_least else ():
+        if comparison.misfits:
+            break
+        # to the least translation, and from there, which may be too far away from a tile that fits the first
+        comparison = Comparison(program, comparison.joined, with_least)
+        comparison.add_tiles(names, terminal)
+    if not comparison.misfits:
         return comparison.joined
-    order = {name: place for place, name in reversed(list(enumerate(names)))}
-    misfits.sort(key=lambda misfit: order[misfit.name])
+    places = {name: place for place, name in enumerate(names)}
+    misfits = sorted(comparison.misfits, key=lambda misfit: places[misfit.name])
     raise Refusal(*map(str, misfits), summary(misfits, names))
-
-
-def add_all(comparison: Comparison, heads: Sequence[Head], terminal: Terminal) -> None:
-    for start in range(0, len(heads), MOST_IN_A_MERGE):
-        terminal.progress(f"headers: {start} of {len(heads)} compared")
-        comparison.add(heads[start:start + MOST_IN_A_MERGE])
-
-
-def moved_to_least(program: str, joined: bytes, heads: Sequence[Head], terminal: Terminal) -> Comparison:
-    """The comparison with the least translation, from which a tile may be too far away that fits the first one."""
-    least = Comparison(program, joined, "--least")
-    add_all(least, heads, terminal)
-    again = Comparison(program, least.joined)
-    add_all(again, heads, terminal)
-    return again
 
 
 def summary(misfits: Sequence[Misfit], names: Sequence[str]) -> str:

@@ -397,7 +397,7 @@ class Progress(InFolder):
                 break
         os.close(ours)
         self.assertEqual(0, run.wait(60))
-        self.assertIn(b"headers: 300 of 300 read", said)
+        self.assertIn(b"headers: 252 of 300 compared", said)
         self.assertIn(b"merges: 6 of 6 done", said)
         self.assertTrue(said.endswith(b"\r\x1b[K"))
         self.assertNotIn(b"\n", said)

@@ -1,5 +1,4 @@
-use crate::text::{takes_files, takes_value};
-use crate::types::TYPES;
+use crate::text::{print_types, takes_files, takes_value};
 use clap::Command;
 use std::io;
 
@@ -46,9 +45,7 @@ fn print_value(rt: &HostRuntime) -> io::Result<()> {
     println!(rt; "    if [[ $option == --cotype ]]; then")?;
     println!(rt; "        [[ $word != *,* ]] || listed=${{word%,*}},")?;
     print!(rt; "        words='")?;
-    for name in TYPES {
-        print!(rt; "{name} ")?;
-    }
+    print_types(rt)?;
     println!(rt; "'")?;
     println!(rt;
         "        mapfile -t COMPREPLY < <(compgen -P \"$listed\" -W \"$words\" -- \"${{word#\"$listed\"}}\")"

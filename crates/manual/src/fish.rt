@@ -1,5 +1,4 @@
-use crate::text::{print_sentence, takes_value};
-use crate::types::TYPES;
+use crate::text::{print_sentence, print_types, takes_value};
 use clap::{Arg, Command};
 use std::io;
 
@@ -33,17 +32,16 @@ fn print_argument(rt: &HostRuntime, command: &str, arg: &Arg<'_>) -> io::Result<
     let Some(long) = arg.get_long() else {
         return println!(rt; " -F");
     };
+    print!(rt; " -l {long}")?;
     if takes_value(arg) {
         print!(rt; " -x")?;
     }
     if long == "cotype" {
         print!(rt; " -a '(__fish_append ,")?;
-        for name in TYPES {
-            print!(rt; " {name}")?;
-        }
+        print_types(rt)?;
         print!(rt; ")'")?;
     }
-    print!(rt; " -l {long} -d '")?;
+    print!(rt; " -d '")?;
     print_sentence(rt, arg.get_help().unwrap_or(""), "\\'", "\\")?;
     println!(rt; "'")
 }

@@ -1,3 +1,4 @@
+use crate::types::TYPES;
 use city_json::{Line, Str};
 use clap::{Arg, ArgAction, Command};
 use command_line::{Parsed, Paths, parse_words};
@@ -27,6 +28,14 @@ pub(crate) fn takes_files(command: &Command<'_>) -> bool {
         .get_arguments()
         .iter()
         .any(|arg| arg.is_positional())
+}
+
+/// Prints the types of city objects, each after a blank.
+pub(crate) fn print_types(rt: &HostRuntime) -> io::Result<()> {
+    for name in TYPES {
+        print!(rt; " {name}")?;
+    }
+    Ok(())
 }
 
 /// Prints the first sentence of a help text on one line, for a place between single quotes, with

@@ -1,5 +1,4 @@
-use crate::text::{print_sentence, takes_value};
-use crate::types::TYPES;
+use crate::text::{print_sentence, print_types, takes_value};
 use clap::{Arg, Command};
 use std::io;
 
@@ -49,9 +48,7 @@ fn print_argument(rt: &HostRuntime, arg: &Arg<'_>) -> io::Result<()> {
     }
     if long == "cotype" {
         print!(rt; "_values -s , type")?;
-        for name in TYPES {
-            print!(rt; " {name}")?;
-        }
+        print_types(rt)?;
     }
     println!(rt; "' \\")
 }
