@@ -166,7 +166,9 @@ def group_size(text: str) -> int:
 def parsed(words: Sequence[str]) -> argparse.Namespace:
     """What the words ask for; the program ends here where they ask for help or are wrong."""
     parser = argument_parser()
-    asked = parser.parse_args(words)
+    end = words.index("--") if "--" in words else len(words)
+    asked = parser.parse_intermixed_args(words[:end])
+    asked.tiles += words[end + 1:]
     if asked.plan is not None and asked.output is not None:
         parser.error("--plan and --output exclude one another: a plan writes FOLDER/merged.city.jsonl")
     if asked.plan == "" or asked.output == "":
@@ -387,8 +389,9 @@ class Merge:
         return len(self.tiles) or len(self.parts)
 
     def __str__(self) -> str:
-        tiles = f"{shown(self.first())} to {shown(self.last())}"
-        return f"the merge of the tiles {tiles}" if self.first() != self.last() else f"the merge of {shown(self.first())}"
+        if self.first() == self.last():
+            return f"the merge of {shown(self.first())}"
+        return f"the merge of the tiles {shown(self.first())} to {shown(self.last())}"
 
     def first(self) -> str:
         return self.tiles[0] if self.tiles else self.parts[0].first()
@@ -548,6 +551,7 @@ class Crew:
         run.said += said
         if not said:
             selector.unregister(run.process.stderr)
+            run.process.stderr.close()
             if run.process.wait() < 0 and self.killed is None:
                 self.killed = run
                 self.end()
@@ -657,9 +661,9 @@ def output_to(path: Optional[str], tiles: Sequence[str]) -> Iterator[int]:
 
 # Plans
 
-MAKEFILE = r"""# Written by {name} {version}: {tiles} tiles, {merges} merges. `make -jN` here merges N groups at a time and writes
-# {last}. A file is written under another name and put in place once it is whole, so that `make`,
-# where it was broken off, goes on with what is missing. What is told of a tile is told by its name.
+MAKEFILE = r"""# Written by {name} {version}: {tiles} tiles, {merges} merges. `make -jN` here merges N groups at a time
+# and writes {last}. A file is written under another name and put in place once it is whole, so
+# that `make`, where it was broken off, goes on with what is missing. What is told of a tile is told by its name.
 # Where all nodes of a cluster see this folder and the tiles, Slurm runs each merge as a job step of its own:
 #     make -j200 SHELL=srun .SHELLFLAGS='--quiet --ntasks=1 sh -c'
 

@@ -35,7 +35,8 @@ def option_lines(action: argparse.Action) -> list[str]:
 
 
 def table_lines(rows: tuple) -> list[str]:
-    return [line for row in rows for line in (".TP", "\\fB%s\\fR" % row.split("  ", 1)[0], escaped(row.split("  ", 1)[1]))]
+    cells = [row.split("  ", 1) for row in rows]
+    return [line for name, text in cells for line in (".TP", f"\\fB{name}\\fR", escaped(text))]
 
 
 def page() -> list[str]:

@@ -147,6 +147,8 @@ class Streams(InFolder):
             ended = many("--null", *words, names=names, end="\0")
             self.assertEqual((0, ""), (ended.status, ended.errors))
             self.assertEqual(wanted_lines, sorted(ended.out.splitlines(keepends=True)[1:]))
+        self.assertEqual(3, many("a b", "--in-turn", "it's", "--", "--least").out.count("CityJSONFeature"))
+        self.assertEqual(3, many("--", "-b", "-", "--least").out.count("CityJSONFeature"))
         self.assertEqual(0, many("--null", "--plan=a plan's $(folder)", names=names, end="\0").status)
         subprocess.run(["make", "-s", "-j4"], cwd="a plan's $(folder)", check=True)
         merged = self.read("a plan's $(folder)/merged.city.jsonl")
