@@ -44,14 +44,20 @@ HasOtherMembers value =
 abbrev pub no_steps : Triple
 no_steps = triple (pos 0) (pos 0) (pos 0)
 
--- a letter, a digit, a plus or another byte of ASCII that stands for itself in a text
+abbrev plus : ℕ
+plus = 43
+
+abbrev small_z : ℕ
+small_z = 122
+
+-- a letter, a digit, a plus or another byte between these in ASCII: it stands for itself in a text
 abbrev pub IsLetter : ℕ → Type 0
-IsLetter c = (43 ≤ c) × (c ≤ 122) × (c ≢ backslash)
+IsLetter c = (plus ≤ c) × (c ≤ small_z) × (c ≢ backslash)
 
 abbrev pub AreLetters : List ℕ → Type 0
 AreLetters [] = Unit {0}
 AreLetters (c ∷ cs) = IsLetter c × AreLetters cs
 
--- the text that would be written for some vertices in range
+-- the text that is written for some vertices in range
 abbrev pub IsVerticesText : List ℕ → Type 0
 IsVerticesText text = (ps : List Triple) × (text ≡ compact (vertices_tree ps)) × All IsInRange ps

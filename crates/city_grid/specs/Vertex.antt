@@ -42,13 +42,13 @@ abbrev pub IsSameOrLarge : ℤ → ℤ → Type 0
 IsSameOrLarge z read =
     (read ≡ z) ⊎ ((most_steps < unsigned_abs read) × (most_steps < unsigned_abs z))
 
--- a number in range that is written here as it would be printed
+-- a number in range, as it is written, from one place of a text up to another
 abbrev pub IsShortNumber : List ℕ → ℕ → ℕ → Type 0
 IsShortNumber text at end = (n : ℕ) × (slice_range text at end ≡ decimal n) × (n ≤ most_steps)
 
 abbrev pub IsShortInteger : List ℕ → ℕ → ℕ → Type 0
 IsShortInteger text at end = (z : ℤ) × (slice_range text at end ≡ signed_decimal z) × (unsigned_abs z ≤ most_steps)
 
--- the text that would be written for some vertex in range
+-- the text that is written for some vertex in range, from one place of a text up to another
 abbrev pub IsVertexText : List ℕ → ℕ → ℕ → Type 0
 IsVertexText text at end = (p : Triple) × (slice_range text at end ≡ compact (vertex_tree p)) × IsInRange p

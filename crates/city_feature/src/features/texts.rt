@@ -9,8 +9,8 @@ use city_grid::{Vertex, append_vertex, byte_is, vertex_at, vertex_end};
 use city_json::Line;
 use std::alloc::{AllocError, Global};
 
-/// How long the text of a vertex and the comma after it are, but for short ones.
-const LEAST_LEN: usize = 20;
+/// How many bytes the text of a vertex and a comma have mostly at least.
+const COMMON_LEN: usize = 20;
 
 #[inline(always)]
 fn push_vertex(vertex: Vertex, to: &mut Vec<Vertex>) -> Option<()>
@@ -28,7 +28,7 @@ pub fn vertices_of(alloc: Global, text: &[u8]) -> Option<Vec<Vertex>>
     ensures text { IfSome result (λ vertices. text.now ≡ compact (vertices_tree vertices.items)) }
     ensures range { IfSome result (λ vertices. All IsInRange vertices.items) }
 {
-    let mut vertices = Vec::with_capacity(alloc, text.len() / LEAST_LEN).ok()?;
+    let mut vertices = Vec::with_capacity(alloc, text.len() / COMMON_LEN).ok()?;
     if text == b"[]".as_slice() {
         return Some(vertices);
     }

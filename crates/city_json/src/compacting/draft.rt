@@ -7,7 +7,7 @@ use super::names::Names;
 use crate::line::Line;
 use std::alloc::Global;
 
-/// How many bytes are copied at once where few are to be copied.
+/// At most so many bytes are few, and are copied by one move of as many.
 const SHORT: usize = 16;
 
 /// What is written so far: the line, and after it the text from `from` on, which is still to be copied. Beside it
@@ -67,7 +67,7 @@ pub(super) fn copy_to<'a>(
     Some(())
 }
 
-/// Appends a few bytes: sixteen are copied, which is quick, and those that are too many left out again.
+/// Appends a few bytes: [`SHORT`] bytes are copied, and those after `at` left out again.
 #[inline(always)]
 fn append_short(text: &[u8], from: usize, at: usize, line: &mut Line) -> Option<()>
     requires order { from ≤ at }

@@ -11,7 +11,7 @@ use crate::reading::names::{MOST_COMPARED, are_apart_when_sorted};
 use std::alloc::Global;
 use std::marker::Model;
 
-/// How many names the open objects of most small features have.
+/// Most features have no more names in objects that are open at once.
 const COMMON_NAMES: usize = 16;
 
 /// The names of the members of the open objects, in their order.

@@ -16,7 +16,7 @@ use crate::line::Line;
 use crate::reading::depth::MOST_DEPTH;
 use std::alloc::Global;
 
-/// How many members most features have at most.
+/// Most features have no more members.
 const COMMON_PARTS: usize = 8;
 
 /// Where a member lies in the compact text of an object, in bytes from its beginning: its name from `at` on, a colon

@@ -11,7 +11,7 @@ use crate::reading::plain::plain_len;
 use crate::text::Str;
 use std::alloc::Global;
 
-/// Most strings with an escape are shorter.
+/// Most texts with an escape are no longer.
 const COMMON_LEN: usize = 64;
 
 /// What a run of bytes that stand for themselves ends at.

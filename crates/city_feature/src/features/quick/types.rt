@@ -73,7 +73,7 @@ fn type_of(alloc: Global, line: &[u8], parts: &[Part]) -> Option<Json>
     Some(value)
 }
 
-/// What stands in a text after these first bytes.
+/// What stands in a text after these first bytes. None: it does not begin with them.
 fn after_front<'a>(text: &'a [u8], front: &[u8]) -> Option<&'a [u8]>
     ensures { IfSome result (λ rest. text.now ≡ front.now ++ rest.now) }
 {
@@ -84,7 +84,7 @@ fn after_front<'a>(text: &'a [u8], front: &[u8]) -> Option<&'a [u8]>
     }
 }
 
-/// Whether the byte is a letter, a digit or a plus, as the names of types have them.
+/// Whether the byte is a letter, a digit or a plus: the names of most types have no others.
 #[inline(always)]
 fn is_letter(byte: u8) -> bool
     ensures { IsTrue result → IsLetter byte }
@@ -116,7 +116,7 @@ fn letters_of(text: &[u8]) -> Option<&[u8]>
     Some(&text[..end])
 }
 
-/// The same where the city object stands first among the objects, and its type first in it.
+/// The text of that type, where the city object stands first among the objects and its type first in it.
 fn first_type<'a>(line: &'a [u8], parts: &[Part]) -> Option<&'a [u8]>
     ensures { IfSome result (λ name. (all : MemberTrees) → IsLine line.now parts.now all
         → (id : List ℕ) → first_named (codes "id") all ≡ Some (string id)
@@ -134,19 +134,13 @@ fn first_type<'a>(line: &'a [u8], parts: &[Part]) -> Option<&'a [u8]>
 }
 
 /// Whether the name is one of the types.
-fn is_listed(types: &Types, name: &[u8]) -> bool
+fn is_one_of(types: &Types, name: &[u8]) -> bool
     ensures { IsTrue result ↔ Contains types.now name.now }
 {
     types
         .items()
         .iter()
         .any(|each| each.as_str().as_bytes() == name)
-}
-
-fn is_one_of(types: &Types, name: &str) -> bool
-    ensures { IsTrue result ↔ Contains types.now name.now }
-{
-    types.items().iter().any(|each| each.as_str() == name)
 }
 
 /// Whether the feature of a line has one of the types, where there are any. None says nothing of it.
@@ -164,11 +158,11 @@ pub fn has_given_type(
         return Some(true);
     };
     if let Some(name) = first_type(line, parts) {
-        return Some(is_listed(types, name));
+        return Some(is_one_of(types, name));
     }
     let value = type_of(alloc, line, parts)?;
     let Json::Text(name) = &value else {
         return None;
     };
-    Some(is_one_of(types, name.as_str()))
+    Some(is_one_of(types, name.as_str().as_bytes()))
 }

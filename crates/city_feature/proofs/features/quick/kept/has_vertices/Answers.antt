@@ -3,7 +3,7 @@ use Rattle.city_json.specs.Compact.{compact}
 use Rattle.city_feature.specs.Feature.{vertices_tree}
 use Rattle.city_feature.proofs.features.QuickLines.{feature_at}
 use Rattle.city_feature.proofs.features.QuickMoves.{kept}
-use Rattle.city_feature.proofs.features.quick.has_vertices.Goals as goal
+use Rattle.city_feature.proofs.features.quick.kept.has_vertices.Goals as goal
 
 pub returns : goal.returns
 returns c = λ yes.

@@ -1,5 +1,5 @@
 use Rattle.city_feature.proofs.features.QuickMoves.{kept_there}
-use Rattle.city_feature.proofs.features.quick.kept_line.Goals as goal
+use Rattle.city_feature.proofs.features.quick.kept.kept_line.Goals as goal
 
 pub returns : goal.returns
 returns c =

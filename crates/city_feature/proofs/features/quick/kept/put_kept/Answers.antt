@@ -1,6 +1,6 @@
 use Rattle.std.proofs.Common.{Some, None, sym, refl, append-nil}
 use Rattle.city_feature.proofs.features.QuickMoves.{chosen_anywhere, not_both}
-use Rattle.city_feature.proofs.features.quick.put_kept.Goals as goal
+use Rattle.city_feature.proofs.features.quick.kept.put_kept.Goals as goal
 
 pub returns-then-not-selects_of-clause-some : goal.returns-then-not-selects_of-clause-some
 returns-then-not-selects_of-clause-some c =
