@@ -6,3 +6,4 @@ pub mod QuickLines
 pub mod TextVertices
 pub mod QuickTypes
 pub mod QuickMoves
+pub mod FirstTypes

@@ -1,5 +1,6 @@
 -- What is found on the compact text of a feature's line, whose members lie in known parts.
-use Rattle.std.specs.Prelude.{◌≡◌, ◌<◌, ℕ, List, length, get_or, slice_range, codes, pos}
+use Rattle.std.specs.Prelude.{◌≡◌, ◌≢◌, ◌<◌, ◌≤◌, ℕ, List, [], ◌∷◌, length, get_or, slice_range, codes, pos, All}
+use Rattle.city_json.specs.Bytes.{backslash}
 use Rattle.city_json.specs.Compact.{compact}
 use Rattle.city_json.specs.Fits.{HasDistinctNames}
 use Rattle.city_json.specs.Members.{member_of}
@@ -7,8 +8,9 @@ use Rattle.city_json.specs.Parts.{AreParts, with_value}
 use Rattle.city_json.specs.Tree.{Tree, MemberTrees, object}
 use Rattle.city_json.specs.Writable.{IsWritable}
 use Rattle.city_json.specs.declared.compacting.parts.Part.{Part}
-use Rattle.city_grid.specs.Axes.{Triple, triple}
+use Rattle.city_grid.specs.Axes.{Triple, triple, IsInRange}
 use Rattle.city_feature.specs.Changes.{with_member}
+use Rattle.city_feature.specs.Feature.{vertices_tree}
 use Rattle.city_feature.specs.Shapes.{IsObject, IsText, IsThere, Says}
 
 -- one of the parts, where this text stands up to the value
@@ -41,3 +43,21 @@ HasOtherMembers value =
 -- the shift after which all vertices stand where they stood
 abbrev pub no_steps : Triple
 no_steps = triple (pos 0) (pos 0) (pos 0)
+
+abbrev plus : ℕ
+plus = 43
+
+abbrev small_z : ℕ
+small_z = 122
+
+-- a letter, a digit, a plus or another byte between these in ASCII: it stands for itself in a text
+abbrev pub IsLetter : ℕ → Type 0
+IsLetter c = (plus ≤ c) × (c ≤ small_z) × (c ≢ backslash)
+
+abbrev pub AreLetters : List ℕ → Type 0
+AreLetters [] = Unit {0}
+AreLetters (c ∷ cs) = IsLetter c × AreLetters cs
+
+-- the text that is written for some vertices in range
+abbrev pub IsVerticesText : List ℕ → Type 0
+IsVerticesText text = (ps : List Triple) × (text ≡ compact (vertices_tree ps)) × All IsInRange ps

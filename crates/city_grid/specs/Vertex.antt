@@ -1,6 +1,7 @@
 -- Vertices (CityJSON 2.0, Transform Object): arrays of three whole numbers of steps.
-use Rattle.std.specs.Prelude.{◌≡◌, ◌≢◌, ◌⊎◌, ◌<◌, ℕ, ℤ, unsigned_abs, List, []}
-use Rattle.std.specs.Fmt.{signed_decimal}
+use Rattle.std.specs.Prelude.{◌≡◌, ◌≢◌, ◌⊎◌, ◌<◌, ◌≤◌, ℕ, ℤ, unsigned_abs, List, [], slice_range}
+use Rattle.std.specs.Fmt.{decimal, signed_decimal}
+use Rattle.city_json.specs.Compact.{compact}
 use Rattle.std.specs.Str.Parse.{signed_digits_value}
 use Rattle.city_json.specs.declared.fault.Fault.{Fault}
 use Rattle.city_json.specs.declared.fault.Fault.TheVariants.{VertexShape, VertexNotInteger, VertexRange}
@@ -40,3 +41,14 @@ IsCapped value read = (read ≡ value) ⊎ ((most_steps < read) × (most_steps <
 abbrev pub IsSameOrLarge : ℤ → ℤ → Type 0
 IsSameOrLarge z read =
     (read ≡ z) ⊎ ((most_steps < unsigned_abs read) × (most_steps < unsigned_abs z))
+
+-- a number in range, as it is written, from one place of a text up to another
+abbrev pub IsShortNumber : List ℕ → ℕ → ℕ → Type 0
+IsShortNumber text at end = (n : ℕ) × (slice_range text at end ≡ decimal n) × (n ≤ most_steps)
+
+abbrev pub IsShortInteger : List ℕ → ℕ → ℕ → Type 0
+IsShortInteger text at end = (z : ℤ) × (slice_range text at end ≡ signed_decimal z) × (unsigned_abs z ≤ most_steps)
+
+-- the text that is written for some vertex in range, from one place of a text up to another
+abbrev pub IsVertexText : List ℕ → ℕ → ℕ → Type 0
+IsVertexText text at end = (p : Triple) × (slice_range text at end ≡ compact (vertex_tree p)) × IsInRange p

@@ -608,11 +608,23 @@ pub byte_goes : (d d2 r r2 p c ups_c downs_c : ℕ) (z z2 : Bool) (w : List ℕ)
 byte_goes d d2 r r2 p c ups_c downs_c z z2 w place some stands fine once ups_is downs_is fits goes room zeroed given =
     byte_step d d2 r r2 p z w place some c stands fine once (omega (arith, ups_is, fits)) (omega (arith, ups_is, downs_is, goes)) (omega (arith, ups_is, downs_is, room)) (subst (λ b. Closes d2 r2 (stage_of c b) w) zeroed given)
 
-pub no_up : (c : ℕ) → c ≢ open_bracket → up c ≡ 0
-no_up c other = cond-false (c == open_bracket) 1 0 (ne_eqb c open_bracket other)
+-- a comma or a bracket
+pub mark_goes : (d d2 r r2 p c mark ups_c downs_c : ℕ) (z : Bool) (w : List ℕ) → c ≡ mark → is_place p ≡ true → 0 < d → is_place mark ≡ true → is_wrong p mark ≡ false → is_ascii_digit mark ≡ false → (mark == digit_zero) ≡ false → up mark ≡ ups_c → down mark ≡ downs_c → ups_c ≤ r → d2 + downs_c ≡ d + ups_c → r2 + ups_c ≡ r + downs_c
+    → Closes d2 r2 (stage_of c false) w → Closes d r (stage_of p z) (c ∷ w)
+mark_goes d d2 r r2 p c mark ups_c downs_c z w is place some stands fine clear other ups_is downs_is fits goes room given =
+    byte_goes d d2 r r2 p c ups_c downs_c z false w place some (ap is_place is ∙ stands) (ap (is_wrong p) is ∙ fine) (ap (λ k. z && is_ascii_digit k) is ∙ ap (λ b. z && b) clear ∙ and_false z) (ap up is ∙ ups_is) (ap down is ∙ downs_is) fits goes room
+    (sym (ap (begins_zero p) is ∙ ap (λ b. b && ((p == open_bracket) || (p == comma))) other)) given
 
-pub no_down : (c : ℕ) → c ≢ close_bracket → down c ≡ 0
-no_down c other = cond-false (c == close_bracket) 1 0 (ne_eqb c close_bracket other)
+-- a digit
+pub digit_place : (c : ℕ) → is_ascii_digit c ≡ true → is_place c ≡ true
+digit_place c is = ap (λ b. b || ((c == comma) || ((c == open_bracket) || (c == close_bracket)))) is
+
+pub digit_goes : (d r p c : ℕ) (z z2 : Bool) (w : List ℕ) → is_ascii_digit c ≡ true → is_place p ≡ true → 0 < d → is_wrong p c ≡ false → z ≡ false → z2 ≡ begins_zero p c
+    → Closes d r (stage_of c z2) w → Closes d r (stage_of p z) (c ∷ w)
+digit_goes d r p c z z2 w digit place some fine once zeroed given =
+    let range : (48 ≤ c) × (c ≤ 57) = grind (arith, nat_tests) in
+    byte_goes d d r r p c 0 0 z z2 w place some (digit_place c digit) fine (ap (λ b. b && is_ascii_digit c) once)
+    (cond-false (c == open_bracket) 1 0 (no_mark c open_bracket range.0 range.1 (inr (omega arith)))) (cond-false (c == close_bracket) 1 0 (no_mark c close_bracket range.0 range.1 (inr (omega arith)))) (omega arith) (omega arith) (omega arith) zeroed given
 
 pub two_runs : (text further : List ℕ) (at i end : ℕ) → at ≤ i → i ≤ end → slice_range text at i ++ (slice_range text i end ++ further) ≡ slice_range text at end ++ further
 two_runs text further at i end first second = sym (append_assoc (slice_range text at i) (slice_range text i end) further) ∙ ap (λ l. l ++ further) (sym (slice_more text at i end first second))

@@ -156,6 +156,44 @@ fn a_line_that_is_not_moved_is_copied(rt: HostRuntime) -> Result<(), Fail> {
     Ok(())
 }
 
+/// Whether the area is asked for or not, and of numbers of each length.
+#[test]
+fn vertices_of_any_size_are_kept(rt: HostRuntime) -> Result<(), Fail> {
+    let alloc = rt.alloc();
+    for number in [
+        "0",
+        "7",
+        "-8",
+        "12345678",
+        "-123456789",
+        "999999999999999",
+        "-1000000000000000",
+        "9007199254740991",
+        "-9007199254740991",
+    ] {
+        for others in ["", ",[1,2,3]", ",[10000000,20000000,30000000],[-4,-5,-6]"] {
+            let line = format!(in alloc;
+                r#"{{"type":"CityJSONFeature","id":"a","CityObjects":{{}},"vertices":[[{number},2,3],[1,{number},3],[1,2,{number}]{others}]}}"#
+            )?;
+            for area in [None, area("0,0,100,100")] {
+                let choice = Choice::new(None, area, false);
+                let mut text = Line::new(alloc);
+                let chosen = feature_line(
+                    alloc,
+                    line.as_str().as_bytes(),
+                    Shift::zero(),
+                    &choice,
+                    &mut text,
+                );
+                assert_eq!(rt; chosen, Ok(true), "{line}");
+                assert_eq!(rt; text.items(), line.as_str().as_bytes());
+            }
+            assert!(rt; takes_memory_over(alloc, line.as_str(), "")?, "{line}");
+        }
+    }
+    Ok(())
+}
+
 #[test]
 fn a_number_that_is_written_otherwise_takes_the_value(rt: HostRuntime) -> Result<(), Fail> {
     let alloc = rt.alloc();

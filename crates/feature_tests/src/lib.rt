@@ -11,6 +11,8 @@ mod common_lines;
 #[cfg(test)]
 mod features;
 #[cfg(test)]
+mod first_types;
+#[cfg(test)]
 mod generated;
 #[cfg(test)]
 mod headers;

@@ -7,6 +7,8 @@ mod decimals;
 #[cfg(test)]
 mod shifts;
 #[cfg(test)]
+mod texts;
+#[cfg(test)]
 mod transforms;
 #[cfg(test)]
 mod vertices;

@@ -26,7 +26,7 @@ use Rattle.city_feature.specs.Feature.{AreReadAgain, HasFeatureShape, IsFeature,
 use Rattle.city_feature.specs.Quick.{HasOtherMembers, IsLine, IsPartNamed, IsPlaceOf}
 use Rattle.city_feature.specs.Shapes.{IsArray, IsObject, IsText, IsThere}
 
-equal_names : (other name : List ℕ) → other ≡ name → bytes_eq other name ≡ true
+pub equal_names : (other name : List ℕ) → other ≡ name → bytes_eq other name ≡ true
 equal_names other name same = (bytes_eq-Decides other name).1 same
 
 other_names : (other name : List ℕ) → other ≢ name → bytes_eq other name ≡ false
@@ -117,7 +117,7 @@ first_byte : (line : List ℕ) (from to c mark : ℕ) (rest : List ℕ) → from
 first_byte line from to c mark rest within marked is =
     sym (front_of (to - from) (drop from line) c rest is) ∙ ap (λ l. get_or l 0 0) (drop_one line from mark within marked)
 
-number_begins : (text : List ℕ) → IsNumber text → (c : ℕ) × (rest : List ℕ) × (text ≡ c ∷ rest) × (45 ≤ c) × (c ≤ 57)
+pub number_begins : (text : List ℕ) → IsNumber text → (c : ℕ) × (rest : List ℕ) × (text ≡ c ∷ rest) × (45 ≤ c) × (c ≤ 57)
 number_begins text n = told n.minus_sign n.whole n.is_minus n.is_whole n.spelled
   where
     told : (m w : List ℕ) → IsMinus m → IsWhole w → text ≡ m ++ (w ++ (n.fraction ++ n.exponent)) → (c : ℕ) × (rest : List ℕ) × (text ≡ c ∷ rest) × (45 ≤ c) × (c ≤ 57)

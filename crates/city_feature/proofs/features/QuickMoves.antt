@@ -1,5 +1,5 @@
 -- The line of a feature once its vertices are moved.
-use Rattle.std.proofs.Common.{◌≡◌, ◌∙◌, ◌++◌, ◌-◌, ◌≤◌, ◌↔◌, ℕ, pos, ◌+ℤ◌, sym, ap, refl, subst, Bool, true, false, List, [], ◌∷◌, take, drop, slice_range, All, Option, Some, None, codes, arith, is_some, unwrap_or, IsTrue, IfSome}
+use Rattle.std.proofs.Common.{◌≡◌, ◌∙◌, ◌++◌, ◌-◌, ◌≤◌, ◌↔◌, ℕ, pos, ◌+ℤ◌, sym, ap, refl, subst, Bool, true, false, List, [], ◌∷◌, take, drop, slice_range, All, Option, Some, None, codes, arith, is_some, unwrap_or, IsTrue, IfSome, MatchBool}
 use Rattle.std.proofs.Math.IntN.{+ℤ_idr}
 use Rattle.std.proofs.lemmas.List.{append-nil, drop-drop, take-append-drop}
 use Rattle.city_json.proofs.SpelledWritable.{spelled_writable}
@@ -8,11 +8,13 @@ use Rattle.city_json.specs.Fits.{Fits}
 use Rattle.city_json.specs.Grammar.{Spells}
 use Rattle.city_json.specs.Members.{first_named}
 use Rattle.city_json.specs.Parts.{AreParts, with_value}
-use Rattle.city_json.specs.Tree.{MemberTrees, object}
+use Rattle.city_json.specs.Tree.{Tree, MemberTrees, object}
 use Rattle.city_json.specs.declared.compacting.parts.Part.{Part}
 use Rattle.city_grid.specs.Axes.{Triple, triple, IsInRange, sum}
 use Rattle.city_feature.proofs.features.QuickTypes.{moved_types}
-use Rattle.city_feature.specs.Choice.{HasType}
+use Rattle.city_feature.specs.Area.{Meets}
+use Rattle.city_feature.specs.Choice.{HasType, IsChosen}
+use Rattle.city_feature.specs.declared.choices.Choice.{Choice}
 use Rattle.city_feature.specs.Feature.{FeatureValue, IsFeature, moved, moved_vertices, vertices_tree}
 use Rattle.city_feature.specs.FeatureLine.{GivesFeature, SpellsMoved}
 use Rattle.city_feature.specs.Quick.{IsLine, IsPlaceOf, no_steps}
@@ -71,3 +73,27 @@ pub gives_none : (IsWanted : FeatureValue → Type 0) (k : Triple) (bytes : List
 gives_none IsWanted k bytes there qs passed old text spells same also unwanted stays =
     let unwanted_there : ¬ IsWanted there = subst (λ vs. ¬ IsWanted (record { value = there.value; vertices = vs })) (also ∙ sym same) unwanted in
     (None, (there, spells, unwanted_there), refl, stays ∙ sym (append-nil old))
+
+-- where no area is asked for, the vertices choose nothing
+pub chosen_anywhere : (choice : Choice) (value : Tree) (ps qs : List Triple) → choice.area ≡ None → IsChosen choice (record { value = value; vertices = ps }) → IsChosen choice (record { value = value; vertices = qs })
+chosen_anywhere choice value ps qs none chosen =
+    subst (λ a. MatchBool choice.exclude (¬ (IfSome choice.types (λ types. HasType types value) × IfSome a (λ area. Meets area qs))) (IfSome choice.types (λ types. HasType types value) × IfSome a (λ area. Meets area qs))) (sym none)
+    (subst (λ a. MatchBool choice.exclude (¬ (IfSome choice.types (λ types. HasType types value) × IfSome a (λ area. Meets area ps))) (IfSome choice.types (λ types. HasType types value) × IfSome a (λ area. Meets area ps))) none chosen)
+
+-- a line whose vertices stay
+pub kept_there : (bytes line items : List ℕ) (parts passed : List Part) (members : MemberTrees) (part : Part) (ps : List Triple) (types : Option (List (List ℕ))) (has : Bool) → Spells bytes (object members) → Fits (object members) → line ≡ compact (object members) → AreParts 1 parts members → items ≡ line → passed ≡ parts
+    → (IsLine items passed members → IsFeature (object members) ps × IsPlaceOf (codes "vertices") members items part)
+    → (IsLine items passed members → IsThere IsText (first_named (codes "id") members) → IsTrue has ↔ IfSome types (λ names. HasType names (object members)))
+    → All IsInRange ps → with_value items part (compact (vertices_tree ps)) ≡ items
+    → (there : FeatureValue) × SpellsMoved no_steps bytes there × (compact there.value ≡ line) × (IsTrue has ↔ IfSome types (λ names. HasType names there.value))
+kept_there bytes line items parts passed members part ps types has spells fits written are_parts same_line same_parts placed typed range stays =
+    let stay : ps ≡ moved_vertices ps no_steps = sym (unmoved ps) in
+    let (there, moved_is, vertices, text, typed_there) = moved_there bytes line items parts passed members part ps ps no_steps types has spells fits written are_parts same_line same_parts placed typed stay range in
+    (there, moved_is, text ∙ kept_line line items part ps ps no_steps same_line stays stay refl, typed_there)
+
+pub still_given : (IsWanted : FeatureValue → Type 0) (shift : Triple) (bytes old before new : List ℕ) (found : Option Bool) → shift ≡ no_steps → before ≡ old
+    → IfSome found (λ is_chosen. (given : Option (List ℕ)) × GivesFeature IsWanted no_steps bytes given × (is_some given ≡ is_chosen) × (new ≡ before ++ unwrap_or given []))
+    → IfSome found (λ is_chosen. (given : Option (List ℕ)) × GivesFeature IsWanted shift bytes given × (is_some given ≡ is_chosen) × (new ≡ old ++ unwrap_or given []))
+still_given IsWanted shift bytes old before new None still same told = tt
+still_given IsWanted shift bytes old before new (Some b) still same (given, gives, is, put) =
+    (given, subst (λ k. GivesFeature IsWanted k bytes given) (sym still) gives, is, put ∙ ap (λ l. l ++ unwrap_or given []) same)

@@ -11,6 +11,7 @@ ghost use Rattle.city_feature.specs.Feature.{FeatureValue, IsFeature, moved_vert
 ghost use Rattle.city_feature.specs.FeatureLine.{GivesFeature, SpellsMoved};
 ghost use Rattle.city_feature.specs.Quick.{HasOtherMembers, IsLine, IsPartNamed, IsPlaceOf, no_steps};
 
+mod kept;
 mod types;
 
 use crate::choices::Choice;
@@ -20,6 +21,7 @@ use crate::features::moving::moved_all;
 use crate::features::texts::{append_vertices, vertices_of};
 use city_grid::{Shift, Vertex, byte_is};
 use city_json::{Line, Part, compact_parts};
+use kept::put_kept;
 use std::alloc::Global;
 use std::mem::swap;
 use types::has_given_type;
@@ -249,6 +251,11 @@ pub fn quick_line(
     ensures none { IfNone result (text.new ≡ text.old) }
 {
     let spare = spare_of(alloc, text);
+    if is_still(shift) {
+        if choice.area.is_none() {
+            return put_kept(alloc, bytes, choice, spare, text);
+        }
+    }
     let moved = moved_line(alloc, bytes, shift, &choice.types, spare)?;
     if !selects_of(choice, moved.has_type, &moved.vertices) {
         return Some(false);

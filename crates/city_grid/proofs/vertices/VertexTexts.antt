@@ -12,7 +12,7 @@ use Rattle.city_json.proofs.Places.{slice_more, slice_one}
 use Rattle.city_json.specs.Bytes.{comma, minus, open_bracket, close_bracket}
 use Rattle.city_json.specs.Compact.{compact}
 use Rattle.city_grid.specs.Axes.{Triple, most_steps}
-use Rattle.city_grid.specs.Vertex.{vertex_tree}
+use Rattle.city_grid.specs.Vertex.{vertex_tree, IsShortNumber, IsShortInteger}
 use Rattle.city_grid.proofs.decimals.DigitValues.{digit_byte, value_after-append, all_digits-append}
 
 numerals : IsNumeralModel (AllDigits 10) (digits_value 10)
@@ -97,3 +97,30 @@ put_text a0 a1 a2 a3 a4 a5 a6 a7 p x y z same_x same_y same_z e7 e6 e5 e4 e3 e2 
 
 pub short_decimal : (n : ℕ) → n ≤ most_steps → length (decimal n) ≤ 16
 short_decimal n small = length-decimal-le 16 n (omega arith) (omega arith) (omega arith)
+
+-- numbers that are only looked at
+pub short_number : (text : List ℕ) (at end : ℕ) → at < end → end ≤ length text → end ≤ at + 15 → get_or text at 0 ≢ 48 → AllDigits 10 (slice_range text at end) → IsShortNumber text at end
+short_number text at end onward within few first all =
+    let value = digits_value 10 (slice_range text at end) in
+    let small : value < 10 ^ 15 = few_digits text at end value 15 within few all refl in
+    (value, digits_text text at end value onward within first all refl (omega (arith, small)), omega (arith, small))
+
+pub short_zero : (text : List ℕ) (at end : ℕ) → at < end → end ≤ at + 1 → end ≤ length text → get_or text at 0 ≡ 48 → IsShortNumber text at end
+short_zero text at end onward one within first =
+    let value = digits_value 10 (slice_range text at end) in
+    let small : value < 10 ^ 15 = few_digits text at end value 15 within (omega arith) (zero_digits text at end onward one within first) refl in
+    (value, zero_text text at end value onward one within first refl, omega (arith, small))
+  where
+    zero_digits : (text : List ℕ) (at end : ℕ) → at < end → end ≤ at + 1 → end ≤ length text → get_or text at 0 ≡ 48 → AllDigits 10 (slice_range text at end)
+    zero_digits text at end onward one within first =
+        let ends : end ≡ at + 1 = omega arith in
+        subst (AllDigits 10) (sym (ap (λ e. slice_range text at e) ends ∙ slice_one text at 48 (omega arith) first)) (omega arith, tt)
+
+pub short_negative : (text : List ℕ) (at end : ℕ) → at < length text → get_or text at 0 ≡ minus → at + 1 < end → end ≤ length text → get_or text (at + 1) 0 ≢ 48 → IsShortNumber text (at + 1) end → IsShortInteger text at end
+short_negative text at end within is onward last first (zero, written, small) =
+    absurd (first (sym (first_of_slice text (at + 1) end onward last) ∙ ap (λ l. get_or l 0 0) (written ∙ decimal_digit 0 (omega arith))))
+short_negative text at end within is onward last first (suc n, written, small) =
+    (neg_ℤ (pos (suc n)), negative_text text at end (suc n) within is onward written (λ e. absurd (omega (arith, e))), small)
+
+pub short_positive : (text : List ℕ) (at end : ℕ) → IsShortNumber text at end → IsShortInteger text at end
+short_positive text at end (n, written, small) = (pos n, written, small)

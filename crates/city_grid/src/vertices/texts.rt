@@ -1,18 +1,25 @@
 //! Vertices in a compact text: read and written with no tree between them.
-ghost use Rattle.std.specs.Prelude.{◌≡◌, ◌++◌, ◌∷◌, [], ◌^◌, ◌<◌, ◌≤◌, ◌+◌, ◌↔◌, length, drop, slice_range, slice_index, IfSome, OnOk, IsTrue, unsigned_abs};
+ghost use Rattle.std.specs.Prelude.{◌≡◌, ◌++◌, ◌∷◌, [], ◌^◌, ◌<◌, ◌≤◌, ◌+◌, ◌↔◌, length, drop, map, not, slice_range, slice_index, IfSome, OnOk, IsTrue, unsigned_abs};
+ghost use Rattle.std.specs.Char.{is_ascii_digit};
 ghost use Rattle.std.specs.Fmt.{decimal, signed_decimal};
+ghost use Rattle.std.specs.Simd.Lanes.{mask_l};
 ghost use Rattle.std.specs.Str.Parse.{AllDigits, digits_value};
 ghost use Rattle.city_json.specs.Compact.{compact};
 ghost use Rattle.city_grid.specs.Axes.{IsInRange, most_steps};
-ghost use Rattle.city_grid.specs.Vertex.{vertex_tree};
+ghost use Rattle.city_grid.specs.Vertex.{vertex_tree, IsShortNumber, IsShortInteger, IsVertexText};
 
 use crate::vertices::Vertex;
 use city_json::Line;
+use core::dec2flt::read_digits;
 use itoa::write_digits;
 use std::alloc::AllocError;
+use std::simd::prelude::*;
 
 /// How many digits a number has at most that is read here: as many as the largest component.
 const MOST_DIGITS: usize = 16;
+
+/// The largest size of a component.
+const MOST_SIZE: u64 = 9_007_199_254_740_991;
 
 /// How long the text of a vertex and a byte before it is at most, and some bytes more.
 const MOST_LEN: usize = 64;
@@ -46,28 +53,7 @@ pub fn byte_is(text: &[u8], at: usize, byte: u8) -> bool
     at < text.len() && text[at] == byte
 }
 
-#[inline(always)]
-fn is_digit(byte: u8) -> bool
-    ensures { IsTrue result ↔ ((48 ≤ byte) × (byte ≤ 57)) }
-{
-    matches!(byte, b'0'..=b'9')
-}
-
-/// The place up to which digits are read from `at` on.
-#[inline(always)]
-fn digits_limit(text: &[u8], at: usize) -> usize
-    requires { at ≤ length text.now }
-    ensures onward { at ≤ result }
-    ensures within { result ≤ length text.now }
-    ensures few { result ≤ at + 16 }
-{
-    if text.len() - at < MOST_DIGITS {
-        return text.len();
-    }
-    at + MOST_DIGITS
-}
-
-/// The digits from `at` on, the first sixteen of them where there are more.
+/// The digits from `at` on, where there are at most sixteen; else none of them.
 #[inline(always)]
 fn digits_at(text: &[u8], at: usize) -> Digits
     requires { at ≤ length text.now }
@@ -77,12 +63,9 @@ fn digits_at(text: &[u8], at: usize) -> Digits
     ensures digits { AllDigits 10 (slice_range text.now at result.end) }
     ensures value { result.size ≡ digits_value 10 (slice_range text.now at result.end) }
 {
-    let limit = digits_limit(text, at);
-    let mut end = at;
-    let mut size = 0u64;
-    while end < limit && is_digit(text[end]) {
-        size = size * 10 + u64::from(text[end] - b'0');
-        end += 1;
+    let (end, size) = read_digits(text, at, 0);
+    if end - at > MOST_DIGITS {
+        return Digits { size: 0, end: at };
     }
     Digits { size, end }
 }
@@ -165,6 +148,130 @@ pub fn vertex_at(text: &[u8], at: usize) -> Option<PlacedVertex>
         vertex,
         end: z.end + 1,
     })
+}
+
+/// A bit for each byte that is no digit.
+#[inline(always)]
+fn not_digits(bytes: u8x16) -> u64
+    ensures { result ≡ mask_l (map (λ b. not (is_ascii_digit b)) bytes) }
+{
+    (bytes.simd_lt(u8x16::splat(b'0')) | bytes.simd_gt(u8x16::splat(b'9'))).to_bitmask()
+}
+
+/// The end of the digits from `at` on, which are fewer than sixteen, or `at`.
+#[inline(always)]
+fn few_digits_end(text: &[u8], at: usize) -> usize
+    requires { at + 16 ≤ length text.now }
+    ensures onward { at ≤ result }
+    ensures few { result ≤ at + 15 }
+    ensures digits { AllDigits 10 (slice_range text.now at result) }
+{
+    let stops = not_digits(u8x16::from_slice(&text[at..]));
+    if stops == 0 {
+        return at;
+    }
+    let count = stops.trailing_zeros() as usize;
+    if count > 15 {
+        return at;
+    }
+    at + count
+}
+
+/// Where the number at `at` ends, which is in range and has no zero before other digits, or `at`.
+#[inline(always)]
+fn number_end(text: &[u8], at: usize) -> usize
+    requires { at ≤ length text.now }
+    ensures onward { at ≤ result }
+    ensures within { result ≤ length text.now }
+    ensures is { at < result → IsShortNumber text.now at result }
+{
+    if text.len() - at < 16 {
+        return long_number_end(text, at);
+    }
+    let end = few_digits_end(text, at);
+    if end == at {
+        return long_number_end(text, at);
+    }
+    if text[at] == b'0' {
+        if end > at + 1 {
+            return at;
+        }
+        return end;
+    }
+    end
+}
+
+/// The same of a number of more digits, or one near the end of the text.
+#[inline(never)]
+fn long_number_end(text: &[u8], at: usize) -> usize
+    requires { at ≤ length text.now }
+    ensures onward { at ≤ result }
+    ensures within { result ≤ length text.now }
+    ensures is { at < result → IsShortNumber text.now at result }
+{
+    let Some(found) = number_at(text, at) else {
+        return at;
+    };
+    if found.size > MOST_SIZE {
+        return at;
+    }
+    found.end
+}
+
+/// Where the integer at `at` ends, which is written as it would be printed and is in range, or `at`.
+#[inline(always)]
+fn integer_end(text: &[u8], at: usize) -> usize
+    requires { at ≤ length text.now }
+    ensures onward { at ≤ result }
+    ensures within { result ≤ length text.now }
+    ensures is { at < result → IsShortInteger text.now at result }
+{
+    if byte_is(text, at, b'-') {
+        let end = number_end(text, at + 1);
+        if end == at + 1 {
+            return at;
+        }
+        if text[at + 1] == b'0' {
+            return at;
+        }
+        return end;
+    }
+    number_end(text, at)
+}
+
+/// Where the vertex at `at` ends, where it is in the text that would be written for it, or `at`, which says nothing.
+#[inline(always)]
+pub fn vertex_end(text: &[u8], at: usize) -> usize
+    requires { at ≤ length text.now }
+    ensures onward { at ≤ result }
+    ensures within { result ≤ length text.now }
+    ensures is { at < result → IsVertexText text.now at result }
+{
+    if !byte_is(text, at, b'[') {
+        return at;
+    }
+    let x = integer_end(text, at + 1);
+    if x == at + 1 {
+        return at;
+    }
+    if !byte_is(text, x, b',') {
+        return at;
+    }
+    let y = integer_end(text, x + 1);
+    if y == x + 1 {
+        return at;
+    }
+    if !byte_is(text, y, b',') {
+        return at;
+    }
+    let z = integer_end(text, y + 1);
+    if z == y + 1 {
+        return at;
+    }
+    if !byte_is(text, z, b']') {
+        return at;
+    }
+    z + 1
 }
 
 /// Puts a byte before `end`: where it stands.

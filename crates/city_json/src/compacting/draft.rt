@@ -1,11 +1,14 @@
 //! What the pass has written, and how it goes on over white space.
-ghost use Rattle.std.specs.Prelude.{◌≡◌, ◌<◌, ◌≤◌, [], length, drop, IfSome, OnSome};
+ghost use Rattle.std.specs.Prelude.{◌≡◌, ◌<◌, ◌≤◌, ◌+◌, [], length, drop, IfSome, OnSome};
 ghost use Rattle.city_json.specs.Compacting.{shown};
 ghost use Rattle.city_json.specs.Reading.{after_white};
 
 use super::names::Names;
 use crate::line::Line;
 use std::alloc::Global;
+
+/// At most so many bytes are few, and are copied by one move of as many.
+const SHORT: usize = 16;
 
 /// What is written so far: the line, and after it the text from `from` on, which is still to be copied. Beside it
 /// the names of the objects that are open, those of an inner one last.
@@ -34,7 +37,7 @@ pub(super) fn begun<'a>(alloc: Global, line: Line) -> Draft<'a>
 }
 
 /// Copies the text up to `at`, and goes on from `next`.
-#[inline(never)]
+#[inline(always)]
 pub(super) fn copy_to<'a>(
     text: &'a [u8],
     at: usize,
@@ -49,10 +52,37 @@ pub(super) fn copy_to<'a>(
     ensures from { OnSome result (draft.new.from ≡ next) }
     ensures names { OnSome result (draft.new.names ≡ draft.old.names) }
 {
+    let from = draft.from;
+    if at - from <= SHORT {
+        if text.len() - from >= SHORT {
+            append_short(text, from, at, &mut draft.line)?;
+            draft.from = next;
+            return Some(());
+        }
+    }
     if draft.line.append(&text[draft.from..at]).is_err() {
         return None;
     }
     draft.from = next;
+    Some(())
+}
+
+/// Appends a few bytes: [`SHORT`] bytes are copied, and those after `at` left out again.
+#[inline(always)]
+fn append_short(text: &[u8], from: usize, at: usize, line: &mut Line) -> Option<()>
+    requires order { from ≤ at }
+    requires few { at ≤ from + 16 }
+    requires within { from + 16 ≤ length text.now }
+    ensures { OnSome result (line.new ≡ shown line.old text.now from at) }
+{
+    let written = line.items().len();
+    let Some(len) = written.checked_add(at - from) else {
+        return None;
+    };
+    let Ok(_) = line.append(&text[from..from + SHORT]) else {
+        return None;
+    };
+    line.truncate(len);
     Some(())
 }
 
@@ -99,7 +129,7 @@ fn skip_or_end<'a>(text: &'a [u8], at: usize, draft: &mut Draft<'a>) -> usize
 }
 
 /// Leaves out the white space from `at` on: where it ends.
-#[inline(never)]
+#[inline(always)]
 pub(super) fn skip_white<'a>(text: &'a [u8], at: usize, draft: &mut Draft<'a>) -> Option<usize>
     requires copied { draft.old.from ≤ at }
     requires within { at ≤ length text.now }
@@ -120,6 +150,7 @@ pub(super) fn skip_white<'a>(text: &'a [u8], at: usize, draft: &mut Draft<'a>) -
 }
 
 /// The place of the first byte from `at` on that is no white space.
+#[inline(always)]
 fn white_end(text: &[u8], at: usize) -> usize
     requires { at ≤ length text.now }
     ensures onward { at ≤ result }

@@ -11,6 +11,9 @@ use crate::reading::names::{MOST_COMPARED, are_apart_when_sorted};
 use std::alloc::Global;
 use std::marker::Model;
 
+/// Most features have no more names in objects that are open at once.
+const COMMON_NAMES: usize = 16;
+
 /// The names of the members of the open objects, in their order.
 #[derive(Drop)]
 pub(super) struct Names<'a> {
@@ -30,8 +33,11 @@ impl<'a> Names<'a> {
     pub(super) fn new(alloc: Global) -> Names<'a>
         ensures { result ≡ [] }
     {
-        Names {
-            listed: Vec::new(alloc),
+        match Vec::with_capacity(alloc, COMMON_NAMES) {
+            Ok(listed) => Names { listed },
+            Err(_) => Names {
+                listed: Vec::new(alloc),
+            },
         }
     }
 

@@ -16,6 +16,9 @@ use crate::line::Line;
 use crate::reading::depth::MOST_DEPTH;
 use std::alloc::Global;
 
+/// Most features have no more members.
+const COMMON_PARTS: usize = 8;
+
 /// Where a member lies in the compact text of an object, in bytes from its beginning: its name from `at` on, a colon
 /// before `value`, its value from there up to `end`.
 #[derive(Clone, Copy, Debug, PartialEq, Eq)]
@@ -45,7 +48,7 @@ pub fn compact_parts(alloc: Global, text: &[u8], line: Line) -> Option<Compacted
         return None;
     }
     let mut draft = begun(alloc, line);
-    let mut parts = Vec::new(alloc);
+    let mut parts = Vec::with_capacity(alloc, COMMON_PARTS).ok()?;
     let at = skip_white(text, 0, &mut draft)?;
     if at == text.len() || text[at] != b'{' {
         return None;

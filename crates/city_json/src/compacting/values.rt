@@ -126,8 +126,12 @@ fn items<'a>(text: &'a [u8], at: usize, levels: usize, draft: &mut Draft<'a>) ->
 {
     let mut i = at;
     'items: loop {
-        let stop = integer_end(text, i);
-        if i < stop && stop < text.len() {
+        let start = skip(text, i, draft);
+        if start == text.len() {
+            return None;
+        }
+        let stop = integer_end(text, start);
+        if start < stop && stop < text.len() {
             if text[stop] == b',' {
                 i = stop + 1;
                 continue;
@@ -135,10 +139,6 @@ fn items<'a>(text: &'a [u8], at: usize, levels: usize, draft: &mut Draft<'a>) ->
             if text[stop] == b']' {
                 return Some(stop + 1);
             }
-        }
-        let start = skip(text, i, draft);
-        if start == text.len() {
-            return None;
         }
         let end = value(text, start, levels, draft)?;
         let place = skip(text, end, draft);

@@ -182,39 +182,53 @@ fn after_byte(text: &[u8], at: usize, from: Place) -> Option<Place>
 {
     let before = text[at - 1];
     let byte = text[at];
-    if !may_stand(byte) || may_not_follow(before, byte) || repeats_zero(from.zeroed, byte) {
-        return None;
+    if is_digit_byte(byte) {
+        if may_not_follow(before, byte) {
+            return None;
+        }
+        if from.zeroed {
+            return None;
+        }
+        return Some(Place {
+            depth: from.depth,
+            room: from.room,
+            zeroed: begins_with_zero(before, byte),
+        });
     }
-    let zeroed = begins_with_zero(before, byte);
+    if byte == b',' {
+        if may_not_follow(before, b',') {
+            return None;
+        }
+        return Some(Place {
+            depth: from.depth,
+            room: from.room,
+            zeroed: false,
+        });
+    }
     if byte == b'[' {
+        if may_not_follow(before, b'[') {
+            return None;
+        }
         if from.room == 0 {
             return None;
         }
         return Some(Place {
             depth: from.depth + 1,
             room: from.room - 1,
-            zeroed,
+            zeroed: false,
         });
     }
     if byte == b']' {
+        if may_not_follow(before, b']') {
+            return None;
+        }
         return Some(Place {
             depth: from.depth - 1,
             room: from.room + 1,
-            zeroed,
+            zeroed: false,
         });
     }
-    Some(Place {
-        depth: from.depth,
-        room: from.room,
-        zeroed,
-    })
-}
-
-#[inline(always)]
-fn may_stand(byte: u8) -> bool
-    ensures { result ≡ is_place byte }
-{
-    byte.is_ascii_digit() || (byte == b',' || (byte == b'[' || byte == b']'))
+    None
 }
 
 #[inline(always)]
@@ -225,13 +239,6 @@ fn may_not_follow(before: u8, byte: u8) -> bool
         || ((before == b']' && (byte.is_ascii_digit() || byte == b'['))
             || ((before == b',' && (byte == b',' || byte == b']'))
                 || (before.is_ascii_digit() && byte == b'[')))
-}
-
-#[inline(always)]
-fn repeats_zero(zeroed: bool, byte: u8) -> bool
-    ensures { result ≡ (zeroed && is_ascii_digit byte) }
-{
-    zeroed && byte.is_ascii_digit()
 }
 
 #[inline(always)]

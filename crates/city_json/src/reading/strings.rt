@@ -11,6 +11,9 @@ use crate::reading::plain::plain_len;
 use crate::text::Str;
 use std::alloc::Global;
 
+/// Most texts with an escape are no longer.
+const COMMON_LEN: usize = 64;
+
 /// What a run of bytes that stand for themselves ends at.
 #[derive(Clone, Copy)]
 enum End {
@@ -36,7 +39,7 @@ pub(crate) fn string(alloc: Global, bytes: &[u8]) -> Result<(Str, &[u8]), Fault>
 fn escaped_string(alloc: Global, bytes: &[u8]) -> Result<(Str, &[u8]), Fault>
     ensures { Gives (λ p. (p.0, p.1.now)) result (string_at bytes.now) }
 {
-    let mut text = Vec::new(alloc);
+    let mut text = Vec::with_capacity(alloc, COMMON_LEN)?;
     let mut rest = bytes;
     loop {
         let (run, end, after) = split_run(rest);

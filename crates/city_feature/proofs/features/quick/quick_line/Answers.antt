@@ -1,6 +1,6 @@
 use Rattle.std.proofs.Common.{◌∙◌, ◌++◌, ap}
 use Rattle.city_feature.specs.Choice.{IsChosen}
-use Rattle.city_feature.proofs.features.QuickMoves.{gives_moved, gives_none, not_both}
+use Rattle.city_feature.proofs.features.QuickMoves.{gives_moved, gives_none, not_both, still_given}
 use Rattle.city_feature.proofs.features.quick.quick_line.Goals as goal
 
 pub returns-then-not-selects_of-clause-some : goal.returns-then-not-selects_of-clause-some
@@ -14,3 +14,7 @@ returns-clause-some c =
     let moved = c.in_ok-moved.moved in
     let (there, spells, same, written, typed) = c.in_ok-moved.ensures.there in
     gives_moved (IsChosen c.args.choice.now) c.args.shift c.args.bytes.now moved.line moved.part there moved.vertices.items c.deref.result.now c.args.text.now c.in_ok-given.given c.put_after.new.to spells same written c.deref.ensures.value ((c.selects_of.ensures there.value typed).0 c.if-not-selects_of.false) (c.in_ok-given.ensures c.in_ok-moved.ensures.same) (c.in_ok-put_after.ensures.some ∙ ap (λ l. l ++ c.in_ok-given.given) c.spare_of-spare.ensures)
+
+pub returns-then-is_none-clause-some : goal.returns-then-is_none-clause-some
+returns-then-is_none-clause-some c =
+    still_given (IsChosen c.args.choice.now) c.args.shift c.args.bytes.now c.args.text.now c.spare_of-spare.new.text c.put_kept.new.text c.put_kept.result (c.is_still.ensures c.if-is_still.true) c.spare_of-spare.ensures c.put_kept.ensures.some

@@ -1,30 +1,21 @@
-use Rattle.std.proofs.Common.{◌<◌, arith, length}
-use Rattle.city_grid.proofs.vertices.VertexTexts.{digits_more, value_more, few_digits}
+use Rattle.std.proofs.Common.{◌-◌, ◌<◌, ◌^◌, arith, drop, refl, slice_range}
+use Rattle.core.proofs.dec2flt.Rows.{AllDigits-digits_len}
+use Rattle.std.specs.Str.Parse.{AllDigits, digits_value}
+use Rattle.city_grid.proofs.vertices.VertexTexts.{few_digits}
 use Rattle.city_grid.proofs.vertices.texts.digits_at.Goals as goal
 
-pub overflow_mul-size : goal.overflow_mul-size
-overflow_mul-size c =
-    let limit = c.digits_limit-limit.ensures in
-    let is = c.loop-end.invariant in
-    let small = few_digits c.args.text.now c.args.at c.loop-end.end c.loop-end.size 16 (omega arith) (omega arith) is.digits is.value in
-    omega (arith, small)
+pub returns-clause-digits : goal.returns-clause-digits
+returns-clause-digits c =
+    let is = c.read_digits-end.ensures in
+    let end = c.read_digits-end.result.0 in
+    AllDigits-digits_len (drop c.args.at c.args.text.now) (end - c.args.at) (omega (arith, is.end))
 
-pub overflow_add-size : goal.overflow_add-size
-overflow_add-size c =
-    let limit = c.digits_limit-limit.ensures in
-    let is = c.loop-end.invariant in
-    let small = few_digits c.args.text.now c.args.at c.loop-end.end c.loop-end.size 16 (omega arith) (omega arith) is.digits is.value in
-    omega (arith, small, c.from.ensures, (c.is_digit.ensures.0 c.if-is_digit.true).1)
-
-pub loop-end-preserved : goal.loop-end-preserved
-loop-end-preserved c =
-    let limit = c.digits_limit-limit.ensures in
-    let is = c.loop-end.invariant in
-    let digit = c.is_digit.ensures.0 c.if-is_digit.true in
-    let within : c.loop-end.end < length c.args.text.now = omega arith in
-    record {
-      onward = omega arith;
-      within = omega arith;
-      digits = digits_more c.args.text.now c.args.at c.loop-end.end is.onward within digit.0 digit.1 is.digits;
-      value = value_more c.args.text.now c.args.at c.loop-end.end c.loop-end.size _ is.onward within digit.0 digit.1 is.value (omega (arith, c.from.ensures));
-    }
+pub returns-clause-value : goal.returns-clause-value
+returns-clause-value c =
+    let is = c.read_digits-end.ensures in
+    let end = c.read_digits-end.result.0 in
+    let text = c.args.text.now in
+    let digits : AllDigits 10 (slice_range text c.args.at end) = AllDigits-digits_len (drop c.args.at text) (end - c.args.at) (omega (arith, is.end)) in
+    let value = digits_value 10 (slice_range text c.args.at end) in
+    let small : value < 10 ^ 16 = few_digits text c.args.at end value 16 is.within (omega (arith, c.if-end-at-gt-MOST_DIGITS.false)) digits refl in
+    omega (arith, is.value, small)

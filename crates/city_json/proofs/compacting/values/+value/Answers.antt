@@ -179,22 +179,35 @@ items-items-preserved t c =
 pub items-items-preserved-then-text-stop-eq44 : goal.items-items-preserved-then-text-stop-eq44
 items-items-preserved-then-text-stop-eq44 t c =
     let text = c.args.text.now in
+    let start_end : c.skip-start.result ≤ length text = c.skip-start.ensures.within in
+    let start_inside : c.skip-start.result < length text = omega (arith, c.if-start-text.false) in
     let one : c.args.at ≤ c.items.i = c.items.invariant.onward in
-    let some : c.items.i < c.integer_end-stop.result = c.if-i-stop.true in
+    let two : c.items.i ≤ c.skip-start.result = c.skip-start.ensures.onward start_inside in
+    let some : c.skip-start.result < c.integer_end-stop.result = c.if-start-stop.true in
     let inside : c.integer_end-stop.result < length text = c.if-stop-text.true in
-    let copied : c.items.draft.from ≤ c.items.i = c.items.invariant.copied in
+    let draft = c.skip-start.new.draft in
+    let copied : draft.from ≤ c.skip-start.result = c.skip-start.ensures.copied start_inside in
     let now = c.items.draft in
     record {
-      onward = omega (arith, one, some);
+      onward = omega (arith, one, two, some);
       within = omega (arith, inside);
       copied = omega (arith, copied, some);
-      names = c.items.invariant.names;
+      names = c.skip-start.ensures.names start_inside ∙ c.items.invariant.names;
       goes_on = λ rest after from. c.items.invariant.goes_on rest after
-          (integer_more c.args.levels text now.line rest after now.from c.items.i c.integer_end-stop.result copied some inside (c.integer_end-stop.ensures.is some) (c.integer_end-stop.ensures.clear some) c.if-text-stop-eq44.true from);
+          (items_skip c.args.levels (after_white (drop c.items.i text)) (drop c.skip-start.result text) rest (shown now.line text now.from c.items.i) _ after (c.skip-start.ensures.skipped start_inside) (c.skip-start.ensures.is_shown start_inside)
+          (items_skip c.args.levels (drop c.skip-start.result text) (after_white (drop c.skip-start.result text)) rest (shown draft.line text draft.from c.skip-start.result) _ after (c.integer_end-stop.ensures.clear some) refl
+          (integer_more c.args.levels text draft.line rest after draft.from c.skip-start.result c.integer_end-stop.result copied some inside (c.integer_end-stop.ensures.is some) (c.integer_end-stop.ensures.clear some) c.if-text-stop-eq44.true from)));
     }
 
 pub items-returns-then-text-stop-eq93-clause-taken : goal.items-returns-then-text-stop-eq93-clause-taken
 items-returns-then-text-stop-eq93-clause-taken t c =
     let text = c.args.text.now in
+    let start_end : c.skip-start.result ≤ length text = c.skip-start.ensures.within in
+    let start_inside : c.skip-start.result < length text = omega (arith, c.if-start-text.false) in
+    let some : c.skip-start.result < c.integer_end-stop.result = c.if-start-stop.true in
+    let draft = c.skip-start.new.draft in
     let now = c.items.draft in
-    c.items.invariant.goes_on _ _ (integer_stop c.args.levels text now.line now.from c.items.i c.integer_end-stop.result c.items.invariant.copied c.if-i-stop.true c.if-stop-text.true (c.integer_end-stop.ensures.is c.if-i-stop.true) (c.integer_end-stop.ensures.clear c.if-i-stop.true) c.if-text-stop-eq93.true)
+    c.items.invariant.goes_on _ _
+    (items_skip c.args.levels (after_white (drop c.items.i text)) (drop c.skip-start.result text) _ (shown now.line text now.from c.items.i) _ _ (c.skip-start.ensures.skipped start_inside) (c.skip-start.ensures.is_shown start_inside)
+    (items_skip c.args.levels (drop c.skip-start.result text) (after_white (drop c.skip-start.result text)) _ (shown draft.line text draft.from c.skip-start.result) _ _ (c.integer_end-stop.ensures.clear some) refl
+    (integer_stop c.args.levels text draft.line draft.from c.skip-start.result c.integer_end-stop.result (c.skip-start.ensures.copied start_inside) some c.if-stop-text.true (c.integer_end-stop.ensures.is some) (c.integer_end-stop.ensures.clear some) c.if-text-stop-eq93.true)))

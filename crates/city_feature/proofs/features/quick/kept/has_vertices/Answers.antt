@@ -1,0 +1,19 @@
+use Rattle.std.proofs.Common.{◌∙◌, sym}
+use Rattle.city_json.specs.Compact.{compact}
+use Rattle.city_feature.specs.Feature.{vertices_tree}
+use Rattle.city_feature.proofs.features.QuickLines.{feature_at}
+use Rattle.city_feature.proofs.features.QuickMoves.{kept}
+use Rattle.city_feature.proofs.features.quick.kept.has_vertices.Goals as goal
+
+pub returns : goal.returns
+returns c = λ yes.
+    let line = c.args.line.now in
+    let part = c.in-Some.part in
+    let (ps, text_is, range) = c.is_vertices_text.ensures yes in
+    let lies = sym c.in-Some-between.ensures.some ∙ text_is in (
+      part,
+      ps,
+      range,
+      kept line (compact (vertices_tree ps)) part c.in-Some-between.ensures.ordered lies,
+      λ members is. feature_at line c.args.parts.now members part ps is (c.has_other_members.ensures c.if-not-has_other_members.false members is) c.in-Some.ensures lies range,
+    )
