@@ -1,3 +1,4 @@
+pub mod ArrayEnds
 pub mod BlockLemmas
 pub mod CompactLaws
 pub mod CompactText

@@ -1,11 +1,11 @@
 -- Strings and names that the pass takes, as they stand or written anew.
-use Rattle.std.proofs.Common.{◌≡◌, ◌++◌, ◌∙◌, ◌≤◌, ◌<◌, ◌+◌, ◌-◌, ℕ, suc, List, [], ◌∷◌, Some, length, take, drop, get_or, refl, ap, sym, subst, arith, append_assoc, append-nil, slice_range, IsUtf8, length-drop, length-append}
+use Rattle.std.proofs.Common.{◌≡◌, ◌++◌, ◌∙◌, ◌≤◌, ◌<◌, ◌+◌, ◌-◌, ℕ, suc, List, [], ◌∷◌, Some, length, take, drop, get_or, refl, ap, sym, subst, arith, append_assoc, append-nil, slice_range, IsUtf8, length-drop, length-append, option_and_then}
 use Rattle.std.specs.Str.{IsCharBoundary}
 use Rattle.std.specs.List.{prefix_len}
 use Rattle.std.proofs.lemmas.Str.{IsUtf8-between, IsCharBoundary-after_ascii, IsCharBoundary-before_ascii}
 use Rattle.std.proofs.lemmas.Grind.{flat_map-append}
 use Rattle.std.proofs.lemmas.List.Edits.{between_none}
-use Rattle.city_json.specs.ReadString.{is_plain, decoded, string_at}
+use Rattle.city_json.specs.ReadString.{is_plain, checked, decoded, string_at}
 use Rattle.city_json.proofs.CompactText.{written_run}
 use Rattle.city_json.proofs.ReadString.{string_at-some, checked-some}
 use Rattle.city_json.proofs.StringSteps.{run_closes}
@@ -102,6 +102,9 @@ escaped_end text content rest at within read =
       splits = law.1;
       spells = law.2;
     }
+
+pub read_when_utf8 : (b content rest shown : List ℕ) → decoded b ≡ Some (content, rest) → shown ≡ content → IsUtf8 shown → string_at b ≡ Some (content, rest)
+read_when_utf8 b content rest shown read is utf8 = ap (option_and_then (λ r. checked r.0 r.1)) read ∙ checked-some content rest (subst IsUtf8 is utf8)
 
 pub respelled_taken : (text content rest line line' before : List ℕ) (at from : ℕ) → at < length text → get_or text at 0 ≡ quotation_mark → EscapedEnd text content rest at
     → from ≡ length text - length rest → line ≡ before → line' ≡ line ++ quoted content → TakenString content (drop at text) (drop (length text - length rest) text) before (shown line' text from (length text - length rest))

@@ -296,7 +296,7 @@ module _ (d d2 r r2 p : ℕ) (z : Bool) (w : List ℕ) (place : is_place p ≡ t
   ]
 
 -- ---- a block of bytes
-one_at_most : (b : Bool) → cond b 1 0 ≤ 1
+pub one_at_most : (b : Bool) → cond b 1 0 ≤ 1
 one_at_most true = omega arith
 one_at_most false = omega arith
 
@@ -329,7 +329,7 @@ is_open c = c == open_bracket
 abbrev pub is_close : ℕ → Bool
 is_close c = c == close_bracket
 
-abbrev begins_item : ℕ → Bool
+abbrev pub begins_item : ℕ → Bool
 begins_item c = (c == open_bracket) || (c == comma)
 
 abbrev pub vains : ℕ → List ℕ → List Bool
@@ -367,6 +367,10 @@ lag-take m (n ∷ ns) = ap (λ l. m ∷ l) (lag-take n ns)
 pub lag_is : (m : Bool) (ms : List Bool) (mask shifted : ℕ) → length ms ≡ 64 → mask ≡ mask_l ms → shifted ≡ (cond m 1 0 + 2 * mask) % 2 ^ 64 → shifted ≡ mask_l (lag m ms)
 lag_is m ms mask shifted long is given =
     given ∙ ap (λ k. (cond m 1 0 + 2 * k) % 2 ^ 64) is ∙ mask_l-take 64 (m ∷ ms) ∙ ap (λ k. mask_l (take k (m ∷ ms))) (sym long) ∙ ap mask_l (lag-take m ms)
+
+-- after a first byte that a call has tested
+pub lag_as : (after mask : ℕ) (first other : Bool) → first ≡ other → ((marks : List Bool) → length marks ≡ 64 → mask ≡ mask_l marks → after ≡ mask_l (lag first marks)) → (marks : List Bool) → length marks ≡ 64 → mask ≡ mask_l marks → after ≡ mask_l (lag other marks)
+lag_as after mask first other same given marks long is = given marks long is ∙ ap (λ b. mask_l (lag b marks)) same
 
 either_bits : (x y : Bool) → ◌≡◌ {A = ℕ} (cond (x || y) 1 0) (max (cond x 1 0) (cond y 1 0))
 either_bits true true = refl
@@ -546,11 +550,11 @@ pub powers : (n m : ℕ) → n ≤ m → 2 ^ n ≤ 2 ^ m
 powers n m order = pow-le-pow_right (omega arith) order
 
 -- ---- a block, a byte and the whole, by places in a text
-count-ups : (bs : List ℕ) → count_by is_open bs ≡ ups bs
+pub count-ups : (bs : List ℕ) → count_by is_open bs ≡ ups bs
 count-ups [] = refl
 count-ups (c ∷ cs) = sum_by-cons (λ x. cond (is_open x) 1 0) c cs ∙ ap (λ n. up c + n) (count-ups cs)
 
-count-downs : (bs : List ℕ) → count_by is_close bs ≡ downs bs
+pub count-downs : (bs : List ℕ) → count_by is_close bs ≡ downs bs
 count-downs [] = refl
 count-downs (c ∷ cs) = sum_by-cons (λ x. cond (is_close x) 1 0) c cs ∙ ap (λ n. down c + n) (count-downs cs)
 
@@ -570,7 +574,7 @@ last_place p z [] place fine = place
 last_place p z (c ∷ cs) place fine = last_place c (begins_zero p c) cs fine.0 fine.3
 
 module _ (text : List ℕ) (at : ℕ) (within : at + 64 ≤ length text) where
-  chunk_is : slice_range text at (at + 64) ≡ chunk at 64 text
+  pub chunk_is : slice_range text at (at + 64) ≡ chunk at 64 text
   chunk_is = append_cancel_right (slice_range text at (at + 64)) (chunk at 64 text) (drop (at + 64) text) (sym (drop_split text at (at + 64) (omega arith)) ∙ chunk-drop at 64 text)
 
   last_at : (p : ℕ) → last_of p (chunk at 64 text) ≡ get_or text (at + 63) 0

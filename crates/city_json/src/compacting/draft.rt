@@ -1,5 +1,5 @@
 //! What the pass has written, and how it goes on over white space.
-ghost use Rattle.std.specs.Prelude.{◌≡◌, ◌<◌, ◌≤◌, ◌+◌, [], length, drop, IfSome, OnSome};
+ghost use Rattle.std.specs.Prelude.{◌≡◌, ◌<◌, ◌≤◌, ◌+◌, [], length, drop, slice_index, IfSome, OnSome};
 ghost use Rattle.city_json.specs.Compacting.{shown};
 ghost use Rattle.city_json.specs.Reading.{after_white};
 
@@ -11,13 +11,14 @@ use std::alloc::Global;
 const SHORT: usize = 16;
 
 /// What is written so far: the line, and after it the text from `from` on, which is still to be copied. Beside it
-/// the names of the objects that are open, those of an inner one last.
+/// the names of the objects that are open, those of an inner one last, and memory for a string that is decoded.
 #[derive(Drop)]
 pub(super) struct Draft<'a> {
     pub(super) alloc: Global,
     pub(super) line: Line,
     pub(super) from: usize,
     pub(super) names: Names<'a>,
+    pub(super) kept: Vec<u8>,
 }
 
 /// A draft with nothing written.
@@ -33,6 +34,7 @@ pub(super) fn begun<'a>(alloc: Global, line: Line) -> Draft<'a>
         line,
         from: 0,
         names: Names::new(alloc),
+        kept: Vec::new(alloc),
     }
 }
 
@@ -60,6 +62,20 @@ pub(super) fn copy_to<'a>(
             return Some(());
         }
     }
+    copy_long(text, at, next, draft)
+}
+
+/// The same, whatever the text's length.
+#[inline(never)]
+fn copy_long<'a>(text: &'a [u8], at: usize, next: usize, draft: &mut Draft<'a>) -> Option<()>
+    requires copied { draft.old.from ≤ at }
+    requires order { at ≤ next }
+    requires within { next ≤ length text.now }
+    ensures line { OnSome result (draft.new.line
+        ≡ shown draft.old.line text.now draft.old.from at) }
+    ensures from { OnSome result (draft.new.from ≡ next) }
+    ensures names { OnSome result (draft.new.names ≡ draft.old.names) }
+{
     if draft.line.append(&text[draft.from..at]).is_err() {
         return None;
     }
@@ -104,7 +120,33 @@ pub(super) fn skip<'a>(text: &'a [u8], at: usize, draft: &mut Draft<'a>) -> usiz
     if at < text.len() && text[at] > b' ' {
         return at;
     }
+    if text.len() - at > 1 && text[at] == b' ' && text[at + 1] > b' ' {
+        return skip_blank(text, at, draft);
+    }
     skip_or_end(text, at, draft)
+}
+
+/// The same, where one blank stands at the place and no white space after it.
+#[inline(never)]
+fn skip_blank<'a>(text: &'a [u8], at: usize, draft: &mut Draft<'a>) -> usize
+    requires copied { draft.old.from ≤ at }
+    requires within { at + 1 < length text.now }
+    requires blank { slice_index text.now at ≡ 32 }
+    requires ends { 32 < slice_index text.now (at + 1) }
+    ensures within { result ≤ length text.now }
+    ensures onward { result < length text.now → at ≤ result }
+    ensures copied { result < length text.now → draft.new.from ≤ result }
+    ensures skipped { result < length text.now
+        → drop result text.now ≡ after_white (drop at text.now) }
+    ensures is_shown { result < length text.now
+        → shown draft.new.line text.now draft.new.from result
+        ≡ shown draft.old.line text.now draft.old.from at }
+    ensures names { result < length text.now → draft.new.names ≡ draft.old.names }
+{
+    match copy_to(text, at, at + 1, draft) {
+        Some(()) => at + 1,
+        None => text.len(),
+    }
 }
 
 /// The same, where there may be white space.

@@ -7,7 +7,7 @@ use super::draft::{Draft, copy_to, skip};
 use super::name::Name;
 use super::scalars::plain_string;
 use crate::printing::put_string;
-use crate::reading::strings::string;
+use crate::reading::strings::{decode_into, string};
 use crate::text::Str;
 
 /// A string whose opening mark is at `at`: where it ends.
@@ -32,11 +32,40 @@ pub(super) fn text_value<'a>(
 {
     match plain_string(text, at + 1) {
         Some(close) => Some(close + 1),
-        None => {
-            let (_, end) = respelled(text, at, draft)?;
-            Some(end)
-        }
+        None => respelled_value(text, at, levels, draft),
     }
+}
+
+/// The same of a string that is decoded and written in its one spelling.
+#[inline(never)]
+fn respelled_value<'a>(
+    text: &'a [u8],
+    at: usize,
+    levels: usize,
+    draft: &mut Draft<'a>,
+) -> Option<usize>
+    requires copied { draft.old.from ≤ at }
+    requires within { at < length text.now }
+    requires opened { slice_index text.now at ≡ quotation_mark }
+    ensures onward { IfSome result (λ end. at < end) }
+    ensures within { IfSome result (λ end. end ≤ length text.now) }
+    ensures copied { IfSome result (λ end. draft.new.from ≤ end) }
+    ensures names { OnSome result (draft.new.names ≡ draft.old.names) }
+    ensures taken { IfSome result (λ end. Taken levels (drop at text.now) (drop end text.now)
+        (shown draft.old.line text.now draft.old.from at)
+        (shown draft.new.line text.now draft.new.from end)) }
+{
+    copy_to(text, at, at, draft)?;
+    let rest = decode_into(&text[at + 1..], &mut draft.kept)?;
+    let Ok(content) = simdutf8::basic::from_utf8(&draft.kept) else {
+        return None;
+    };
+    let end = text.len() - rest.len();
+    if put_string(&mut draft.line, content).is_err() {
+        return None;
+    }
+    draft.from = end;
+    Some(end)
 }
 
 /// A string whose opening mark is at `at`, decoded and written in its one spelling: what it spells, and where it ends.

@@ -1,9 +1,9 @@
 //! Nested arrays of whole numbers in their compact text, 64 bytes at a time.
-ghost use Rattle.std.specs.Prelude.{◌≡◌, ◌<◌, ◌≤◌, ◌+◌, ◌-◌, ◌++◌, ◌∷◌, ◌==◌, ◌||◌, ◌&&◌, Bool, true, if◌then◌else◌, ℕ, List, length, map, slice_index, slice_range, IfSome, IsTrue};
+ghost use Rattle.std.specs.Prelude.{◌≡◌, ◌<◌, ◌≤◌, ◌+◌, ◌-◌, ◌++◌, ◌∷◌, ◌==◌, ◌||◌, ◌&&◌, Bool, true, if◌then◌else◌, ℕ, List, length, map, take, slice_index, slice_range, IfSome, IsTrue};
 ghost use Rattle.std.specs.Char.{is_ascii_digit};
 ghost use Rattle.std.specs.Simd.Lanes.{mask_l};
 ghost use Rattle.city_json.specs.Bytes.{open_bracket, close_bracket, comma};
-ghost use Rattle.city_json.specs.Whole.{AreFine, StaysOpen, Closes, IsItemsText, stage_of, is_wrong, begins_zero, zeroed_by, is_place, lag};
+ghost use Rattle.city_json.specs.Whole.{AreFine, StaysOpen, Closes, IsItemsText, stage_of, is_wrong, begins_zero, zeroed_by, is_place, lag, ups, downs};
 
 use crate::reading::depth::marks_of;
 use std::simd::prelude::*;
@@ -248,6 +248,169 @@ fn begins_with_zero(before: u8, byte: u8) -> bool
     byte == b'0' && leads_item(before)
 }
 
+/// A bit for each digit, comma and bracket of a block.
+#[derive(Clone, Copy, Drop)]
+struct Marks {
+    digits: u64,
+    commas: u64,
+    opens: u64,
+    closes: u64,
+}
+
+#[inline(always)]
+fn marks_in(block: u8x64) -> Marks
+    ensures digits { result.digits ≡ mask_l (map is_ascii_digit block) }
+    ensures commas { result.commas ≡ mask_l (map (λ b. b == comma) block) }
+    ensures opens { result.opens ≡ mask_l (map (λ b. b == open_bracket) block) }
+    ensures closes { result.closes ≡ mask_l (map (λ b. b == close_bracket) block) }
+{
+    Marks {
+        digits: digit_marks(block),
+        commas: marks_of(block, b','),
+        opens: marks_of(block, b'['),
+        closes: marks_of(block, b']'),
+    }
+}
+
+/// Whether each of the first bytes of a block may stand where it stands, after the byte `before`.
+#[inline(always)]
+fn is_front_fine(block: u8x64, marks: Marks, before: u8, zeroed: bool, len: usize) -> bool
+    requires digits { marks.digits ≡ mask_l (map is_ascii_digit block) }
+    requires commas { marks.commas ≡ mask_l (map (λ b. b == comma) block) }
+    requires opens { marks.opens ≡ mask_l (map (λ b. b == open_bracket) block) }
+    requires closes { marks.closes ≡ mask_l (map (λ b. b == close_bracket) block) }
+    requires few { len ≤ 63 }
+    ensures { IsTrue result → AreFine before zeroed (take len block) }
+{
+    let digits = marks.digits;
+    let commas = marks.commas;
+    let opens = marks.opens;
+    let closes = marks.closes;
+    let front = 1u64 << len;
+    if (digits | (commas | (opens | closes))) % front != front - 1 {
+        return false;
+    }
+    let vain = marks_of(block, b'0') & lag(opens | commas, leads_item(before));
+    if (lag(opens, before == b'[') & commas) % front != 0 {
+        return false;
+    }
+    if (lag(closes, before == b']') & (digits | opens)) % front != 0 {
+        return false;
+    }
+    if (lag(commas, before == b',') & (commas | closes)) % front != 0 {
+        return false;
+    }
+    if (lag(digits, is_digit_byte(before)) & opens) % front != 0 {
+        return false;
+    }
+    if (lag(vain, zeroed) & digits) % front != 0 {
+        return false;
+    }
+    true
+}
+
+/// Whether so many open arrays stay open up to the byte at `last`, which closes them.
+#[inline(always)]
+fn closes_at(depth: usize, opens: u64, closes: u64, last: usize) -> bool
+    requires depth { depth ≤ 1000 }
+    requires few { last ≤ 62 }
+    ensures { IsTrue result → (bytes : List ℕ) → length bytes ≡ 64
+        → opens ≡ mask_l (map (λ b. b == open_bracket) bytes)
+        → closes ≡ mask_l (map (λ b. b == close_bracket) bytes)
+        → StaysOpen depth (take last bytes)
+        × (depth + ups (take (last + 1) bytes) ≡ downs (take (last + 1) bytes)) }
+{
+    let before = 1u64 << last;
+    let front = 1u64 << (last + 1);
+    let opened = (opens % front).count_ones() as usize;
+    let closed = (closes % front).count_ones() as usize;
+    if depth + opened != closed {
+        return false;
+    }
+    stays_open(depth, opens % before, closes % before)
+}
+
+/// How many bytes there are up to the last closing bracket before any byte that may not stand in the arrays.
+#[inline(always)]
+fn front_len(marks: Marks) -> usize
+    ensures { result ≤ 64 }
+{
+    let places = marks.digits | (marks.commas | (marks.opens | marks.closes));
+    let others = !places;
+    let closes = marks.closes & (others ^ others.wrapping_sub(1));
+    64 - closes.leading_zeros() as usize
+}
+
+/// How many bytes at the front of a block close all arrays that are open after the byte `before`; 0 says nothing.
+#[inline(always)]
+fn closing_len(block: u8x64, before: u8, from: Place) -> usize
+    requires depth { from.depth ≤ 129 }
+    requires room { from.room ≤ 129 }
+    requires place { is_place before ≡ true }
+    ensures within { result ≤ 63 }
+    ensures closes { 0 < result
+        → Closes from.depth from.room (stage_of before from.zeroed) (take result block) }
+{
+    let marks = marks_in(block);
+    let len = front_len(marks);
+    if len == 0 || len == 64 {
+        return 0;
+    }
+    if (marks.opens % (1u64 << len)).count_ones() as usize > from.room {
+        return 0;
+    }
+    if !is_front_fine(block, marks, before, from.zeroed, len) {
+        return 0;
+    }
+    if !closes_at(from.depth, marks.opens, marks.closes, len - 1) {
+        return 0;
+    }
+    len
+}
+
+/// Where the bytes from `at` on have closed all arrays that are open, within a block; `at` says nothing.
+#[inline(always)]
+fn closing_end(text: &[u8], at: usize, from: Place) -> usize
+    requires some { 0 < at }
+    requires within { at ≤ length text.now }
+    requires depth { from.depth ≤ 129 }
+    requires room { from.room ≤ 129 }
+    requires place { is_place (slice_index text.now (at - 1)) ≡ true }
+    ensures onward { at ≤ result }
+    ensures within { result ≤ length text.now }
+    ensures closes { at < result
+        → Closes from.depth from.room (stage_of (slice_index text.now (at - 1)) from.zeroed) (slice_range text.now at result) }
+{
+    if text.len() - at < 64 {
+        return short_closing_end(text, at, from);
+    }
+    at + closing_len(u8x64::from_slice(&text[at..]), text[at - 1], from)
+}
+
+/// The same near the end of the text.
+#[inline(never)]
+fn short_closing_end(text: &[u8], at: usize, from: Place) -> usize
+    requires some { 0 < at }
+    requires within { at ≤ length text.now }
+    requires few { length text.now < at + 64 }
+    requires depth { from.depth ≤ 129 }
+    requires room { from.room ≤ 129 }
+    requires place { is_place (slice_index text.now (at - 1)) ≡ true }
+    ensures onward { at ≤ result }
+    ensures within { result ≤ length text.now }
+    ensures closes { at < result
+        → Closes from.depth from.room (stage_of (slice_index text.now (at - 1)) from.zeroed) (slice_range text.now at result) }
+{
+    let count = text.len() - at;
+    let mut block = [0u8; 64];
+    block[..count].copy_from_slice(&text[at..]);
+    let len = closing_len(u8x64::from_array(block), text[at - 1], from);
+    if len > count {
+        return at;
+    }
+    at + len
+}
+
 /// Where the array ends whose opening bracket stands before `at`, or `at` where it is not one of whole numbers, or of
 /// such arrays, in its compact text.
 #[inline(never)]
@@ -268,17 +431,19 @@ pub(super) fn whole_end(text: &[u8], at: usize, levels: usize) -> usize
     };
     let mut in_blocks = true;
     'bytes: while i < text.len() {
-        if in_blocks && text.len() - i >= 64 {
-            match after_block(text, i, place) {
-                Some(next) => {
+        if in_blocks {
+            if text.len() - i >= 64 {
+                if let Some(next) = after_block(text, i, place) {
                     place = next;
                     i += 64;
                     continue;
                 }
-                None => {
-                    in_blocks = false;
-                }
             }
+            let end = closing_end(text, i, place);
+            if i < end {
+                return end;
+            }
+            in_blocks = false;
         }
         let Some(next) = after_byte(text, i, place) else {
             return at;

@@ -1,8 +1,8 @@
 //! Reading of strings (RFC 8259, section 7).
-ghost use Rattle.std.specs.Prelude.{◌≡◌, ◌<◌, option_map, IfSome, IsTrue, SomeIff};
+ghost use Rattle.std.specs.Prelude.{◌≡◌, ◌<◌, Some, option_map, IfSome, IsTrue, SomeIff};
 ghost use Rattle.std.specs.Char.{digit_value};
 ghost use Rattle.city_json.specs.Gives.{Gives};
-ghost use Rattle.city_json.specs.ReadString.{is_high_surrogate, unit_at, pair_at, escape_at, checked, string_at};
+ghost use Rattle.city_json.specs.ReadString.{is_high_surrogate, unit_at, pair_at, escape_at, checked, decoded, string_at};
 ghost use Rattle.city_json.specs.Strings.{letter_meaning};
 ghost use Rattle.city_json.specs.PlainRun.{IsPlainRun};
 
@@ -54,6 +54,33 @@ fn escaped_string(alloc: Global, bytes: &[u8]) -> Result<(Str, &[u8]), Fault>
                 rest = after;
             }
             End::Broken => return Err(Fault::Syntax),
+        }
+    }
+}
+
+/// What follows the string whose opening quotation mark stands before the bytes. What it spells is put into `to`, whose
+/// memory is taken; whether that is UTF-8 is not looked at.
+#[tactic(auto, using(crate::proofs::StringSteps::escapes))]
+pub(crate) fn decode_into<'a>(bytes: &'a [u8], to: &mut Vec<u8>) -> Option<&'a [u8]>
+    ensures { IfSome result (λ rest. decoded bytes.now ≡ Some (to.new.items, rest.now)) }
+{
+    to.clear();
+    let mut rest = bytes;
+    'pieces: loop {
+        let (run, end, after) = split_run(rest);
+        let Ok(_) = to.extend_from_slice(run) else {
+            return None;
+        };
+        match end {
+            End::Closing => return Some(after),
+            End::Escape => {
+                let (c, after) = escape(after)?;
+                let Ok(_) = to.extend_from_slice(c.encode_utf8(&mut [0; 4]).as_bytes()) else {
+                    return None;
+                };
+                rest = after;
+            }
+            End::Broken => return None,
         }
     }
 }

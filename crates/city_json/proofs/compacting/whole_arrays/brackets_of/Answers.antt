@@ -1,12 +1,5 @@
-use Rattle.std.proofs.Common.{◌≡◌, ◌∙◌, ap, ℕ, Bool, List, length}
-use Rattle.std.specs.Simd.Lanes.{mask_l}
-use Rattle.city_json.specs.Whole.{lag}
-use Rattle.city_json.proofs.WholeArrays.{fine_is, ends_zeroed}
+use Rattle.city_json.proofs.WholeArrays.{fine_is, ends_zeroed, lag_as}
 use Rattle.city_json.proofs.compacting.whole_arrays.brackets_of.Goals as goal
-
--- after a first byte that a call has tested
-lag_as : (after mask : ℕ) (first other : Bool) → first ≡ other → ((marks : List Bool) → length marks ≡ 64 → mask ≡ mask_l marks → after ≡ mask_l (lag first marks)) → (marks : List Bool) → length marks ≡ 64 → mask ≡ mask_l marks → after ≡ mask_l (lag other marks)
-lag_as after mask first other same given marks long is = given marks long is ∙ ap (λ b. mask_l (lag b marks)) same
 
 pub returns-clause-fine : goal.returns-clause-fine
 returns-clause-fine c =

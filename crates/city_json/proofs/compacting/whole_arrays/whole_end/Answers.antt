@@ -1,5 +1,6 @@
 use Rattle.std.proofs.Common.{◌≡◌, ◌≤◌, length, ◌-◌, ◌+◌, ◌∙◌, ◌++◌, [], ◌∷◌, sym, subst, arith, get_or, refl, slice_range, append-nil, true}
 use Rattle.city_json.specs.Whole.{Closes, stage_of, is_place, at_start}
+use Rattle.city_json.proofs.Places.{slice_more}
 use Rattle.city_json.proofs.WholeArrays.{two_runs, one_more_byte, whole_items}
 use Rattle.city_json.proofs.compacting.whole_arrays.whole_end.Goals as goal
 
@@ -40,3 +41,10 @@ bytes-preserved c =
       placed = subst (λ k. is_place (get_or text k 0) ≡ true) last c.in-Some-after_byte.ensures.place;
       goes_on = λ further given. subst (Closes 1 c.args.levels at_start) (one_more_byte text further c.args.at i c.bytes.invariant.onward c.bytes-test.true) (c.bytes.invariant.goes_on (get_or text i 0 ∷ further) (c.in-Some-after_byte.ensures.goes_on further (subst (λ k. Closes b.depth b.room (stage_of (get_or text k 0) b.zeroed) further) (sym last) given)));
     }
+
+pub returns-then-i-end-clause-is : goal.returns-then-i-end-clause-is
+returns-then-i-end-clause-is c = λ _.
+    let text = c.args.text.now in
+    let i = c.bytes.i in
+    let end = c.closing_end-end.result in
+    whole_items text c.args.at end c.args.levels (subst (Closes 1 c.args.levels at_start) (sym (slice_more text c.args.at i end c.bytes.invariant.onward c.closing_end-end.ensures.onward)) (c.bytes.invariant.goes_on (slice_range text i end) (c.closing_end-end.ensures.closes c.if-i-end.true)))
