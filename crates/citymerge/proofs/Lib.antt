@@ -1,2 +1,3 @@
-pub mod Keeping
-pub mod KeepingCut
+pub mod Asking
+pub mod Opened
+pub mod Shown

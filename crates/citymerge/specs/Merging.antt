@@ -1,12 +1,11 @@
--- What a merge is asked by its options, and why its tiles are refused before one is read.
-use Rattle.std.specs.Prelude.{◌≡◌, ◌⊎◌, ◌<◌, ◌≤◌, ℕ, Bool, true, false, List, Option, if◌then◌else◌}
+-- What a merge is asked by its options, and how it is refused then.
+use Rattle.std.specs.Prelude.{◌⊎◌, ℕ, Bool, true, false, List, Option, if◌then◌else◌}
 use Rattle.city_feature.specs.declared.base.Base.{Base}
 use Rattle.city_feature.specs.declared.base.Base.TheVariants.{First, Least}
-use Rattle.city_json.specs.declared.fault.Fault.TheVariants.{Memory, Read, TooManyTiles}
 use Rattle.city_feature.specs.Feature.{FeatureValue}
 use Rattle.tile_merge.specs.Interleaves.{Interleaves}
-use Rattle.tile_merge.specs.Merged.{IsOfNoTile, IsRefusedMerge}
-use Rattle.tile_merge.specs.Threaded.{IsRefusedThreaded}
+use Rattle.tile_merge.specs.Merged.{IsOutputFault, IsRefusedEarly, IsRefusedMerge}
+use Rattle.tile_merge.specs.Threaded.{HasNoThread, IsRefusedThreaded}
 use Rattle.tile_merge.specs.Turns.{AreTurns}
 use Rattle.tile_merge.specs.declared.fault.MergeFault.{MergeFault}
 
@@ -25,14 +24,13 @@ IsRefusedAsked true gives IsWanted base readers refusal old new =
 IsRefusedAsked false gives IsWanted base readers refusal old new =
     IsRefusedThreaded gives IsWanted base readers refusal old new
 
--- one of so many tiles could not be opened
-abbrev pub IsNotOpened : ℕ → MergeFault → Type 0
-IsNotOpened count refusal =
-    (0 < refusal.tile) × (refusal.tile ≤ count) × (refusal.line ≡ 0) × (refusal.fault ≡ Read)
-
--- why so many files are not opened: they are too many; one could not be; or memory ran out
-abbrev pub RefusesFiles : ℕ → MergeFault → Type 0
-RefusesFiles count refusal =
-    (IsOfNoTile refusal × (refusal.fault ≡ TooManyTiles) × (64 < count))
-    ⊎ ((count ≤ 64) × IsNotOpened count refusal)
-    ⊎ ((count ≤ 64) × IsOfNoTile refusal × (refusal.fault ≡ Memory))
+-- where such a refusal is answered: nothing was written; or the output failed; or what was written was
+-- passed on
+abbrev pub PassedOnAsked : {R : Type 0} → Bool → (R → List ℕ → Bool → Type 0) → Base → List R → Type 0 → MergeFault → Type 0
+PassedOnAsked true gives base readers IsFlushed refusal =
+    IsRefusedEarly gives base readers refusal ⊎ IsOutputFault refusal ⊎ IsFlushed
+PassedOnAsked false gives base readers IsFlushed refusal =
+    HasNoThread gives base readers refusal
+    ⊎ IsRefusedEarly gives base readers refusal
+    ⊎ IsOutputFault refusal
+    ⊎ IsFlushed

@@ -1,6 +1,6 @@
 ghost use Rattle.std.specs.Prelude.{◌≡◌, ◌⊎◌, ℕ};
 ghost use Rattle.citymerge.specs.FaultLine.{fault_line};
-ghost use Rattle.citymerge.specs.Passing.{FlushedOrFailed, WroteOrFailed};
+ghost use Rattle.citymerge.specs.Passing.{WroteOrFailed};
 ghost use Rattle.document_stream.specs.CutStream.{IsRefusedDocument, WroteCut};
 ghost use Rattle.document_stream.specs.Input.{SomeInput};
 ghost use Rattle.tile_merge.specs.Filtered.{failures_after_write};
@@ -10,13 +10,14 @@ ghost use Rattle.tile_merge.specs.declared.fault.MergeFault.{MergeFault};
 #[cfg(test)]
 mod tests;
 
-use crate::report::end_refused;
+use crate::report::report_fault;
 use city_json::{Sink, Source};
 use document_stream::cat_source;
 use std::alloc::Global;
 
 /// Writes the stream of the document that the input is to `output`, and answers the status to end with:
-/// 0, or 1 with a fault line on `errors`. What was written is passed on either way.
+/// 0, or 1 with a fault line on `errors`. What was written is passed on, or that it could not be is
+/// told; each other refusal leaves nothing written.
 pub fn run_cat<R: Source, W: Sink, E: Sink>(
     alloc: Global,
     input: &mut R,
@@ -32,8 +33,7 @@ pub fn run_cat<R: Source, W: Sink, E: Sink>(
     ensures refused { result ≡ 1 → (e : MergeFault)
         × IsRefusedDocument (R.gives input.old) e.fault e.tile e.line
         (W.taken output.old) (W.taken output.new)
-        × FlushedOrFailed (W.is_flushed output.new)
-        (failures_after_write e.fault (W.failures output.old)) (W.failures output.new)
+        × (W.failures output.new ≡ failures_after_write e.fault (W.failures output.old))
         × (R.failures input.new ≡ failed_reads_after e.fault (R.failures input.old))
         × WroteOrFailed (fault_line e) (E.taken errors.old) (E.taken errors.new)
         (E.failures errors.old) (E.failures errors.new) }
@@ -41,6 +41,6 @@ pub fn run_cat<R: Source, W: Sink, E: Sink>(
 {
     match cat_source(alloc, input, output) {
         Ok(_) => 0,
-        Err(refusal) => end_refused(&refusal, output, errors),
+        Err(refusal) => report_fault(&refusal, errors),
     }
 }

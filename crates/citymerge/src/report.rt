@@ -1,7 +1,6 @@
 ghost use Rattle.std.specs.Prelude.{◌≡◌};
-ghost use Rattle.std.specs.Io.KnownBytes.{Keeps};
 ghost use Rattle.citymerge.specs.FaultLine.{fault_line};
-ghost use Rattle.citymerge.specs.Passing.{FlushedOrFailed, WroteOrFailed};
+ghost use Rattle.citymerge.specs.Passing.{ShownOrFailed, WroteOrFailed};
 
 use crate::fault_line::FaultLine;
 use city_json::{Line, Sink, write_all};
@@ -17,27 +16,17 @@ pub fn report_fault<E: Sink>(refusal: &MergeFault, errors: &mut E) -> u8
     1
 }
 
-/// Passes on what was written before a fault, and reports it. A flush that fails changes nothing else.
-pub fn end_refused<W: Sink, E: Sink>(refusal: &MergeFault, output: &mut W, errors: &mut E) -> u8
-    ensures status { result ≡ 1 }
-    ensures written { Keeps (W.taken output.old) (W.taken output.new) }
-    ensures flushed { FlushedOrFailed (W.is_flushed output.new)
-        (W.failures output.old) (W.failures output.new) }
-    ensures line { WroteOrFailed (fault_line refusal.now) (E.taken errors.old) (E.taken errors.new)
-        (E.failures errors.old) (E.failures errors.new) }
-{
-    let _ = output.flush();
-    report_fault(refusal, errors)
-}
-
-/// Writes a text that was asked for, and answers the status of a run that is done, whatever becomes of
-/// the write.
+/// Writes a text that was asked for and passes it on, and answers the status of a run that is done,
+/// whatever becomes of that.
 pub fn show_help<W: Sink>(text: &Line, output: &mut W) -> u8
     ensures status { result ≡ 0 }
-    ensures text { WroteOrFailed text.now (W.taken output.old) (W.taken output.new)
+    ensures text { ShownOrFailed text.now (W.is_flushed output.new)
+        (W.taken output.old) (W.taken output.new)
         (W.failures output.old) (W.failures output.new) }
 {
-    show(text.items(), output);
+    if let Ok(()) = write_all(output, text.items()) {
+        let _ = output.flush();
+    }
     0
 }
 
@@ -107,17 +96,18 @@ mod tests {
         let mut errors = Bin::new(rt.alloc(), 4, 4, true)?;
         assert_eq!(rt; report_fault(&fault, &mut errors), 1);
         assert_eq!(rt; errors.bytes(), b"city".as_slice());
-        let mut output = Bin::new(rt.alloc(), 4, 4, true)?;
-        assert_eq!(rt; end_refused(&fault, &mut output, &mut errors), 1);
-        assert_eq!(rt; errors.bytes(), b"city".as_slice());
         Ok(())
     }
 
     #[test]
     fn a_failed_text_leaves_the_status(rt: HostRuntime) -> Result<(), Fail> {
         let text = Line::from_vec(b"help\n".to_vec(rt.alloc())?);
-        for (room, shown) in [(9usize, "help\n"), (3, "hel")] {
-            let mut output = Bin::new(rt.alloc(), room, 9, false)?;
+        for (room, flush_fails, shown) in [
+            (9usize, false, "help\n"),
+            (9, true, "help\n"),
+            (3, false, "hel"),
+        ] {
+            let mut output = Bin::new(rt.alloc(), room, 9, flush_fails)?;
             assert_eq!(rt; show_help(&text, &mut output), 0);
             assert_eq!(rt; output.bytes(), shown.as_bytes());
             let mut errors = Bin::new(rt.alloc(), room, 9, false)?;

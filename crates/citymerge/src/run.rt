@@ -1,13 +1,13 @@
 ghost use Rattle.std.specs.Prelude.{◌≡◌, ◌⊎◌, ◌<◌, ℕ, List, false, length, IfOk, IfErr, OnOk};
 ghost use Rattle.city_feature.specs.Choice.{IsChosen};
 ghost use Rattle.citymerge.specs.FaultLine.{fault_line};
-ghost use Rattle.citymerge.specs.Merging.{base_of, mixes_of, IsRefusedAsked};
-ghost use Rattle.citymerge.specs.Passing.{FlushedOrFailed, WroteOrFailed};
-ghost use Rattle.tile_merge.specs.Filtered.{WroteStream, IsRefusedFilter, failures_after_merge, failures_after_refusal, failures_after_write};
+ghost use Rattle.citymerge.specs.Merging.{base_of, mixes_of, IsRefusedAsked, PassedOnAsked};
+ghost use Rattle.citymerge.specs.Passing.{WroteOrFailed};
+ghost use Rattle.tile_merge.specs.Filtered.{WroteStream, IsRefusedFilter, CountsReads, PassedOn, failures_after_merge, failures_after_refusal, failures_after_write};
 ghost use Rattle.tile_merge.specs.Head.{SomeTile};
 ghost use Rattle.tile_merge.specs.Interleaves.{Interleaves};
 ghost use Rattle.tile_merge.specs.Merged.{MergedAll};
-ghost use Rattle.tile_merge.specs.Unread.{Leaves, has_failed, failed_reads_after};
+ghost use Rattle.tile_merge.specs.Unread.{Leaves, has_failed};
 ghost use Rattle.tile_merge.specs.declared.fault.MergeFault.{MergeFault};
 
 #[cfg(test)]
@@ -17,7 +17,7 @@ mod merging_tests;
 #[cfg(test)]
 mod tests;
 
-use crate::report::end_refused;
+use crate::report::report_fault;
 use city_feature::{Base, Choice};
 use city_json::{Sink, Source};
 use command_line::MergeArgs;
@@ -35,7 +35,7 @@ const IN_TURN_CAPACITY: u32 = 4;
 
 /// Writes the stream of the chosen features of a tile, of which nothing was taken yet, to `output`,
 /// and answers the status to end with: 0, or 1 with a fault line on `errors`. What was written is
-/// passed on either way.
+/// passed on either way; that it could not be is told before a fault of the tile.
 pub fn run_filter<R: Source, W: Sink, E: Sink>(
     alloc: Global,
     tile: &mut TileReader<R>,
@@ -53,24 +53,25 @@ pub fn run_filter<R: Source, W: Sink, E: Sink>(
     ensures refused { result ≡ 1 → (e : MergeFault)
         × IsRefusedFilter (Leaves R.gives tile.old.lines) (IsChosen choice.now) e.fault e.tile e.line
         (W.taken output.old) (W.taken output.new)
-        × FlushedOrFailed (W.is_flushed output.new)
-        (failures_after_write e.fault (W.failures output.old)) (W.failures output.new)
-        × (has_failed tile.old.lines ≡ false → R.failures tile.new.lines.ahead.reader
-        ≡ failed_reads_after e.fault (R.failures tile.old.lines.ahead.reader))
+        × PassedOn (Leaves R.gives tile.old.lines) (W.is_flushed output.new) e
+        (W.taken output.old) (W.taken output.new)
+        × (W.failures output.new ≡ failures_after_write e.fault (W.failures output.old))
+        × (has_failed tile.old.lines ≡ false → CountsReads e.fault
+        (R.failures tile.old.lines.ahead.reader) (R.failures tile.new.lines.ahead.reader))
         × WroteOrFailed (fault_line e) (E.taken errors.old) (E.taken errors.new)
         (E.failures errors.old) (E.failures errors.new) }
     ensures silent { result ≡ 0 → errors.new ≡ errors.old }
 {
     match filter_tile(alloc, tile, choice, output) {
         Ok(_) => 0,
-        Err(refusal) => end_refused(&refusal, output, errors),
+        Err(refusal) => report_fault(&refusal, errors),
     }
 }
 
 /// Merges the tiles that the readers give to `output` as the options say, and answers the status to
-/// end with: 0, or 1 with a fault line on `errors`. What was written is passed on either way. The
-/// tiles take turns with `--in-turn`; without it each has a thread, and its features stand as they
-/// come.
+/// end with: 0, or 1 with a fault line on `errors`. What was written is passed on either way; that it
+/// could not be is told before a fault of a tile. The tiles take turns with `--in-turn`; without it
+/// each has a thread, and its features stand as they come.
 pub fn run_merge<H, R, W, E>(
     rt: &H,
     alloc: Global,
@@ -102,8 +103,9 @@ where
     ensures refused { result ≡ 1 → (e : MergeFault)
         × IsRefusedAsked args.now.in_turn R.gives (IsChosen args.now.choice)
         (base_of args.now.least) readers.items e (W.taken output.old) (W.taken output.new)
-        × FlushedOrFailed (W.is_flushed output.new)
-        (failures_after_refusal e (W.failures output.old)) (W.failures output.new)
+        × PassedOnAsked args.now.in_turn R.gives (base_of args.now.least) readers.items
+        (W.is_flushed output.new) e
+        × (W.failures output.new ≡ failures_after_refusal e (W.failures output.old))
         × WroteOrFailed (fault_line e) (E.taken errors.old) (E.taken errors.new)
         (E.failures errors.old) (E.failures errors.new) }
     ensures silent { result ≡ 0 → errors.new ≡ errors.old }
@@ -111,7 +113,7 @@ where
     let Err(refusal) = merge_asked(rt, alloc, args, readers, output) else {
         return 0;
     };
-    end_refused(&refusal, output, errors)
+    report_fault(&refusal, errors)
 }
 
 /// The merge that the options ask for.
@@ -137,6 +139,8 @@ where
     ensures refused { IfErr result (λ e. IsRefusedAsked args.now.in_turn R.gives
         (IsChosen args.now.choice) (base_of args.now.least)
         readers.items e (W.taken output.old) (W.taken output.new)) }
+    ensures passed_on { IfErr result (PassedOnAsked args.now.in_turn R.gives
+        (base_of args.now.least) readers.items (W.is_flushed output.new)) }
     ensures failures { W.failures output.new ≡ failures_after_merge result (W.failures output.old) }
 {
     let base = base_of(args.least);

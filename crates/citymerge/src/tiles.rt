@@ -1,26 +1,71 @@
-ghost use Rattle.std.specs.Prelude.{◌≡◌, ◌<◌, ◌+◌, Err, length, IfErr, IfOk};
-ghost use Rattle.citymerge.specs.Merging.{RefusesFiles};
+ghost use Rattle.std.specs.Prelude.{◌≡◌, ◌<◌, ◌+◌, ℕ, List, Err, length, ⊤, IfErr, IfNone, IfOk, IfSome};
+ghost use Rattle.std.specs.List.{AllZip};
+ghost use Rattle.citymerge.specs.Opening.{RefusesFiles};
 
-use city_json::{Device, Fault};
+use city_json::{Device, Fault, Source};
 use command_line::Paths;
 use std::alloc::Global;
-use std::fs;
-use std::rt::Files;
+use std::fs::{self, File};
 use tile_merge::{MergeFault, tile_count};
 
-/// Opens the files of the tiles in order.
+/// What opens tiles by their paths.
+pub trait Opener {
+    type Reader: Source + Drop;
+
+    // Opening this path may give this reader.
+    ghost may_give: { Self → List ℕ → Self.Reader → Type 0 };
+
+    // Opening this path may fail.
+    ghost may_fail: { Self → List ℕ → Type 0 };
+
+    /// Opens the tile of this path; none where it cannot be opened.
+    fn open(&self, path: &str) -> Option<Self::Reader>
+        ensures given { IfSome result (may_give self.now path.now) }
+        ensures failed { IfNone result (may_fail self.now path.now) };
+}
+
+/// The files of the system, of which nothing is known.
+#[derive(Drop)]
+pub struct SystemFiles {
+    rt: HostRuntime,
+}
+
+impl SystemFiles {
+    pub fn new(rt: HostRuntime) -> SystemFiles {
+        SystemFiles { rt }
+    }
+}
+
+impl Opener for SystemFiles {
+    type Reader = Device<File>;
+
+    ghost may_give = { λ _ _ _. ⊤ };
+
+    ghost may_fail = { λ _ _. ⊤ };
+
+    fn open(&self, path: &str) -> Option<Device<File>> {
+        match fs::open(&self.rt, path) {
+            Ok(file) => Some(Device::new(file)),
+            Err(_) => None,
+        }
+    }
+}
+
+/// Opens the tiles of the paths, in order.
 ///
 /// # Errors
 ///
 /// [`Fault::TooManyTiles`], of no tile, above 64, before one is opened; [`Fault::Read`] at line 0 of
 /// the first tile that cannot be opened; [`Fault::Memory`], of no tile.
-pub fn open_tiles<F: Files>(
+pub fn open_tiles<O: Opener>(
     alloc: Global,
-    files: &F,
+    opener: &O,
     paths: &Paths,
-) -> Result<Vec<Device<F::File>>, MergeFault>
-    ensures all { IfOk result (λ readers. length readers.items ≡ length paths.now) }
-    ensures refused { IfErr result (RefusesFiles (length paths.now)) }
+) -> Result<Vec<O::Reader>, MergeFault>
+    ensures all { IfOk result (λ readers.
+        AllZip (O.may_give opener.now) paths.now readers.items) }
+    ensures refused { IfErr result
+        (RefusesFiles (O.may_give opener.now) (O.may_fail opener.now) paths.now) }
     ensures too_many { 64 < length paths.now → result ≡ Err (record {
       tile = 0;
       line = 0;
@@ -31,11 +76,10 @@ pub fn open_tiles<F: Files>(
     tile_count(paths.len())?;
     let mut readers = Vec::with_capacity(alloc, paths.len())?;
     for path in paths {
-        let file = match fs::open(files, path.as_str()) {
-            Ok(file) => file,
-            Err(_) => return Err(not_opened(readers.len())),
+        let Some(reader) = opener.open(path.as_str()) else {
+            return Err(not_opened(readers.len()));
         };
-        readers.push(Device::new(file))?;
+        readers.push(reader)?;
     }
     Ok(readers)
 }
@@ -55,7 +99,7 @@ fn not_opened(before: usize) -> MergeFault
 #[cfg(test)]
 mod tests {
     use super::*;
-    use city_json::{Source, Str};
+    use city_json::Str;
     use std::test::Fail;
 
     fn paths_of(alloc: Global, names: &[&str]) -> Result<Paths, Fail> {
@@ -76,7 +120,8 @@ mod tests {
             ([empty, missing, missing], 2),
             ([empty, empty, ""], 3),
         ] {
-            let Err(refusal) = open_tiles(alloc, &rt, &paths_of(alloc, &names)?) else {
+            let Err(refusal) = open_tiles(alloc, &SystemFiles::new(rt), &paths_of(alloc, &names)?)
+            else {
                 panic!(rt; "opened");
             };
             let fault = Fault::Read;
@@ -96,7 +141,7 @@ mod tests {
     fn files_are_opened_in_order_and_nothing_is_read_yet(rt: HostRuntime) -> Result<(), Fail> {
         let alloc = rt.alloc();
         let paths = paths_of(alloc, &["/dev/zero", "/dev/null", "/dev/null"])?;
-        let mut readers = open_tiles(alloc, &rt, &paths)?;
+        let mut readers = open_tiles(alloc, &SystemFiles::new(rt), &paths)?;
         let mut counts = Vec::new(alloc);
         for reader in readers.iter_mut() {
             counts.push(reader.read(&mut [1; 4])?)?;
@@ -112,7 +157,8 @@ mod tests {
         for _ in 0..64u32 {
             names.push("no/such/tile.city.jsonl")?;
         }
-        let Err(refusal) = open_tiles(alloc, &rt, &paths_of(alloc, &names)?) else {
+        let Err(refusal) = open_tiles(alloc, &SystemFiles::new(rt), &paths_of(alloc, &names)?)
+        else {
             panic!(rt; "opened");
         };
         assert_eq!(rt; refusal, MergeFault::of_no_line(Fault::TooManyTiles));

@@ -10,13 +10,13 @@ use std::sync::atomic::Ordering::SeqCst;
 use std::test::Fail;
 use tile_merge::{MergeFault, TileReader, filter_stream, filter_tile};
 
-const HEADER: &str =
+pub(crate) const HEADER: &str =
     r#"{"type":"CityJSON","version":"2.0","transform":{"scale":[0.001,0.001,0.001],"translate":[0,0,0]},"CityObjects":{},"vertices":[]}"#;
 
 const HEADER_WITH_METADATA: &str =
     r#"{"type":"CityJSON","version":"2.0","transform":{"scale":[0.001,0.001,0.001],"translate":[0,0,0]},"CityObjects":{},"vertices":[],"metadata":{"geographicalExtent":[0,0,0,1,1,1],"title":"t"}}"#;
 
-const FEATURE_A: &str =
+pub(crate) const FEATURE_A: &str =
     r#"{"type":"CityJSONFeature","id":"a","CityObjects":{"a":{"type":"Building"}},"vertices":[]}"#;
 
 const FEATURE_B: &str =
@@ -42,7 +42,7 @@ const COMPACT: [&str; 2] = [
 ];
 
 /// A choice of all features.
-fn every_feature() -> Choice {
+pub(crate) fn every_feature() -> Choice {
     Choice::new(None, None, false)
 }
 
@@ -61,7 +61,7 @@ const NOT_WRITTEN: MergeFault = MergeFault {
 };
 
 /// These texts, each followed by a newline.
-fn stream_of(alloc: Global, texts: &[&str]) -> Result<Vec<u8>, AllocError> {
+pub(crate) fn stream_of(alloc: Global, texts: &[&str]) -> Result<Vec<u8>, AllocError> {
     let mut stream = Vec::new(alloc);
     for text in texts {
         stream.extend_from_slice(text.as_bytes())?;
@@ -266,7 +266,7 @@ fn a_failed_write_is_answered(rt: HostRuntime) -> Result<(), Fail> {
         (3, 100, 4096, false, 100),
         (3, 128, 4096, false, 128),
         (3, 4096, 0, false, 0),
-        (3, 4096, 4096, true, 309),
+        (3, 4096, 4096, true, 129),
         (1, 4096, 4096, true, 129),
     ] {
         let input = stream_of(rt.alloc(), &whole[..count])?;
@@ -281,6 +281,50 @@ fn a_failed_write_is_answered(rt: HostRuntime) -> Result<(), Fail> {
             output.bytes(),
             &input[..taken.min(input.len())],
             "room {room}, step {step}"
+        );
+    }
+    Ok(())
+}
+
+#[test]
+fn a_failed_flush_is_answered_before_a_fault(rt: HostRuntime) -> Result<(), Fail> {
+    for (last, fails, answer) in [
+        ("{}", false, at_line(3, Fault::NotAFeature)),
+        // The third line is blank.
+        ("", true, at_line(4, Fault::Read)),
+    ] {
+        let alloc = rt.alloc();
+        let written = stream_of(alloc, &[HEADER, FEATURE_A])?;
+        let input = format!(in alloc; "{HEADER}\n{FEATURE_A}\n{last}\n")?;
+        for (flush_fails, answer) in [(false, answer), (true, Err(NOT_WRITTEN))] {
+            // All is read before the first line is taken, so nothing is flushed before the fault.
+            let tape = Tape::new(Line::from_vec(input.as_bytes().to_vec(alloc)?), 4096, fails);
+            let mut output = Bin::new(alloc, 4096, 4096, flush_fails)?;
+            assert_eq!(rt;
+                filter_stream(alloc, tape, &every_feature(), &mut output),
+                answer
+            );
+            assert_eq!(rt; output.bytes(), written.as_slice());
+        }
+    }
+    Ok(())
+}
+
+#[test]
+fn nothing_is_flushed_where_nothing_was_written(rt: HostRuntime) -> Result<(), Fail> {
+    for (input, answer) in [
+        ("", at_line(0, Fault::NoHeader)),
+        ("{}\n", at_line(1, Fault::NotCityJson)),
+    ] {
+        let tape = Tape::new(
+            Line::from_vec(input.as_bytes().to_vec(rt.alloc())?),
+            4096,
+            false,
+        );
+        let mut output = Bin::new(rt.alloc(), 4096, 4096, true)?;
+        assert_eq!(rt;
+            filter_stream(rt.alloc(), tape, &every_feature(), &mut output),
+            answer
         );
     }
     Ok(())
@@ -311,7 +355,7 @@ impl<'a> Write for CountedWriter<'a> {
 #[test]
 fn each_line_is_one_write(rt: HostRuntime) -> Result<(), Fail> {
     for (failing, answer, written, flushed) in [
-        (None, Ok(2), 3u64, 1u64),
+        (None, Ok(2), 3u64, 2u64),
         (Some(0u64), Err(NOT_WRITTEN), 1, 0),
         (Some(1), Err(NOT_WRITTEN), 2, 0),
     ] {

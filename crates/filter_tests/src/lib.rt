@@ -5,4 +5,6 @@
 #[cfg(test)]
 mod filtering;
 #[cfg(test)]
+mod following;
+#[cfg(test)]
 mod lines;

@@ -5,14 +5,7 @@ use std::io;
 /// Prints the completions for bash. It takes `--cotype=A` for three words, since `=` parts words.
 pub(crate) fn print(rt: &HostRuntime, command: &Command<'_>) -> io::Result<()> {
     println!(rt; "_citymerge() {{")?;
-    println!(rt; "    local word=${{COMP_WORDS[COMP_CWORD]}} words= files= option= listed=")?;
-    println!(rt; "    if [[ $word == '=' ]]; then")?;
-    println!(rt; "        option=${{COMP_WORDS[COMP_CWORD-1]}} word=")?;
-    println!(rt; "    elif [[ ${{COMP_WORDS[COMP_CWORD-1]}} == '=' && $COMP_CWORD -gt 2 ]]; then")?;
-    println!(rt; "        option=${{COMP_WORDS[COMP_CWORD-2]}}")?;
-    println!(rt; "    elif [[ ${{COMP_WORDS[COMP_CWORD-1]}} == --@(cotype|bbox) ]]; then")?;
-    println!(rt; "        option=${{COMP_WORDS[COMP_CWORD-1]}}")?;
-    println!(rt; "    fi")?;
+    print_place(rt)?;
     print_value(rt)?;
     println!(rt; "    case $COMP_CWORD:${{COMP_WORDS[1]}} in")?;
     print!(rt; "    1:*) words='help --help --version")?;
@@ -29,8 +22,10 @@ pub(crate) fn print(rt: &HostRuntime, command: &Command<'_>) -> io::Result<()> {
         print_command(rt, sub)?;
     }
     println!(rt; "    esac")?;
+    println!(rt; "    [[ $redirected ]] && words= files=yes")?;
+    println!(rt; "    [[ \" ${{COMP_WORDS[*]:2:COMP_CWORD-2}} \" == *' -- '* ]] && words=")?;
     println!(rt; "    mapfile -t COMPREPLY < <(compgen -W \"$words\" -- \"$word\")")?;
-    println!(rt; "    if [[ $files && $word != -* ]]; then")?;
+    println!(rt; "    if [[ $files && ( -z $words || $word != -* ) ]]; then")?;
     println!(rt; "        mapfile -t COMPREPLY < <(compgen -f -- \"$word\")")?;
     println!(rt; "        compopt -o filenames")?;
     println!(rt; "    fi")?;
@@ -38,6 +33,25 @@ pub(crate) fn print(rt: &HostRuntime, command: &Command<'_>) -> io::Result<()> {
     println!(rt; "        compopt -o nospace")?;
     println!(rt; "    fi")?;
     println!(rt; "}}\ncomplete -F _citymerge citymerge")
+}
+
+/// Prints what finds out whether the word stands after an option with a value, or after `<` or `>`.
+fn print_place(rt: &HostRuntime) -> io::Result<()> {
+    println!(rt;
+        "    local word=${{COMP_WORDS[COMP_CWORD]}} before=${{COMP_WORDS[COMP_CWORD-1]}}"
+    )?;
+    println!(rt; "    local words= files= option= listed= redirected=")?;
+    println!(rt; "    if [[ $word == '=' ]]; then")?;
+    println!(rt; "        option=$before word=")?;
+    println!(rt; "    elif [[ $before == '=' && $COMP_CWORD -gt 2 ]]; then")?;
+    println!(rt; "        option=${{COMP_WORDS[COMP_CWORD-2]}}")?;
+    println!(rt; "    elif [[ $before == --@(cotype|bbox) ]]; then")?;
+    println!(rt; "        option=$before")?;
+    println!(rt; "    elif [[ $word == *[\\<\\>] ]]; then")?;
+    println!(rt; "        redirected=yes word=")?;
+    println!(rt; "    elif [[ $before == *[\\<\\>] ]]; then")?;
+    println!(rt; "        redirected=yes")?;
+    println!(rt; "    fi")
 }
 
 /// Prints what is offered for the value of an option: the types, after those that are there.

@@ -5,13 +5,13 @@ use std::io;
 /// Prints the completions for fish.
 pub(crate) fn print(rt: &HostRuntime, command: &Command<'_>) -> io::Result<()> {
     println!(rt; "complete -c citymerge -f")?;
-    println!(rt; "complete -c citymerge -n __fish_use_subcommand -l help -d 'Print help'")?;
+    println!(rt; "complete -c citymerge -l help -d 'Print help'")?;
     println!(rt; "complete -c citymerge -n __fish_use_subcommand -l version -d 'Print version'")?;
     println!(rt; "complete -c citymerge -n __fish_use_subcommand -a help -d 'Print help'")?;
     for sub in command.get_subcommands() {
         for place in [
             "__fish_use_subcommand",
-            "'__fish_seen_subcommand_from help'",
+            "'__fish_seen_subcommand_from help; and test (count (commandline -opc)) = 2'",
         ] {
             print!(rt;
                 "complete -c citymerge -n {place} -a {} -d '",
@@ -28,7 +28,9 @@ pub(crate) fn print(rt: &HostRuntime, command: &Command<'_>) -> io::Result<()> {
 }
 
 fn print_argument(rt: &HostRuntime, command: &str, arg: &Arg<'_>) -> io::Result<()> {
-    print!(rt; "complete -c citymerge -n '__fish_seen_subcommand_from {command}'")?;
+    print!(rt;
+        "complete -c citymerge -n '__fish_seen_subcommand_from {command}; and not __fish_seen_subcommand_from help'"
+    )?;
     let Some(long) = arg.get_long() else {
         return println!(rt; " -F");
     };

@@ -19,7 +19,9 @@ pub(crate) fn print(rt: &HostRuntime, command: &Command<'_>) -> io::Result<()> {
     println!(rt; "    _describe command commands")?;
     println!(rt; "    _arguments '--help[Print help]' '--version[Print version]'")?;
     println!(rt; "    return\nfi")?;
-    println!(rt; "case $words[2] in\nhelp)\n    _describe command commands ;;")?;
+    println!(rt;
+        "case $words[2] in\nhelp)\n    (( CURRENT == 3 )) && _describe command commands ;;"
+    )?;
     for sub in command.get_subcommands() {
         print_command(rt, sub)?;
     }

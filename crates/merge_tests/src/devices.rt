@@ -111,9 +111,9 @@ fn a_failed_write_leaves_the_front_of_the_stream(rt: HostRuntime) -> Result<(), 
 
 #[test]
 fn a_writer_that_takes_nothing_or_does_not_flush_has_failed(rt: HostRuntime) -> Result<(), Fail> {
-    let stream = stream_of(rt.alloc(), &TURNS)?;
+    let header = stream_of(rt.alloc(), &TURNS[..1])?;
     expect_unwritten(&rt, (4096, 0, false), &[])?;
-    expect_unwritten(&rt, (4096, 4096, true), &stream)
+    expect_unwritten(&rt, (4096, 4096, true), &header)
 }
 
 #[test]

@@ -77,7 +77,7 @@ fn expect_all(
 }
 
 /// The features of one of these types.
-fn of_types(alloc: Global, names: &str) -> Result<Asked, Fail> {
+pub(crate) fn of_types(alloc: Global, names: &str) -> Result<Asked, Fail> {
     Ok(Asked {
         choice: Choice::new(types(alloc, names)?, None, false),
         base: Base::First,

@@ -1,6 +1,7 @@
 //! Merges with a thread for each tile: that the threads run beside one another and wait for each other's places.
 
 use crate::devices::NOT_WRITTEN;
+use crate::documents::of_types;
 use crate::interleaving::is_mixed;
 use crate::merging::{plain, stream_of};
 use crate::texts::{A1, A2, A3, B1, C1, C2, CUT, HEADER};
@@ -382,6 +383,43 @@ fn gate(rt: HostRuntime) -> Result<(), Fail> {
     Ok(())
 }
 
+/// Tiles that do not end by themselves, where something is chosen of them and where nothing is.
+#[test]
+fn endless_tiles_end_where_the_output_is_gone(rt: HostRuntime) -> Result<(), Fail> {
+    let alloc = rt.alloc();
+    let all = plain();
+    let nothing = of_types(alloc, "Nothing")?;
+    for (asked, room) in [(&all, 200), (&nothing, 10)] {
+        for capacity in [1u32, 64] {
+            let mut readers = Vec::new(alloc);
+            for _ in 0..3u32 {
+                readers.push(Device::new(Gated {
+                    features: u64::MAX,
+                    reads: 0,
+                    begun: shared(alloc)?,
+                    waits_at: 0,
+                    seen: shared(alloc)?,
+                    least: 0,
+                }))?;
+            }
+            assert!(rt; !readers.is_empty());
+            let mut output = Bin::new(alloc, room, 7, false)?;
+            let answer = merge(
+                &rt,
+                alloc,
+                readers,
+                &asked.choice,
+                asked.base,
+                capacity,
+                &mut output,
+            );
+            assert!(rt; matches!(answer, Err(fault) if fault == NOT_WRITTEN));
+            assert_eq!(rt; output.bytes().len(), room);
+        }
+    }
+    Ok(())
+}
+
 /// It says how many bytes it has taken. Its first write waits, and each fails where more texts have
 /// been given than the lines it has taken and two.
 #[derive(Drop)]
@@ -495,6 +533,71 @@ fn bound(rt: HostRuntime) -> Result<(), Fail> {
             )?
         };
         assert_eq!(rt; report.counts.items(), [100u64].as_slice());
+    }
+    Ok(())
+}
+
+/// It gathers what it takes, and says how many bytes it has passed on.
+#[derive(Drop)]
+struct Gathering {
+    gathered: u64,
+    passed_on: Arc<AtomicU64, Global>,
+}
+
+impl Write for Gathering {
+    fn write(&mut self, from: &[u8]) -> io::Result<usize> {
+        self.gathered = self.gathered.saturating_add(from.len() as u64);
+        Ok(from.len())
+    }
+
+    fn flush(&mut self) -> io::Result<()> {
+        self.passed_on.store(self.gathered, SeqCst);
+        Ok(())
+    }
+}
+
+/// A tile that does not end before its first feature was passed on.
+#[test]
+fn what_has_come_is_passed_on(rt: HostRuntime) -> Result<(), Fail> {
+    let alloc = rt.alloc();
+    let asked = plain();
+    for (in_turn, capacity) in [(false, 1u32), (false, 64), (true, 1), (true, 4), (true, 64)] {
+        let passed_on = shared(alloc)?;
+        let mut readers = Vec::new(alloc);
+        readers.push(Device::new(Gated {
+            features: 1,
+            reads: 0,
+            begun: shared(alloc)?,
+            waits_at: 3,
+            seen: Arc::try_clone(&passed_on)?,
+            least: 130,
+        }))?;
+        assert!(rt; !readers.is_empty());
+        let mut output = Device::new(Gathering {
+            gathered: 0,
+            passed_on,
+        });
+        let report = if in_turn {
+            merge_in_turn(
+                alloc,
+                readers,
+                &asked.choice,
+                asked.base,
+                capacity,
+                &mut output,
+            )?
+        } else {
+            merge(
+                &rt,
+                alloc,
+                readers,
+                &asked.choice,
+                asked.base,
+                capacity,
+                &mut output,
+            )?
+        };
+        assert_eq!(rt; report.counts.items(), [1u64].as_slice());
     }
     Ok(())
 }

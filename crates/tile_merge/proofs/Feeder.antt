@@ -1,15 +1,15 @@
 -- The notes that the thread of a tile puts, one after another.
-use Rattle.std.proofs.Common.{◌≡◌, ◌+◌, ◌++◌, ℕ, List, [], ◌∷◌, length, map, refl, sym, ap, subst, ◌∙◌, arith, append_assoc, append-nil}
+use Rattle.std.proofs.Common.{◌≡◌, ◌+◌, ◌++◌, ℕ, Bool, List, [], ◌∷◌, map, refl, sym, ap, subst, ◌∙◌, arith, append_assoc, append-nil}
 use Rattle.std.proofs.lemmas.Grind.{common_steps}
 use Rattle.std.proofs.lemmas.List.{map-append}
 use Rattle.tile_handoff.specs.declared.note.End.{End}
 use Rattle.tile_handoff.specs.declared.note.Note.{Note}
 use Rattle.tile_handoff.specs.declared.note.Note.TheVariants.{Line as LineNote, End as EndNote}
-use Rattle.tile_merge.specs.Coming.{GivesText}
+use Rattle.tile_merge.specs.Coming.{ComesBack, GivesText, SomethingComes}
 use Rattle.tile_merge.specs.EndNotes.{end_of, ended_so, line_note, notes_of}
 use Rattle.tile_merge.specs.Stream.{with_newline}
 use Rattle.tile_merge.specs.Texts.{Outcome}
-use Rattle.tile_merge.specs.Threads.{FedSoFar}
+use Rattle.tile_merge.specs.Threads.{Fed, FedSoFar, IsFed, MayFeed}
 
 module _ (before : List (List ℕ) → Outcome → Type 0) (old : List Note) where
   pub fed_start : FedSoFar before before 0 old old
@@ -35,12 +35,39 @@ module _ (before : List (List ℕ) → Outcome → Type 0) (old : List Note) whe
           put = put ∙ ap (λ ns. ns ++ LineNote line ∷ []) so_far.put ∙ append_assoc old notes (LineNote line ∷ []) ∙ ap (λ ns. old ++ ns) (sym more);
         }
 
-    -- the end note was put
-    pub fed_end : (outcome : Outcome) → now [] outcome → (end : End) → end ≡ end_of (ended_so count outcome) → (newer : List Note) → newer ≡ new ++ EndNote end ∷ []
-        → before so_far.texts outcome × (newer ≡ old ++ notes_of so_far.texts outcome)
-    fed_end outcome over end is newer put =
-        let notes = map line_note so_far.texts in
-        let is_end : end ≡ end_of (ended_so (length so_far.texts) outcome) = is ∙ ap (λ n. end_of (ended_so n outcome)) so_far.counted in (
-          subst (λ texts. before texts outcome) (append-nil so_far.texts) (so_far.back [] outcome over),
-          put ∙ ap (λ ns. ns ++ EndNote end ∷ []) so_far.put ∙ append_assoc old notes (EndNote end ∷ []) ∙ ap (λ e. old ++ (notes ++ EndNote e ∷ [])) is_end,
-        )
+    -- a line came to nothing
+    pub fed_nothing : (after : List (List ℕ) → Outcome → Type 0) → ComesBack now after → FedSoFar before after count old new
+    fed_nothing after comes_back = record {
+      texts = so_far.texts;
+      back = λ others outcome comes. so_far.back others outcome (comes_back others outcome comes);
+      counted = so_far.counted;
+      put = so_far.put;
+    }
+
+module _ {R : Type 0} (gives : R → List ℕ → Bool → Type 0) (fed : Fed R) (Unasked : Type 0) (old : List Note) (now : List (List ℕ) → Outcome → Type 0) (count : ℕ) (new : List Note) (so_far : FedSoFar (MayFeed gives fed) now count old new) (end : End) (newer : List Note) (put : newer ≡ new ++ EndNote end ∷ []) where
+  put_all : newer ≡ old ++ notes_of so_far.texts end
+  put_all = put ∙ ap (λ ns. ns ++ EndNote end ∷ []) so_far.put ∙ append_assoc old (map line_note so_far.texts) (EndNote end ∷ [])
+
+  -- the tile has ended so, and its end note was put
+  pub fed_whole : (outcome : Outcome) → now [] outcome → end ≡ end_of (ended_so count outcome) → IsFed gives fed Unasked old newer
+  fed_whole outcome over is = record {
+    texts = so_far.texts;
+    others = [];
+    outcome = outcome;
+    end = end;
+    comes = so_far.back [] outcome over;
+    put = put_all;
+    whole = λ unasked. (refl, is ∙ ap (λ n. end_of (ended_so n outcome)) so_far.counted);
+  }
+
+  -- it was asked to stop, whatever else may be to come
+  pub fed_front : SomethingComes now → (Unasked → ◌≡◌ {A = ℕ} 1 0) → IsFed gives fed Unasked old newer
+  fed_front some asked = record {
+    texts = so_far.texts;
+    others = some.0;
+    outcome = some.1.0;
+    end = end;
+    comes = so_far.back some.0 some.1.0 some.1.1;
+    put = put_all;
+    whole = λ unasked. absurd (omega (arith, asked unasked));
+  }

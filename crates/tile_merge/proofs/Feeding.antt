@@ -9,7 +9,7 @@ use Rattle.tile_handoff.specs.Queues.{Queue, QueuesState, queue_of, with_queue, 
 use Rattle.tile_handoff.specs.declared.note.End.{End}
 use Rattle.tile_handoff.specs.declared.note.Note.{Note}
 use Rattle.tile_handoff.specs.declared.note.Note.TheVariants.{Line as LineNote, End as EndNote}
-use Rattle.tile_merge.specs.Coming.{MayComeTo, GivesText, SomethingComes}
+use Rattle.tile_merge.specs.Coming.{MayComeTo, ComesBack, GivesText, SomethingComes}
 use Rattle.tile_merge.specs.EndNotes.{Ended, end_of, ended_so}
 use Rattle.tile_merge.specs.Feeds.{FeedState, Course, course_of, ThenComes, NotesCome, MayTake, TakesNone, TakesTurn, SomeCourse}
 use Rattle.tile_merge.specs.Stream.{with_newline}
@@ -23,6 +23,21 @@ not_empty (other ∷ left) note is = cc is
 
 -- a note more is put after those that are there; `More` follows it, and `Then` followed the others
 module _ (Then More : Course → Type 0) where
+  -- no note more, but what follows them is another
+  pub notes_stay : ((course : Course) → More course → Then course)
+      → (left : List Note) (texts : List (List ℕ)) (ended : Ended) → NotesCome More left texts ended → NotesCome Then left texts ended
+  notes_stay step [] texts ended come = step (course_of texts ended) come
+  notes_stay step (LineNote other ∷ left) texts ended come = (come.0, come.1, come.2, come.3, notes_stay step left come.1 ended come.4)
+  notes_stay step (EndNote end ∷ left) texts ended come = come
+
+  pub notes_follow : (more : List (List ℕ)) (last : Ended) → More (course_of more last)
+      → (left : List Note) → has_end left ≡ false → (texts : List (List ℕ)) (ended : Ended) → NotesCome Then left texts ended → SomeCourse (λ course. NotesCome More left course.texts course.ended)
+  notes_follow more last comes [] is_open texts ended come = (course_of more last, comes)
+  notes_follow more last comes (LineNote other ∷ left) is_open texts ended come =
+      let some = notes_follow more last comes left is_open come.1 ended come.4 in
+      (course_of (come.0 ∷ some.0.texts) some.0.ended, (come.0, some.0.texts, refl, come.3, some.1))
+  notes_follow more last comes (EndNote end ∷ left) is_open texts ended come = absurd (cc is_open)
+
   module _ (text line : List ℕ) (is_line : line ≡ with_newline text) where
     pub line_put : ((more : List (List ℕ)) (ended : Ended) → More (course_of more ended) → Then (course_of (text ∷ more) ended))
         → (left : List Note) (texts : List (List ℕ)) (ended : Ended) → NotesCome More (left ++ LineNote line ∷ []) texts ended → NotesCome Then left texts ended
@@ -98,6 +113,27 @@ module _ {R : Type 0} (gives : R → List ℕ → Bool → Type 0) (IsWanted : F
           let there = line_some-open queue.closed is_open was.0.texts was.0.ended none some was.1 in
           let P : Queue → Type 0 = λ q. NotesCome (ThenComes q.closed gives IsWanted shift after (count + 1) last) q.left there.0.texts there.0.ended in
           (there.0, subst P (sym is_new) there.1)
+
+    -- a line was read that is not chosen
+    module _ (back : ComesBack (MayComeTo gives IsWanted shift before) (MayComeTo gives IsWanted shift after)) where
+      nothing_taken-open : (closed : Bool) → closed ≡ false → (texts : List (List ℕ)) (ended : Ended)
+          → NotesCome (ThenComes closed gives IsWanted shift after count last) queue.left texts ended → NotesCome (ThenComes closed gives IsWanted shift before count last) queue.left texts ended
+      nothing_taken-open true is texts ended come = absurd (cc is)
+      nothing_taken-open false is texts ended come =
+          notes_stay (ThenComes false gives IsWanted shift before count last) (ThenComes false gives IsWanted shift after count last) (λ course comes. (back course.texts course.ended.outcome comes.0, comes.1)) queue.left texts ended come
+
+      pub nothing_taken : TakesNone (MayTake gives IsWanted (feed before places count queue)) (MayTake gives IsWanted (feed after later_places count queue))
+      nothing_taken course come = nothing_taken-open queue.closed is_open course.texts course.ended come
+
+      nothing_some-open : (closed : Bool) → closed ≡ false → (texts : List (List ℕ)) (ended : Ended) → has_end queue.left ≡ false → SomethingComes (MayComeTo gives IsWanted shift after)
+          → NotesCome (ThenComes closed gives IsWanted shift before count last) queue.left texts ended → SomeCourse (λ course. NotesCome (ThenComes closed gives IsWanted shift after count last) queue.left course.texts course.ended)
+      nothing_some-open true is texts ended none some come = absurd (cc is)
+      nothing_some-open false is texts ended none some come =
+          let end = ended_so (count + length some.0) some.1.0 in
+          notes_follow (ThenComes false gives IsWanted shift before count last) (ThenComes false gives IsWanted shift after count last) some.0 end (some.1.1, refl) queue.left none texts ended come
+
+      pub nothing_some : has_end queue.left ≡ false → SomethingComes (MayComeTo gives IsWanted shift after) → SomeCourse (MayTake gives IsWanted (feed before places count queue)) → SomeCourse (MayTake gives IsWanted (feed after later_places count queue))
+      nothing_some none some was = nothing_some-open queue.closed is_open was.0.texts was.0.ended none some was.1
 
     -- the end was read
     module _ (outcome : Outcome) (over : Comes before [] outcome) (end : End) (is_end : end ≡ end_of (ended_so count outcome)) (new : Queue) (is_new : new ≡ longer queue (EndNote end)) where

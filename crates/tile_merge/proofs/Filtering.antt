@@ -2,32 +2,59 @@
 use Rattle.std.proofs.Common.{◌≡◌, ◌≢◌, ◌↔◌, ◌<◌, ◌+◌, ℕ, Bool, Result, Ok, Err, IfOk, IfErr, List, [], Option, Some, None, length, take, flat_map, refl, sym, ap, subst, ◌∙◌, inl, inr, take_all, le_refl}
 use Rattle.std.proofs.Math.Seq.{take-append-add}
 use Rattle.std.specs.Io.KnownBytes.{Appends, Keeps}
-use Rattle.std.proofs.KnownBytes.{Appends-trans, Keeps-refl}
+use Rattle.std.proofs.KnownBytes.{Appends-trans, Keeps-refl, Keeps-trans}
 use Rattle.city_json.specs.Compact.{compact}
 use Rattle.city_json.specs.declared.fault.Fault.{Fault}
-use Rattle.city_json.specs.declared.fault.Fault.TheVariants.{Write}
+use Rattle.city_json.specs.declared.fault.Fault.TheVariants.{Read, Write}
+use Rattle.city_json.specs.Streams.Failures.{one_more}
 use Rattle.city_feature.specs.Feature.{FeatureValue}
 use Rattle.city_feature.specs.Header.{HeaderValue}
 use Rattle.tile_merge.specs.Coming.{MayComeTo, SomethingComes}
-use Rattle.tile_merge.specs.Filtered.{FiltersTo, WroteStream, StoppedAt, WrotePart, IsRefusedFilter, no_steps}
+use Rattle.tile_merge.specs.Filtered.{CountsReads, FiltersTo, PassedOn, ToldAfter, WroteStream, StoppedAt, WrotePart, IsRefusedFilter, failures_after_write, no_steps}
 use Rattle.tile_merge.specs.Head.{HasNoHead, SomeTile, GivesHead}
 use Rattle.tile_merge.specs.Held.{held_value}
 use Rattle.tile_merge.specs.Progress.{WroteTexts, IsRefusedAfter}
 use Rattle.tile_merge.specs.Stream.{stream, with_newline}
 use Rattle.tile_merge.specs.Texts.{Outcome}
-use Rattle.tile_merge.specs.Tile.{TileLines}
+use Rattle.tile_merge.specs.Tile.{FaultyLine, TileLines}
 use Rattle.tile_merge.specs.declared.fault.MergeFault.{MergeFault}
 use Rattle.tile_merge.specs.TileState.{TileState}
-use Rattle.tile_merge.specs.Unread.{Leaves}
+use Rattle.tile_merge.specs.Unread.{Leaves, failed_reads_after}
 use Rattle.tile_merge.proofs.HeldFirst.{tile_comes}
-use Rattle.tile_merge.proofs.Steps.{first_of_longer}
+use Rattle.tile_merge.proofs.Steps.{first_of_longer, Appends-kept, same_count}
 
--- known bytes that grew and then stayed
-pub Appends-kept : (old mid new : Option (List ℕ)) (bytes : List ℕ) → Appends old mid bytes → Keeps mid new → Appends old new bytes
-Appends-kept None mid new bytes grew stayed = tt
-Appends-kept (Some x) None new bytes grew stayed = absurd grew
-Appends-kept (Some x) (Some y) None bytes grew stayed = absurd stayed
-Appends-kept (Some x) (Some y) (Some z) bytes grew stayed = stayed ∙ grew
+-- a flush after a refusal: what was taken stays as it was
+module _ (MayBe : TileLines → Type 0) (IsWanted : FeatureValue → Type 0) (old mid new : Option (List ℕ)) (kept : Keeps mid new) where
+  stopped_still : (tile : TileLines) (at : FaultyLine) → StoppedAt tile IsWanted at old mid → StoppedAt tile IsWanted at old new
+  stopped_still tile at (inl none) = inl (none.0, Keeps-trans old mid new none.1 kept)
+  stopped_still tile at (inr some) = inr (some.0, some.1, some.2, Appends-kept old mid new _ some.3 kept)
+
+  refused_still : (fault : Fault) (tile number : ℕ) → IsRefusedFilter MayBe IsWanted fault tile number old mid → IsRefusedFilter MayBe IsWanted fault tile number old new
+  refused_still Write tile number refused =
+      let part = refused.2.2 in
+      (refused.0, refused.1, (refused.2.0, refused.2.1, (part.0, part.1, part.2, part.3, part.4, Appends-kept old mid new _ part.5 kept)))
+  refused_still other tile number refused =
+      (refused.0, (refused.1.0, refused.1.1, stopped_still refused.1.0 (record { number = number; fault = other }) refused.1.2))
+
+-- what is told after a refusal, and what else is known then
+module _ (refusal told : MergeFault) (IsFlushed : Type 0) (before after : ℕ) where
+  pub passed_on : (MayBe : TileLines → Type 0) (old new : Option (List ℕ)) → ToldAfter refusal IsFlushed told before after → PassedOn MayBe IsFlushed told old new
+  passed_on MayBe old new (inl (same, inl write, count)) = inl (ap (λ (e : MergeFault). e.fault) same ∙ write)
+  passed_on MayBe old new (inl (same, inr flushed, count)) = inr (inr flushed)
+  passed_on MayBe old new (inr failed) = inl (ap (λ (e : MergeFault). e.fault) failed.0)
+
+  pub failures_told : (count : ℕ) → before ≡ failures_after_write refusal.fault count → ToldAfter refusal IsFlushed told before after → after ≡ failures_after_write told.fault count
+  failures_told count were (inl same) = same.2 ∙ were ∙ ap (λ (e : MergeFault). failures_after_write e.fault count) (sym same.0)
+  failures_told count were (inr failed) =
+      failed.2 ∙ ap one_more (were ∙ same_count refusal.fault count failed.1) ∙ ap (λ (e : MergeFault). failures_after_write e.fault count) (sym failed.0)
+
+  pub reads_told : (count reads : ℕ) → reads ≡ failed_reads_after refusal.fault count → ToldAfter refusal IsFlushed told before after → CountsReads told.fault count reads
+  reads_told count reads were (inl same) = inl (were ∙ ap (λ (e : MergeFault). failed_reads_after e.fault count) (sym same.0))
+  reads_told count reads were (inr failed) = subst (λ (e : MergeFault). CountsReads e.fault count reads) (sym failed.0) (hidden refusal.fault reads were)
+    where
+      hidden : (fault : Fault) (reads : ℕ) → reads ≡ failed_reads_after fault count → CountsReads Write count reads
+      hidden Read reads were = inr (refl, were)
+      hidden other reads were = inl were
 
 module _ (MayBe : TileLines → Type 0) (IsWanted : FeatureValue → Type 0) where
   -- no header: nothing was written
@@ -60,7 +87,7 @@ module _ (MayBe : TileLines → Type 0) (IsWanted : FeatureValue → Type 0) whe
       wrote : Appends old mid line
       wrote = subst (Appends old mid) is_line wrote_bytes
 
-      pub of_features : (fault : Fault) (tile number : ℕ) (new : Option (List ℕ)) → IsRefusedAfter (MayComeTo gives IsWanted no_steps now) fault tile number mid new → IsRefusedFilter MayBe IsWanted fault tile number old new
+      of_features : (fault : Fault) (tile number : ℕ) (new : Option (List ℕ)) → IsRefusedAfter (MayComeTo gives IsWanted no_steps now) fault tile number mid new → IsRefusedFilter MayBe IsWanted fault tile number old new
       of_features Write tile number new refused =
           let front = refused.2 in
           let texts = front.0 in
@@ -72,6 +99,25 @@ module _ (MayBe : TileLines → Type 0) (IsWanted : FeatureValue → Type 0) whe
           let stopped = refused.1 in
           let lines = filters stopped.0 (Some (record { number = number; fault = other })) stopped.1 in
           (refused.0, (lines.0, lines.1, inr (header, stopped.0, lines.2, Appends-trans old mid new _ _ wrote stopped.2)))
+
+      -- a fault of the tile, and what was written could not be passed on
+      of_failed_flush : (fault : Fault) (tile number : ℕ) (new newer : Option (List ℕ)) → fault ≢ Write → IsRefusedAfter (MayComeTo gives IsWanted no_steps now) fault tile number mid new → Keeps new newer → IsRefusedFilter MayBe IsWanted Write 0 0 old newer
+      of_failed_flush Write tile number new newer not refused stayed = absurd (not refl)
+      of_failed_flush other tile number new newer not refused stayed =
+          let stopped = refused.1 in
+          let at : FaultyLine = record { number = number; fault = other } in
+          let lines = filters stopped.0 (Some at) stopped.1 in
+          let bytes = stream (compact header.value) stopped.0 in
+          let all = take_all (length bytes) bytes (le_refl _) in
+          let there = Appends-kept old new newer bytes (Appends-trans old mid new _ _ wrote stopped.2) stayed in
+          (refl, refl, (lines.0, lines.1, (header, stopped.0, Some at, length bytes, lines.2, subst (Appends old newer) (sym all) there)))
+
+      -- what is told once what was written was to be passed on
+      pub of_told : (refusal told : MergeFault) (IsFlushed : Type 0) (before after : ℕ) (new newer : Option (List ℕ)) → IsRefusedAfter (MayComeTo gives IsWanted no_steps now) refusal.fault refusal.tile refusal.line mid new → Keeps new newer → ToldAfter refusal IsFlushed told before after → IsRefusedFilter MayBe IsWanted told.fault told.tile told.line old newer
+      of_told refusal told IsFlushed before after new newer refused stayed (inl same) =
+          subst (λ (e : MergeFault). IsRefusedFilter MayBe IsWanted e.fault e.tile e.line old newer) (sym same.0) (refused_still MayBe IsWanted old new newer stayed refusal.fault refusal.tile refusal.line (of_features refusal.fault refusal.tile refusal.line new refused))
+      of_told refusal told IsFlushed before after new newer refused stayed (inr failed) =
+          subst (λ (e : MergeFault). IsRefusedFilter MayBe IsWanted e.fault e.tile e.line old newer) (sym failed.0) (of_failed_flush refusal.fault refusal.tile refusal.line new newer failed.1 refused stayed)
 
       module _ (count : ℕ) (new newer : Option (List ℕ)) (features : WroteTexts (MayComeTo gives IsWanted no_steps now) count mid new) (stayed : Keeps new newer) where
         whole : Appends old newer (stream (compact header.value) features.0)
@@ -108,3 +154,11 @@ module _ (MayBe MayGive : TileLines → Type 0) (same : (tile : TileLines) → M
         → IfErr result (λ e. IsRefusedFilter MayGive IsWanted e.fault e.tile e.line old new)
     refusal_given (Ok count) is = tt
     refusal_given (Err e) is = refused_given e.fault e.tile e.line is
+
+    pub passed_on_given : (result : Result ℕ MergeFault) (IsFlushed : Type 0) → IfErr result (λ e. PassedOn MayBe IsFlushed e old new)
+        → IfErr result (λ e. PassedOn MayGive IsFlushed e old new)
+    passed_on_given (Ok count) IsFlushed is = tt
+    passed_on_given (Err e) IsFlushed (inl write) = inl write
+    passed_on_given (Err e) IsFlushed (inr (inl none)) =
+        inr (inl ((none.0.0, some_given (λ lines. HasNoHead lines (record { number = e.line; fault = e.fault })) none.0.1), none.1))
+    passed_on_given (Err e) IsFlushed (inr (inr flushed)) = inr (inr flushed)

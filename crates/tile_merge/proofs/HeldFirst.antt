@@ -10,6 +10,7 @@ use Rattle.city_feature.specs.Feature.{FeatureValue}
 use Rattle.city_feature.specs.FeatureLine.{GivesFeature, RefusesFeatureLine}
 use Rattle.city_feature.specs.Values.{feature_value}
 use Rattle.city_grid.specs.Axes.{Triple}
+use Rattle.tile_merge.specs.declared.tile_reader.feature_lines.Passed.{Passed}
 use Rattle.tile_merge.specs.Coming.{LinesMayComeTo, LeftComesTo, MayComeTo, MayLeave, ReadyFirst, GivesText, ComesBack, SomethingComes}
 use Rattle.tile_merge.specs.Held.{Held, HeldJson, held_value, GiveTexts, RefusesHeld, HeldFirst, TileComesTo}
 use Rattle.tile_merge.specs.Stream.{with_newline}
@@ -201,12 +202,37 @@ module _ {R : Type 0} (gives : R → List ℕ → Bool → Type 0) (IsWanted : F
         λ texts outcome comes. back (is.0 ∷ texts) outcome (of_lines now passed (is.0 ∷ texts) outcome (is.2 texts outcome (to_lines after passed texts outcome comes))),
       )
 
-    pub lines_over : (result : Result (Option (List ℕ)) LineFault) → IfOk result (λ taken. IfNone taken (LinesMayComeTo gives IsWanted k now.lines [] None)) → IfOk result (λ taken. IfNone taken (Comes before [] None))
+      -- the next line was taken, and came to a text
+      pub passed_given : (front : List ℕ) → front ≡ [] → (result : Result (Option Passed) LineFault)
+          → IfOk result (λ taken. IfSome taken (λ passed. passed.is_chosen ≡ true → (given : List ℕ) × (passed.line ≡ front ++ with_newline given) × GivesText (LinesMayComeTo gives IsWanted k now.lines) (LinesMayComeTo gives IsWanted k newer) given))
+          → IfOk result (λ taken. IfSome taken (λ passed. passed.is_chosen ≡ true → (given : List ℕ) × (passed.line ≡ with_newline given) × GivesText (MayComeTo gives IsWanted k before) (MayComeTo gives IsWanted k after) given))
+      passed_given front empty (Err e) is = tt
+      passed_given front empty (Ok None) is = tt
+      passed_given front empty (Ok (Some next)) is = λ chosen.
+          let given = is chosen in (
+            given.0,
+            given.1 ∙ ap (λ l. l ++ with_newline given.0) empty,
+            λ texts outcome comes. back (given.0 ∷ texts) outcome (of_lines now passed (given.0 ∷ texts) outcome (given.2 texts outcome (to_lines after passed texts outcome comes))),
+          )
+
+      -- the next line was taken, and came to nothing
+      pub passed_skipped : (front : List ℕ) → front ≡ [] → (result : Result (Option Passed) LineFault)
+          → IfOk result (λ taken. IfSome taken (λ passed. passed.is_chosen ≡ false → (passed.line ≡ front) × ComesBack (LinesMayComeTo gives IsWanted k now.lines) (LinesMayComeTo gives IsWanted k newer)))
+          → IfOk result (λ taken. IfSome taken (λ passed. passed.is_chosen ≡ false → (passed.line ≡ []) × ComesBack (MayComeTo gives IsWanted k before) (MayComeTo gives IsWanted k after)))
+      passed_skipped front empty (Err e) is = tt
+      passed_skipped front empty (Ok None) is = tt
+      passed_skipped front empty (Ok (Some next)) is = λ unchosen.
+          let skipped = is unchosen in (
+            skipped.0 ∙ empty,
+            λ texts outcome comes. back texts outcome (of_lines now passed texts outcome (skipped.1 texts outcome (to_lines after passed texts outcome comes))),
+          )
+
+    pub lines_over : {X : Type 0} (result : Result (Option X) LineFault) → IfOk result (λ taken. IfNone taken (LinesMayComeTo gives IsWanted k now.lines [] None)) → IfOk result (λ taken. IfNone taken (Comes before [] None))
     lines_over (Err e) is = tt
-    lines_over (Ok (Some line)) is = tt
+    lines_over (Ok (Some x)) is = tt
     lines_over (Ok None) is = back [] None (of_lines now passed [] None is)
 
-    pub lines_refused : (result : Result (Option (List ℕ)) LineFault) → IfErr result (λ e. LinesMayComeTo gives IsWanted k now.lines [] (Some (record { number = e.line; fault = e.fault })))
+    pub lines_refused : {X : Type 0} (result : Result (Option X) LineFault) → IfErr result (λ e. LinesMayComeTo gives IsWanted k now.lines [] (Some (record { number = e.line; fault = e.fault })))
         → IfErr result (λ e. Comes before [] (Some (record { number = e.line; fault = e.fault })))
     lines_refused (Ok taken) is = tt
     lines_refused (Err e) is = back [] (Some (record { number = e.line; fault = e.fault })) (of_lines now passed [] (Some (record { number = e.line; fault = e.fault })) is)

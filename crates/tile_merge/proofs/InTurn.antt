@@ -24,7 +24,7 @@ use Rattle.tile_merge.specs.Told.{told, first_where, or_else, is_memory, fault_o
 use Rattle.tile_merge.specs.Turns.{turns, AreTurns}
 use Rattle.tile_merge.specs.declared.fault.MergeFault.{MergeFault}
 use Rattle.tile_merge.specs.declared.merging.report.Report.{Report}
-use Rattle.tile_merge.proofs.Filtering.{Appends-kept}
+use Rattle.tile_merge.proofs.Steps.{Appends-kept}
 use Rattle.tile_merge.proofs.MergedTiles.{AreMerged, given_all, some_ahead, are_merged, merges}
 use Rattle.tile_merge.proofs.Readying.{quiet_tile, quiet_memory}
 use Rattle.tile_merge.proofs.Steps.{first_of_longer}

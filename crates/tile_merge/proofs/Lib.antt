@@ -17,6 +17,7 @@ pub mod Mixing
 pub mod Opening
 pub mod Readying
 pub mod Rounding
+pub mod Sending
 pub mod Starting
 pub mod Steps
 pub mod Taken

@@ -70,7 +70,7 @@ module _ {R : Type 0} (gives : R → List ℕ → Bool → Type 0) (base : Base)
 -- nothing was taken of tiles whose threads were only started
 pub are_fresh : {R : Type 0} (choice : Choice) (tiles : List (OpenState R)) (shifts : List Triple) (running : List (RunningState R)) → AllThree (IsRunOf choice) tiles shifts running → AreFresh running
 are_fresh choice [] [] [] runs = tt
-are_fresh choice (tile ∷ tiles) (shift ∷ shifts) (run ∷ running) runs = (ap (λ (r : RunningState _). r.lines) runs.0, are_fresh choice tiles shifts running runs.1)
+are_fresh choice (tile ∷ tiles) (shift ∷ shifts) (run ∷ running) runs = ((ap (λ (r : RunningState _). r.lines) runs.0, ap (λ (r : RunningState _). r.cancels) runs.0), are_fresh choice tiles shifts running runs.1)
 are_fresh choice [] [] (run ∷ running) runs = absurd runs
 are_fresh choice [] (shift ∷ shifts) running runs = absurd runs
 are_fresh choice (tile ∷ tiles) [] running runs = absurd runs

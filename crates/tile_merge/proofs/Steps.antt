@@ -4,12 +4,12 @@ use Rattle.std.proofs.lemmas.Bool.{cases_Bool}
 use Rattle.std.proofs.lemmas.Bool.Decides.{nat_tests}
 use Rattle.std.proofs.Math.Seq.{take-append-add, take-append_seam}
 use Rattle.std.proofs.lemmas.List.{take-append-le}
-use Rattle.std.specs.Io.KnownBytes.{Appends}
+use Rattle.std.specs.Io.KnownBytes.{Appends, Keeps}
 use Rattle.std.proofs.KnownBytes.{Appends-nil, Appends-trans}
 use Rattle.std.proofs.lemmas.Grind.{common_steps, flat_map-append}
 use Rattle.city_json.specs.declared.fault.Fault.{Fault}
 use Rattle.city_json.specs.declared.fault.Fault.TheVariants.{Write}
-use Rattle.tile_merge.specs.Coming.{GivesText, SomethingComes}
+use Rattle.tile_merge.specs.Coming.{GivesText, SomethingComes, ComesBack}
 use Rattle.tile_merge.specs.Filtered.{failures_after_write}
 use Rattle.tile_merge.specs.Progress.{SoFar, WroteTexts, StoppedAfter, WroteFront, IsRefusedAfter}
 use Rattle.tile_merge.specs.Stream.{with_newline}
@@ -22,6 +22,13 @@ first_of_longer count front back = ⊎_elim
     (λ (within : nat_le count (length front) ≡ true). (count, take-append-le count front back (grind (arith, nat_tests, within))))
     (λ (past : nat_le count (length front) ≡ false). (length front, take-append_seam front back ∙ sym (take_all count front (grind (arith, nat_tests, past)))))
     (cases_Bool (nat_le count (length front)))
+
+-- known bytes that grew and then stayed
+pub Appends-kept : (old mid new : Option (List ℕ)) (bytes : List ℕ) → Appends old mid bytes → Keeps mid new → Appends old new bytes
+Appends-kept None mid new bytes grew stayed = tt
+Appends-kept (Some x) None new bytes grew stayed = absurd grew
+Appends-kept (Some x) (Some y) None bytes grew stayed = absurd stayed
+Appends-kept (Some x) (Some y) (Some z) bytes grew stayed = stayed ∙ grew
 
 module _ (before : List (List ℕ) → Outcome → Type 0) (old : Option (List ℕ)) where
   pub at_start : SoFar before before 0 old old
@@ -41,6 +48,29 @@ module _ (before : List (List ℕ) → Outcome → Type 0) (old : Option (List �
 
     pub at_fault : (at : FaultyLine) → now [] (Some at) → StoppedAfter before at old new
     at_fault at refused = (so_far.texts, comes_last (Some at) refused, so_far.written)
+
+    -- a line that came to nothing was taken
+    pub at_skipped : (after : List (List ℕ) → Outcome → Type 0) → ComesBack now after → (newer : Option (List ℕ)) → Keeps new newer → SoFar before after count old newer
+    at_skipped after skipped newer kept = record {
+      texts = so_far.texts;
+      back = λ others outcome comes. so_far.back others outcome (skipped others outcome comes);
+      counted = so_far.counted;
+      written = Appends-kept old new newer _ so_far.written kept;
+    }
+
+    -- what was written could not be passed on
+    pub at_failed_flush : SomethingComes now → (newer : Option (List ℕ)) → Keeps new newer → WroteFront before old newer
+    at_failed_flush some newer kept =
+        let more = some.0 in
+        let written = flat_map with_newline so_far.texts in
+        let all : take (length written) (flat_map with_newline (so_far.texts ++ more)) ≡ written =
+        ap (take (length written)) (flat_map-append with_newline so_far.texts more) ∙ take-append_seam written (flat_map with_newline more) in (
+          so_far.texts ++ more,
+          some.1.0,
+          length written,
+          so_far.back more some.1.0 some.1.1,
+          subst (Appends old newer) (sym all) (Appends-kept old new newer _ so_far.written kept),
+        )
 
     module _ (after : List (List ℕ) → Outcome → Type 0) (text line : List ℕ) (is_line : line ≡ with_newline text) (gives : GivesText now after text) where
       pub at_text : (newer : Option (List ℕ)) → Appends new newer line → SoFar before after (count + 1) old newer

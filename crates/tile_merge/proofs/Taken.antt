@@ -1,5 +1,5 @@
 -- The lines among the notes that were taken of a tile, and its end note.
-use Rattle.std.proofs.Common.{◌≡◌, ◌++◌, ℕ, List, [], ◌∷◌, Option, Some, None, is_some, length, map, refl, sym, ap, subst, ◌∙◌, true, Bool}
+use Rattle.std.proofs.Common.{◌≡◌, ◌++◌, ℕ, List, [], ◌∷◌, Option, Some, None, is_some, length, map, refl, sym, ap, subst, ◌∙◌, true, Bool, append-nil}
 use Rattle.tile_handoff.specs.declared.note.End.{End}
 use Rattle.tile_handoff.specs.declared.note.Note.{Note}
 use Rattle.tile_handoff.specs.declared.note.Note.TheVariants.{Line as LineNote, End as EndNote}
@@ -43,19 +43,26 @@ pub some_end : (last : Option End) → is_some last ≡ true → (end : End) × 
 some_end None is = absurd (cc is)
 some_end (Some end) is = (end, refl)
 
--- what was taken of a tile, all that its thread put, is what the tile gave
-pub has_given : {R : Type 0} (gives : R → List ℕ → Bool → Type 0) (fed : Fed R) (last : Option End) (end : End) → last ≡ Some end → (before carried taken : List Note) → before ≡ [] → IsFed gives fed before carried → taken ≡ carried → TellsEnd last taken
-    → (course : Course) × HasGiven gives (record { fed = fed; lines = lines_in taken; last = last }) course
-has_given gives fed last end is before carried taken empty put whole tells =
+-- what was taken of a tile, all that its thread put, is what the tile gave, or the first of it
+pub has_given : {R : Type 0} (gives : R → List ℕ → Bool → Type 0) (fed : Fed R) (last : Option End) (cancels : ℕ) (Unasked : Type 0) (end : End) → last ≡ Some end → (before carried taken : List Note) → before ≡ [] → IsFed gives fed Unasked before carried → taken ≡ carried → TellsEnd last taken → (cancels ≡ 0 → Unasked)
+    → (course : Course) × HasGiven gives (record { fed = fed; lines = lines_in taken; last = last; cancels = cancels }) course
+has_given gives fed last cancels Unasked end is before carried taken empty put whole tells unasked =
     let told = subst (λ l. TellsEnd l taken) is tells in
-    let are : taken ≡ notes_of put.texts put.outcome = whole ∙ put.put ∙ ap (λ ns. ns ++ notes_of put.texts put.outcome) empty in
-    let ended = ended_so (length put.texts) put.outcome in
-    let notes = map line_note put.texts in (
-      course_of put.texts ended,
+    let are : taken ≡ notes_of put.texts put.end = whole ∙ put.put ∙ ap (λ ns. ns ++ notes_of put.texts put.end) empty in
+    let notes = map line_note put.texts in
+    let all = put.texts ++ put.others in
+    let last_is : last ≡ Some put.end = is ∙ ap Some (same_end put.texts put.end end told.0 (sym are ∙ told.1)) in (
+      course_of all (ended_so (length all) put.outcome),
       record {
+        texts = put.texts;
+        others = put.others;
+        are = refl;
         comes = put.comes;
         counted = refl;
-        lines = ap lines_in are ∙ lines_ended notes (end_of ended) ∙ lines_of_notes put.texts;
-        last = is ∙ ap Some (same_end put.texts (end_of ended) end told.0 (sym are ∙ told.1));
+        lines = ap lines_in are ∙ lines_ended notes put.end ∙ lines_of_notes put.texts;
+        whole = λ none.
+            let all_came = put.whole (unasked none) in
+            let texts_are : put.texts ≡ all = sym (append-nil put.texts) ∙ ap (λ others. put.texts ++ others) (sym all_came.0) in
+            (all_came.0, last_is ∙ ap Some (all_came.1 ∙ ap (λ texts. end_of (ended_so (length texts) put.outcome)) texts_are));
       },
     )

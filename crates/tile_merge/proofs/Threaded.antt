@@ -1,8 +1,9 @@
 -- From the lines that were written and what the threads gave to the answer of the whole merge.
-use Rattle.std.proofs.Common.{◌≡◌, ◌++◌, ◌⊎◌, ℕ, Bool, Result, Ok, Err, IfOk, IfErr, List, [], ◌∷◌, Option, Some, None, length, take, map, inl, inr, refl, sym, ap, subst, ◌∙◌, arith, take_all, le_refl}
+use Rattle.std.proofs.Common.{◌≡◌, ◌++◌, ◌⊎◌, ℕ, Bool, Result, Ok, Err, IfOk, IfErr, List, [], ◌∷◌, Option, Some, None, length, take, map, inl, inr, refl, sym, ap, subst, ◌∙◌, arith, take_all, le_refl, append_assoc, append-nil}
 use Rattle.std.specs.Io.KnownBytes.{Appends}
 use Rattle.std.specs.List.{AllZip, concat}
-use Rattle.std.proofs.lemmas.List.{length-map}
+use Rattle.std.proofs.lemmas.List.{length-map, map-append}
+use Rattle.std.proofs.lemmas.List.Folds.{concat-append}
 use Rattle.std.proofs.lemmas.Slice.Zip.{AllZip-long}
 use Rattle.city_json.specs.declared.fault.Fault.{Fault}
 use Rattle.city_json.specs.declared.fault.Fault.TheVariants.{Write, Memory}
@@ -19,13 +20,15 @@ use Rattle.tile_merge.specs.Merged.{MergedAll, WroteMerge, WroteFrontOf, IsRefus
 use Rattle.tile_merge.specs.Opened.{AllThree, OpenState}
 use Rattle.tile_merge.specs.Rounds.{ends_in, texts_in}
 use Rattle.tile_merge.specs.Stream.{with_newline, stream}
-use Rattle.tile_merge.specs.Threads.{Fed, RunningState, AreStarted, HasGiven, HaveGiven, IsRunOf, LinesSoFar, WroteUnless, feds_of, lines_taken, fed_of}
+use Rattle.tile_merge.specs.Threads.{Fed, RunningState, AreStarted, AreUncancelled, HasGiven, HaveGiven, IsRunOf, LinesSoFar, WroteUnless, feds_of, lines_taken, fed_of}
 use Rattle.tile_merge.specs.Told.{told}
 use Rattle.tile_merge.specs.declared.fault.MergeFault.{MergeFault}
 use Rattle.tile_merge.specs.declared.merging.report.Report.{Report}
 use Rattle.tile_merge.proofs.InTurn.{ends_long, of_write, of_memory, of_tile}
 use Rattle.tile_merge.proofs.MergedTiles.{AreMerged, MayGive, are_merged, merges}
-use Rattle.tile_merge.proofs.Mixing.{AreTexts, texts_mixed}
+use Rattle.tile_merge.proofs.Mixing.{AreParted, AreTexts, flat, mixed_on, texts_mixed}
+use Rattle.tile_merge.proofs.Steps.{first_of_longer}
+use Rattle.tile_merge.proofs.Writing.{on_ok}
 
 -- ---- what the threads gave ----
 
@@ -40,19 +43,34 @@ module _ {R : Type 0} (gives : R → List ℕ → Bool → Type 0) where
   pub given_more : (tiles : List (RunningState R)) (tile : RunningState R) → (courses : List Course) × HaveGiven gives tiles courses → (course : Course) × HasGiven gives tile course → (courses : List Course) × HaveGiven gives (tiles ++ tile ∷ []) courses
   given_more tiles tile given one = (given.0 ++ one.0 ∷ [], given_push tiles tile given.0 one.0 given.1 one.1)
 
-  -- the lines that were taken are those of the texts
-  lines_given : (tiles : List (RunningState R)) (courses : List Course) → HaveGiven gives tiles courses → lines_taken tiles ≡ map (map with_newline) (texts_in courses)
-  lines_given [] [] have = refl
-  lines_given [] (course ∷ courses) have = absurd have
-  lines_given (tile ∷ tiles) [] have = absurd have
-  lines_given (tile ∷ tiles) (course ∷ courses) have = rw (have.0.lines, lines_given tiles courses have.1) refl
+  -- where nobody asked them to stop, the lines that were taken are those of the texts
+  lines_given : (tiles : List (RunningState R)) (courses : List Course) → HaveGiven gives tiles courses → AreUncancelled tiles → lines_taken tiles ≡ map (map with_newline) (texts_in courses)
+  lines_given [] [] have none = refl
+  lines_given [] (course ∷ courses) have none = absurd have
+  lines_given (tile ∷ tiles) [] have none = absurd have
+  lines_given (tile ∷ tiles) (course ∷ courses) have none =
+      let one = have.0 in
+      let texts_are : one.texts ≡ course.texts = sym (append-nil one.texts) ∙ ap (λ others. one.texts ++ others) (sym (one.whole none.0).0) ∙ sym one.are in
+      ap (λ l. l ∷ lines_taken tiles) (one.lines ∙ ap (map with_newline) texts_are) ∙ ap (λ ls. map with_newline course.texts ∷ ls) (lines_given tiles courses have.1 none.1)
 
-  -- the end notes are those of the courses
-  pub ends_given : (tiles : List (RunningState R)) (courses : List Course) → HaveGiven gives tiles courses → AllZip (λ (tile : RunningState R) (ended : Ended). tile.last ≡ Some (end_of ended)) tiles (ends_in courses)
-  ends_given [] [] have = tt
-  ends_given [] (course ∷ courses) have = absurd have
-  ends_given (tile ∷ tiles) [] have = absurd have
-  ends_given (tile ∷ tiles) (course ∷ courses) have = (have.0.last, ends_given tiles courses have.1)
+  -- otherwise they are the first of these
+  lines_parted : (tiles : List (RunningState R)) (courses : List Course) → HaveGiven gives tiles courses → (rests : List (List (List ℕ))) × AllThree AreParted (lines_taken tiles) (map (map with_newline) (texts_in courses)) rests
+  lines_parted [] [] have = ([], tt)
+  lines_parted [] (course ∷ courses) have = absurd have
+  lines_parted (tile ∷ tiles) [] have = absurd have
+  lines_parted (tile ∷ tiles) (course ∷ courses) have =
+      let one = have.0 in
+      let more = lines_parted tiles courses have.1 in
+      let first : map with_newline course.texts ≡ tile.lines ++ map with_newline one.others =
+      ap (map with_newline) one.are ∙ map-append with_newline one.texts one.others ∙ ap (λ l. l ++ map with_newline one.others) (sym one.lines) in
+      (map with_newline one.others ∷ more.0, (first, more.1))
+
+  -- where nobody asked them to stop, the end notes are those of the courses
+  pub ends_given : (tiles : List (RunningState R)) (courses : List Course) → HaveGiven gives tiles courses → AreUncancelled tiles → AllZip (λ (tile : RunningState R) (ended : Ended). tile.last ≡ Some (end_of ended)) tiles (ends_in courses)
+  ends_given [] [] have none = tt
+  ends_given [] (course ∷ courses) have none = absurd have
+  ends_given (tile ∷ tiles) [] have none = absurd have
+  ends_given (tile ∷ tiles) (course ∷ courses) have none = ((have.0.whole none.0).1, ends_given tiles courses have.1 none.1)
 
   pub few_given : (tiles : List (RunningState R)) (courses : List Course) → HaveGiven gives tiles courses → (ends : List End) → AreEnds ends (ends_in courses) → length ends ≡ length tiles
   few_given tiles courses have ends are =
@@ -92,25 +110,35 @@ module _ {R : Type 0} (gives : R → List ℕ → Bool → Type 0) (tiles now : 
     merged : AreMerged gives wanted readers started.headers started.shifts courses
     merged = are_merged gives wanted readers started.tiles started.headers started.shifts courses started.opened (gave_all gives choice started.tiles started.shifts tiles now courses started.runs so_far.fed have)
 
-    texts : AreTexts (texts_in courses) so_far.out
-    texts = texts_mixed (texts_in courses) so_far.out (subst (λ (lists : List (List (List ℕ))). Interleaves lists so_far.out) (lines_given gives now courses have) so_far.mixes)
+    abbrev parted : (rests : List (List (List ℕ))) × AllThree AreParted (lines_taken now) (map (map with_newline) (texts_in courses)) rests
+    parted = lines_parted gives now courses have
 
-    mixes : Interleaves (texts_of merged.merged) texts.texts
-    mixes = subst (λ (lists : List (List (List ℕ))). Interleaves lists texts.texts) (sym merged.texts_are) texts.mixes
+    abbrev later : List (List ℕ)
+    later = flat parted.0
 
-    bytes : line ++ concat so_far.out ≡ stream started.header texts.texts
-    bytes = ap (λ l. l ++ concat so_far.out) started.line_is ∙ ap (λ l. with_newline started.header ++ l) texts.bytes
+    -- what was written, and then what would have come
+    all_texts : AreTexts (texts_in courses) (so_far.out ++ later)
+    all_texts = texts_mixed (texts_in courses) (so_far.out ++ later) (mixed_on (lines_taken now) (map (map with_newline) (texts_in courses)) parted.0 parted.1 so_far.out so_far.mixes)
+
+    all_bytes : (line ++ concat so_far.out) ++ concat later ≡ stream started.header all_texts.texts
+    all_bytes =
+        append_assoc line (concat so_far.out) (concat later)
+        ∙ ap (λ l. line ++ l) (sym (concat-append so_far.out later))
+        ∙ ap (λ l. l ++ concat (so_far.out ++ later)) started.line_is
+        ∙ ap (λ l. with_newline started.header ++ l) all_texts.bytes
 
     front_by : (count : ℕ) → Appends old new (take count (line ++ concat so_far.out)) → WroteFrontOf gives wanted base Interleaves readers old new
-    front_by count wrote_front = record {
-      tiles = merged.merged;
-      line = started.header;
-      out = texts.texts;
-      count = count;
-      merges = merges gives wanted base readers started.headers started.header started.shifts courses merged started.joined;
-      mixes = mixes;
-      written = subst (Appends old new) (ap (take count) bytes) wrote_front;
-    }
+    front_by count wrote_front =
+        let first = first_of_longer count (line ++ concat so_far.out) (concat later) in
+        record {
+          tiles = merged.merged;
+          line = started.header;
+          out = all_texts.texts;
+          count = first.0;
+          merges = merges gives wanted base readers started.headers started.header started.shifts courses merged started.joined;
+          mixes = subst (λ (lists : List (List (List ℕ))). Interleaves lists all_texts.texts) (sym merged.texts_are) all_texts.mixes;
+          written = subst (Appends old new) (sym first.1 ∙ ap (take first.0) all_bytes) wrote_front;
+        }
 
     -- a write failed
     pub refused_write : (fault : Fault) → wrote ≡ Err fault → (refusal : MergeFault) → refusal ≡ record { tile = 0; line = 0; fault = fault } → IsRefusedMerge gives wanted base Interleaves readers refusal old new
@@ -120,6 +148,18 @@ module _ {R : Type 0} (gives : R → List ℕ → Bool → Type 0) (tiles now : 
         of_write gives wanted base Interleaves readers old new fault which refusal is (front_by part.0 part.1)
 
     module _ (was : wrote ≡ Ok tt) where
+      none : AreUncancelled now
+      none = on_ok (AreUncancelled now) wrote was so_far.uncancelled
+
+      texts : AreTexts (texts_in courses) so_far.out
+      texts = texts_mixed (texts_in courses) so_far.out (subst (λ (lists : List (List (List ℕ))). Interleaves lists so_far.out) (lines_given gives now courses have none) so_far.mixes)
+
+      mixes : Interleaves (texts_of merged.merged) texts.texts
+      mixes = subst (λ (lists : List (List (List ℕ))). Interleaves lists texts.texts) (sym merged.texts_are) texts.mixes
+
+      bytes : line ++ concat so_far.out ≡ stream started.header texts.texts
+      bytes = ap (λ l. l ++ concat so_far.out) started.line_is ∙ ap (λ l. with_newline started.header ++ l) texts.bytes
+
       written : Appends old new (line ++ concat so_far.out)
       written = subst (λ (r : Result (Unit {0}) Fault). WroteUnless r (line ++ concat so_far.out) old new) was so_far.written
 

@@ -1,7 +1,7 @@
 -- In the midst of a round: one tile takes its turn.
 use Rattle.std.proofs.Common.{◌≡◌, ◌≤◌, ◌<◌, ◌+◌, ◌++◌, ◌||◌, ℕ, Bool, true, false, List, [], ◌∷◌, Option, Some, length, take, get_or, set, is_some, option_to_list, refl, sym, ap, subst, ◌∙◌, arith, append_assoc, append-nil}
 use Rattle.std.proofs.Math.Seq.{take-append-add}
-use Rattle.std.specs.Io.KnownBytes.{Appends}
+use Rattle.std.specs.Io.KnownBytes.{Appends, Keeps}
 use Rattle.std.proofs.KnownBytes.{Appends-nil, Appends-trans}
 use Rattle.std.proofs.lemmas.Grind.{common_steps, flat_map-append}
 use Rattle.std.proofs.lemmas.List.Folds.{list_any-append}
@@ -14,7 +14,7 @@ use Rattle.tile_merge.specs.Stream.{with_newline}
 use Rattle.tile_merge.specs.Turns.{firsts, rests, turns}
 use Rattle.tile_merge.proofs.Threes.{all_three_push}
 use Rattle.tile_merge.proofs.Rounding.{round_back, round_some}
-use Rattle.tile_merge.proofs.Steps.{first_of_longer}
+use Rattle.tile_merge.proofs.Steps.{first_of_longer, Appends-kept}
 use Rattle.tile_merge.proofs.TurnsLaws.{turns_step, firsts-append}
 
 -- the item at the seam of two lists, and what comes after it
@@ -84,6 +84,18 @@ module _ {R : Type 0} (gives : R → List ℕ → Bool → Type 0) (IsWanted : F
     abbrev given : List (Option (List ℕ))
     given = so_far.round.0
 
+    -- what was written was passed on
+    pub round_kept : (newer : Option (List ℕ)) → Keeps mid newer → RoundSoFar gives IsWanted before now place any old newer
+    round_kept newer kept = record {
+      first = so_far.first;
+      after = so_far.after;
+      rest = so_far.rest;
+      before_is = so_far.before_is;
+      now_is = so_far.now_is;
+      place_is = so_far.place_is;
+      round = (given, so_far.round.1, so_far.round.2, Appends-kept old mid newer _ so_far.round.3 kept);
+    }
+
     -- all tiles took their turns
     pub round_end : length now ≤ place → WroteRound gives IsWanted before now any old mid
     round_end all =
@@ -112,6 +124,30 @@ module _ {R : Type 0} (gives : R → List ℕ → Bool → Type 0) (IsWanted : F
           let all = subst (λ feeds. MayTakeAll gives IsWanted feeds some.0) is_before some.1 in
           let one = AllZip-behind (MayTake gives IsWanted) so_far.first seam.item seam.others some.0 all in
           subst (λ feed. SomeCourse (MayTake gives IsWanted feed)) (sym (is_item default)) (one.0, one.2)
+
+      -- what was written could not be passed on before the turn
+      pub turn_unwritten : SomeCourses (MayTakeAll gives IsWanted before) → WroteTurnsFront gives IsWanted before old mid
+      turn_unwritten some =
+          let behind = AllZip-behind (MayTake gives IsWanted) so_far.first seam.item seam.others some.0 (subst (λ feeds. MayTakeAll gives IsWanted feeds some.0) is_before some.1) in
+          let after = round_some gives IsWanted so_far.first so_far.after given so_far.round.1 in
+          let front = round_back gives IsWanted so_far.first so_far.after given so_far.round.1 after.0 after.1 in
+          let rest = behind.0 ∷ behind.1 in
+          let all = front.all ++ rest in
+          let may = AllZip-joined (MayTake gives IsWanted) so_far.first (seam.item ∷ seam.others) front.all rest front.may (behind.2, behind.3) in
+          let texts = texts_given given in
+          let others = firsts (texts_in rest) in
+          let later = turns (rests (texts_in all)) in
+          let first : firsts (texts_in all) ≡ texts ++ others =
+          ap firsts (texts_in-append front.all rest) ∙ firsts-append (texts_in front.all) (texts_in rest) ∙ ap (λ xs. xs ++ others) front.first in
+          let whole : turns (texts_in all) ≡ texts ++ (others ++ later) =
+          turns_step (texts_in all) ∙ ap (λ xs. xs ++ later) first ∙ append_assoc texts others later in
+          let tail = lines_of (others ++ later) in
+          let lines : lines_of (turns (texts_in all)) ≡ lines_of texts ++ tail =
+          ap lines_of whole ∙ flat_map-append with_newline texts (others ++ later) in
+          let count = length (lines_of texts) + 0 in
+          let is : take count (lines_of (turns (texts_in all))) ≡ lines_of texts =
+          ap (take count) lines ∙ take-append-add (lines_of texts) tail 0 ∙ append-nil (lines_of texts) in
+          (all, count, subst (λ feeds. MayTakeAll gives IsWanted feeds all) (sym is_before) may, subst (Appends old mid) (sym is) so_far.round.3)
 
       module _ (default new : FeedState R) (text : Option (List ℕ)) (turn : TakesTurn gives IsWanted (get_or now place default) new text) where
         item_turn : TakesTurn gives IsWanted seam.item new text

@@ -14,7 +14,7 @@ module _ {X : Type 0} where
   pub at_own : (t n : ℕ) (numbers : List ℕ) (item : X) (out : List X) → n ≡ t → items_at t (n ∷ numbers) (item ∷ out) ≡ item ∷ items_at t numbers out
   at_own t n numbers item out same = rw (eq-eqb n t same) refl
 
-  at_other : (t n : ℕ) (numbers : List ℕ) (item : X) (out : List X) → n ≢ t → items_at t (n ∷ numbers) (item ∷ out) ≡ items_at t numbers out
+  pub at_other : (t n : ℕ) (numbers : List ℕ) (item : X) (out : List X) → n ≢ t → items_at t (n ∷ numbers) (item ∷ out) ≡ items_at t numbers out
   at_other t n numbers item out other = rw (ne_eqb n t other) refl
 
   one_more : (is_own : Bool) (item : X) (items others : List X) → (if is_own then item ∷ (items ++ others) else (items ++ others)) ≡ (if is_own then item ∷ items else items) ++ others

@@ -1,5 +1,5 @@
 -- The lines of tiles whose threads run, written as they are taken.
-use Rattle.std.proofs.Common.{◌≡◌, ◌<◌, ◌+◌, ◌++◌, ℕ, List, [], ◌∷◌, Option, Result, Ok, Err, IfErr, length, take, get_or, set, refl, sym, ap, subst, ◌∙◌, arith, append_assoc, append-nil, take_all, le_refl}
+use Rattle.std.proofs.Common.{◌≡◌, ◌<◌, ◌+◌, ◌++◌, ℕ, List, [], ◌∷◌, Option, Result, Ok, Err, IfErr, IsOk, OnOk, is_ok, false, zero, suc, length, take, get_or, set, refl, sym, ap, subst, ◌∙◌, arith, append_assoc, append-nil, take_all, le_refl}
 use Rattle.std.proofs.Math.Seq.{take-append-add, map-set_same}
 use Rattle.std.specs.Io.KnownBytes.{Appends, Keeps}
 use Rattle.std.proofs.KnownBytes.{Appends-trans}
@@ -10,13 +10,18 @@ use Rattle.city_json.specs.Streams.Failures.{after_call}
 use Rattle.city_json.specs.declared.fault.Fault.{Fault}
 use Rattle.city_json.specs.declared.fault.Fault.TheVariants.{Write}
 use Rattle.tile_merge.specs.Interleaves.{Interleaves}
-use Rattle.tile_merge.specs.Threads.{Fed, RunningState, AreFresh, LinesSoFar, WroteUnless, feds_of, lines_taken}
-use Rattle.tile_merge.proofs.Filtering.{Appends-kept}
+use Rattle.tile_merge.specs.Threads.{Fed, RunningState, AreFresh, AreUncancelled, LinesSoFar, WroteUnless, feds_of, lines_taken}
+use Rattle.tile_merge.proofs.Steps.{Appends-kept, first_of_longer}
 use Rattle.tile_merge.proofs.Mixing.{none_mixed, one_mixed}
-use Rattle.tile_merge.proofs.Steps.{first_of_longer}
 
 abbrev Done : Type 0
 Done = Result (Unit {0}) Fault
+
+-- what holds where a call succeeds holds where a later one does that succeeds only after it
+both_ok : (A B : Type 0) → (A → B) → (wrote result : Done) → OnOk result (IsOk wrote) → OnOk wrote A → OnOk result B
+both_ok A B onward (Ok done) (Ok other) after holds = onward holds
+both_ok A B onward (Err fault) (Ok other) after holds = absurd (cc after)
+both_ok A B onward wrote (Err fault) after holds = tt
 
 -- ---- one line ----
 
@@ -40,6 +45,22 @@ flushed (Ok done) bytes old mid new wrote keeps = Appends-kept old mid new bytes
 flushed (Err fault) bytes old mid new wrote keeps =
     (length bytes, subst (Appends old new) (sym (take_all (length bytes) bytes (le_refl _))) (Appends-kept old mid new bytes wrote keeps))
 
+pub on_ok : (A : Type 0) (wrote : Done) → wrote ≡ Ok tt → OnOk wrote A → A
+on_ok A wrote is holds = subst (λ (r : Done). OnOk r A) is holds
+
+same_ok : (wrote : Done) → OnOk wrote (IsOk wrote)
+same_ok (Ok done) = refl
+same_ok (Err fault) = tt
+
+none_ok : (A : Type 0) (wrote : Done) → is_ok wrote ≡ false → OnOk wrote A
+none_ok A (Ok done) failing = absurd (cc failing)
+none_ok A (Err fault) failing = tt
+
+uncancelled_set : {R : Type 0} (tiles : List (RunningState R)) (i : ℕ) (default new : RunningState R) → new.cancels ≡ (get_or tiles i default).cancels → AreUncancelled tiles → AreUncancelled (set tiles i new)
+uncancelled_set [] i default new kept none = tt
+uncancelled_set (tile ∷ tiles) zero default new kept none = (kept ∙ none.0, none.1)
+uncancelled_set (tile ∷ tiles) (suc i) default new kept none = (none.0, uncancelled_set tiles i default new kept none.1)
+
 -- ---- one tile ----
 
 module _ {R : Type 0} where
@@ -59,34 +80,61 @@ module _ {R : Type 0} where
     written = subst (λ (bytes : List ℕ). WroteUnless wrote bytes old new) (sym (append-nil header)) written;
     failed = failed;
     fault = fault;
+    uncancelled = where_ok wrote (unasked tiles fresh);
   }
     where
+      where_ok : (result : Done) → AreUncancelled tiles → OnOk result (AreUncancelled tiles)
+      where_ok (Ok done) none = none
+      where_ok (Err fault) none = tt
+
+      unasked : (all : List (RunningState R)) → AreFresh all → AreUncancelled all
+      unasked [] nothing = tt
+      unasked (tile ∷ all) nothing = (nothing.0.1, unasked all nothing.1)
+
       none_taken : (all : List (RunningState R)) → AreFresh all → AllByRecursion (λ (list : List (List ℕ)). list ≡ []) (lines_taken all)
       none_taken [] nothing = tt
-      none_taken (tile ∷ all) nothing = (nothing.0, none_taken all nothing.1)
+      none_taken (tile ∷ all) nothing = (nothing.0.0, none_taken all nothing.1)
 
   module _ (feds : List (Fed R)) (header : List ℕ) (tiles : List (RunningState R)) (i : ℕ) (default new : RunningState R) (within : i < length tiles) (same : new.fed ≡ (get_or tiles i default).fed) (old : Option (List ℕ)) (count : ℕ) where
     same_feds : feds_of (set tiles i new) ≡ feds_of tiles
     same_feds = map-set_same fed_in tiles i new default same
 
+    -- nobody asked it to stop since
+    unasked_since : new.cancels ≡ (get_or tiles i default).cancels → AreUncancelled tiles → AreUncancelled (set tiles i new)
+    unasked_since kept none = uncancelled_set tiles i default new kept none
+
     -- the tile gave no line
-    pub no_line : new.lines ≡ (get_or tiles i default).lines → (wrote : Result (Unit {0}) Fault) (mid : Option (List ℕ)) (newer : ℕ) → LinesSoFar feds header tiles wrote old mid count newer → LinesSoFar feds header (set tiles i new) wrote old mid count newer
-    no_line none wrote mid newer so_far = record {
+    pub no_line : new.cancels ≡ (get_or tiles i default).cancels → new.lines ≡ (get_or tiles i default).lines → (wrote : Result (Unit {0}) Fault) (mid : Option (List ℕ)) (newer : ℕ) → LinesSoFar feds header tiles wrote old mid count newer → LinesSoFar feds header (set tiles i new) wrote old mid count newer
+    no_line kept none wrote mid newer so_far = record {
       fed = same_feds ∙ so_far.fed;
       out = so_far.out;
       mixes = subst (λ (lists : List (List (List ℕ))). Interleaves lists so_far.out) (sym (map-set_same lines_of_tile tiles i new default none)) so_far.mixes;
       written = so_far.written;
       failed = so_far.failed;
       fault = so_far.fault;
+      uncancelled = both_ok (AreUncancelled tiles) (AreUncancelled (set tiles i new)) (unasked_since kept) wrote wrote (same_ok wrote) so_far.uncancelled;
+    }
+
+    -- the tile was asked to stop, where a write failed
+    pub one_asked : new.lines ≡ (get_or tiles i default).lines → (wrote : Result (Unit {0}) Fault) → is_ok wrote ≡ false → (mid : Option (List ℕ)) (newer : ℕ) → LinesSoFar feds header tiles wrote old mid count newer → LinesSoFar feds header (set tiles i new) wrote old mid count newer
+    one_asked none wrote failing mid newer so_far = record {
+      fed = same_feds ∙ so_far.fed;
+      out = so_far.out;
+      mixes = subst (λ (lists : List (List (List ℕ))). Interleaves lists so_far.out) (sym (map-set_same lines_of_tile tiles i new default none)) so_far.mixes;
+      written = so_far.written;
+      failed = so_far.failed;
+      fault = so_far.fault;
+      uncancelled = none_ok (AreUncancelled (set tiles i new)) wrote failing;
     }
 
     -- the tile gave this line
-    pub one_line : (line : List ℕ) → new.lines ≡ (get_or tiles i default).lines ++ line ∷ [] → (wrote result : Result (Unit {0}) Fault) (mid newest : Option (List ℕ)) (newer after : ℕ)
+    pub one_line : new.cancels ≡ (get_or tiles i default).cancels → (line : List ℕ) → new.lines ≡ (get_or tiles i default).lines ++ line ∷ [] → (wrote result : Result (Unit {0}) Fault) (mid newest : Option (List ℕ)) (newer after : ℕ)
         → ((bytes : List ℕ) (first : Option (List ℕ)) → WroteUnless wrote bytes first mid → WroteUnless result (bytes ++ line) first newest)
         → ((n : ℕ) → newer ≡ after_call wrote n → after ≡ after_call result n)
         → (IfErr wrote (λ fault. fault ≡ Write) → IfErr result (λ fault. fault ≡ Write))
+        → OnOk result (IsOk wrote)
         → LinesSoFar feds header tiles wrote old mid count newer → LinesSoFar feds header (set tiles i new) result old newest count after
-    one_line line longer wrote result mid newest newer after writes fails faults so_far =
+    one_line kept line longer wrote result mid newest newer after writes fails faults later so_far =
         let lists = lines_taken tiles in
         let here : get_or lists i [] ≡ (get_or tiles i default).lines = get_or-map lines_of_tile tiles i default [] within in
         let grown : lines_taken (set tiles i new) ≡ set lists i (get_or lists i [] ++ line ∷ []) =
@@ -100,7 +148,25 @@ module _ {R : Type 0} where
           written = subst (λ (l : List ℕ). WroteUnless result l old newest) bytes (writes _ old so_far.written);
           failed = fails count so_far.failed;
           fault = faults so_far.fault;
+          uncancelled = both_ok (AreUncancelled tiles) (AreUncancelled (set tiles i new)) (unasked_since kept) wrote result later so_far.uncancelled;
         }
+
+  -- a flush follows what was written so far
+  pub flushed_between : (feds : List (Fed R)) (header : List ℕ) (tiles : List (RunningState R)) (wrote result : Result (Unit {0}) Fault) (old mid new : Option (List ℕ)) (failures between newer : ℕ)
+      → ((bytes : List ℕ) (first : Option (List ℕ)) → WroteUnless wrote bytes first mid → WroteUnless result bytes first new)
+      → ((n : ℕ) → between ≡ after_call wrote n → newer ≡ after_call result n)
+      → (IfErr wrote (λ fault. fault ≡ Write) → IfErr result (λ fault. fault ≡ Write))
+      → OnOk result (IsOk wrote)
+      → LinesSoFar feds header tiles wrote old mid failures between → LinesSoFar feds header tiles result old new failures newer
+  flushed_between feds header tiles wrote result old mid new failures between newer writes fails faults later so_far = record {
+    fed = so_far.fed;
+    out = so_far.out;
+    mixes = so_far.mixes;
+    written = writes _ old so_far.written;
+    failed = fails failures so_far.failed;
+    fault = faults so_far.fault;
+    uncancelled = both_ok (AreUncancelled tiles) (AreUncancelled tiles) (λ none. none) wrote result later so_far.uncancelled;
+  }
 
   -- a flush follows all lines
   pub flushed_lines : (feds : List (Fed R)) (header : List ℕ) (tiles : List (RunningState R)) (wrote result : Result (Unit {0}) Fault) (old mid new : Option (List ℕ)) (failures between newer : ℕ) → wrote ≡ Ok tt → LinesSoFar feds header tiles wrote old mid failures between
@@ -112,4 +178,9 @@ module _ {R : Type 0} where
     written = flushed result (header ++ concat so_far.out) old mid new (subst (λ (r : Done). WroteUnless r (header ++ concat so_far.out) old mid) was so_far.written) keeps;
     failed = failed ∙ ap (after_call result) (so_far.failed ∙ ap (λ (r : Done). after_call r failures) was);
     fault = fault;
+    uncancelled = both_ok (AreUncancelled tiles) (AreUncancelled tiles) (λ none. none) wrote result (all_ok result was) so_far.uncancelled;
   }
+    where
+      all_ok : (last : Done) → wrote ≡ Ok tt → OnOk last (IsOk wrote)
+      all_ok (Ok done) is = subst (λ (r : Done). IsOk r) (sym is) refl
+      all_ok (Err fault) is = tt

@@ -1,5 +1,5 @@
 -- The notes by which a tile is handed on: its texts, a line each, and then the end note.
-use Rattle.std.specs.Prelude.{◌≡◌, ◌++◌, ℕ, List, [], ◌∷◌, Option, Some, None, length, map}
+use Rattle.std.specs.Prelude.{◌≡◌, ◌++◌, ℕ, List, [], ◌∷◌, Option, Some, None, map}
 use Rattle.std.specs.List.{AllZip}
 use Rattle.city_json.specs.Faults.{number_of}
 use Rattle.tile_handoff.specs.declared.note.End.{End}
@@ -38,8 +38,9 @@ AreEnds ends tiles = AllZip (λ end ended. end ≡ end_of ended) ends tiles
 abbrev pub line_note : List ℕ → Note
 line_note text = LineNote (with_newline text)
 
-abbrev pub notes_of : List (List ℕ) → Outcome → List Note
-notes_of texts outcome = map line_note texts ++ EndNote (end_of (ended_so (length texts) outcome)) ∷ []
+-- the texts, and then this end note
+abbrev pub notes_of : List (List ℕ) → End → List Note
+notes_of texts end = map line_note texts ++ EndNote end ∷ []
 
 -- how a tile ended that stopped at this line, or nowhere
 abbrev pub outcome_at : Option LineFault → Outcome

@@ -1,5 +1,5 @@
 -- A tile that is merged in turn: what is still to be read of it, and the notes that were read ahead.
-use Rattle.std.specs.Prelude.{◌≡◌, ◌⊎◌, ◌≤◌, ◌<◌, ◌+◌, ◌-◌, ℕ, Bool, true, false, List, [], ◌∷◌, Option, Some, None, length, if◌then◌else◌}
+use Rattle.std.specs.Prelude.{◌≡◌, ◌⊎◌, ◌≤◌, ◌<◌, ◌+◌, ℕ, Bool, true, false, List, [], ◌∷◌, Option, Some, None, length, if◌then◌else◌}
 use Rattle.city_feature.specs.Feature.{FeatureValue}
 use Rattle.city_grid.specs.Axes.{Triple}
 use Rattle.tile_handoff.specs.Queues.{Queue, empty_queue}
@@ -89,9 +89,9 @@ HasRoom feed = (feed.notes.closed ≡ false) × (length feed.notes.left < feed.c
 abbrev pub most_ahead : {R : Type 0} → FeedState R → ℕ
 most_ahead feed = (if feed.notes.closed then 0 else 1 + most_to_come feed.unread) + length feed.notes.left
 
--- how many more notes may be read ahead at most
-abbrev pub most_places : {R : Type 0} → FeedState R → ℕ
-most_places feed = if feed.notes.closed then 0 else 1 + (feed.capacity - length feed.notes.left)
+-- how many more lines may be read at most, the end among them
+abbrev pub most_lines : {R : Type 0} → FeedState R → ℕ
+most_lines feed = if feed.notes.closed then 0 else 1 + most_to_come feed.unread
 
 -- one turn of a tile: it gave this text, or none since it is over
 abbrev pub TakesTurn : {R : Type 0} → (R → List ℕ → Bool → Type 0) → (FeatureValue → Type 0) → FeedState R → FeedState R → Option (List ℕ) → Type 0

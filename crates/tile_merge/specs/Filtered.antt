@@ -1,5 +1,5 @@
 -- What a call that filters one tile may answer, and what was written then.
-use Rattle.std.specs.Prelude.{◌≡◌, ◌⊎◌, ◌==◌, if◌then◌else◌, ℕ, pos, List, Option, Some, None, length, take, Result, Ok, Err}
+use Rattle.std.specs.Prelude.{◌≡◌, ◌≢◌, ◌⊎◌, ◌==◌, if◌then◌else◌, ℕ, pos, List, Option, Some, None, length, take, Result, Ok, Err}
 use Rattle.std.specs.Io.KnownBytes.{Appends, Keeps}
 use Rattle.city_json.specs.Compact.{compact}
 use Rattle.city_json.specs.Streams.Failures.{one_more}
@@ -67,6 +67,19 @@ IsRefusedFilter MayBe IsWanted fault tile line old new =
     × SomeTile MayBe (λ lines.
     StoppedAt lines IsWanted (record { number = line; fault = fault }) old new)
 
+-- the tile has no head, for this fault of this line
+abbrev pub IsHeadless : (TileLines → Type 0) → MergeFault → Type 0
+IsHeadless MayBe refusal =
+    (refusal.tile ≡ 1)
+    × SomeTile MayBe (λ lines.
+    HasNoHead lines (record { number = refusal.line; fault = refusal.fault }))
+
+-- Where a refusal is answered: a write or a flush failed; or nothing was written; or what was written
+-- was passed on.
+abbrev pub PassedOn : (TileLines → Type 0) → Type 0 → MergeFault → Option (List ℕ) → Option (List ℕ) → Type 0
+PassedOn MayBe IsFlushed refusal old new =
+    (refusal.fault ≡ Write) ⊎ (IsHeadless MayBe refusal × Keeps old new) ⊎ IsFlushed
+
 -- the count of failed writes after a refusal: it grows where the refusal is that a write failed
 abbrev pub failures_after_write : Fault → ℕ → ℕ
 failures_after_write Write count = one_more count
@@ -84,6 +97,21 @@ failures_after_merge (Err refusal) count = failures_after_refusal refusal count
 abbrev pub failures_after_filter : {X : Type 0} → Result X MergeFault → ℕ → ℕ
 failures_after_filter (Ok x) count = count
 failures_after_filter (Err refusal) count = failures_after_write refusal.fault count
+
+-- What is told where what was written before a refusal is passed on: that refusal; or that a write
+-- failed, where the flush did.
+abbrev pub ToldAfter : MergeFault → Type 0 → MergeFault → ℕ → ℕ → Type 0
+ToldAfter refusal IsFlushed told before after =
+    ((told ≡ refusal) × ((refusal.fault ≡ Write) ⊎ IsFlushed) × (after ≡ before))
+    ⊎ ((told ≡ record { tile = 0; line = 0; fault = Write })
+    × (refusal.fault ≢ Write)
+    × (after ≡ one_more before))
+
+-- The count of failed reads before and after a call that was refused: it grows where the tile could
+-- not be read, also where that is not told, since what was written could not be passed on.
+abbrev pub CountsReads : Fault → ℕ → ℕ → Type 0
+CountsReads fault before after =
+    (after ≡ failed_reads_after fault before) ⊎ ((fault ≡ Write) × (after ≡ one_more before))
 
 -- the count of failed reads after a call: it grows where the tile could not be read
 abbrev pub failed_reads_after_filter : {X : Type 0} → Result X MergeFault → ℕ → ℕ

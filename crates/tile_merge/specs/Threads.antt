@@ -1,5 +1,5 @@
 -- Tiles whose texts threads of their own put into rings, and what the caller took out of these.
-use Rattle.std.specs.Prelude.{◌≡◌, ◌⊎◌, ◌≤◌, ◌<◌, ◌++◌, ℕ, Bool, List, [], ◌∷◌, Option, Some, None, is_some, Result, Ok, Err, IfErr, length, map, take}
+use Rattle.std.specs.Prelude.{◌≡◌, ◌⊎◌, ◌≤◌, ◌<◌, ◌++◌, ℕ, Bool, List, [], ◌∷◌, Option, Some, None, is_some, Result, Ok, Err, IfErr, OnOk, length, map, take}
 use Rattle.std.specs.Io.KnownBytes.{Appends}
 use Rattle.std.specs.List.{AllZip, AllByRecursion, concat, list_all}
 use Rattle.city_json.specs.Streams.Failures.{after_call}
@@ -15,7 +15,7 @@ use Rattle.tile_handoff.specs.declared.note.End.{End}
 use Rattle.tile_handoff.specs.declared.note.Note.{Note}
 use Rattle.tile_handoff.specs.declared.note.Note.TheVariants.{Line as LineNote, End as EndNote}
 use Rattle.tile_merge.specs.Coming.{MayComeTo}
-use Rattle.tile_merge.specs.EndNotes.{end_of, line_note, notes_of}
+use Rattle.tile_merge.specs.EndNotes.{end_of, ended_so, line_note, notes_of}
 use Rattle.tile_merge.specs.Feeds.{Course}
 use Rattle.tile_merge.specs.Interleaves.{Interleaves}
 use Rattle.tile_merge.specs.Opened.{AllThree, OpenState, IsOpened}
@@ -40,12 +40,16 @@ abbrev pub MayFeed : {R : Type 0} → (R → List ℕ → Bool → Type 0) → F
 MayFeed gives fed texts outcome =
     MayComeTo gives (IsChosen fed.choice) fed.shift fed.unread texts outcome
 
--- some texts that may come of the tile, and its end note, were put after these notes
-pub record IsFed {R : Type 0} (gives : R → List ℕ → Bool → Type 0) (fed : Fed R) (before after : List Note) : Type 0 where
+-- Texts that come first of those that may come of the tile, and an end note, were put after these
+-- notes. Where it was not asked to stop, they are all that came, and the note tells how the tile ended.
+pub record IsFed {R : Type 0} (gives : R → List ℕ → Bool → Type 0) (fed : Fed R) (Unasked : Type 0) (before after : List Note) : Type 0 where
   pub texts : List (List ℕ)
+  pub others : List (List ℕ)
   pub outcome : Outcome
-  pub comes : MayFeed gives fed texts outcome
-  pub put : after ≡ before ++ notes_of texts outcome
+  pub end : End
+  pub comes : MayFeed gives fed (texts ++ others) outcome
+  pub put : after ≡ before ++ notes_of texts end
+  pub whole : Unasked → (others ≡ []) × (end ≡ end_of (ended_so (length texts) outcome))
 
 -- this many texts were put, and whatever may come now may have come after them
 pub record FedSoFar (before now : List (List ℕ) → Outcome → Type 0) (count : ℕ) (old new : List Note) : Type 0 where
@@ -67,15 +71,17 @@ abbrev pub TellsEnd : Option End → List Note → Type 0
 TellsEnd None notes = Unit {0}
 TellsEnd (Some end) notes = (front : List Note) × (notes ≡ front ++ EndNote end ∷ [])
 
--- what the thread of the tile was given, the lines that were taken, and the end note once it was
+-- what the thread of the tile was given, the lines that were taken, the end note once it was, and how
+-- often the thread was asked to stop
 pub record RunningState (R : Type 0) : Type 0 where
   pub fed : Fed R
   pub lines : List (List ℕ)
   pub last : Option End
+  pub cancels : ℕ
 
--- nothing was taken yet
+-- nothing was taken yet, and nothing asked
 abbrev pub fresh_run : {R : Type 0} → Fed R → RunningState R
-fresh_run fed = record { fed = fed; lines = []; last = None }
+fresh_run fed = record { fed = fed; lines = []; last = None; cancels = 0 }
 
 -- the thread of the tile was given its reader, its shift and the choice
 abbrev pub IsRunOf : {R : Type 0} → Choice → OpenState R → Triple → RunningState R → Type 0
@@ -94,12 +100,20 @@ is_ended tile = is_some tile.last
 abbrev pub are_all_ended : {R : Type 0} → List (RunningState R) → Bool
 are_all_ended tiles = list_all (λ tile. is_ended tile) tiles
 
--- the lines that were taken are those of the texts that the tile gave, and it ended so
+-- nobody asked the threads to stop
+abbrev pub AreUncancelled : {R : Type 0} → List (RunningState R) → Type 0
+AreUncancelled tiles = AllByRecursion (λ tile. tile.cancels ≡ 0) tiles
+
+-- The lines that were taken are those of the texts that come first of all that the tile may give.
+-- Where nobody asked it to stop, they are all, and the end note tells how it ended.
 pub record HasGiven {R : Type 0} (gives : R → List ℕ → Bool → Type 0) (tile : RunningState R) (course : Course) : Type 0 where
+  pub texts : List (List ℕ)
+  pub others : List (List ℕ)
+  pub are : course.texts ≡ texts ++ others
   pub comes : MayFeed gives tile.fed course.texts course.ended.outcome
   pub counted : course.ended.total ≡ length course.texts
-  pub lines : tile.lines ≡ map with_newline course.texts
-  pub last : tile.last ≡ Some (end_of course.ended)
+  pub lines : tile.lines ≡ map with_newline texts
+  pub whole : tile.cancels ≡ 0 → (others ≡ []) × (tile.last ≡ Some (end_of course.ended))
 
 -- each of the tiles has given one of these courses
 abbrev pub HaveGiven : {R : Type 0} → (R → List ℕ → Bool → Type 0) → List (RunningState R) → List Course → Type 0
@@ -113,7 +127,7 @@ WroteUnless (Ok done) bytes old new = Appends old new bytes
 WroteUnless (Err fault) bytes old new = (count : ℕ) × Appends old new (take count bytes)
 
 -- The line of the header, and then the lines that were taken in the order in which they were, were
--- written, up to the first write that failed.
+-- written, up to the first write that failed. Before that nobody asked a thread to stop.
 pub record LinesSoFar {R : Type 0} (feds : List (Fed R)) (header : List ℕ) (tiles : List (RunningState R)) (wrote : Result (Unit {0}) Fault) (old new : Option (List ℕ)) (failures newer : ℕ) : Type 0 where
   pub fed : feds_of tiles ≡ feds
   pub out : List (List ℕ)
@@ -121,6 +135,7 @@ pub record LinesSoFar {R : Type 0} (feds : List (Fed R)) (header : List ℕ) (ti
   pub written : WroteUnless wrote (header ++ concat out) old new
   pub failed : newer ≡ after_call wrote failures
   pub fault : IfErr wrote (λ fault. fault ≡ Write)
+  pub uncancelled : OnOk wrote (AreUncancelled tiles)
 
 -- whatever lines were written before, those are written now that were taken since
 abbrev pub GoesOnWriting : {R : Type 0} → List (RunningState R) → List (RunningState R) → Result (Unit {0}) Fault → Result (Unit {0}) Fault → Option (List ℕ) → Option (List ℕ) → ℕ → ℕ → Type 0
@@ -128,6 +143,13 @@ GoesOnWriting before now wrote result mid new failures newer =
     (feds : List (Fed _)) (header : List ℕ) (old : Option (List ℕ)) (count : ℕ)
     → LinesSoFar feds header before wrote old mid count failures
     → LinesSoFar feds header now result old new count newer
+
+-- the threads may have been asked to stop, where the writing failed
+abbrev pub GoesOn : {R : Type 0} → List (RunningState R) → List (RunningState R) → Result (Unit {0}) Fault → Type 0
+GoesOn before now wrote =
+    (feds : List (Fed _)) (header : List ℕ) (old new : Option (List ℕ)) (count newer : ℕ)
+    → LinesSoFar feds header before wrote old new count newer
+    → LinesSoFar feds header now wrote old new count newer
 
 -- ---- the tiles of a merge ----
 
@@ -142,9 +164,9 @@ pub record AreStarted {R : Type 0} (gives : R → List ℕ → Bool → Type 0) 
   pub runs : AllThree (IsRunOf choice) tiles shifts running
   pub line_is : line ≡ with_newline header
 
--- nothing was taken of any tile yet
+-- nothing was taken of any tile yet, and nothing asked
 abbrev pub AreFresh : {R : Type 0} → List (RunningState R) → Type 0
-AreFresh tiles = AllByRecursion (λ tile. tile.lines ≡ []) tiles
+AreFresh tiles = AllByRecursion (λ tile. (tile.lines ≡ []) × (tile.cancels ≡ 0)) tiles
 
 -- a tile of so many has no thread, or there was not enough memory
 abbrev pub IsUnstarted : ℕ → MergeFault → Type 0

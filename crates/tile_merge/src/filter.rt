@@ -1,12 +1,12 @@
 ghost use Rattle.std.specs.Prelude.{◌≡◌, ◌≢◌, ◌≤◌, ◌<◌, ℕ, List, [], length, take, false, Some, None, IfOk, IfErr, OnOk, OnErr};
-ghost use Rattle.std.specs.Io.KnownBytes.{Appends};
+ghost use Rattle.std.specs.Io.KnownBytes.{Appends, Keeps};
 ghost use Rattle.city_json.specs.Compact.{compact};
 ghost use Rattle.city_json.specs.Streams.Failures.{after_call};
 ghost use Rattle.city_feature.specs.Choice.{IsChosen};
 ghost use Rattle.city_feature.specs.Header.{HeaderValue};
 ghost use Rattle.city_feature.specs.Values.{header_value};
 ghost use Rattle.tile_merge.specs.Coming.{MayComeTo, MayLeave};
-ghost use Rattle.tile_merge.specs.Filtered.{WroteStream, IsRefusedFilter, failures_after_filter, failed_reads_after_filter, no_steps};
+ghost use Rattle.tile_merge.specs.Filtered.{WroteStream, IsRefusedFilter, CountsReads, PassedOn, ToldAfter, failures_after_filter, failed_reads_after_filter, no_steps};
 ghost use Rattle.tile_merge.specs.Head.{HasNoHead, SomeTile, GivesHead};
 ghost use Rattle.tile_merge.specs.Held.{held_value};
 ghost use Rattle.tile_merge.specs.Progress.{WroteTexts, IsRefusedAfter};
@@ -18,7 +18,7 @@ ghost use Rattle.tile_merge.specs.Unread.{IsOfTile, Leaves, has_failed, is_read,
 use crate::fault::MergeFault;
 use crate::line_end::{emptied, end_line};
 use crate::lines::LineFault;
-use crate::tile_reader::{Head, TileReader};
+use crate::tile_reader::{Head, Passed, TileReader};
 use city_feature::Choice;
 use city_grid::Shift;
 use city_json::{Fault, Line, Sink, Source, print, write_all};
@@ -32,8 +32,8 @@ use std::alloc::Global;
 /// Of tile 1: [`Fault::NoHeader`] at line 0 where all lines are blank; else that of the first line
 /// at fault, or [`Fault::Memory`] at the line that did not find room. A fault of the header's line
 /// leaves nothing written, but [`Fault::Memory`], which may come once its text is; one of a later
-/// line leaves the stream of the features before it. Of no tile and no line: [`Fault::Write`] where
-/// a write or the flush failed.
+/// line leaves the stream of the features before it, and is told once that was passed on. Of no tile
+/// and no line, before these: [`Fault::Write`] where a write or a flush failed.
 pub fn filter_stream<R: Source + Drop, W: Sink>(
     alloc: Global,
     reader: R,
@@ -45,6 +45,11 @@ pub fn filter_stream<R: Source + Drop, W: Sink>(
     ensures flushed { OnOk result (W.is_flushed output.new) }
     ensures refused { IfErr result (λ e. IsRefusedFilter (IsOfTile (R.gives reader) stream_limits)
         (IsChosen choice.now) e.fault e.tile e.line (W.taken output.old) (W.taken output.new)) }
+
+    // The fault of a line after the header is answered once what was written was passed on.
+    ensures passed_on { IfErr result (λ e. PassedOn (IsOfTile (R.gives reader) stream_limits)
+        (W.is_flushed output.new) e (W.taken output.old) (W.taken output.new)) }
+
     ensures failures { W.failures output.new
         ≡ failures_after_filter result (W.failures output.old) }
 {
@@ -69,23 +74,46 @@ pub fn filter_tile<R: Source, W: Sink>(
     ensures flushed { OnOk result (W.is_flushed output.new) }
     ensures refused { IfErr result (λ e. IsRefusedFilter (Leaves R.gives tile.old.lines)
         (IsChosen choice.now) e.fault e.tile e.line (W.taken output.old) (W.taken output.new)) }
+    ensures passed_on { IfErr result (λ e. PassedOn (Leaves R.gives tile.old.lines)
+        (W.is_flushed output.new) e (W.taken output.old) (W.taken output.new)) }
     ensures failures { W.failures output.new
         ≡ failures_after_filter result (W.failures output.old) }
-    ensures reads { has_failed tile.old.lines ≡ false → R.failures tile.new.lines.ahead.reader
-        ≡ failed_reads_after_filter result (R.failures tile.old.lines.ahead.reader) }
+    ensures reads { has_failed tile.old.lines ≡ false → OnOk result
+        (R.failures tile.new.lines.ahead.reader ≡ R.failures tile.old.lines.ahead.reader) }
+    ensures failed_reads { has_failed tile.old.lines ≡ false → IfErr result (λ e. CountsReads e.fault
+        (R.failures tile.old.lines.ahead.reader) (R.failures tile.new.lines.ahead.reader)) }
 {
     let line = match take_header_line(alloc, tile) {
         Ok(line) => line,
         Err(at) => return Err(MergeFault::of_line(at.line, at.fault)),
     };
-    let text = match write_line(output, line) {
+    let text = match write_on(tile, output, line) {
         Ok(text) => text,
         Err(_) => return Err(MergeFault::of_no_line(Fault::Write)),
     };
-    let count = write_features(alloc, tile, choice, text, output)?;
+    let count = match write_features(alloc, tile, choice, text, output) {
+        Ok(count) => count,
+        Err(refusal) => return Err(told_after(refusal, output)),
+    };
     match output.flush() {
         Ok(()) => Ok(count),
         Err(_) => Err(MergeFault::of_no_line(Fault::Write)),
+    }
+}
+
+/// Passes on what was written before a refusal, unless a write failed, and gives what is told: that
+/// it could not be passed on, or else the refusal.
+fn told_after<W: Sink>(refusal: MergeFault, output: &mut W) -> MergeFault
+    ensures bytes { Keeps (W.taken output.old) (W.taken output.new) }
+    ensures told { ToldAfter refusal (W.is_flushed output.new) result
+        (W.failures output.old) (W.failures output.new) }
+{
+    if refusal.fault == Fault::Write {
+        return refusal;
+    }
+    match output.flush() {
+        Ok(()) => refusal,
+        Err(_) => MergeFault::of_no_line(Fault::Write),
     }
 }
 
@@ -156,17 +184,70 @@ fn write_features<R: Source, W: Sink>(
     let mut text = text;
     let mut count = 0u64;
     'features: loop {
-        let line = match tile.take_text(alloc, Shift::zero(), choice, text) {
-            Ok(Some(line)) => line,
+        let passed = match tile.pass(alloc, Shift::zero(), choice, text) {
+            Ok(Some(passed)) => passed,
             Ok(None) => return Ok(count),
             Err(at) => return Err(MergeFault::of_line(at.line, at.fault)),
         };
-        text = match write_line(output, line) {
+        let Passed { is_chosen, line } = passed;
+        if !is_chosen {
+            text = match pass_on(tile, output) {
+                Ok(()) => line,
+                Err(_) => return Err(MergeFault::of_no_line(Fault::Write)),
+            };
+            continue;
+        }
+        text = match write_on(tile, output, line) {
             Ok(text) => text,
             Err(_) => return Err(MergeFault::of_no_line(Fault::Write)),
         };
         count += 1;
     }
+}
+
+/// Writes a line, and passes on what was written where the tile's next line has to be read first.
+/// Gives the line back empty, for its memory.
+///
+/// # Errors
+///
+/// [`Fault::Write`] where a write or the flush failed; some first bytes of the line were written
+/// then, or all.
+fn write_on<R: Source, W: Sink>(
+    tile: &TileReader<R>,
+    output: &mut W,
+    line: Line,
+) -> Result<Line, Fault>
+    ensures all { IfOk result (λ text. (text ≡ [])
+        × Appends (W.taken output.old) (W.taken output.new) line) }
+    ensures some { OnErr result ((count : ℕ)
+        × Appends (W.taken output.old) (W.taken output.new) (take count line)) }
+    ensures failures { W.failures output.new ≡ after_call result (W.failures output.old) }
+    ensures fault { IfErr result (λ fault. fault ≡ Fault.Write) }
+{
+    let text = match write_line(output, line) {
+        Ok(text) => text,
+        Err(fault) => return Err(fault),
+    };
+    match pass_on(tile, output) {
+        Ok(()) => Ok(text),
+        Err(fault) => Err(fault),
+    }
+}
+
+/// Passes on what was written where the tile's next line has to be read first, which may take long.
+///
+/// # Errors
+///
+/// [`Fault::Write`] where the flush failed.
+pub(crate) fn pass_on<R: Source, W: Sink>(tile: &TileReader<R>, output: &mut W) -> Result<(), Fault>
+    ensures bytes { Keeps (W.taken output.old) (W.taken output.new) }
+    ensures failures { W.failures output.new ≡ after_call result (W.failures output.old) }
+    ensures fault { IfErr result (λ fault. fault ≡ Fault.Write) }
+{
+    if tile.holds_line() {
+        return Ok(());
+    }
+    output.flush()
 }
 
 /// Writes a line, and gives it back empty, for its memory.

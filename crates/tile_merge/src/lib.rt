@@ -23,4 +23,4 @@ pub use merging::in_turn::merge_in_turn;
 pub use merging::report::{Counts, Report};
 pub use merging::threaded::merge;
 pub use merging::tiles::tile_count;
-pub use tile_reader::{Head, TileReader};
+pub use tile_reader::{Head, Passed, TileReader};

@@ -134,6 +134,11 @@ impl<R: Source> Lines<R> {
         }
     }
 
+    /// Whether the newline of the next line was read already.
+    pub fn holds_line(&self) -> bool {
+        self.ahead.holds_newline()
+    }
+
     /// The next part, blank or not; a last one that is blank is left out.
     fn next_part(&mut self) -> Result<Option<NumberedLine>, LineFault>
         ensures part { IfOk result (λ next. IfSome next (λ line.

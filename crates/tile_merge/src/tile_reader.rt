@@ -1,4 +1,4 @@
-ghost use Rattle.std.specs.Prelude.{◌≡◌, ◌≢◌, ◌≤◌, ◌<◌, ◌↔◌, ℕ, List, [], false, Some, None, IfOk, IfErr, IfSome, IfNone, OnOk, OnErr};
+ghost use Rattle.std.specs.Prelude.{◌≡◌, ◌≢◌, ◌≤◌, ◌<◌, ◌↔◌, ℕ, List, [], true, false, Some, None, IfOk, IfErr, IfSome, IfNone, OnOk, OnErr};
 ghost use Rattle.city_feature.specs.Choice.{IsChosen};
 ghost use Rattle.city_feature.specs.Values.{header_value};
 ghost use Rattle.tile_merge.specs.Coming.{MayComeTo, MayLeave, GivesText, ComesBack, SomethingComes};
@@ -15,7 +15,8 @@ mod held;
 
 use crate::line_end::emptied;
 use crate::lines::{LineFault, Lines};
-use crate::tile_reader::feature_lines::take_feature;
+pub use crate::tile_reader::feature_lines::Passed;
+use crate::tile_reader::feature_lines::{pass_line, take_feature};
 pub use crate::tile_reader::head::Head;
 use crate::tile_reader::head::{FirstLine, read_first_line};
 use crate::tile_reader::held::{Held, lines_of};
@@ -171,6 +172,59 @@ impl<R: Source> TileReader<R> {
             Some(line) => Ok(Some(line)),
             None => take_feature(alloc, &mut self.lines, shift, choice, emptied(spare)),
         }
+    }
+
+    /// Takes the line of the next feature of the first line that is chosen, or else the next line,
+    /// which may come to nothing. None after the last. `spare` is taken for its memory alone, and
+    /// comes back empty with a line that comes to nothing.
+    ///
+    /// # Errors
+    ///
+    /// Those of [`TileReader::take_text`].
+    pub fn pass(
+        &mut self,
+        alloc: Global,
+        shift: Shift,
+        choice: &Choice,
+        spare: Line,
+    ) -> Result<Option<Passed>, LineFault>
+        ensures text { IfOk result (λ taken. IfSome taken (λ passed. passed.is_chosen ≡ true
+            → (given : List ℕ) × (passed.line ≡ with_newline given)
+            × GivesText (MayComeTo R.gives (IsChosen choice.now) shift self.old)
+            (MayComeTo R.gives (IsChosen choice.now) shift self.new) given)) }
+        ensures skipped { IfOk result (λ taken. IfSome taken (λ passed. passed.is_chosen ≡ false
+            → (passed.line ≡ [])
+            × ComesBack (MayComeTo R.gives (IsChosen choice.now) shift self.old)
+            (MayComeTo R.gives (IsChosen choice.now) shift self.new))) }
+        ensures over { IfOk result (λ taken. IfNone taken
+            (MayComeTo R.gives (IsChosen choice.now) shift self.old [] None)) }
+        ensures refused { IfErr result (λ e. MayComeTo R.gives (IsChosen choice.now) shift
+            self.old [] (Some (record { number = e.line; fault = e.fault }))) }
+        ensures not_written { IfErr result (λ e. e.fault ≢ Fault.Write) }
+        ensures some { SomethingComes (MayComeTo R.gives (IsChosen choice.now) shift self.new) }
+        ensures fewer { IfOk result (λ taken. IfSome taken (λ passed.
+            most_to_come self.new < most_to_come self.old)) }
+        ensures had_not_failed { OnOk result (has_failed self.old.lines ≡ false) }
+        ensures not_failed { OnOk result (has_failed self.new.lines ≡ false) }
+        ensures failed { IfErr result (λ e. has_failed self.new.lines ≡ is_read e.fault) }
+        ensures failures { R.failures self.new.lines.ahead.reader ≡ failed_reads_between
+            (has_failed self.old.lines) (has_failed self.new.lines)
+            (R.failures self.old.lines.ahead.reader) }
+    {
+        let ready = self.take_ready(alloc, shift, choice)?;
+        match ready {
+            Some(line) => Ok(Some(Passed {
+                is_chosen: true,
+                line,
+            })),
+            None => pass_line(alloc, &mut self.lines, shift, choice, emptied(spare)),
+        }
+    }
+
+    /// Whether the next line was read already, so that taking it does not wait for the reader. It
+    /// may be false where the tile is over, and of a feature of the first line.
+    pub fn holds_line(&self) -> bool {
+        !self.ready.is_empty() || self.lines.holds_line()
     }
 
     /// Takes the line of the next of the features that the first line holds. None after the last.

@@ -261,7 +261,7 @@ fn a_failed_write_of_a_merge_is_told(rt: HostRuntime) -> Result<(), Fail> {
         (0usize, 9usize, false, 0usize),
         (200, 7, false, 200),
         (4096, 0, false, 0),
-        (4096, 4096, true, written.len()),
+        (4096, 4096, true, HEADER.len() + 1),
     ] {
         let readers = readers_of(alloc, tiles, 50, false)?;
         assert!(rt; !readers.is_empty());

@@ -256,7 +256,7 @@ fn a_failed_write_is_told(rt: HostRuntime) -> Result<(), Fail> {
         (0usize, 9usize, false, 0usize),
         (100, 7, false, 100),
         (4096, 0, false, 0),
-        (4096, 4096, true, input.len()),
+        (4096, 4096, true, HEADER.len() + 1),
     ] {
         let mut tile = tile_of(alloc, &input, 50, false)?;
         let mut output = Bin::new(alloc, room, step, flush_fails)?;
@@ -308,8 +308,7 @@ fn what_is_gathered_is_passed_on_at_the_end(rt: HostRuntime) -> Result<(), Fail>
     for (last, fails, status, said) in [
         (FEATURE_B, false, 0, ""),
         ("{}", false, 1, no_feature),
-        // The flush after a refusal fails, which changes nothing of what is told.
-        ("{}", true, 1, no_feature),
+        ("{}", true, 1, not_written),
         (FEATURE_B, true, 1, not_written),
     ] {
         let writes = AtomicU64::new(0);

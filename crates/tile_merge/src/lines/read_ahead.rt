@@ -3,6 +3,7 @@ ghost use Rattle.city_json.specs.Streams.Source.{GivesFirst};
 ghost use Rattle.tile_merge.specs.Taking.{IsFillFault, failed_reads_after_call};
 
 use city_json::{Fault, Source};
+use memchr::memrchr;
 use std::alloc::Global;
 use std::marker::Model;
 
@@ -16,6 +17,8 @@ pub struct ReadAhead<R> {
     piece: Vec<u8>,
     at: usize,
     filled: usize,
+    // behind the last newline of the piece
+    lines: usize,
 }
 
 impl<R> Model for ReadAhead<R> {
@@ -42,6 +45,7 @@ impl<R: Source> ReadAhead<R> {
             piece: Vec::new(alloc),
             at: 0,
             filled: 0,
+            lines: 0,
         }
     }
 
@@ -50,6 +54,11 @@ impl<R: Source> ReadAhead<R> {
         ensures { result.now ≡ self.now.held }
     {
         &self.piece[self.at..self.filled]
+    }
+
+    /// Whether a newline is among the bytes that are held.
+    pub fn holds_newline(&self) -> bool {
+        self.at < self.lines
     }
 
     /// Takes the first of the bytes that are held.
@@ -82,7 +91,17 @@ impl<R: Source> ReadAhead<R> {
         }
         self.at = 0;
         self.filled = 0;
+        self.lines = 0;
         self.filled = self.reader.read(&mut self.piece)?;
+        self.lines = lines_end(&self.piece[..self.filled]);
         Ok(self.filled)
+    }
+}
+
+/// The place behind the last newline, or 0 where there is none.
+fn lines_end(bytes: &[u8]) -> usize {
+    match memrchr(b'\n', bytes) {
+        Some(at) => at + 1,
+        None => 0,
     }
 }

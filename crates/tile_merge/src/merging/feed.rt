@@ -1,15 +1,18 @@
-ghost use Rattle.std.specs.Prelude.{◌≡◌, ◌≤◌, ◌<◌, ◌+◌, List, [], ℕ, false, Some, None, length, IfSome, IfNone, IsTrue};
+ghost use Rattle.std.specs.Prelude.{◌≡◌, ◌≤◌, ◌<◌, ◌+◌, List, [], ℕ, false, Some, None, length, IfOk, IfErr, OnOk, IfSome, IfNone, IsTrue};
+ghost use Rattle.std.specs.Io.KnownBytes.{Keeps};
+ghost use Rattle.city_json.specs.Streams.Failures.{after_call};
 ghost use Rattle.city_feature.specs.Choice.{IsChosen};
 ghost use Rattle.tile_handoff.specs.Queues.{queue_of, empty_queue};
-ghost use Rattle.tile_merge.specs.Feeds.{fresh_feed, MayTake, SomeCourse, TakesNone, TakesTurn, HasRoom, IsAhead, most_ahead, most_places};
+ghost use Rattle.tile_merge.specs.Feeds.{fresh_feed, MayTake, SomeCourse, TakesNone, TakesTurn, HasRoom, IsAhead, most_ahead, most_lines};
 ghost use Rattle.tile_merge.specs.Stream.{with_newline};
 ghost use Rattle.tile_merge.specs.TileState.{most_to_come, most_texts};
 
+use crate::filter::pass_on;
 use crate::merging::ends::end_note;
-use crate::tile_reader::TileReader;
+use crate::tile_reader::{Passed, TileReader};
 use city_feature::Choice;
 use city_grid::Shift;
-use city_json::{Line, Source};
+use city_json::{Fault, Line, Sink, Source};
 use std::alloc::Global;
 use std::marker::Model;
 use std::mem;
@@ -73,23 +76,40 @@ impl<R: Source> Feed<R> {
         }
     }
 
-    /// Takes the line of the next feature that is chosen, once as many texts as the queue holds
-    /// were read ahead. None after the last.
-    pub(crate) fn take(&mut self, alloc: Global, choice: &Choice) -> Option<Line>
+    /// Takes the line of the next feature that is chosen; texts that need no waiting are read ahead, as
+    /// many as the queue holds. None after the last. Where a line has to be read that may be long in
+    /// coming, what was written is passed on first.
+    ///
+    /// # Errors
+    ///
+    /// [`Fault::Write`] where the flush failed.
+    pub(crate) fn take<W: Sink>(
+        &mut self,
+        alloc: Global,
+        choice: &Choice,
+        output: &mut W,
+    ) -> Result<Option<Line>, Fault>
         requires { SomeCourse (MayTake R.gives (IsChosen choice.now) self.old) }
-        ensures text { IfSome result (λ line. (text : List ℕ) × (line ≡ with_newline text)
-            × TakesTurn R.gives (IsChosen choice.now) self.old self.new (Some text)) }
-        ensures over { IfNone result
-            (TakesTurn R.gives (IsChosen choice.now) self.old self.new None) }
+        ensures text { IfOk result (λ taken. IfSome taken (λ line. (text : List ℕ)
+            × (line ≡ with_newline text)
+            × TakesTurn R.gives (IsChosen choice.now) self.old self.new (Some text))) }
+        ensures over { IfOk result (λ taken. IfNone taken
+            (TakesTurn R.gives (IsChosen choice.now) self.old self.new None)) }
+        ensures bytes { Keeps (W.taken output.old) (W.taken output.new) }
+        ensures failures { W.failures output.new ≡ after_call result (W.failures output.old) }
+        ensures fault { IfErr result (λ fault. fault ≡ Fault.Write) }
     {
-        self.read_ahead(alloc, choice);
+        match self.read_ahead(alloc, choice, output) {
+            Ok(()) => {}
+            Err(fault) => return Err(fault),
+        }
         match self.notes.take(0) {
-            Took::Line(line) => return Some(line),
+            Took::Line(line) => return Ok(Some(line)),
             Took::End(end) => {
                 self.last = Some(end);
-                return None;
+                return Ok(None);
             }
-            Took::Empty | Took::Drained => return None,
+            Took::Empty | Took::Drained => return Ok(None),
         }
     }
 
@@ -108,46 +128,74 @@ impl<R: Source> Feed<R> {
         self.last
     }
 
-    /// Reads until the queue is full or the tile has ended.
-    fn read_ahead(&mut self, alloc: Global, choice: &Choice)
+    /// Reads until there is a note, and then on while lines are held and there is a place for theirs.
+    ///
+    /// # Errors
+    ///
+    /// [`Fault::Write`] where the flush before a read failed.
+    fn read_ahead<W: Sink>(
+        &mut self,
+        alloc: Global,
+        choice: &Choice,
+        output: &mut W,
+    ) -> Result<(), Fault>
         requires { SomeCourse (MayTake R.gives (IsChosen choice.now) self.old) }
-        ensures ahead { IsAhead self.new }
+        ensures ahead { OnOk result (IsAhead self.new) }
         ensures none { TakesNone (MayTake R.gives (IsChosen choice.now) self.old)
             (MayTake R.gives (IsChosen choice.now) self.new) }
         ensures some { SomeCourse (MayTake R.gives (IsChosen choice.now) self.new) }
         ensures fewer { most_ahead self.new ≤ most_ahead self.old }
+        ensures bytes { Keeps (W.taken output.old) (W.taken output.new) }
+        ensures failures { W.failures output.new ≡ after_call result (W.failures output.old) }
+        ensures fault { IfErr result (λ fault. fault ≡ Fault.Write) }
     {
-        'texts: while self.has_room() {
-            self.read_text(alloc, choice);
+        'lines: while self.reads_on() {
+            match pass_on(&self.reader, output) {
+                Ok(()) => self.read_line(alloc, choice),
+                Err(fault) => return Err(fault),
+            }
         }
+        Ok(())
     }
 
-    /// Whether there is a place for a note more.
-    fn has_room(&self) -> bool
+    /// Whether a line more is to be read: where there is no note yet, or where the line is held
+    /// already and there is a place for its note.
+    fn reads_on(&self) -> bool
         ensures room { IsTrue result → HasRoom self.now }
         ensures ahead { result ≡ false → IsAhead self.now }
     {
-        !self.notes.is_closed(0) && !self.notes.is_full(0)
+        !self.notes.is_closed(0)
+            && (self.notes.is_empty(0) || (self.reader.holds_line() && !self.notes.is_full(0)))
     }
 
-    /// Reads the next text, or the end, into a place of the queue.
-    fn read_text(&mut self, alloc: Global, choice: &Choice)
+    /// Reads the next line, and puts its text into the queue where it is chosen, or the end.
+    fn read_line(&mut self, alloc: Global, choice: &Choice)
         requires room { HasRoom self.old }
         requires some { SomeCourse (MayTake R.gives (IsChosen choice.now) self.old) }
         ensures none { TakesNone (MayTake R.gives (IsChosen choice.now) self.old)
             (MayTake R.gives (IsChosen choice.now) self.new) }
         ensures some { SomeCourse (MayTake R.gives (IsChosen choice.now) self.new) }
         ensures fewer { most_ahead self.new ≤ most_ahead self.old }
-        ensures places { most_places self.new < most_places self.old }
+        ensures lines { most_lines self.new < most_lines self.old }
     {
         let spare = mem::replace(&mut self.spare, Line::new(alloc));
-        match self.reader.take_text(alloc, self.shift, choice, spare) {
-            Ok(Some(line)) => {
-                self.notes.store_line(0, line);
-                self.count += 1;
+        let passed = match self.reader.pass(alloc, self.shift, choice, spare) {
+            Ok(Some(passed)) => passed,
+            Ok(None) => {
+                self.notes.store_end(0, end_note(self.count, None));
+                return;
             }
-            Ok(None) => self.notes.store_end(0, end_note(self.count, None)),
-            Err(at) => self.notes.store_end(0, end_note(self.count, Some(at))),
+            Err(at) => {
+                self.notes.store_end(0, end_note(self.count, Some(at)));
+                return;
+            }
+        };
+        let Passed { is_chosen, line } = passed;
+        if !is_chosen {
+            self.spare = line;
+            return;
         }
+        self.notes.store_line(0, line);
+        self.count += 1;
     }
 }

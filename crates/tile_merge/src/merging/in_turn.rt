@@ -178,7 +178,8 @@ fn write_turns<R: Source, W: Sink>(
     }
 }
 
-/// Writes the next text of each tile that has one, and says whether one had.
+/// Writes the next text of each tile that has one, and says whether one had. What was written is
+/// passed on where a tile has to be waited for.
 fn write_round<R: Source, W: Sink>(
     alloc: Global,
     feeds: &mut [Feed<R>],
@@ -195,8 +196,10 @@ fn write_round<R: Source, W: Sink>(
 {
     let mut any = false;
     'tiles: for feed in feeds.iter_mut() {
-        let Some(line) = feed.take(alloc, choice) else {
-            continue;
+        let line = match feed.take(alloc, choice, output) {
+            Ok(Some(line)) => line,
+            Ok(None) => continue,
+            Err(fault) => return Err(fault),
         };
         match write_line(output, line) {
             Ok(spare) => {

@@ -12,14 +12,17 @@ ghost use Rattle.tile_merge.specs.Threaded.{HasNoThread, IsRefusedThreaded, Wrot
 ghost use Rattle.tile_merge.specs.Threads.{are_all_ended, AreFresh, AreStarted, HaveGiven, IsRunOf, IsUnstarted, fresh_run, fed_of};
 ghost use Rattle.tile_merge.specs.TileState.{most_to_come, most_texts};
 
+mod cancelling;
 mod feeder;
 mod running;
+mod waiting;
 mod writing;
 
 use crate::fault::MergeFault;
 use crate::merging::report::{Report, report_of};
 use crate::merging::threaded::feeder::FedTile;
 use crate::merging::threaded::running::{RunningTile, start};
+use crate::merging::threaded::waiting::Bell;
 use crate::merging::threaded::writing::write_stream;
 use crate::merging::tiles::{JoinedTiles, OpenTile, join_tiles, tile_count};
 use city_feature::{Base, Choice};
@@ -120,8 +123,11 @@ where
         ⊎ W.is_flushed output.new) }
     ensures failures { W.failures output.new ≡ failures_after_merge result (W.failures output.old) }
 {
-    let StartedTiles { tiles, line } = start_tiles(rt, alloc, readers, choice, base, capacity)?;
-    finish(rt, alloc, tiles, line, output)
+    let filled = Bell::new(alloc)?;
+    let StartedTiles { tiles, line } = start_tiles(
+        rt, alloc, readers, choice, base, capacity, &filled,
+    )?;
+    finish(rt, alloc, &filled, tiles, line, output)
 }
 
 /// Opens and joins the tiles, and starts their threads.
@@ -132,6 +138,7 @@ fn start_tiles<H, R>(
     choice: &Choice,
     base: Base,
     capacity: u32,
+    filled: &Bell,
 ) -> Result<StartedTiles<R>, MergeFault>
 where
     H: Threads + Wait + Copy + Send + 'static,
@@ -151,7 +158,7 @@ where
         line,
         shifts,
     } = join_tiles(alloc, readers, base)?;
-    let tiles = start_all(rt, alloc, tiles, shifts.items(), choice, capacity)?;
+    let tiles = start_all(rt, alloc, tiles, shifts.items(), choice, capacity, filled)?;
     Ok(StartedTiles { tiles, line })
 }
 
@@ -163,6 +170,7 @@ fn start_all<H, R>(
     shifts: &[Shift],
     choice: &Choice,
     capacity: u32,
+    filled: &Bell,
 ) -> Result<Vec<RunningTile<R>>, MergeFault>
 where
     H: Threads + Wait + Copy + Send + 'static,
@@ -178,11 +186,11 @@ where
     let mut running = Vec::with_capacity(alloc, tiles.len())?;
     for tile in tiles {
         let shift = shifts[running.len()];
-        match start_tile(rt, alloc, tile, shift, choice, capacity) {
+        match start_tile(rt, alloc, tile, shift, choice, capacity, filled) {
             Ok(started) => running.push_reserved(started),
             Err(fault) => {
                 let refusal = refusal_at_start(fault, running.len() as u32 + 1);
-                stop_all(rt, running);
+                stop_all(rt, running, filled);
                 return Err(refusal);
             }
         }
@@ -198,6 +206,7 @@ fn start_tile<H, R>(
     shift: Shift,
     choice: &Choice,
     capacity: u32,
+    filled: &Bell,
 ) -> Result<RunningTile<R>, Fault>
 where
     H: Threads + Wait + Copy + Send + 'static,
@@ -213,7 +222,7 @@ where
         shift,
         choice: choice.copy(alloc)?,
     };
-    start(rt, alloc, fed, capacity)
+    start(rt, alloc, fed, capacity, filled)
 }
 
 /// Where a refusal to start belongs: that of a thread to the tile, and that of memory to none.
@@ -234,9 +243,13 @@ fn refusal_at_start(fault: Fault, tile: u32) -> MergeFault
 }
 
 /// Takes what is left of the tiles, and joins their threads.
-fn stop_all<H: Threads + Wait, R: Source + Drop>(rt: &H, tiles: Vec<RunningTile<R>>) {
+fn stop_all<H: Threads + Wait, R: Source + Drop>(
+    rt: &H,
+    tiles: Vec<RunningTile<R>>,
+    filled: &Bell,
+) {
     for tile in tiles {
-        tile.stop(rt);
+        tile.stop(rt, filled);
     }
 }
 
@@ -244,6 +257,7 @@ fn stop_all<H: Threads + Wait, R: Source + Drop>(rt: &H, tiles: Vec<RunningTile<
 fn finish<H: Threads + Wait, R: Source + Drop, W: Sink>(
     rt: &H,
     alloc: Global,
+    filled: &Bell,
     tiles: Vec<RunningTile<R>>,
     line: Line,
     output: &mut W,
@@ -263,7 +277,7 @@ fn finish<H: Threads + Wait, R: Source + Drop, W: Sink>(
     ensures failures { W.failures output.new ≡ failures_after_merge result (W.failures output.old) }
 {
     let mut tiles = tiles;
-    let wrote = write_stream(rt, &mut tiles, line, output);
+    let wrote = write_stream(rt, filled, &mut tiles, line, output);
     let ends = ends_of(alloc, &tiles);
     join_all(rt, tiles);
     wrote?;

@@ -1,15 +1,17 @@
 ghost use Rattle.std.specs.Prelude.{◌≡◌, ◌≤◌, ◌+◌, ◌^◌, ◌++◌, [], ◌∷◌};
+ghost use Rattle.rtrb.specs.Ring.{received, SameConsumer};
 ghost use Rattle.tile_handoff.specs.Ends.{notes_put, notes_carried, IsSameSender, EndedIn};
 ghost use Rattle.tile_handoff.specs.declared.note.Note.{Note};
 ghost use Rattle.tile_merge.specs.Threads.{IsFed};
 ghost use Rattle.tile_merge.specs.TileState.{most_to_come, most_texts};
 
 use crate::merging::ends::end_note;
-use crate::tile_reader::TileReader;
+use crate::merging::threaded::cancelling::Cancellation;
+use crate::merging::threaded::waiting::{Bell, Patience};
+use crate::tile_reader::{Passed, TileReader};
 use city_feature::Choice;
 use city_grid::Shift;
 use city_json::{Line, Source};
-use crossbeam_utils::Backoff;
 use std::alloc::Global;
 use std::marker::Model;
 use std::snapshot::Snapshot;
@@ -41,26 +43,56 @@ impl<R> Model for FedTile<R> {
     } };
 }
 
+/// What ties the thread of a tile to the caller beside the tile's ring. The thread rings the bell
+/// `filled` where it has put a note, sleeps at `emptied` while the ring is full, and ends its tile
+/// once it is asked to.
+#[derive(Drop)]
+pub(super) struct Links {
+    pub(super) filled: Bell,
+    pub(super) emptied: Bell,
+    pub(super) cancellation: Cancellation,
+}
+
+/// What the thread of a tile gives back.
+#[derive(Drop)]
+pub(super) struct Finished {
+    pub(super) closed: Closed,
+    pub(super) cancellation: Cancellation,
+}
+
 /// What the thread of a tile promises: the tile's texts, and then its end note, go through its
-/// sender.
+/// sender; where it was asked to stop, some of the texts that come first.
 #[derive(Drop)]
 pub(super) struct Feeds<R> {
     pub(super) tile: Snapshot<FedTile<R>>,
     pub(super) sender: Snapshot<Sender>,
+    pub(super) cancellation: Snapshot<Cancellation>,
 }
 
-impl<R: Source> Promise<Closed> for Feeds<R> {
-    ghost kept_by = { λ feeds closed. EndedIn feeds.sender.value closed × IsFed R.gives
-        feeds.tile.value (notes_put feeds.sender.value) (notes_carried closed) };
+impl<R: Source> Promise<Finished> for Feeds<R> {
+    ghost kept_by = { λ feeds finished. EndedIn feeds.sender.value finished.closed
+        × SameConsumer feeds.cancellation.value.consumer finished.cancellation.consumer
+        × IsFed R.gives feeds.tile.value (received finished.cancellation.consumer
+        ≡ received feeds.cancellation.value.consumer)
+        (notes_put feeds.sender.value) (notes_carried finished.closed) };
 }
 
 impl<R: Source + Drop> FedTile<R> {
-    /// Reads the tile to its end, or to where it stops, and puts its texts and then its end note.
-    /// While the ring is full it waits.
-    pub(super) fn feed<H: Wait>(self, rt: &H, alloc: Global, sender: Sender) -> Closed
+    /// Reads the tile to its end, to where it stops, or to the line after which it is asked to stop,
+    /// and puts its texts and then its end note. While the ring is full it waits.
+    pub(super) fn feed<H: Wait>(
+        self,
+        rt: &H,
+        alloc: Global,
+        sender: Sender,
+        links: Links,
+    ) -> Finished
         requires most { most_to_come self.unread ≤ most_texts }
-        ensures own { EndedIn sender result }
-        ensures fed { IsFed R.gives self (notes_put sender) (notes_carried result) }
+        ensures own { EndedIn sender result.closed }
+        ensures same { SameConsumer links.cancellation.consumer result.cancellation.consumer }
+        ensures fed { IsFed R.gives self (received result.cancellation.consumer
+            ≡ received links.cancellation.consumer)
+            (notes_put sender) (notes_carried result.closed) }
     {
         let FedTile {
             mut reader,
@@ -68,18 +100,25 @@ impl<R: Source + Drop> FedTile<R> {
             choice,
         } = self;
         let mut sender = sender;
+        let mut links = links;
         let mut count = 0u64;
-        let mut room = 0;
-        'texts: loop {
-            match reader.take_text(alloc, shift, &choice, roomy_line(alloc, room)) {
-                Ok(Some(line)) => {
-                    room = line.items().len();
-                    put(rt, &mut sender, line)
-                }
-                Ok(None) => return end(rt, sender, end_note(count, None)),
-                Err(at) => return end(rt, sender, end_note(count, Some(at))),
+        let mut spare = Line::new(alloc);
+        'lines: loop {
+            let Passed { is_chosen, line } = match reader.pass(alloc, shift, &choice, spare) {
+                Ok(Some(passed)) => passed,
+                Ok(None) => return finish(rt, links, sender, end_note(count, None)),
+                Err(at) => return finish(rt, links, sender, end_note(count, Some(at))),
+            };
+            if is_chosen {
+                spare = roomy_line(alloc, line.items().len());
+                put(rt, &links, &mut sender, line);
+                count += 1;
+            } else {
+                spare = line;
             }
-            count += 1;
+            if links.cancellation.is_asked() {
+                return finish(rt, links, sender, end_note(count, None));
+            }
         }
     }
 }
@@ -95,35 +134,63 @@ fn roomy_line(alloc: Global, room: usize) -> Line
 }
 
 /// Puts a line, and waits while the ring is full.
-fn put<H: Wait>(rt: &H, sender: &mut Sender, line: Line)
+fn put<H: Wait>(rt: &H, links: &Links, sender: &mut Sender, line: Line)
     ensures same { IsSameSender sender.old sender.new }
     ensures put { notes_put sender.new ≡ notes_put sender.old ++ Note.Line line ∷ [] }
 {
-    let backoff = Backoff::new();
+    let mut patience = Patience::new();
     let mut line = line;
     'full: for _ in rt.forever() {
+        let sleep = links.emptied.listen(patience.is_over());
         match sender.try_put(line) {
-            Ok(()) => return,
+            Ok(()) => {
+                links.filled.ring();
+                return;
+            }
             Err(back) => line = back,
         }
-        backoff.snooze();
+        match sleep {
+            Some(key) => key.wait(rt),
+            None => patience.pause(),
+        }
     }
     unreachable!()
 }
 
+/// Puts the end note, and gives back what the thread was given of its caller's.
+fn finish<H: Wait>(rt: &H, links: Links, sender: Sender, end: End) -> Finished
+    ensures own { EndedIn sender result.closed }
+    ensures put { notes_carried result.closed ≡ notes_put sender ++ Note.End end ∷ [] }
+    ensures asked { result.cancellation.consumer ≡ links.cancellation.consumer }
+{
+    let closed = put_end(rt, &links, sender, end);
+    let Links { cancellation, .. } = links;
+    Finished {
+        closed,
+        cancellation,
+    }
+}
+
 /// Puts the end note, and waits while the ring is full.
-fn end<H: Wait>(rt: &H, sender: Sender, end: End) -> Closed
+fn put_end<H: Wait>(rt: &H, links: &Links, sender: Sender, end: End) -> Closed
     ensures own { EndedIn sender result }
     ensures put { notes_carried result ≡ notes_put sender ++ Note.End end ∷ [] }
 {
-    let backoff = Backoff::new();
+    let mut patience = Patience::new();
     let mut sender = sender;
     'full: for _ in rt.forever() {
+        let sleep = links.emptied.listen(patience.is_over());
         match sender.try_end(end) {
-            Ok(closed) => return closed,
+            Ok(closed) => {
+                links.filled.ring();
+                return closed;
+            }
             Err((back, _)) => sender = back,
         }
-        backoff.snooze();
+        match sleep {
+            Some(key) => key.wait(rt),
+            None => patience.pause(),
+        }
     }
     unreachable!()
 }

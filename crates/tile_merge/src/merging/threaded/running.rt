@@ -1,32 +1,46 @@
 ghost use Rattle.std.specs.Prelude.{◌≡◌, ◌⊎◌, ◌≤◌, ◌<◌, ◌+◌, ◌^◌, ◌++◌, [], ◌∷◌, IfOk, IfErr, IfSome, IfNone, true};
+ghost use Rattle.rtrb.specs.Ring.{sent, received, IsPair};
 ghost use Rattle.tile_handoff.specs.Ends.{ArePair, notes_put, notes_taken};
 ghost use Rattle.tile_merge.specs.Feeds.{Course};
 ghost use Rattle.tile_merge.specs.Threads.{fresh_run, is_ended, HasGiven};
 ghost use Rattle.tile_merge.specs.TileState.{most_to_come, most_texts};
 
-use crate::merging::threaded::feeder::{FedTile, Feeds};
+use crate::merging::threaded::cancelling::{Canceller, cancel_ends};
+use crate::merging::threaded::feeder::{FedTile, Feeds, Finished, Links};
+use crate::merging::threaded::waiting::{Bell, Patience, SpacedBell};
 use city_json::{Fault, Line, Source};
-use crossbeam_utils::Backoff;
 use std::alloc::Global;
 use std::marker::Model;
 use std::snapshot::Snapshot;
 use std::sync::Wait;
 use std::thread;
 use std::thread::{PromisedHandle, Threads};
-use tile_handoff::{Closed, End, MAX_CAPACITY, Note, Receiver, Sender, ends};
+use tile_handoff::{End, MAX_CAPACITY, Note, Receiver, Sender, ends};
 
-/// A tile whose thread runs: the end of its ring that takes notes, and the thread.
+/// A tile whose thread runs: the thread, the end note once it was taken, and what the caller keeps.
 #[derive(Drop)]
 pub(super) struct RunningTile<R: Source> {
-    receiver: Receiver,
-    thread: PromisedHandle<Closed, Feeds<R>>,
+    thread: PromisedHandle<Finished, Feeds<R>>,
     last: Option<End>,
+    receiver: Receiver,
+    canceller: Canceller,
+    emptied: SpacedBell,
+}
+
+/// What the caller keeps of a tile's thread: the end of its ring that takes notes, that by which it is
+/// asked to stop, and the bell at which it sleeps while the ring is full.
+#[derive(Drop)]
+struct CallerSide {
+    receiver: Receiver,
+    canceller: Canceller,
+    emptied: SpacedBell,
 }
 
 impl<R: Source> Model for RunningTile<R> {
     ghost use Rattle.std.specs.Coded.{codes};
     ghost use Rattle.city_feature.specs.contracts.features.Feature as feature_type;
-    ghost use Rattle.std.specs.Prelude.{◌≡◌, []};
+    ghost use Rattle.std.specs.Prelude.{◌≡◌, [], length};
+    ghost use Rattle.rtrb.specs.Ring.{sent, received, IsPair};
     ghost use Rattle.tile_handoff.specs.Ends.{notes_put, notes_taken, ArePair};
     ghost use Rattle.tile_merge.specs.Threads.{RunningState, TellsEnd, lines_in};
 
@@ -38,14 +52,18 @@ impl<R: Source> Model for RunningTile<R> {
       fed = tile.thread.promise.tile.value;
       lines = lines_in (notes_taken tile.receiver);
       last = tile.last;
+      cancels = length (sent tile.canceller.producer);
     } };
 
     ghost invariant = { λ tile. (notes_put tile.thread.promise.sender.value ≡ [])
         × ArePair tile.thread.promise.sender.value tile.receiver
-        × TellsEnd tile.last (notes_taken tile.receiver) };
+        × TellsEnd tile.last (notes_taken tile.receiver)
+        × IsPair tile.canceller.producer tile.thread.promise.cancellation.value.consumer
+        × (received tile.thread.promise.cancellation.value.consumer ≡ []) };
 }
 
-/// Starts a thread that puts the texts of the tile into a new ring.
+/// Starts a thread that puts the texts of the tile into a new ring, and rings the bell `filled` at
+/// each.
 ///
 /// # Errors
 ///
@@ -56,6 +74,7 @@ pub(super) fn start<H, R>(
     alloc: Global,
     tile: FedTile<R>,
     capacity: u32,
+    filled: &Bell,
 ) -> Result<RunningTile<R>, Fault>
 where
     H: Threads + Wait + Copy + Send + 'static,
@@ -66,8 +85,20 @@ where
     ensures refused { IfErr result (λ fault.
         (fault ≡ Fault.Memory) ⊎ (fault ≡ Fault.NoThread)) }
 {
+    let emptied = Bell::new(alloc)?;
+    let (canceller, cancellation) = cancel_ends(alloc)?;
+    let links = Links {
+        filled: filled.again()?,
+        emptied: emptied.again()?,
+        cancellation,
+    };
     let (sender, receiver) = ends(alloc, capacity)?;
-    start_with(rt, alloc, tile, sender, receiver)
+    let caller = CallerSide {
+        receiver,
+        canceller,
+        emptied: SpacedBell::new(emptied, capacity),
+    };
+    start_with(rt, alloc, tile, sender, links, caller)
 }
 
 /// Starts a thread that puts the texts of the tile through this sender, whose ring is new.
@@ -80,29 +111,43 @@ fn start_with<H, R>(
     alloc: Global,
     tile: FedTile<R>,
     sender: Sender,
-    receiver: Receiver,
+    links: Links,
+    caller: CallerSide,
 ) -> Result<RunningTile<R>, Fault>
 where
     H: Threads + Wait + Copy + Send + 'static,
     R: Source + Send + Drop + 'static,
     requires most { most_to_come tile.unread ≤ most_texts }
-    requires pair { ArePair sender receiver }
-    requires unused { (notes_put sender ≡ []) × (notes_taken receiver ≡ []) }
+    requires pair { ArePair sender caller.receiver }
+    requires unused { (notes_put sender ≡ []) × (notes_taken caller.receiver ≡ []) }
+    requires word { IsPair caller.canceller.producer links.cancellation.consumer }
+    requires unasked { (sent caller.canceller.producer ≡ [])
+        × (received links.cancellation.consumer ≡ []) }
     ensures ok { IfOk result (λ running. running ≡ fresh_run tile) }
     ensures refused { IfErr result (λ fault. fault ≡ Fault.NoThread) }
 {
     let feeds = Feeds {
         tile: Snapshot::of(&tile),
         sender: Snapshot::of(&sender),
+        cancellation: Snapshot::of(&links.cancellation),
     };
     let handle = *rt;
-    let Ok(thread) = thread::spawn_with(rt, feeds, move || tile.feed(&handle, alloc, sender)) else {
+    let Ok(thread) = thread::spawn_with(rt, feeds, move || {
+        tile.feed(&handle, alloc, sender, links)
+    }) else {
         return Err(Fault::NoThread);
     };
-    Ok(RunningTile {
+    let CallerSide {
         receiver,
+        canceller,
+        emptied,
+    } = caller;
+    Ok(RunningTile {
         thread,
         last: None,
+        receiver,
+        canceller,
+        emptied,
     })
 }
 
@@ -112,18 +157,31 @@ impl<R: Source + Drop> RunningTile<R> {
         ensures fed { self.new.fed ≡ self.old.fed }
         ensures line { IfSome result (λ line. self.new.lines ≡ self.old.lines ++ line ∷ []) }
         ensures none { IfNone result (self.new.lines ≡ self.old.lines) }
+        ensures cancels { self.new.cancels ≡ self.old.cancels }
     {
         if self.last.is_some() {
             return None;
         }
         match self.receiver.try_take() {
-            Some(Note::Line(line)) => return Some(line),
+            Some(Note::Line(line)) => {
+                self.emptied.count();
+                return Some(line);
+            }
             Some(Note::End(end)) => {
                 self.last = Some(end);
                 return None;
             }
             None => return None,
         }
+    }
+
+    /// Asks the thread to stop at its next line. Its texts so far and its end note are still to be
+    /// taken.
+    pub(super) fn cancel(&mut self)
+        ensures fed { self.new.fed ≡ self.old.fed }
+        ensures lines { self.new.lines ≡ self.old.lines }
+    {
+        self.canceller.cancel();
     }
 
     /// The end note, once it was taken.
@@ -139,27 +197,41 @@ impl<R: Source + Drop> RunningTile<R> {
         ensures { (course : Course) × HasGiven R.gives self course }
     {
         let RunningTile {
-            receiver,
             thread,
+            receiver,
+            canceller,
             ..
         } = self;
-        let closed = thread.join(rt);
+        let Finished {
+            closed,
+            cancellation,
+        } = thread.join(rt);
+        canceller.confirm(cancellation);
         let Ok(_) = receiver.confirm(closed) else {
             unreachable!()
         };
     }
 
-    /// Takes what is left, up to the end note, and joins the thread.
-    pub(super) fn stop<H: Threads + Wait>(self, rt: &H) {
+    /// Asks the thread to stop, takes what is left, up to the end note, and joins the thread.
+    pub(super) fn stop<H: Threads + Wait>(self, rt: &H, filled: &Bell) {
         let mut tile = self;
-        let backoff = Backoff::new();
+        tile.cancel();
+        let mut patience = Patience::new();
         'notes: for _ in rt.forever() {
             if tile.last.is_some() {
                 break;
             }
-            match tile.take() {
-                Some(_) => backoff.reset(),
-                None => backoff.snooze(),
+            let sleep = filled.listen(patience.is_over());
+            if tile.take().is_some() {
+                patience.renew();
+                continue;
+            }
+            if tile.last.is_some() {
+                break;
+            }
+            match sleep {
+                Some(key) => key.wait(rt),
+                None => patience.pause(),
             }
         }
         let RunningTile { thread, .. } = tile;

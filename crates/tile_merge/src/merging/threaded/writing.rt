@@ -1,21 +1,25 @@
-ghost use Rattle.std.specs.Prelude.{◌≡◌, ◌≤◌, ◌<◌, ◌++◌, ℕ, List, Option, Some, None, true, [], IfOk, IfErr, OnOk, IsTrue, filter_map};
+ghost use Rattle.std.specs.Prelude.{◌≡◌, ◌≤◌, ◌<◌, ◌++◌, ℕ, List, Option, Some, None, true, [], IfOk, IfErr, OnOk, IsOk, IsTrue, filter_map};
 ghost use Rattle.city_json.specs.Streams.Failures.{after_call};
-ghost use Rattle.tile_merge.specs.Threads.{AreFresh, are_all_ended, GoesOnWriting, LinesSoFar, WroteUnless, feds_of};
+ghost use Rattle.tile_merge.specs.Threads.{AreFresh, are_all_ended, GoesOn, GoesOnWriting, LinesSoFar, WroteUnless, feds_of};
 
 use crate::filter::write_line;
 use crate::merging::threaded::running::RunningTile;
+use crate::merging::threaded::waiting::{Bell, Patience};
 use city_json::{Fault, Line, Sink, Source};
-use crossbeam_utils::Backoff;
+use crossbeam_utils::sync::Key;
 use std::sync::Wait;
 
 /// Writes the line of the header, and then the lines of the tiles as they come, until the end note of
-/// each was taken. A write that fails ends the writing, and not the taking.
+/// each was taken. A write that fails ends the writing, and not the taking: the threads are asked to
+/// stop, and what they have put is taken. Where nothing comes for a while, what was written is passed
+/// on, and the caller sleeps until the bell `filled` is rung.
 ///
 /// # Errors
 ///
 /// [`Fault::Write`] where a write or the flush failed.
 pub(super) fn write_stream<H: Wait, R: Source + Drop, W: Sink>(
     rt: &H,
+    filled: &Bell,
     tiles: &mut [RunningTile<R>],
     header: Line,
     output: &mut W,
@@ -26,14 +30,20 @@ pub(super) fn write_stream<H: Wait, R: Source + Drop, W: Sink>(
         (W.taken output.old) (W.taken output.new) (W.failures output.old) (W.failures output.new) }
     ensures flushed { OnOk result (W.is_flushed output.new) }
 {
-    let backoff = Backoff::new();
+    let mut patience = Patience::new();
     let mut wrote = write_unless_failed(output, header, Ok(()));
     'rounds: for _ in rt.forever() {
         if are_ended(tiles) {
             break;
         }
-        wrote = write_round(tiles, output, wrote, &backoff);
-        backoff.snooze();
+        wrote = flush_if(output, patience.is_over(), wrote);
+        let sleep = filled.listen(patience.is_over());
+        wrote = write_round(tiles, output, wrote, &mut patience);
+        cancel_if_failed(tiles, wrote);
+        match sleep {
+            Some(key) => wait_unless(rt, key, !patience.is_over() || are_ended(tiles)),
+            None => patience.pause(),
+        }
     }
     wrote?;
     output.flush()
@@ -44,7 +54,7 @@ fn write_round<R: Source + Drop, W: Sink>(
     tiles: &mut [RunningTile<R>],
     output: &mut W,
     wrote: Result<(), Fault>,
-    backoff: &Backoff,
+    patience: &mut Patience,
 ) -> Result<(), Fault>
     ensures { GoesOnWriting tiles.old tiles.new wrote result
         (W.taken output.old) (W.taken output.new) (W.failures output.old) (W.failures output.new) }
@@ -54,10 +64,22 @@ fn write_round<R: Source + Drop, W: Sink>(
         let Some(line) = tile.take() else {
             continue;
         };
-        backoff.reset();
+        patience.renew();
         wrote = write_unless_failed(output, line, wrote);
     }
     wrote
+}
+
+/// Asks the threads to stop, where a write failed.
+fn cancel_if_failed<R: Source + Drop>(tiles: &mut [RunningTile<R>], wrote: Result<(), Fault>)
+    ensures { GoesOn tiles.old tiles.new wrote }
+{
+    if wrote.is_ok() {
+        return;
+    }
+    'tiles: for tile in tiles.iter_mut() {
+        tile.cancel();
+    }
 }
 
 /// Whether the end note of each tile was taken.
@@ -65,6 +87,32 @@ fn are_ended<R: Source + Drop>(tiles: &[RunningTile<R>]) -> bool
     ensures { result ≡ are_all_ended tiles.now }
 {
     tiles.iter().all(|tile| tile.last().is_some())
+}
+
+/// Sleeps, unless there is something to do.
+fn wait_unless<H: Wait>(rt: &H, key: Key<'_>, is_busy: bool) {
+    if is_busy {
+        return;
+    }
+    key.wait(rt);
+}
+
+/// Passes on what was written, where that is asked for and nothing failed before.
+fn flush_if<W: Sink>(output: &mut W, is_asked: bool, wrote: Result<(), Fault>) -> Result<(), Fault>
+    ensures written { (bytes : List ℕ) (old : Option (List ℕ))
+        → WroteUnless wrote bytes old (W.taken output.old)
+        → WroteUnless result bytes old (W.taken output.new) }
+    ensures failures { (count : ℕ) → W.failures output.old ≡ after_call wrote count
+        → W.failures output.new ≡ after_call result count }
+    ensures fault { IfErr wrote (λ fault. fault ≡ Fault.Write)
+        → IfErr result (λ fault. fault ≡ Fault.Write) }
+    ensures after { OnOk result (IsOk wrote) }
+{
+    if !is_asked {
+        return wrote;
+    }
+    wrote?;
+    output.flush()
 }
 
 /// Writes a line, where nothing failed before.
@@ -80,6 +128,7 @@ fn write_unless_failed<W: Sink>(
         → W.failures output.new ≡ after_call result count }
     ensures fault { IfErr wrote (λ fault. fault ≡ Fault.Write)
         → IfErr result (λ fault. fault ≡ Fault.Write) }
+    ensures after { OnOk result (IsOk wrote) }
 {
     wrote?;
     write_line(output, line)?;

@@ -5,10 +5,11 @@ use Rattle.city_json.specs.declared.fault.Fault.{Fault}
 use Rattle.tile_handoff.specs.declared.note.End.{End}
 use Rattle.tile_merge.specs.EndNotes.{AreEnds}
 use Rattle.tile_merge.specs.Rounds.{ends_in}
-use Rattle.tile_merge.specs.Threads.{RunningState, HaveGiven, LinesSoFar, feds_of}
+use Rattle.tile_merge.specs.Threads.{RunningState, AreUncancelled, HaveGiven, LinesSoFar, feds_of}
 use Rattle.tile_merge.proofs.Feeds.{are_ends}
 use Rattle.tile_merge.proofs.InTurn.{lent_back, no_failed_write}
 use Rattle.tile_merge.proofs.Threaded.{ends_given, few_given, refused_write, refused_memory, merged_result, refused_result}
+use Rattle.tile_merge.proofs.Writing.{on_ok}
 use Rattle.tile_merge.proofs.merging.threaded.finish.Goals as goal
 
 pub returns-in_err-wrote-clause-refused : goal.returns-in_err-wrote-clause-refused
@@ -59,7 +60,7 @@ report_of-requires g c =
     let ends = c.deref-2.result.now in
     let taken = c.deref-2.ensures.value ∙ c.in_ok-ends.ensures ∙ ap (filter_map (λ (tile : RunningState g.row.R.Denot). tile.last)) (c.deref.ensures.value ∙ back) in
     let Are : List End → Type 0 = λ es. AreEnds es (ends_in courses) in
-    let are = subst Are (sym taken) (are_ends (λ (tile : RunningState g.row.R.Denot). tile.last) after (ends_in courses) (ends_given g.R.Source.gives after courses have)) in
+    let are = subst Are (sym taken) (are_ends (λ (tile : RunningState g.row.R.Denot). tile.last) after (ends_in courses) (ends_given g.R.Source.gives after courses have (on_ok (AreUncancelled after) wrote.result c.in_ok-wrote.was wrote.ensures.written.uncancelled))) in
     let long = few_given g.R.Source.gives after courses have ends are in
     let few : length ends ≤ 64 = omega (arith, long, wrote.auto.tiles, ap length c.deref_mut.ensures.value, c.requires.few) in
     record { few = omega (arith, few) }
@@ -82,7 +83,7 @@ returns-clause-ok g c choice base readers started =
     let ends = c.deref-2.result.now in
     let taken = c.deref-2.ensures.value ∙ c.in_ok-ends.ensures ∙ ap (filter_map (λ (tile : RunningState g.row.R.Denot). tile.last)) (c.deref.ensures.value ∙ back) in
     let Are : List End → Type 0 = λ es. AreEnds es (ends_in courses) in
-    let are = subst Are (sym taken) (are_ends (λ (tile : RunningState g.row.R.Denot). tile.last) after (ends_in courses) (ends_given g.R.Source.gives after courses have)) in
+    let are = subst Are (sym taken) (are_ends (λ (tile : RunningState g.row.R.Denot). tile.last) after (ends_in courses) (ends_given g.R.Source.gives after courses have (on_ok (AreUncancelled after) wrote.result c.in_ok-wrote.was wrote.ensures.written.uncancelled))) in
     merged_result g.R.Source.gives tiles after c.args.line wrote.result old new failures newer so_far courses have choice base readers started c.in_ok-wrote.was ends are c.report_of.result c.report_of.ensures.ok
 
 pub returns-clause-refused : goal.returns-clause-refused
@@ -103,7 +104,7 @@ returns-clause-refused g c choice base readers started =
     let ends = c.deref-2.result.now in
     let taken = c.deref-2.ensures.value ∙ c.in_ok-ends.ensures ∙ ap (filter_map (λ (tile : RunningState g.row.R.Denot). tile.last)) (c.deref.ensures.value ∙ back) in
     let Are : List End → Type 0 = λ es. AreEnds es (ends_in courses) in
-    let are = subst Are (sym taken) (are_ends (λ (tile : RunningState g.row.R.Denot). tile.last) after (ends_in courses) (ends_given g.R.Source.gives after courses have)) in
+    let are = subst Are (sym taken) (are_ends (λ (tile : RunningState g.row.R.Denot). tile.last) after (ends_in courses) (ends_given g.R.Source.gives after courses have (on_ok (AreUncancelled after) wrote.result c.in_ok-wrote.was wrote.ensures.written.uncancelled))) in
     refused_result g.R.Source.gives tiles after c.args.line wrote.result old new failures newer so_far courses have choice base readers started c.in_ok-wrote.was ends are c.report_of.result c.report_of.ensures.refused
 
 pub returns-clause-failures : goal.returns-clause-failures
@@ -124,6 +125,6 @@ returns-clause-failures g c =
     let ends = c.deref-2.result.now in
     let taken = c.deref-2.ensures.value ∙ c.in_ok-ends.ensures ∙ ap (filter_map (λ (tile : RunningState g.row.R.Denot). tile.last)) (c.deref.ensures.value ∙ back) in
     let Are : List End → Type 0 = λ es. AreEnds es (ends_in courses) in
-    let are = subst Are (sym taken) (are_ends (λ (tile : RunningState g.row.R.Denot). tile.last) after (ends_in courses) (ends_given g.R.Source.gives after courses have)) in
+    let are = subst Are (sym taken) (are_ends (λ (tile : RunningState g.row.R.Denot). tile.last) after (ends_in courses) (ends_given g.R.Source.gives after courses have (on_ok (AreUncancelled after) wrote.result c.in_ok-wrote.was wrote.ensures.written.uncancelled))) in
     let count = so_far.failed ∙ ap (λ (r : Result (Unit {0}) Fault). after_call r failures) c.in_ok-wrote.was in
     count ∙ no_failed_write ends (ends_in courses) are c.report_of.result c.report_of.ensures.refused failures

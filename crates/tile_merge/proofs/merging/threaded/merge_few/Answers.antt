@@ -5,7 +5,7 @@ use Rattle.tile_merge.proofs.merging.threaded.merge_few.Goals as goal
 
 pub returns-in_err-tiles-clause-refused : goal.returns-in_err-tiles-clause-refused
 returns-in_err-tiles-clause-refused g c =
-    let e = err_from_is_err_and c.from_residual.result c.from_residual.ensures.1 in
+    let e = err_from_is_err_and c.from_residual-in_err-tiles.result c.from_residual-in_err-tiles.ensures.1 in
     rw (e.1, e.2) (refused_start g.R.Source.gives c.args.base c.args.readers.items (IsChosen c.args.choice.now) c.in_err-tiles.field-0.0 (g.W.Sink.taken c.args.output.now) c.in_err-tiles.ensures.refused)
 
 pub finish-requires-clause-fresh : goal.finish-requires-clause-fresh

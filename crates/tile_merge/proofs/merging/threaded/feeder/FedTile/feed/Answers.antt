@@ -1,33 +1,96 @@
-use Rattle.std.proofs.Common.{Some, None, arith, rules}
+use Rattle.std.proofs.Common.{◌≡◌, ◌≤◌, ◌+◌, Some, None, length, ap, sym, subst, ◌∙◌, refl, arith, rules}
+use Rattle.rtrb.specs.Ring.{received}
 use Rattle.city_feature.specs.Choice.{IsChosen}
 use Rattle.tile_handoff.specs.Ends.{notes_put, notes_carried}
 use Rattle.tile_merge.specs.Coming.{MayComeTo}
-use Rattle.tile_merge.proofs.Feeder.{fed_text, fed_end}
+use Rattle.tile_merge.specs.Threads.{Fed, FedSoFar}
+use Rattle.tile_merge.specs.TileState.{most_to_come, most_texts}
+use Rattle.tile_merge.proofs.Feeder.{fed_start, fed_text, fed_nothing, fed_whole, fed_front}
 use Rattle.tile_merge.proofs.merging.threaded.feeder.FedTile.feed.Goals as goal
+use Rattle.tile_merge.proofs.merging.threaded.feeder.FedTile.feed.Goals.{then-is_chosen, else-is_chosen}
+
+pub lines-init : goal.lines-init
+lines-init g c =
+    let most = subst (λ (fed : Fed g.row.R.Denot). most_to_come fed.unread ≤ most_texts) (sym c.self.view_is) c.requires.most in
+    record {
+      so_far = fed_start (MayComeTo g.R.Source.gives (IsChosen c.self.inside.choice) c.self.inside.shift c.self.inside.reader) (notes_put c.args.sender);
+      own = search rules;
+      same = search rules;
+      unseen = refl;
+      bounded = omega (arith, most);
+    }
 
 pub returns-in-Ok-None-clause-fed : goal.returns-in-Ok-None-clause-fed
 returns-in-Ok-None-clause-fed g c =
-    let comes = MayComeTo g.R.Source.gives (IsChosen c.self.inside.choice) c.self.inside.shift in
-    let so_far = c.texts.invariant.so_far in
     let over = rw c.in-Ok-None.field-0-is at c.in-Ok-None.ensures.over in
-    let ended = fed_end (comes c.self.inside.reader) (notes_put c.args.sender) (comes c.texts.reader) c.texts.count (notes_put c.texts.sender) so_far None over c.end_note.result c.end_note.ensures (notes_carried c.end.result) c.end.ensures.put in
-    rw (← c.self.view_is) (record { texts = so_far.texts; outcome = None; comes = ended.0; put = ended.1 })
+    let comes = MayComeTo g.R.Source.gives (IsChosen c.self.inside.choice) c.self.inside.shift in
+    let Unasked = received c.finish.result.cancellation.consumer ≡ received c.args.links.cancellation.consumer in
+    let fed = fed_whole g.R.Source.gives (record { unread = c.self.inside.reader; shift = c.self.inside.shift; choice = c.self.inside.choice }) Unasked (notes_put c.args.sender) (comes c.lines.reader) c.lines.count (notes_put c.lines.sender) c.lines.invariant.so_far c.end_note.result (notes_carried c.finish.result.closed) c.finish.ensures.put None over c.end_note.ensures in
+    rw (← c.self.view_is) fed
 
 pub returns-in-Err-clause-fed : goal.returns-in-Err-clause-fed
 returns-in-Err-clause-fed g c =
     let comes = MayComeTo g.R.Source.gives (IsChosen c.self.inside.choice) c.self.inside.shift in
-    let so_far = c.texts.invariant.so_far in
     let outcome = Some (record { number = c.in-Err.at.line; fault = c.in-Err.at.fault }) in
-    let ended = fed_end (comes c.self.inside.reader) (notes_put c.args.sender) (comes c.texts.reader) c.texts.count (notes_put c.texts.sender) so_far outcome c.in-Err.ensures.refused c.end_note-in-Err.result c.end_note-in-Err.ensures (notes_carried c.end-in-Err.result) c.end-in-Err.ensures.put in
-    rw (← c.self.view_is) (record { texts = so_far.texts; outcome = outcome; comes = ended.0; put = ended.1 })
+    let finish = c.finish-in-Err in
+    let Unasked = received finish.result.cancellation.consumer ≡ received c.args.links.cancellation.consumer in
+    let fed = fed_whole g.R.Source.gives (record { unread = c.self.inside.reader; shift = c.self.inside.shift; choice = c.self.inside.choice }) Unasked (notes_put c.args.sender) (comes c.lines.reader) c.lines.count (notes_put c.lines.sender) c.lines.invariant.so_far c.end_note-in-Err.result (notes_carried finish.result.closed) finish.ensures.put outcome c.in-Err.ensures.refused c.end_note-in-Err.ensures in
+    rw (← c.self.view_is) fed
 
-pub texts-preserved : goal.texts-preserved
-texts-preserved g c =
+pub returns-then-is_asked-clause-fed : goal.returns-then-is_asked-clause-fed
+returns-then-is_asked-clause-fed g c =
     let comes = MayComeTo g.R.Source.gives (IsChosen c.self.inside.choice) c.self.inside.shift in
+    let old = notes_put c.args.sender in
     let text = rw c.in-Ok-Some.field-0-is at c.in-Ok-Some.ensures.text in
+    let skipped = rw c.in-Ok-Some.field-0-is at c.in-Ok-Some.ensures.skipped in
+    let before = comes c.self.inside.reader in
+    let now = comes c.lines.reader in
+    let after = comes c.pass.new.self in
+    let so_far = c.lines.invariant.so_far in
+    let passed : FedSoFar before after c.if-is_chosen.count old (notes_put c.if-is_chosen.sender) =
+    elim c.if-is_chosen.branch [
+      | then-is_chosen w ↦
+          let given = text w.if-is_chosen.true in
+          subst (λ n. FedSoFar before after n old (notes_put c.if-is_chosen.sender)) (sym w.count-is)
+          (fed_text before old now c.lines.count (notes_put c.lines.sender) so_far after given.0 c.in-Ok-Some.passed.line given.1 given.2 (notes_put c.if-is_chosen.sender) (ap notes_put w.sender-is ∙ w.put.ensures.put))
+      | else-is_chosen w ↦ rw (w.count-is, w.sender-is) (fed_nothing before old now c.lines.count (notes_put c.lines.sender) so_far after (skipped w.if-is_chosen.false).1)
+    ] in
+    let finish = c.finish-then-is_asked in
+    let Unasked = received finish.result.cancellation.consumer ≡ received c.args.links.cancellation.consumer in
+    let one_more = c.is_asked.ensures.yes c.if-is_asked.true in
+    let unseen = ap length c.lines.invariant.unseen in
+    let kept = ap received finish.ensures.asked in
+    let fed = fed_front g.R.Source.gives (record { unread = c.self.inside.reader; shift = c.self.inside.shift; choice = c.self.inside.choice }) Unasked old after c.if-is_chosen.count (notes_put c.if-is_chosen.sender) passed c.end_note-then-is_asked.result (notes_carried finish.result.closed) finish.ensures.put c.pass.ensures.some (λ unasked. omega (arith, one_more, unseen, ap length (sym kept ∙ unasked))) in
+    rw (← c.self.view_is) fed
+
+pub lines-preserved : goal.lines-preserved
+lines-preserved g c =
+    let comes = MayComeTo g.R.Source.gives (IsChosen c.self.inside.choice) c.self.inside.shift in
+    let old = notes_put c.args.sender in
+    let text = rw c.in-Ok-Some.field-0-is at c.in-Ok-Some.ensures.text in
+    let skipped = rw c.in-Ok-Some.field-0-is at c.in-Ok-Some.ensures.skipped in
     let fewer = rw c.in-Ok-Some.field-0-is at c.in-Ok-Some.ensures.fewer in
+    let before = comes c.self.inside.reader in
+    let now = comes c.lines.reader in
+    let after = comes c.pass.new.self in
+    let so_far = c.lines.invariant.so_far in
+    let passed : FedSoFar before after c.if-is_chosen.count old (notes_put c.if-is_chosen.sender) =
+    elim c.if-is_chosen.branch [
+      | then-is_chosen w ↦
+          let given = text w.if-is_chosen.true in
+          subst (λ n. FedSoFar before after n old (notes_put c.if-is_chosen.sender)) (sym w.count-is)
+          (fed_text before old now c.lines.count (notes_put c.lines.sender) so_far after given.0 c.in-Ok-Some.passed.line given.1 given.2 (notes_put c.if-is_chosen.sender) (ap notes_put w.sender-is ∙ w.put.ensures.put))
+      | else-is_chosen w ↦ rw (w.count-is, w.sender-is) (fed_nothing before old now c.lines.count (notes_put c.lines.sender) so_far after (skipped w.if-is_chosen.false).1)
+    ] in
+    let bound : c.if-is_chosen.count + most_to_come c.pass.new.self ≤ most_texts =
+    elim c.if-is_chosen.branch [
+      | then-is_chosen w ↦ omega (arith, c.lines.invariant.bounded, fewer, w.count-is)
+      | else-is_chosen w ↦ omega (arith, c.lines.invariant.bounded, fewer, w.count-is)
+    ] in
     record {
-      so_far = fed_text (comes c.self.inside.reader) (notes_put c.args.sender) (comes c.texts.reader) c.texts.count (notes_put c.texts.sender) c.texts.invariant.so_far (comes c.take_text.new.self) text.0 c.in-Ok-Some.line text.1 text.2 (notes_put c.put.new.sender) c.put.ensures.put;
+      so_far = passed;
+      own = search rules;
       same = search rules;
-      bounded = omega (arith, c.texts.invariant.bounded, fewer);
+      unseen = c.is_asked.ensures.no c.if-is_asked.false ∙ c.lines.invariant.unseen;
+      bounded = bound;
     }
