@@ -1,7 +1,7 @@
 #!/usr/bin/env python3
 """How fast `citymerge` is, how much memory it takes, and whether its output is right.
 
-Eight parts, each of which can be left out:
+Nine parts, each of which can be left out:
   right         the output on small streams, compared with that of a compactor, a selection and sums of its own
   speed         MB/s and peak memory, in turn: on building tiles and on tiny features, without options, with two
                 types and with a box, beside jq; on one long line, beside jq; on features with 300 attributes,
@@ -16,13 +16,15 @@ Eight parts, each of which can be left out:
                 --giga), which must be the same
   threads       MB/s by the clock of `merge` beside `merge --in-turn`, of four even tiles, of a large one beside
                 three small ones and of 64, and its peak memory, also where a slow reader takes the output
+  waiting       processor time while a tile gives nothing and while the output is read slowly; how soon a merge
+                ends once its output is gone, and how soon a feature of a live tile arrives
   hostile       time against size for shapes of text that are hard on a reader
   documents     MB/s and peak memory of `citymerge cat` on a document, beside `citymerge filter` of its stream;
                 time against size for documents that are hard on it
 
 Status 0: all is right. 1: an output is wrong, the peak memory grows with the stream, a stream takes more
-instructions than is wanted, a merge is too slow beside the filter, or the time for a hostile shape does not
-grow about as its size. 2: the program is not there. A tool that is not there is named, and its part is left
+instructions than is wanted, a merge is too slow beside the filter, one that waits takes processor time or ends
+late, or the time for a hostile shape does not grow about as its size. 2: the program is not there. A tool that is not there is named, and its part is left
 out.
 """
 
@@ -43,6 +45,7 @@ from right import right
 from speed import speed
 from table import write_table
 from threads import threads
+from waiting import waiting
 
 PARTS = {
     "right": right,
@@ -51,6 +54,7 @@ PARTS = {
     "instructions": instructions,
     "merges": merges,
     "threads": threads,
+    "waiting": waiting,
     "hostile": hostile,
     "documents": documents,
 }

@@ -13,6 +13,7 @@ from __future__ import annotations
 
 import argparse
 import contextlib
+import ctypes
 import decimal
 import json
 import os
@@ -35,6 +36,8 @@ MOST_IN_A_MERGE = 63  # `citymerge merge` takes 64; the joined header is one of 
 LONGEST_LINE = 2**28  # bytes, as `citymerge` takes them
 OFF_THE_GRID = "the translation is off the grid"
 NOT_WRITTEN = "the output could not be written"
+PR_SET_PDEATHSIG = 1  # of prctl(2)
+ENDING_SIGNALS = (signal.SIGINT, signal.SIGTERM, signal.SIGHUP)
 FAULT_LINE = re.compile(r"citymerge: (?:tile (?P<tile>\d+)(?: line (?P<line>\d+))?: )?(?P<text>.*)")
 
 ABOUT = "Merges any number of tiles into one CityJSONSeq stream."
@@ -58,7 +61,7 @@ STATUSES = (
     "1  refused, with a line on standard error for each thing that is wrong",
     "2  wrong use, told on standard error; no tile was read",
 )
-ENVIRONMENT = "CITYMERGE  the program, where it is neither in the folder of this one nor on PATH"
+ENVIRONMENT = "CITYMERGE  the program to run; without it `citymerge` beside this one, or on PATH"
 EXAMPLES = (
     "citymerge-many tiles/*.city.jsonl > city.city.jsonl",
     "ls tiles/*.city.jsonl | citymerge-many --output=city.city.jsonl",
@@ -191,11 +194,14 @@ def names_from_input(end: bytes) -> list[str]:
 
 def find_program() -> str:
     """The path of citymerge."""
+    chosen = os.environ.get("CITYMERGE")
     beside = os.path.join(os.path.dirname(os.path.abspath(__file__)), "citymerge")
-    for name in (os.environ.get("CITYMERGE"), beside, "citymerge"):
-        found = shutil.which(name) if name else None
+    for name in (chosen,) if chosen else (beside, "citymerge"):
+        found = shutil.which(name)
         if found:
             return os.path.abspath(found)
+    if chosen:
+        raise Refusal(f"{shown(chosen)}: CITYMERGE names no program")
     raise Refusal("the program citymerge is not there: put it on PATH, or its path into CITYMERGE")
 
 
@@ -314,10 +320,13 @@ class Comparison:
         texts = [head.text for head in heads]
         if self.joined:
             texts.insert(0, self.joined)
-        with files_in_memory(texts) as files:
-            words = [self.program, "merge", "--in-turn", "--exclude", *(["--least"] if self.is_least else [])]
-            words += ["--", *map(path_of, files)]
-            ended = subprocess.run(words, capture_output=True, pass_fds=files, check=False)
+        words = [self.program, "merge", "--in-turn", "--exclude", *(["--least"] if self.is_least else []), "--"]
+        try:
+            with files_in_memory(texts) as files:
+                words += map(path_of, files)
+                ended = subprocess.run(words, capture_output=True, pass_fds=files, check=False)
+        except OSError as error:
+            raise Refusal(f"the headers could not be compared: {error.strerror}") from error
         if ended.returncode == 0:
             self.joined = ended.stdout.rstrip(b"\n")
             return None
@@ -491,6 +500,24 @@ class Running:
         return self.process.returncode
 
 
+@contextlib.contextmanager
+def signals_held_back() -> Iterator[None]:
+    """Lets the signals that end this program wait until a block has ended."""
+    signal.pthread_sigmask(signal.SIG_BLOCK, ENDING_SIGNALS)
+    try:
+        yield
+    finally:
+        signal.pthread_sigmask(signal.SIG_UNBLOCK, ENDING_SIGNALS)
+
+
+def begin_process() -> None:
+    """Has a new process killed when this program is, so that none goes on writing to an output that is taken up anew."""
+    for number in ENDING_SIGNALS:
+        signal.signal(number, signal.SIG_DFL)
+    ctypes.CDLL(None).prctl(PR_SET_PDEATHSIG, signal.SIGKILL)
+    signal.pthread_sigmask(signal.SIG_UNBLOCK, ENDING_SIGNALS)
+
+
 class Crew:
     """All merges as processes with pipes between them."""
 
@@ -528,9 +555,11 @@ class Crew:
         else:
             files = [self.streams.pop(id(part)) for part in merge.parts]
             words += ["--", *map(path_of, files)]
-        process = subprocess.Popen(
-            words, stdin=subprocess.DEVNULL, stdout=output, stderr=subprocess.PIPE, pass_fds=files)
-        self.running.append(Running(merge, process))
+        with signals_held_back():
+            process = subprocess.Popen(
+                words, stdin=subprocess.DEVNULL, stdout=output, stderr=subprocess.PIPE, pass_fds=files,
+                preexec_fn=begin_process)
+            self.running.append(Running(merge, process))
         if not merge.tiles:
             for stream in files:
                 os.close(stream)
@@ -637,7 +666,7 @@ def output_to(path: Optional[str], tiles: Sequence[str]) -> Iterator[int]:
         yield sys.stdout.fileno()
         return
     target = os.path.realpath(path)
-    if os.path.exists(target) and not os.path.isfile(target):
+    if path.endswith("/") or (os.path.exists(target) and not os.path.isfile(target)):
         raise Refusal(f"{shown(path)}: {NOT_WRITTEN}: it is no file that can be put in place")
     if os.path.exists(target) and any(os.path.exists(tile) and os.path.samefile(tile, target) for tile in tiles):
         raise Refusal(f"{shown(path)}: {NOT_WRITTEN}: it is one of the tiles")
@@ -648,6 +677,7 @@ def output_to(path: Optional[str], tiles: Sequence[str]) -> Iterator[int]:
         raise Refusal(f"{shown(path)}: {NOT_WRITTEN}: {error.strerror}") from error
     try:
         yield descriptor
+        os.fsync(descriptor)  # some file systems tell only now that there was no room
         if os.path.exists(target):
             shutil.copymode(target, written)
         os.replace(written, target)
@@ -677,12 +707,19 @@ ORDER = {order}
 .PHONY: all
 all: {last}
 
-# merges the files that a target depends on, with these options
+# a tile that is gone
+tiles/%:
+	@printf '%s\n' "$@ is $$(readlink $@): the tile could not be read" >&2; exit 1
+
+# merges the files that a target depends on, with these options; one that an earlier `make` left running writes to
+# a file of its own, which is taken from it
 define merge
-@$(CITYMERGE) merge $(1) -- $^ >$@.part 2>$@.said && mv $@.part $@ && rm $@.said || {{ \
-    status=$$?; cat $@.said >&2; set -- $^; \
-    tile=$$(sed -n 's/^citymerge: tile \([0-9]*\).*/\1/p' $@.said); \
-    [ -z "$$tile" ] || {{ shift $$((tile - 1)); echo "$@: tile $$tile is $$(readlink "$$1" || echo "$$1")" >&2; }}; \
+@rm -f $@.*.part; part=$@.$$(uname -n).$$$$.part; \
+said=$$($(CITYMERGE) merge $(1) -- $^ 2>&1 >"$$part") && mv "$$part" $@ || {{ \
+    status=$$?; rm -f "$$part"; set -- $^; \
+    printf '%s\n' "$@: $${{said:-ended with status $$status}}" >&2; \
+    tile=$$(expr "$$said" : 'citymerge: tile \([0-9]*\)'); \
+    [ -z "$$tile" ] || {{ shift $$((tile - 1)); printf '%s\n' "$@: tile $$tile is $$(readlink "$$1" || echo "$$1")" >&2; }}; \
     exit $$status; }}
 endef
 """
@@ -694,7 +731,7 @@ def in_makefile(words: Sequence[str]) -> str:
     text = " ".join(map(shlex.quote, words))
     if "\n" in text:
         raise Refusal("--plan: a Makefile cannot hold an option with a newline")
-    return text.replace("$", "$$").replace("#", "\\#")
+    return re.sub(r"(\\*)#", r"\1\1\\#", text.replace("$", "$$"))
 
 
 def new_folder(path: str) -> None:
@@ -728,22 +765,29 @@ def link_to(place: int) -> str:
 
 
 def write_plan(program: str, asked: argparse.Namespace, levels: Sequence[Sequence[Merge]], header: bytes) -> None:
-    """Fills the folder of a plan, its Makefile last, so that an incomplete one has none."""
+    """Fills the folder of a plan, its Makefile last; takes all of it out again where that cannot be finished."""
     makefile = MAKEFILE.format(
         name=NAME, version=VERSION, tiles=len(asked.tiles), merges=sum(map(len, levels)), last=LAST,
         program=in_makefile([program]), choice=in_makefile(asked.choice), order=in_makefile(asked.order))
+
+    def place_of(name: str) -> str:
+        return os.path.join(asked.plan, name)
+
     try:
-        for folder in ("tiles", *(f"level{height}" for height in range(1, len(levels)))):
-            os.mkdir(os.path.join(asked.plan, folder))
-        for place, tile in enumerate(asked.tiles):
-            os.symlink(os.path.abspath(tile), os.path.join(asked.plan, link_to(place)))
-        with open(os.path.join(asked.plan, "header.city.jsonl"), "wb") as file:
-            file.write(header + b"\n")
-        written = os.path.join(asked.plan, "Makefile.part")
-        with open(written, "w", encoding="utf-8") as file:
-            file.write(makefile)
-            file.writelines(rules(levels))
-        os.replace(written, os.path.join(asked.plan, "Makefile"))
+        with contextlib.ExitStack() as undo:
+            for folder in ("tiles", *(f"level{height}" for height in range(1, len(levels)))):
+                os.mkdir(place_of(folder))
+                undo.callback(os.rmdir, place_of(folder))
+            for place, tile in enumerate(asked.tiles):
+                os.symlink(os.path.abspath(tile), place_of(link_to(place)))
+                undo.callback(os.unlink, place_of(link_to(place)))
+            for name, lines in (("header.city.jsonl", [header + b"\n"]),
+                                ("Makefile.part", map(os.fsencode, (makefile, *rules(levels))))):
+                with open(place_of(name), "xb") as file:
+                    undo.callback(os.unlink, place_of(name))
+                    file.writelines(lines)
+            os.replace(place_of("Makefile.part"), place_of("Makefile"))
+            undo.pop_all()
     except OSError as error:
         raise Refusal(f"{shown(asked.plan)}: {NOT_WRITTEN}: {error.strerror}") from error
 
@@ -770,8 +814,18 @@ def stop(number: int, _frame: object) -> None:
     raise Stopped(number)
 
 
+def open_standard_files() -> None:
+    """Opens what is closed of standard input, output and error, so that no file of a merge gets their numbers."""
+    for descriptor in range(3):
+        try:
+            os.fstat(descriptor)
+        except OSError:
+            os.set_inheritable(os.open(os.devnull, os.O_RDWR), True)
+
+
 def main() -> int:
-    for number in (signal.SIGINT, signal.SIGTERM, signal.SIGHUP):
+    open_standard_files()
+    for number in ENDING_SIGNALS:
         signal.signal(number, stop)
     terminal = Terminal()
     try:

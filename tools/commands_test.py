@@ -1,5 +1,5 @@
 #!/usr/bin/env python3
-"""Runs the commands of README.md and docs/GUIDE.md as they stand, each document's in one shell.
+"""Runs the commands of README.md, docs/GUIDE.md and docs/FAULTS.md as they stand, each document's in one shell.
 
 A command is an indented line after `$ `, with lines after `> ` that go on with it. What stands below it is what it
 says; where nothing does, it says nothing and ends with status 0. The shell is in a new folder with examples/ and the
@@ -17,9 +17,31 @@ import sys
 import tempfile
 
 ROOT = os.path.dirname(os.path.dirname(os.path.abspath(__file__)))
-DOCUMENTS = ("README.md", "docs/GUIDE.md")
+DOCUMENTS = ("README.md", "docs/GUIDE.md", "docs/FAULTS.md")
 TOOLS = ("jq", "gzip", "make")
 END = "==== end of a command, status "
+
+# files that are not what they should be: how one is made as FILE, what refuses it and how, and what GUIDE says to do,
+# after which NEW is a tile
+WRONG_FILES = (
+    ("cp examples/west.city.jsonl FILE", "citymerge cat < FILE", "the line is not a JSON text",
+     "`citymerge filter < FILE`", "citymerge filter < FILE > NEW"),
+    ("cp examples/town.city.json FILE", "citymerge filter < FILE", "the line is not a JSON text",
+     "`citymerge cat < FILE > STREAM`", "citymerge cat < FILE > NEW"),
+    ("cat examples/west.city.jsonl examples/east.city.jsonl > FILE", "citymerge filter < FILE",
+     "the line is not a CityJSONFeature", "`citymerge merge`",
+     "citymerge merge examples/west.city.jsonl examples/east.city.jsonl > NEW"),
+    ("sed '1s/^/\\xef\\xbb\\xbf/' examples/west.city.jsonl > FILE", "citymerge filter < FILE", "the line is not a JSON text",
+     "`sed '1s/^\\xef\\xbb\\xbf//' FILE > NEW`", "sed '1s/^\\xef\\xbb\\xbf//' FILE > NEW"),
+    ("gzip < examples/west.city.jsonl > FILE", "citymerge filter < FILE", "the line is not UTF-8", "`zcat FILE`",
+     "gzip -t < FILE && zcat < FILE > NEW"),
+    ("iconv -f UTF-8 -t UTF-16 examples/west.city.jsonl > FILE", "citymerge filter < FILE", "the line is not UTF-8",
+     "`iconv -f UTF-16 -t UTF-8 FILE > NEW`", "iconv -f UTF-16 -t UTF-8 FILE > NEW"),
+    ("iconv -f UTF-8 -t UTF-16LE examples/west.city.jsonl > FILE", "citymerge filter < FILE", "the line is not a JSON text",
+     "`iconv -f UTF-16LE -t UTF-8 FILE > NEW`", "iconv -f UTF-16LE -t UTF-8 FILE > NEW"),
+    ("sed '3s/\"id\"/\"\\xe9\":0,&/' examples/west.city.jsonl > FILE", "citymerge filter < FILE", "the line is not UTF-8",
+     "`iconv -f ISO-8859-1 -t UTF-8 FILE > NEW`", "iconv -f ISO-8859-1 -t UTF-8 FILE > NEW"),
+)
 
 
 def commands(text):
@@ -67,6 +89,25 @@ def run(path, room):
     return wrong, len(wanted)
 
 
+def wrong_files(room):
+    """What is wrong of what GUIDE's table says of files that are not what they should be."""
+    with open(os.path.join(ROOT, "docs", "GUIDE.md"), encoding="utf-8") as document:
+        rows = [line for line in document if line.startswith("|")]
+
+    def ended(command):
+        return subprocess.run(["sh", "-c", command.replace("FILE", "file").replace("NEW", "new")], cwd=room, check=False,
+                              capture_output=True, env={**os.environ, "PATH": "build:" + os.environ["PATH"]})
+
+    wrong = []
+    for make, refused, text, advice, mend in WRONG_FILES:
+        found = [ended(command) for command in (make, refused, mend, "citymerge filter < NEW")]
+        if [run.returncode for run in found] != [0, 1, 0, 0] or text not in found[1].stderr.decode():
+            wrong.append("docs/GUIDE.md: %s: %r" % (make, found))
+        if not any(advice in row for row in rows):
+            wrong.append("docs/GUIDE.md: its table does not say " + advice)
+    return wrong
+
+
 def main():
     program = os.path.abspath(sys.argv[1])
     total, wrong = 0, []
@@ -77,6 +118,9 @@ def main():
             shutil.copy(program, os.path.join(room, "build", "citymerge"))
             shutil.copy(os.path.join(ROOT, "examples", "many_tiles.py"), os.path.join(room, "build", "citymerge-many"))
             found, count = run(path, room)
+            if path == "docs/GUIDE.md":
+                found += wrong_files(room)
+                count += len(WRONG_FILES)
         total += count
         wrong += found
     for text in wrong:

@@ -8,6 +8,7 @@ cd "$(dirname "$0")/.."
 tools/need.sh python3 tar gzip sha256sum dpkg-deb || exit 1
 umask 022
 export LC_ALL=C
+unset TAR_OPTIONS GZIP XZ_DEFAULTS XZ_OPT
 out=${1:-build/dist}
 stage=build/stage
 
@@ -46,8 +47,9 @@ cp README.md LICENSE CHANGELOG.md "$stage/$archive"
 sums "$stage/$archive" sha256sum >"$stage/SHA256SUMS"
 mv "$stage/SHA256SUMS" "$stage/$archive/SHA256SUMS"
 settle "$stage/$archive"
-tar --sort=name --mtime="@$SOURCE_DATE_EPOCH" --owner=0 --group=0 --numeric-owner --format=ustar -C "$stage" -cf - "$archive" |
-    gzip -9n >"$out/$archive.tar.gz"
+tar --sort=name --mtime="@$SOURCE_DATE_EPOCH" --owner=0 --group=0 --numeric-owner --format=ustar -C "$stage" \
+    -cf "$stage/$archive.tar" "$archive"
+gzip -9n <"$stage/$archive.tar" >"$out/$archive.tar.gz"
 
 # the package: the same below /usr, as Debian wants it
 deb=$stage/deb

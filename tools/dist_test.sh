@@ -22,12 +22,17 @@ if ! command -v dpkg-deb >/dev/null; then
 fi
 tools/dist.sh "$room/here" >"$room/said" 2>&1 || cat "$room/said"
 expect 'it is made' 0 "$?"
-(umask 077; TZ=Asia/Tokyo HOME=/none USER=somebody LC_ALL=C.UTF-8 "$copy/tools/dist.sh" "$room/there" >"$room/said" 2>&1) || cat "$room/said"
+(umask 077; TZ=Asia/Tokyo HOME=/none USER=somebody LC_ALL=C.UTF-8 TAR_OPTIONS=--sparse XZ_OPT=-1 "$copy/tools/dist.sh" "$room/there" >"$room/said" 2>&1) || cat "$room/said"
 expect 'from a copy the same' same "$(diff -r "$room/here" "$room/there" && echo same)"
 expect 'the sums' "0|$(ls "$room/here" | grep -v SHA256SUMS | sed 's/$/: OK/')" "$(cd "$room/here" && sha256sum -c --quiet SHA256SUMS; echo "$?|$(sha256sum -c SHA256SUMS)")"
 expect 'nothing else is made' 3 "$(ls "$room/here" | wc -l)"
 sed -i '1,/^## /s/^## [^ ]*/## 9.9.9/' "$copy/CHANGELOG.md"
 expect 'another version in CHANGELOG' "$(printf 'CHANGELOG.md begins with 9.9.9, and the program is %s\n1' "$version")" "$("$copy/tools/dist.sh" "$room/other" 2>&1; echo "$?")"
+
+mkdir "$room/tools"
+printf '#!/bin/sh\ncase $1 in --sort*) exit 2 ;; esac\nexec %s "$@"\n' "$(command -v tar)" >"$room/tools/tar"
+chmod 755 "$room/tools/tar"
+expect 'tar fails' 2 "$(PATH=$room/tools:$PATH tools/dist.sh "$room/other" >/dev/null 2>&1; echo "$?")"
 
 # what the programs of a folder say; of a merge only where it is not what it should be
 tried() {

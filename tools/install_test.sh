@@ -4,7 +4,7 @@
 set -u
 cd "$(dirname "$0")/.."
 . tools/expect.sh
-touch "$room/west.city.jsonl"
+touch "$room/west.city.jsonl" "$room/a b.city.jsonl" "$room/-dash"
 share=$room/share
 
 # bash, asked as readline asks it: the last word is the one to complete
@@ -18,6 +18,32 @@ offered_by_bash() {
         _citymerge
         echo "${COMPREPLY[*]}"
     )
+}
+
+# bash, typed at a terminal: the line as the tab key leaves it
+cat >"$room/.bashrc" <<'END'
+PS1=
+bind 'set bell-style none'
+bind -x '"\C-xp": printf "LINE<%s>END" "$READLINE_LINE"'
+. share/bash-completion/completions/citymerge
+echo READY
+END
+cat >"$room/type.py" <<'END'
+import os, pty, sys
+pid, terminal = pty.fork()
+if pid == 0:
+    os.execvp("bash", ["bash", "--noprofile", "--rcfile", ".bashrc", "-i"])
+def read_to(mark):
+    seen = b""
+    while mark not in seen:
+        seen += os.read(terminal, 65536)
+    return seen
+read_to(b"READY\r\n")
+os.write(terminal, sys.argv[1].encode() + b"\t\x18p")
+print(read_to(b">END").rpartition(b"LINE<")[2].rpartition(b">END")[0].decode())
+END
+typed_in_bash() {
+    (cd "$room" && timeout 30 python3 type.py "$1")
 }
 
 offered_by_fish() {
@@ -78,6 +104,14 @@ expect 'bash: all types' 32 "$(offered_by_bash citymerge merge --cotype = | wc -
 for words in 'filter w' 'cat w' 'help w' 'merge --bbox = w' 'merge --bbox ='; do
     expect "bash: nothing after $words" '' "$(offered_by_bash citymerge $words)"
 done
+expect 'bash: a type, typed' 'citymerge filter --cotype=Road,Waterway' "$(typed_in_bash 'citymerge filter --cotype=Road,Waterw')"
+expect 'bash: a name with a blank, typed' 'citymerge merge a\ b.city.jsonl ' "$(typed_in_bash 'citymerge merge a')"
+expect 'bash: a name after --, typed' 'citymerge merge -- -dash ' "$(typed_in_bash 'citymerge merge -- -d')"
+expect 'bash: nothing after filter, typed' 'citymerge filter w' "$(typed_in_bash 'citymerge filter w')"
+for words in 'filter < ' 'cat <' 'filter --exclude > ' 'merge --in-turn w 2>'; do
+    expect "bash: a file after $words" "citymerge ${words}west.city.jsonl " "$(typed_in_bash "citymerge ${words}w")"
+done
+expect 'bash: an option after a file that is read' 'citymerge filter < w --exclude ' "$(typed_in_bash 'citymerge filter < w --ex')"
 if command -v fish >/dev/null; then
     expect 'fish: the commands' 'merge ' "$(offered_by_fish citymerge me)"
     expect 'fish: an option with a value' '--cotype ' "$(offered_by_fish citymerge filter --c)"
@@ -85,7 +119,9 @@ if command -v fish >/dev/null; then
     expect 'fish: a tile' 'west.city.jsonl ' "$(offered_by_fish citymerge merge w)"
     expect 'fish: a type' '--cotype=TINRelief ' "$(offered_by_fish citymerge filter --cotype=TINR)"
     expect 'fish: the next type' '--cotype=Road,Waterway ' "$(offered_by_fish citymerge merge --cotype=Road,Waterw)"
-    for words in 'filter w' 'cat w' 'help w' 'merge --bbox=w'; do
+    expect 'fish: help of a command' '--help ' "$(offered_by_fish citymerge cat --h)"
+    expect 'fish: a file that is read' 'west.city.jsonl ' "$(offered_by_fish 'citymerge filter < w')"
+    for words in 'filter w' 'cat w' 'help w' 'help merge w' 'merge --bbox=w'; do
         expect "fish: nothing after $words" '' "$(offered_by_fish citymerge $words)"
     done
 else
@@ -97,7 +133,8 @@ if command -v zsh >/dev/null; then
     expect 'zsh: a tile' 'citymerge merge west.city.jsonl ' "$(typed_in_zsh 'citymerge merge w')"
     expect 'zsh: a type' 'citymerge filter --cotype=TINRelief,' "$(typed_in_zsh 'citymerge filter --cotype=TINR')"
     expect 'zsh: the next type' 'citymerge merge --cotype=Road,Waterway,' "$(typed_in_zsh 'citymerge merge --cotype=Road,Waterw')"
-    for words in 'filter w' 'cat w' 'help w' 'merge --bbox=w'; do
+    expect 'zsh: a file that is read' 'citymerge filter < west.city.jsonl ' "$(typed_in_zsh 'citymerge filter < w')"
+    for words in 'filter w' 'cat w' 'help w' 'help merge f' 'merge --bbox=w'; do
         expect "zsh: nothing after $words" "citymerge $words" "$(typed_in_zsh "citymerge $words")"
     done
 else

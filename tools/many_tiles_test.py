@@ -15,6 +15,7 @@ import signal
 import subprocess
 import sys
 import tempfile
+import time
 import unittest
 
 ROOT = os.path.dirname(os.path.dirname(os.path.abspath(__file__)))
@@ -153,6 +154,17 @@ class Streams(InFolder):
         subprocess.run(["make", "-s", "-j4"], cwd="a plan's $(folder)", check=True)
         merged = self.read("a plan's $(folder)/merged.city.jsonl")
         self.assertEqual(wanted_lines, sorted(merged.splitlines(keepends=True)[1:]))
+
+    def test_standard_files_that_are_closed(self):
+        self.write_tiles()
+        for closed in ("<&-", "2>&-", "<&- 2>&-"):
+            run = subprocess.run(["sh", "-c", 'exec "$@" %s' % closed, "sh", *MANY, "--group=10", *NAMES], capture_output=True,
+                                 check=False, timeout=60)
+            self.assertEqual((0, b""), (run.returncode, run.stderr))
+            self.expect_stream(run.stdout.decode())
+        words = ["--output=city", "--group=10", *NAMES]
+        subprocess.run(["sh", "-c", 'exec "$@" <&- >&- 2>&-', "sh", *MANY, *words], check=True, timeout=60)
+        self.expect_stream(self.read("city"))
 
     def test_a_document_and_blank_lines(self):
         self.write("a", "\n \t\r\n" + header().replace("\n", "\r\n") + feature("a", 1))
@@ -303,7 +315,7 @@ class Refusals(InFolder):
         self.assertEqual(0, many("a", "--exclude", "--output=link").status)
         self.assertEqual((True, header()), (os.path.islink("link"), self.read("old")))
         for name, why in (("a", "it is one of the tiles"), ("/dev/null", "it is no file that can be put in place"),
-                          ("none/city", "No such file or directory")):
+                          ("none/city", "No such file or directory"), ("none/", "it is no file that can be put in place")):
             self.expect_refusal(many("a", "--output=" + name), "%s: the output could not be written: %s" % (name, why))
         self.assertEqual(["a", "link", "new", "old"], sorted(os.listdir(".")))
 
@@ -331,6 +343,16 @@ class Refusals(InFolder):
     def test_no_program(self):
         ended = many("a", env={**os.environ, "CITYMERGE": "", "PATH": "/none"})
         self.expect_refusal(ended, "the program citymerge is not there: put it on PATH, or its path into CITYMERGE")
+        self.write("a", header())
+        beside = os.path.dirname(os.environ["CITYMERGE"])
+        ended = many("a", env={**os.environ, "CITYMERGE": "/none/citymerge", "PATH": beside + ":" + os.environ["PATH"]})
+        self.expect_refusal(ended, "/none/citymerge: CITYMERGE names no program")
+
+
+def files_of_at_most(size):
+    """Lets this process write no file of more bytes: an end of all disks."""
+    resource.setrlimit(resource.RLIMIT_FSIZE, (size, size))
+    signal.signal(signal.SIGXFSZ, signal.SIG_IGN)
 
 
 def children_of(pid):
@@ -339,6 +361,14 @@ def children_of(pid):
             return [int(child) for child in file.read().split()]
     except OSError:
         return []
+
+
+def is_running(pid):
+    try:
+        with open("/proc/%d/stat" % pid, encoding="ascii") as file:
+            return file.read().rpartition(")")[2].split()[0] != "Z"
+    except OSError:
+        return False
 
 
 class Endings(InFolder):
@@ -378,6 +408,31 @@ class Endings(InFolder):
             _, errors = run.communicate(timeout=60)
             self.assertEqual((128 + number, b""), (run.returncode, errors))
             self.assertEqual([], [child for child in children if os.path.exists("/proc/%d" % child)])
+
+    def test_all_of_it_is_ended_while_it_starts(self):
+        names = ["t%02d" % number for number in range(12)] * 10
+        for number in range(12):
+            run = subprocess.Popen([*MANY, "--group=2", *names], stdout=subprocess.DEVNULL, stderr=subprocess.PIPE,
+                                   start_new_session=True)
+            for _ in range(1000):
+                if len(children_of(run.pid)) > 8 * number:
+                    break
+                time.sleep(0.005)
+            os.killpg(run.pid, signal.SIGINT)
+            _, errors = run.communicate(timeout=60)
+            self.assertEqual((130, b""), (run.returncode, errors))
+
+    def test_the_program_is_killed(self):
+        run = self.begun()
+        children = children_of(run.pid)
+        self.assertEqual(7, len(children))
+        run.kill()
+        self.assertEqual(-signal.SIGKILL, run.wait(60))
+        for _ in range(100):
+            if not any(map(is_running, children)):
+                break
+            time.sleep(0.05)
+        self.assertEqual([], list(filter(is_running, children)))
 
     def test_the_reader_goes(self):
         run = self.begun()
@@ -425,14 +480,67 @@ class Plans(InFolder):
         self.assertEqual((0, b""), (self.make("-j4").returncode, self.make("-j4").stderr))
         for name, when in finished.items():
             self.assertEqual(when, os.stat("plan/level1/" + name).st_mtime_ns)
-        head, *features = self.read("plan/merged.city.jsonl").splitlines(keepends=True)
-        self.assertEqual((header("[-25.0,0,0]"), wanted()), (head, sorted(features)))
+        self.expect_merged()
         self.assertEqual([], [name for level in os.listdir("plan") if level.startswith("level")
                               for name in os.listdir("plan/" + level) if not name.endswith(".city.jsonl")])
         os.utime(NAMES[150])
         self.assertEqual(0, self.make().returncode)
         again = [name for name, when in finished.items() if when != os.stat("plan/level1/" + name).st_mtime_ns]
         self.assertLessEqual(len(again), 1)
+
+    def expect_merged(self):
+        head, *features = self.read("plan/merged.city.jsonl").splitlines(keepends=True)
+        self.assertEqual((header("[-25.0,0,0]"), wanted()), (head, sorted(features)))
+
+    def program_instead(self, script):
+        """A program for plans that first runs these lines of a shell, in the folder of the plan."""
+        self.write("instead", '#!/bin/sh\n%s\nexec "%s" "$@"\n' % (script, os.environ["CITYMERGE"]))
+        os.chmod("instead", 0o755)
+        return {**os.environ, "CITYMERGE": os.path.abspath("instead")}
+
+    def test_a_plan_is_taken_up_while_a_merge_of_before_still_runs(self):
+        self.write_tiles()
+        env = self.program_instead("if [ -e Makefile ] && mkdir held 2>/dev/null; then echo front; until [ -e go ]; do "
+                                   "sleep 0.05; done; seq 9999; : >../ended; exit; fi")
+        self.assertEqual(0, many("--plan=plan", names=NAMES, env=env).status)
+        first = subprocess.Popen(["make", "-s", "-C", "plan"], stderr=subprocess.DEVNULL)
+        self.wait_for("plan/held")
+        first.kill()
+        first.wait()
+        again = self.make("-j4")
+        self.assertEqual((0, b""), (again.returncode, again.stderr))
+        self.write("plan/go", "")
+        self.wait_for("ended")
+        time.sleep(0.2)
+        self.expect_merged()
+        self.assertEqual(sum(len(sizes(tile)) for tile in range(60)) + 1, self.read("plan/level1/00001.city.jsonl").count("\n"))
+
+    def wait_for(self, path):
+        for _ in range(1000):
+            if os.path.exists(path):
+                return
+            time.sleep(0.02)
+        self.fail("there is no " + path)
+
+    def test_files_that_may_not_grow(self):
+        self.write_tiles()
+        full = {"preexec_fn": lambda: files_of_at_most(512)}
+        self.expect_refusal(many("--plan=plan", "--group=2", names=NAMES, **full),
+                            "plan: the output could not be written: File too large")
+        self.assertEqual([], os.listdir("plan"))
+        self.assertEqual(0, many("--plan=plan", names=NAMES).status)
+        ended = self.make(**full)
+        self.assertEqual((2, []), (ended.returncode, os.listdir("plan/level1")))
+        self.assertIn(b"level1/00001.city.jsonl: citymerge: the output could not be written\n", ended.stderr)
+        self.assertEqual(0, self.make("-j4").returncode)
+        self.expect_merged()
+
+    def test_a_merge_of_a_plan_is_killed(self):
+        self.write("a", header())
+        self.assertEqual(0, many("--plan=plan", "a", env=self.program_instead("[ ! -e Makefile ] || kill -9 $$")).status)
+        ended = self.make()
+        self.assertEqual((2, ["Makefile", "header.city.jsonl", "tiles"]), (ended.returncode, sorted(os.listdir("plan"))))
+        self.assertIn(b"merged.city.jsonl: ended with status 137\n", ended.stderr)
 
     def test_a_fault_in_a_plan_is_told_by_the_name(self):
         self.write_tiles()
@@ -446,7 +554,36 @@ class Plans(InFolder):
         self.assertFalse(os.path.exists("plan/merged.city.jsonl"))
         self.write(NAMES[142], tile_text(142))
         self.assertEqual(0, self.make("-j2").returncode)
-        self.assertEqual(wanted(), sorted(self.read("plan/merged.city.jsonl").splitlines(keepends=True)[1:]))
+        self.expect_merged()
+
+    def test_a_type_that_make_and_the_shell_would_read(self):
+        odd = "a\\#b $(c) $$ \\\\# 'd' `e`"
+        self.write("a", header() + feature("a", 1).replace('"Building"', json.dumps(odd)) + feature("b", 2))
+        self.assertEqual(0, many("--plan=plan", "--cotype=" + odd, "a").status)
+        self.assertEqual((0, b""), (self.make().returncode, self.make().stderr))
+        self.assertEqual(["a"], [json.loads(line)["id"] for line in self.read("plan/merged.city.jsonl").splitlines()[1:]])
+
+    def test_a_tile_of_a_plan_is_gone(self):
+        self.write_tiles()
+        self.assertEqual(0, many("--plan=plan", names=NAMES).status)
+        os.rename(NAMES[142], "elsewhere")
+        ended = self.make("-j2")
+        self.assertEqual(2, ended.returncode)
+        self.assertIn(b"tiles/000143 is %s: the tile could not be read\n" % os.path.abspath(NAMES[142]).encode(), ended.stderr)
+        os.rename("elsewhere", NAMES[142])
+        self.assertEqual(0, self.make("-j2").returncode)
+        self.expect_merged()
+
+    def test_a_plan_whose_recipes_go_to_a_scheduler(self):
+        self.write_tiles()
+        self.assertEqual(0, many("--plan=plan", "--group=20", names=NAMES).status)
+        self.write("srun", '#!/bin/sh\n[ "$1 $2" = "--quiet --ntasks=1" ] || exit 9\nshift 2\necho "$1 $2" >>said\nexec "$@"\n')
+        os.chmod("srun", 0o755)
+        words = ["SHELL=" + os.path.abspath("srun"), ".SHELLFLAGS=--quiet --ntasks=1 sh -c"]
+        ended = self.make("-j4", *words)
+        self.assertEqual((0, b""), (ended.returncode, ended.stderr))
+        self.assertEqual("sh -c\n" * 16, self.read("plan/said"))
+        self.expect_merged()
 
     def test_a_folder_that_is_in_use(self):
         self.write("a", header())

@@ -56,6 +56,57 @@ done
 timeout 60 "$program" collect <"$room/in" >"$room/out" 2>/dev/full
 expect 'usage that cannot be written' 2 "$?"
 
+# ends a run that has not ended by itself after 20 s
+end_late() {
+    for turn in $(seq 200); do
+        grep -qs '^State:.[^ZX]' "/proc/$1/status" || return 0
+        sleep 0.1
+    done
+    kill "$1"
+}
+
+# the processor time that a process has taken, in ticks of a hundredth of a second
+ticks() {
+    awk '{ print $14 + $15 }' "/proc/$1/stat"
+}
+
+# whether a process takes less than half of the processor's time in one of three seconds: a machine that was halted may
+# charge one of them
+is_quiet() {
+    for turn in 1 2 3; do
+        before=$(ticks "$1")
+        sleep 1
+        [ $(($(ticks "$1") - before)) -ge 50 ] || return 0
+    done
+    return 1
+}
+
+# A live tile: what has come of it is passed on while it gives nothing, and waiting takes no processor.
+mkfifo "$room/live" "$room/passed_on"
+for command in filter merge 'merge --in-turn'; do
+    if [ "$command" = filter ]; then
+        "$program" filter <"$room/live" >"$room/passed_on" 2>"$room/errors" &
+    else
+        "$program" $command "$room/live" >"$room/passed_on" 2>"$room/errors" &
+    fi
+    runs=$!
+    exec 3<>"$room/live"
+    exec 4<"$room/passed_on"
+    printf '%s\n%s\n' "$header" "$p" >&3
+    expect "$command of a live tile" "$(printf '%s\n%s' "$header" "$p")" "$(timeout 20 head -n 2 <&4)"
+    is_quiet $runs
+    expect "$command of a live tile, while it waits" 0 $?
+    printf '%s\n' "$q" >&3
+    expect "what comes later in $command of a live tile" "$q" "$(timeout 20 head -n 1 <&4)"
+    sleep 1
+    exec 3>&-
+    expect "the rest of $command of a live tile" '' "$(timeout 20 cat <&4)"
+    exec 4<&-
+    end_late $runs
+    wait $runs
+    expect "the status of $command of a live tile" 0 $?
+done
+
 # what is chosen
 expect 'filter' "0|$whole|" "$(answer filter)"
 expect 'by a type' "0|$(printf '%s\n%s' "$header" "$q")|" "$(answer filter --cotype=Road,Bridge)"
@@ -137,7 +188,10 @@ timeout 60 "$program" filter <"$room/in" >/dev/full 2>"$room/errors"
 expect 'a full device' '1|citymerge: the output could not be written' "$?|$(cat "$room/errors")"
 { cat "$room/three"; printf '{}\n'; } >"$room/in"
 timeout 60 "$program" filter <"$room/in" >/dev/full 2>"$room/errors"
-expect 'a full device and a fault' '1|citymerge: tile 1 line 4: the line is not a CityJSONFeature' "$?|$(cat "$room/errors")"
+expect 'a full device and a fault' '1|citymerge: the output could not be written' "$?|$(cat "$room/errors")"
+printf '{}\n' >"$room/in"
+timeout 60 "$program" filter <"$room/in" >/dev/full 2>"$room/errors"
+expect 'a full device and no header' '1|citymerge: tile 1 line 1: the object is not a CityJSON object' "$?|$(cat "$room/errors")"
 
 # the reader of the pipe is gone before anything is written, and more comes than a pipe holds
 { printf '%s\n' "$header"; yes "$p" | head -n 20000; } >"$room/in"
@@ -278,12 +332,23 @@ timeout 60 "$program" merge "$room/many" "$room/others" >"$room/out" 2>"$room/er
 expect 'a merge of 80,000 features with threads' '0||same' "$?|$(cat "$room/errors")|$(tail -n +2 "$room/out" | LC_ALL=C sort >"$room/sorted"; tail -n +2 "$room/wanted" | LC_ALL=C sort | cmp - "$room/sorted" && echo same)"
 timeout 60 "$program" merge --in-turn "$room/many" "$room/others" >"$room/out" 2>"$room/errors"
 expect 'a merge of 80,000 features' '0||same' "$?|$(cat "$room/errors")|$(cmp "$room/wanted" "$room/out" && echo same)"
+{ timeout 20 "$program" merge "$room/many" "$room/others"; echo $? >"$room/status"; } | { sleep 1; tail -n +2; } | LC_ALL=C sort >"$room/out"
+expect 'a merge whose output waits' '0|same' "$(cat "$room/status")|$(cmp "$room/sorted" "$room/out" && echo same)"
 timeout 60 "$program" merge "$room/a" "$room/b" >/dev/full 2>"$room/errors"
 expect 'a merge to a full device' '1|citymerge: the output could not be written' "$?|$(cat "$room/errors")"
 {
     { sleep 1; timeout 60 "$program" merge "$room/many" "$room/others" 2>"$room/errors"; echo $? >"$room/status"; } | :
 }
 expect 'a merge to a closed pipe' '1|citymerge: the output could not be written' "$(cat "$room/status")|$(cat "$room/errors")"
+
+# Tiles that do not end by themselves end soon after the output is gone, also where nothing is chosen of one of them.
+mkfifo "$room/endless" "$room/unchosen"
+{ printf '%s\n' "$header"; yes "$one"; } >"$room/endless" 2>"$room/ignored" &
+{ printf '%s\n' "$header"; yes "$a"; } >"$room/unchosen" 2>"$room/ignored" &
+{
+    { timeout 20 "$program" merge --bbox=0,0,9000,9000 "$room/endless" "$room/unchosen" 2>"$room/errors"; echo $? >"$room/status"; } | head -n 2 >"$room/out"
+}
+expect 'a merge of endless tiles to a closed pipe' '1|citymerge: the output could not be written|2' "$(cat "$room/status")|$(cat "$room/errors")|$(wc -l <"$room/out")"
 timeout 60 "$program" merge "$room/many" no-such-file >"$room/out" 2>/dev/full
 expect 'a file that is not there, and nowhere to say it' '1|0' "$?|$(wc -c <"$room/out")"
 
@@ -453,5 +518,256 @@ timeout 60 "$program" merge --in-turn examples/west.city.jsonl "$room/out" >"$ro
 expect 'west and town' "0||$(($(wc -l <examples/west.expected.city.jsonl) + 3))" "$?|$(cat "$room/errors")|$(wc -l <"$room/both")"
 timeout 60 "$program" merge --in-turn "$room/out" >"$room/twice" 2>"$room/errors"
 expect 'town, merged alone' same "$(cmp "$room/out" "$room/twice" && echo same)"
+
+# What is large, so that nothing gives up by size: each input and what is wanted of it are made of the same numbers.
+
+# runs the program with these words on the file `in`, and holds its output against the file `wanted`
+comes_out() {
+    what=$1
+    shift
+    timeout 60 "$program" "$@" <"$room/in" >"$room/out" 2>"$room/errors"
+    expect "$what" '0||same' "$?|$(cat "$room/errors")|$(cmp "$room/wanted" "$room/out" && echo same)"
+}
+
+# the same of a filter of the file `in` and of both merges of it
+comes_of_each() {
+    comes_out "$1, filtered" filter
+    comes_out "$1, merged" merge "$room/in"
+    comes_out "$1, merged in turn" merge --in-turn "$room/in"
+}
+
+# items from standard input, a line each, with commas between them and no newline
+listed() {
+    paste -s -d , - | tr -d '\n'
+}
+
+printf '%s\n' "$header" >"$room/first"
+empty='{"type":"CityJSONFeature","id":"a","CityObjects":{},"vertices":[]}'
+{ printf '%s\n' "$header"; yes "$empty" | head -n 1100000; } >"$room/in"
+cp "$room/in" "$room/wanted"
+comes_of_each '1,100,000 features'
+
+# a header with extensions of the numbers from $1 to $2
+extended() {
+    printf '%s,"extensions":{' "${header%\}}"
+    seq "$1" "$2" | sed 's/.*/"E&":{"version":"&"}/' | listed
+    printf '}}\n'
+}
+extended 1 20000 >"$room/in"
+cp "$room/in" "$room/wanted"
+comes_of_each '20,000 extensions'
+extended 1 10000 >"$room/some"
+extended 5001 20000 >"$room/more"
+for turns in '' --in-turn; do
+    comes_out "20,000 extensions of two tiles $turns" merge $turns "$room/some" "$room/more"
+done
+
+# a word of 108,898 bytes, where the system takes 131,071, and many words
+{ printf '%s\n' "$header"; seq 19999 20002 | sed 's/.*/{"type":"CityJSONFeature","id":"&","CityObjects":{"&":{"type":"&"}},"vertices":[]}/'; } >"$room/in"
+head -n 3 "$room/in" >"$room/wanted"
+comes_out '20,000 types' filter "--cotype=$(seq -s , 20000)"
+comes_out '20,000 types of a merge' merge "--cotype=$(seq -s , 20000)" "$room/in"
+expect '20,000 words' '1||citymerge: there are more than 64 tiles' "$(merged $(seq 20000))"
+expect '20,000 words of no command' "2||error: unexpected argument '1' found" "$(first_lines cat $(seq 20000))"
+
+# features of one object each, by number: in a document with a vertex each, and as they are cut
+{
+    printf '%s' "${header%%\"CityObjects\"*}"
+    printf '"CityObjects":{'
+    seq 100000 | sed 's/.*/"&":{"type":"Building","geometry":[{"type":"MultiPoint","lod":"1","boundaries":[&]}]}/' | listed
+    printf '},"vertices":['
+    seq 0 100000 | sed 's/.*/[&,2,3]/' | listed
+    printf ']}\n'
+} >"$room/in"
+{
+    printf '%s\n' "$header"
+    seq 100000 | sed 's/.*/{"type":"CityJSONFeature","id":"&","CityObjects":{"&":{"type":"Building","geometry":[{"type":"MultiPoint","lod":"1","boundaries":[0]}]}},"vertices":[[&,2,3]]}/'
+} >"$room/wanted"
+comes_out 'a document of 100,000 features' cat
+comes_out 'a first line of 100,000 features, filtered' filter
+comes_out 'a first line of 100,000 features, merged' merge "$room/in"
+
+# one object whose 100,000 parts come one after another, and one of which all are children
+{
+    printf '%s' "${header%%\"CityObjects\"*}"
+    printf '"CityObjects":{'
+    {
+        printf '"0":{"type":"Building","children":["1"]}\n'
+        seq 99999 | awk '{ printf "\"%d\":{\"type\":\"BuildingPart\",\"parents\":[\"%d\"],\"children\":[\"%d\"]}\n", $1, $1 - 1, $1 + 1 }'
+        printf '"100000":{"type":"BuildingPart","parents":["99999"]}\n'
+        printf '"b":{"type":"Building","children":['
+        seq 200000 299999 | sed 's/.*/"&"/' | listed
+        printf ']}\n'
+        seq 200000 299999 | sed 's/.*/"&":{"type":"BuildingPart","parents":["b"]}/'
+    } >"$room/objects"
+    listed <"$room/objects"
+    printf '},"vertices":[]}\n'
+} >"$room/in"
+{
+    printf '%s\n{"type":"CityJSONFeature","id":"0","CityObjects":{' "$header"
+    head -n 100001 "$room/objects" | listed
+    printf '},"vertices":[]}\n{"type":"CityJSONFeature","id":"b","CityObjects":{'
+    tail -n 100001 "$room/objects" | listed
+    printf '},"vertices":[]}\n'
+} >"$room/wanted"
+comes_out 'families of 100,001 objects' cat
+comes_out 'families of 100,001 objects on a first line' filter
+cp "$room/wanted" "$room/in"
+comes_of_each 'features of 100,001 objects'
+
+# a feature with so many vertices
+vertices_to() {
+    printf '{"type":"CityJSONFeature","id":"a","CityObjects":{"a":{"type":"Road"}},"vertices":['
+    seq "$1" "$2" | sed 's/.*/[&,2,-3]/' | listed
+    printf ']}\n'
+}
+{ printf '%s\n' "$header"; vertices_to 1 2000001; } >"$room/in"
+cp "$room/in" "$room/wanted"
+comes_of_each 'a feature of 2,000,001 vertices'
+{ moved_to 1.5; echo; vertices_to 1 1000001; } >"$room/moved"
+{ printf '%s\n' "$header"; vertices_to 1501 1001501; } >"$room/wanted"
+for turns in '' --in-turn; do
+    comes_out "a feature of 1,000,001 vertices that are moved $turns" merge $turns "$room/first" "$room/moved"
+done
+
+# a number that is written otherwise than it is printed, among many: the feature is read as a value
+vertices_to 1 100000 | sed 's/\[1,2,-3\]/[-0,2,-3]/' >"$room/uncommon"
+{ printf '%s\n' "$header"; cat "$room/uncommon"; } >"$room/in"
+{ printf '%s\n' "$header"; vertices_to 1 100000 | sed 's/\[1,2,-3\]/[0,2,-3]/'; } >"$room/wanted"
+comes_of_each '100,000 vertices by their value'
+{ moved_to 1.5; echo; cat "$room/uncommon"; } >"$room/moved"
+{ printf '%s\n' "$header"; vertices_to 1501 101500 | sed 's/\[1501,2,-3\]/[1500,2,-3]/'; } >"$room/wanted"
+comes_out '100,000 vertices by their value that are moved' merge "$room/first" "$room/moved"
+
+# a document whose one feature has so many vertices, in the other order
+{
+    printf '%s' "${header%%\"CityObjects\"*}"
+    printf '"CityObjects":{"a":{"type":"Road","geometry":[{"type":"MultiPoint","lod":"1","boundaries":['
+    seq 199999 -1 0 | listed
+    printf ']}]}},"vertices":['
+    seq 0 199999 | sed 's/.*/[&,2,3]/' | listed
+    printf ']}\n'
+} >"$room/in"
+{
+    printf '%s\n{"type":"CityJSONFeature","id":"a","CityObjects":{"a":{"type":"Road","geometry":[{"type":"MultiPoint","lod":"1","boundaries":[' "$header"
+    seq 0 199999 | listed
+    printf ']}]}},"vertices":['
+    seq 199999 -1 0 | sed 's/.*/[&,2,3]/' | listed
+    printf ']}\n'
+} >"$room/wanted"
+comes_out 'a document with a feature of 200,000 vertices' cat
+comes_of_each 'a first line with a feature of 200,000 vertices'
+
+# a document of 1 MB, whose appearance stands in each of its features: lines of 68 MB in all
+appearance=$(printf '"appearance":{"materials":[{"name":"%s"}]}' "$(head -c 6400 /dev/zero | tr '\0' m)")
+{
+    printf '%s' "${header%%\"CityObjects\"*}"
+    printf '"CityObjects":{'
+    seq 10500 | sed 's/.*/"&":{"type":"Road"}/' | listed
+    printf '},"vertices":[],%s}\n' "$appearance"
+} >"$room/in"
+{
+    printf '%s\n' "$header"
+    seq 10500 | sed 's/.*/{"type":"CityJSONFeature","id":"&","CityObjects":{"&":{"type":"Road"}},"vertices":[],'"$appearance"'}/'
+} >"$room/wanted"
+comes_out 'a document whose lines have 68 MB' cat
+comes_of_each 'a first line whose features have 68 MB'
+
+# Memory is asked for by the lines, and not many times over: three lines of 20 MB come through the pipe `long_tile`, and
+# once they are written, or after a second, the run says how much it has asked for at most, in KB. A thread alone takes
+# some 140 MB of addresses.
+mkfifo "$room/long_tile"
+asked_for() {
+    "$program" "$@" <"$room/long_tile" >"$room/out" 2>"$room/errors" &
+    runs=$!
+    {
+        cat "$room/in"
+        for _ in $(seq 10); do
+            [ "$(wc -c <"$room/out")" -ge "$(wc -c <"$room/wanted")" ] && break
+            sleep 0.1
+        done
+        awk '/^VmPeak/ { print $2 }' "/proc/$runs/status" >"$room/peak"
+    } >"$room/long_tile"
+    end_late $runs
+    wait $runs
+    printf '%s|%s|%s' "$?" "$(cmp "$room/wanted" "$room/out" && echo same)" "$([ "$(cat "$room/peak")" -lt 500000 ] && echo little)"
+}
+for _ in 1 2 3; do
+    printf '{"type":"CityJSONFeature","id":"a","CityObjects":{},"vertices":[[1,2,3]],"holds":"'
+    head -c 20000000 /dev/zero | tr '\0' a
+    printf '"}\n'
+done >"$room/long"
+for moved in 0 1.5; do
+    { moved_to $moved; echo; cat "$room/long"; } >"$room/in"
+    cp "$room/in" "$room/wanted"
+    [ $moved = 0 ] && expect 'the memory of a filter' '0|same|little' "$(asked_for filter)"
+    { printf '%s\n' "$header"; cat "$room/long"; } >"$room/wanted"
+    [ $moved = 0 ] || sed -i 's/\[\[1,2,3\]\]/[[1501,2,3]]/' "$room/wanted"
+    for turns in '' --in-turn; do
+        expect "the memory of a merge of a tile moved by $moved $turns" '0|same|little' "$(asked_for merge $turns "$room/first" "$room/long_tile")"
+    done
+done
+
+# While the output is quiet, a merge reads as many texts as it holds and no more: of a file of lines of 100 KB, this
+# far, a second after it has read so many at least. Of its output nobody takes a byte; a pipe and a buffer hold 128 KB.
+read_of() {
+    least=$1
+    shift
+    "$program" merge "$@" "$room/in" >"$room/stalled" 2>"$room/errors" &
+    runs=$!
+    exec 4<"$room/stalled"
+    for _ in $(seq 40); do
+        sleep 0.5
+        [ "$(lines_read)" -lt "$least" ] || break
+    done
+    sleep 1
+    now=$(lines_read)
+    exec 4<&-
+    end_late $runs
+    wait $runs
+    printf '%s' "$now"
+}
+
+# how many lines of the file `in` the run has read
+lines_read() {
+    for tile in /proc/$runs/fd/*; do
+        [ "$tile" -ef "$room/in" ] && awk '/^pos/ { print int($2 / 100000) }' "/proc/$runs/fdinfo/${tile##*/}" && return
+    done
+    echo 0
+}
+mkfifo "$room/stalled"
+{
+    printf '%s\n{"type":"CityJSONFeature","id":"a","CityObjects":{},"vertices":[],"holds":"' "$header"
+    head -c 99900 /dev/zero | tr '\0' a
+    printf '"}\n'
+} >"$room/one"
+{ cat "$room/one"; for _ in $(seq 150); do tail -n 1 "$room/one"; done; } >"$room/in"
+ahead=$(read_of 64)
+expect "what is read ahead with threads, $ahead lines" 'enough and not too much' "$([ "$ahead" -ge 64 ] && [ "$ahead" -le 69 ] && echo 'enough and not too much')"
+ahead=$(read_of 1 --in-turn)
+expect "what is read ahead in turn, $ahead lines" 'enough and not too much' "$([ "$ahead" -ge 1 ] && [ "$ahead" -le 9 ] && echo 'enough and not too much')"
+
+# Memory that ends before the run begins: while the words are gathered, or where the output gets its buffer. Which of
+# them it is depends on the length of a word. A limit so low that the program is not loaded shows nothing.
+printf '%s\n' "$header" >"$room/in"
+printf 'citymerge: there is not enough memory\n' >"$room/of_no_line"
+printf 'citymerge: tile 1 line 1: there is not enough memory\n' >"$room/of_a_line"
+for length in 24000 32000 56000; do
+    word=$(head -c $length /dev/zero | tr '\0' A)
+    told=
+    seen=
+    for most in $(seq 2000 16 6000); do
+        (ulimit -v "$most"; exec "$program" filter --exclude "--cotype=$word" <"$room/in" >"$room/out" 2>"$room/errors") 2>"$room/ignored"
+        case $? in
+        0) cmp -s "$room/in" "$room/out" && [ ! -s "$room/errors" ] || seen="$seen done wrongly in $most KB" ;;
+        1) if cmp -s "$room/errors" "$room/of_no_line" && [ ! -s "$room/out" ]; then
+            told=told
+        else
+            cmp -s "$room/errors" "$room/of_a_line" && [ ! -s "$room/out" ] || seen="$seen refused wrongly in $most KB"
+        fi ;;
+        esac
+    done
+    expect "memory that ends with a word of $length letters" told "$told$seen"
+done
 
 counted 'The program at its edges'
