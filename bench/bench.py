@@ -3,14 +3,13 @@
 
 Nine parts, each of which can be left out:
   right         the output on small streams, compared with that of a compactor, a selection and sums of its own
-  speed         MB/s and peak memory, in turn: on building tiles and on tiny features, without options, with two
-                types and with a box, beside jq; on one long line, beside jq; on features with 300 attributes,
-                with a blank after each comma and colon, with escapes, and with a -0 in each, so that the value is
-                built; and of a merge in turn that moves all vertices
+  speed         MB/s and peak memory, in turn, of the streams that bench/measured.py lists: building tiles, houses
+                with attributes of all kinds and tiny features, without options, with two types and with a box; many
+                attributes, blanks, escapes, a -0 in each feature, one long line; some beside jq; and of a merge in
+                turn that moves all vertices
   memory        the peak for 10 MB and for 100 MB of building tiles (1 GB with --giga), which must be the
                 same, and for one line of 64 MB
-  instructions  executed for each input byte of these streams, but the long line; they do not depend on the
-                machine's load (valgrind)
+  instructions  executed for each input byte of these streams; they do not depend on the machine's load (valgrind)
   merges        MB/s of `merge --in-turn` on four building tiles, beside `filter` on the same bytes, of which it
                 must have nine tenths; and its peak memory for tiles of 10 MB and of 100 MB each (1 GB with
                 --giga), which must be the same
@@ -24,8 +23,8 @@ Nine parts, each of which can be left out:
 
 Status 0: all is right. 1: an output is wrong, the peak memory grows with the stream, a stream takes more
 instructions than is wanted, a merge is too slow beside the filter, one that waits takes processor time or ends
-late, or the time for a hostile shape does not grow about as its size. 2: the program is not there. A tool that is not there is named, and its part is left
-out.
+late, or the time for a hostile shape does not grow about as its size. 2: the program is not there. A tool that is
+not there is named, and its part is left out.
 """
 
 import argparse

@@ -3,8 +3,9 @@
 import os
 import shutil
 
+from measured import BUILDINGS, BY_BOX, BY_TYPES, CHOSEN, MEASURED, MOVED
 from running import counted, dominant
-from streams import BUILDINGS, BY_BOX, BY_TYPES, HEADER, MEASURED, MOVED, TINY, elsewhere
+from streams import HEADER, elsewhere
 
 # The most that is wanted for each input byte. None is set for the other streams.
 MOST = {(BUILDINGS, ()): 18, (BUILDINGS, BY_BOX): 22, (BUILDINGS, BY_TYPES): 26, (MOVED, ()): 26}
@@ -59,7 +60,7 @@ def instructions(bench):
     bench.say("How many instructions for each byte? (%g MB of each stream)" % bench.options.small)
     for name, lines in MEASURED.items():
         path = bench.write("small", lines(bench.options.seed, bench.options.small * 1_000_000))
-        for options in ((), BY_TYPES, BY_BOX) if name in (BUILDINGS, TINY) else ((),):
+        for options in ((), BY_TYPES, BY_BOX) if name in CHOSEN else ((),):
             measure(bench, name, path, options)
         os.remove(path)
     measure_merge(bench)

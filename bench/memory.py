@@ -2,8 +2,9 @@
 
 import os
 
+from measured import BY_BOX
 from running import Run
-from streams import BY_BOX, buildings, one_line
+from streams import buildings, one_line
 
 MEGA = 1_000_000
 # By so much may the peak for a longer stream be above that for a shorter one: its longest line may be longer.

@@ -3,20 +3,21 @@
 import os
 import shutil
 
+from measured import BUILDINGS, BY_BOX, BY_TYPES, CHOSEN, MEASURED, MOVED, ONE_LINE, TINY
 from running import Run
-from streams import BUILDINGS, BY_BOX, BY_TYPES, HEADER, MEASURED, MOVED, TINY, elsewhere, one_line
+from streams import HEADER, elsewhere
 
 OURS = "all features"
 JQ = "jq -c ."
 MEGA = 1_000_000
-# The streams beside the building tiles are this many times shorter.
+# The streams beside these are this many times shorter.
 SHORTER = 5
-ONE_LINE = "one long line"
+LONG = (BUILDINGS, ONE_LINE)
 
 
 def programs_for(bench, name):
     programs = {OURS: bench.filter}
-    if name in (BUILDINGS, TINY):
+    if name in CHOSEN:
         programs["two types"] = [*bench.filter, *BY_TYPES]
         programs["a box"] = [*bench.filter, *BY_BOX]
     if name in (BUILDINGS, TINY, ONE_LINE) and shutil.which("jq"):
@@ -85,6 +86,5 @@ def speed(bench):
         bench.say("  missing: jq (apt-get install jq); going on without it")
     size = bench.options.size
     for name, lines in MEASURED.items():
-        measure(bench, name, lines, size / (1 if name == BUILDINGS else SHORTER))
-    measure(bench, ONE_LINE, one_line, size)
+        measure(bench, name, lines, size / (1 if name in LONG else SHORTER))
     measure_merge(bench, size)

@@ -293,17 +293,3 @@ def elsewhere(seed, size):
     """Building tiles on another grid."""
     for line in buildings(seed, size):
         yield line.replace(b"[84710.100,446846.000,-5.300]", b"[85710.100,445846.000,-4.300]")
-
-
-BUILDINGS, TINY = "building tiles", "tiny features, 200 bytes a line"
-WIDE = "features with 300 attributes"
-SPACED, ESCAPED = "a blank after each comma and colon", "names and texts with escapes"
-PLAIN = "building tiles, a -0 in each, by value"
-# The streams whose speed is measured.
-# Building tiles whose vertices a merge moves.
-MOVED = "building tiles, each vertex moved"
-MEASURED = {BUILDINGS: buildings, TINY: tiny, WIDE: wide, SPACED: spaced, ESCAPED: escaped, PLAIN: plain}
-# Options of `filter`; the box holds about a quarter of the features of buildings and of tiny ones, the types all
-# buildings.
-BY_TYPE, BY_BOX = ("--cotype=Building",), ("--bbox=0,0,1000000,1000000",)
-BY_TYPES = ("--cotype=Bridge,Building",)

@@ -1,0 +1,28 @@
+"""The streams whose speed and instructions are measured, and what is chosen of them."""
+
+from streams import buildings, escaped, one_line, plain, spaced, tiny, wide
+from town import houses, register
+
+BUILDINGS, TINY, HOUSES = "building tiles", "tiny features, 200 bytes a line", "town houses, mixed attributes"
+WIDE, REGISTER = "features with 300 attributes", "features with 60 mixed attributes"
+SPACED, ESCAPED = "a blank after each comma and colon", "names and texts with escapes"
+PLAIN, ONE_LINE = "building tiles, a -0 in each", "one long line"
+MEASURED = {
+    BUILDINGS: buildings,
+    HOUSES: houses,
+    TINY: tiny,
+    WIDE: wide,
+    REGISTER: register,
+    SPACED: spaced,
+    ESCAPED: escaped,
+    PLAIN: plain,
+    ONE_LINE: one_line,
+}
+# Building tiles whose vertices a merge moves.
+MOVED = "building tiles, each vertex moved"
+# Options of `filter`; the box holds about a quarter of the features of buildings and of tiny ones, and some of the
+# houses; the types are those of all buildings and houses, and of two thirds of the tiny features.
+BY_TYPE, BY_BOX = ("--cotype=Building",), ("--bbox=0,0,1000000,1000000",)
+BY_TYPES = ("--cotype=Bridge,Building",)
+# The streams of which a part is chosen, too.
+CHOSEN = (BUILDINGS, HOUSES, TINY)
