@@ -8,7 +8,7 @@ from running import counted, dominant
 from streams import HEADER, elsewhere
 
 # The most that is wanted for each input byte. None is set for the other streams.
-MOST = {(BUILDINGS, ()): 18, (BUILDINGS, BY_BOX): 22, (BUILDINGS, BY_TYPES): 26, (MOVED, ()): 26}
+MOST = {(BUILDINGS, ()): 14, (BUILDINGS, BY_BOX): 16, (BUILDINGS, BY_TYPES): 14, (MOVED, ()): 22}
 
 
 def each_byte(bench, words, path):
