@@ -271,6 +271,9 @@ expect 'a name with a dash' "0|$(printf '%s\n%s\n%s' "$header" "$one" "$far")|" 
 tile c "$header" "$one" "$one" "$one"
 tile d "$header" "$two"
 tile e "$header" "$q" "$p"
+for turns in '' --in-turn; do
+    expect "a merge of all but a type $turns" "0|$(printf '%s\n' "$header" "$one" "$p")|" "$(mixed $turns --exclude --cotype=Bridge,Road a e)"
+done
 expect 'three tiles' "0|$(printf '%s\n' "$header" "$one" "$two" "$q" "$one" "$p" "$one")|" "$(merged --in-turn c d e)"
 expect 'three tiles with threads' "0|$(printf '%s\n' "$header" "$one" "$one" "$one" "$two" "$p" "$q")|" "$(mixed c d e)"
 expect 'each in its own order' "$(printf '%s\n' "$q" "$p")" "$(grep -e '"id":"[pq]"' "$room/out")"
@@ -349,6 +352,20 @@ mkfifo "$room/endless" "$room/unchosen"
     { timeout 20 "$program" merge --bbox=0,0,9000,9000 "$room/endless" "$room/unchosen" 2>"$room/errors"; echo $? >"$room/status"; } | head -n 2 >"$room/out"
 }
 expect 'a merge of endless tiles to a closed pipe' '1|citymerge: the output could not be written|2' "$(cat "$room/status")|$(cat "$room/errors")|$(wc -l <"$room/out")"
+
+# A tile that does not end by itself ends at its fault.
+for command in filter merge 'merge --in-turn'; do
+    { printf '%s\n{\n' "$header"; yes "$one"; } >"$room/endless" 2>"$room/ignored" &
+    gives=$!
+    if [ "$command" = filter ]; then
+        timeout 20 "$program" filter <"$room/endless" >"$room/out" 2>"$room/errors"
+    else
+        timeout 20 "$program" $command "$room/endless" >"$room/out" 2>"$room/errors"
+    fi
+    expect "$command of an endless tile with a fault" "1|$header|citymerge: tile 1 line 2: the line is not a JSON text" "$?|$(cat "$room/out")|$(cat "$room/errors")"
+    end_late $gives
+    wait $gives
+done
 timeout 60 "$program" merge "$room/many" no-such-file >"$room/out" 2>/dev/full
 expect 'a file that is not there, and nowhere to say it' '1|0' "$?|$(wc -c <"$room/out")"
 
@@ -369,6 +386,7 @@ if (ulimit -s 1000000) 2>/dev/null; then
     for most in '500000|1||citymerge: tile 1: a thread could not be started' '1500000|1||citymerge: tile 2: a thread could not be started' "4000000|0|$(printf '%s\n%s\n%s' "$header" "$one" "$far")|"; do
         expect "threads in ${most%%|*} KB" "${most#*|}" "$(ulimit -s 1000000; ulimit -v "${most%%|*}"; mixed a b)"
     done
+    expect 'no thread beside one whose ring is full' '1||citymerge: tile 2: a thread could not be started' "$(ulimit -s 1000000; ulimit -v 1500000; merged many b)"
     expect 'no thread, in turn' "0|$(printf '%s\n%s\n%s' "$header" "$one" "$far")|" "$(ulimit -s 1000000; ulimit -v 500000; merged --in-turn a b)"
     beside "$room/b" 1500000 &
     (
