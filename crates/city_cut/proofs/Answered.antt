@@ -2,8 +2,8 @@
 use Rattle.std.proofs.Common.{◌≡◌, ◌∙◌, sym, refl, ℕ, List, Result, Ok, Err, OnOk, IfErr, IfOk, IsOkAnd}
 use Rattle.city_json.specs.Gives.{RefusesNumber}
 use Rattle.city_json.specs.Number.{IsNumber}
-use Rattle.city_json.specs.declared.fault.Fault.{Fault}
-use Rattle.city_json.specs.declared.fault.Fault.TheVariants.{Memory, Syntax}
+use Rattle.byte_streams.specs.declared.fault.Fault.{Fault}
+use Rattle.byte_streams.specs.declared.fault.Fault.TheVariants.{Memory, Syntax}
 
 pub no_fault : {A B : Type 0} (answer : Result A B) {fault : B} {value : A} → answer ≡ Err fault → answer ≡ Ok value → ⊥
 no_fault answer refused found = let clash = sym refused ∙ found in cc

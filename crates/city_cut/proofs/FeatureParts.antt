@@ -8,8 +8,8 @@ use Rattle.std.specs.Prelude.{codes}
 use Rattle.city_json.specs.Fits.{AreDistinctMembers, IsDistinct}
 use Rattle.city_json.specs.Members.{member_of, names}
 use Rattle.city_json.specs.Tree.{Tree, null, array, object, ItemTrees, no_items, item, item_trees, members_tree, named_tree, tree}
-use Rattle.city_json.specs.declared.fault.Fault.{Fault}
-use Rattle.city_json.specs.declared.fault.Fault.TheVariants.{NotAFeature, VertexShape, VertexNotInteger, VertexRange, Memory}
+use Rattle.byte_streams.specs.declared.fault.Fault.{Fault}
+use Rattle.byte_streams.specs.declared.fault.Fault.TheVariants.{NotAFeature, VertexShape, VertexNotInteger, VertexRange, Memory}
 use Rattle.city_json.specs.declared.json.Json.{Json}
 use Rattle.city_json.specs.declared.json.Member.{Member}
 use Rattle.city_grid.specs.Axes.{Each, IsInRange, Texts, Triple, three}

@@ -6,8 +6,8 @@ use Rattle.std.specs.Prelude.{codes}
 use Rattle.city_json.specs.Fits.{IsDistinct}
 use Rattle.city_json.specs.Members.{first_named, member_of, names}
 use Rattle.city_json.specs.Tree.{Tree, null, boolean, number, string, array, object, items_tree, MemberTrees, no_members, member, members_tree}
-use Rattle.city_json.specs.declared.fault.Fault.{Fault}
-use Rattle.city_json.specs.declared.fault.Fault.TheVariants.{ChildMissing, Orphan, BoundaryIndex, Memory}
+use Rattle.byte_streams.specs.declared.fault.Fault.{Fault}
+use Rattle.byte_streams.specs.declared.fault.Fault.TheVariants.{ChildMissing, Orphan, BoundaryIndex, Memory}
 use Rattle.city_json.specs.declared.json.Json.{Json}
 use Rattle.city_json.specs.declared.json.Member.{Member}
 use Rattle.city_grid.specs.Axes.{Triple}

@@ -4,8 +4,8 @@ use Rattle.std.specs.Prelude.{◌≡◌, ◌⊎◌, ℕ, List, [], ◌∷◌, Op
 use Rattle.std.specs.List.{AllZip, AllByRecursion}
 use Rattle.city_json.specs.Members.{member_of}
 use Rattle.city_json.specs.Tree.{Tree, string, array, no_items, object, MemberTrees, no_members, member, member_trees}
-use Rattle.city_json.specs.declared.fault.Fault.{Fault}
-use Rattle.city_json.specs.declared.fault.Fault.TheVariants.{NotCityJson, Version, NoTransform, Decimal, ScaleNotPositive, VertexShape, VertexNotInteger, VertexRange, ChildMissing, Orphan, BoundaryIndex, Memory}
+use Rattle.byte_streams.specs.declared.fault.Fault.{Fault}
+use Rattle.byte_streams.specs.declared.fault.Fault.TheVariants.{NotCityJson, Version, NoTransform, Decimal, ScaleNotPositive, VertexShape, VertexNotInteger, VertexRange, ChildMissing, Orphan, BoundaryIndex, Memory}
 use Rattle.city_grid.specs.Axes.{Triple}
 use Rattle.city_grid.specs.Transform.{Grid}
 use Rattle.city_feature.specs.Changes.{changed_member, without_member}
@@ -76,7 +76,7 @@ abbrev pub IsCut : Tree → HeaderValue → List FeatureValue → Type 0
 IsCut document header features =
     HasFeatures document features × (header.value ≡ header_tree document) × HasGrid document header.grid
 
--- a CityJSON object, and its city objects are some
+-- a CityJSON object whose city objects are well formed
 abbrev pub IsDocument : Tree → Type 0
 IsDocument document = IsCityJson document × AreCityObjects (objects_of document)
 
@@ -84,7 +84,7 @@ IsDocument document = IsCityJson document × AreCityObjects (objects_of document
 abbrev pub HasFrame : Tree → Type 0
 HasFrame document = IsDocument document × IsVersion2 document × ((grid : Grid) × HasGrid document grid)
 
--- and with vertices that are some
+-- and its vertices are valid
 abbrev pub IsOnGrid : Tree → Type 0
 IsOnGrid document = HasFrame document × ((points : List Triple) × AreVertices (vertices_of document) points)
 

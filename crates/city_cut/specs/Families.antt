@@ -3,8 +3,8 @@ use Rattle.std.specs.Prelude.{◌≡◌, ◌≢◌, ◌<◌, ◌⊎◌, ℕ, Lis
 use Rattle.std.specs.List.{AllZip}
 use Rattle.city_json.specs.Members.{names}
 use Rattle.city_json.specs.Tree.{MemberTrees}
-use Rattle.city_json.specs.declared.fault.Fault.{Fault}
-use Rattle.city_json.specs.declared.fault.Fault.TheVariants.{ChildMissing, Orphan, Memory}
+use Rattle.byte_streams.specs.declared.fault.Fault.{Fault}
+use Rattle.byte_streams.specs.declared.fault.Fault.TheVariants.{ChildMissing, Orphan, Memory}
 use Rattle.city_cut.specs.CityObjects.{HasOrphan, IsReached, LacksChild}
 use Rattle.city_cut.specs.Places.{IsFamily, name_at}
 use Rattle.city_cut.specs.declared.families.Family.{Family}

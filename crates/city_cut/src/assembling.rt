@@ -16,8 +16,9 @@ use crate::boundaries::number_object;
 use crate::numbering::Numbering;
 use crate::relabelling::relabelled_object;
 use crate::values::{name_of, named, value_of};
+use byte_streams::Fault;
 use city_grid::{vertex, write_vertex};
-use city_json::{Fault, Items, Json, Member, Members};
+use city_json::{Items, Json, Member, Members};
 use std::alloc::Global;
 
 fn number_named(member: &Member, numbering: &mut Numbering) -> Result<(), Fault>

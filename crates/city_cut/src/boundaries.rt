@@ -12,7 +12,8 @@ ghost use Rattle.city_cut.specs.Numbered.{AreNumbered};
 use crate::leaves::number_items;
 use crate::numbering::Numbering;
 use crate::values::{is_object, items_named};
-use city_json::{Fault, Json};
+use byte_streams::Fault;
+use city_json::Json;
 
 /// Numbers the vertices of the member `boundaries`, if there is one.
 fn number_boundaries(value: &Json, numbering: &mut Numbering) -> Result<(), Fault>

@@ -1,5 +1,5 @@
+use byte_streams::{Line, Sequence};
 use city_feature::{Feature, Header};
-use city_json::{Line, Sequence};
 
 /// The features of a document, in the order of the city objects that begin them.
 pub type Features = Sequence<Feature>;

@@ -13,7 +13,8 @@ use crate::features::keep_features;
 use crate::headers::document_header;
 use crate::keeping::Keep;
 use crate::values::{items_named, members_named};
-use city_json::{Fault, Json, Line, Sequence};
+use byte_streams::{Fault, Line, Sequence};
+use city_json::Json;
 use std::alloc::Global;
 
 /// Keeps the features of a document, once nothing of it is refused, and says how many there are.

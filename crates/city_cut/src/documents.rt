@@ -9,9 +9,10 @@ ghost use Rattle.city_cut.specs.CityObjects.{AllTexts, AreCityObjects, AreTexts,
 ghost use Rattle.city_cut.specs.Cut.{HasFrame, IsDocument, IsOnGrid, RefusesCut};
 
 use crate::values::{is_object, is_text, items_named, members_named, value_of};
+use byte_streams::Fault;
 use city_feature::{is_city_json, is_version_2, transform_of};
 use city_grid::vertex;
-use city_json::{Fault, Json, Member};
+use city_json::{Json, Member};
 
 fn all_texts(items: &[Json]) -> bool
     ensures { IsTrue result ↔ AllTexts (items_tree items.now) }
@@ -94,7 +95,7 @@ fn check_vertices(items: &[Json]) -> Result<(), Fault>
     Ok(())
 }
 
-/// Refuses a value that is no document with vertices that are some. It takes no memory.
+/// Refuses anything but a CityJSON document with valid vertices. It takes no memory.
 pub(crate) fn check_document(value: &Json) -> Result<(), Fault>
     ensures ok { OnOk result (IsOnGrid (tree value.now)) }
     ensures refusal { IfErr result (λ fault. RefusesCut fault (tree value.now)) }

@@ -11,7 +11,8 @@ ghost use Rattle.city_cut.specs.Places.{IsFamily, IsGraph, ReachesPlace};
 use crate::objects::{children, has_parents};
 use crate::reach::reached;
 use crate::values::value_of;
-use city_json::{Fault, Member};
+use byte_streams::Fault;
+use city_json::Member;
 use std::alloc::Global;
 
 /// The objects that the one at the place `root` reaches through children, it among them.

@@ -22,8 +22,9 @@ use crate::families::Family;
 use crate::keeping::Keep;
 use crate::numbering::Numbering;
 use crate::values::name_of;
+use byte_streams::Fault;
 use city_feature::{Feature, feature, set_member};
-use city_json::{Fault, Json, Member, Str};
+use city_json::{Json, Member, Str};
 use std::alloc::Global;
 
 /// The objects at these places. The only fault is [`Fault::Memory`].
@@ -118,7 +119,7 @@ fn feature_json(
 ///
 /// # Errors
 ///
-/// [`Fault::BoundaryIndex`] where a boundary in it is none, and [`Fault::Memory`].
+/// [`Fault::BoundaryIndex`] where a boundary index is invalid, and [`Fault::Memory`].
 fn feature_of(
     alloc: Global,
     objects: &[Member],

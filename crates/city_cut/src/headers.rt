@@ -6,8 +6,9 @@ ghost use Rattle.city_feature.specs.Changes.{changed_member};
 ghost use Rattle.city_feature.specs.Header.{HasGrid};
 ghost use Rattle.city_cut.specs.Cut.{HasFrame, header_tree, without_appearance};
 
+use byte_streams::Fault;
 use city_feature::{Header, drop_member, header, set_member};
-use city_json::{Fault, Json};
+use city_json::Json;
 use std::alloc::Global;
 
 fn has_member(value: &Json, name: &str) -> bool

@@ -4,8 +4,9 @@ ghost use Rattle.city_feature.specs.Feature.{FeatureValue};
 ghost use Rattle.city_feature.specs.Values.{feature_value};
 ghost use Rattle.city_cut.specs.Lines.{lines_of};
 
+use byte_streams::{Fault, Line};
 use city_feature::Feature;
-use city_json::{Fault, Line, print};
+use city_json::print;
 
 /// Keeps features, in the order in which they come.
 pub(crate) trait Keep {

@@ -8,7 +8,8 @@ ghost use Rattle.city_cut.specs.Leaves.{IsIndex, IsPart, AreParts, leaves, item_
 ghost use Rattle.city_cut.specs.Numbered.{AreNumbered};
 
 use crate::numbering::Numbering;
-use city_json::{Fault, Json};
+use byte_streams::Fault;
+use city_json::Json;
 
 /// The number below `count` that the text is in plain decimal digits.
 pub(crate) fn index(text: &[u8], count: usize) -> Option<usize>

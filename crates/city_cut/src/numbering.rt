@@ -2,7 +2,7 @@
 ghost use Rattle.std.specs.Prelude.{◌≡◌, ◌↔◌, ◌<◌, ◌++◌, [], ◌∷◌, ℕ, List, IsTrue, IfErr, OnOk, length};
 ghost use Rattle.city_cut.specs.Numbered.{AreNumbered, HasNumber};
 
-use city_json::Fault;
+use byte_streams::Fault;
 
 /// Numbers for the vertices that a feature names, by first use. Of the document's vertices only those
 /// that have a number are looked at.

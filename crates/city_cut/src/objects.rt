@@ -10,7 +10,8 @@ ghost use Rattle.city_cut.specs.Search.{InRange};
 ghost use Rattle.city_cut.specs.Table.{IsTable};
 
 use crate::values::{items_named, name_of, text_of, value_of};
-use city_json::{Fault, Json, Member};
+use byte_streams::Fault;
+use city_json::{Json, Member};
 use std::alloc::Global;
 
 /// The names of the objects with their places, in the order of the names. The only fault is [`Fault::Memory`].

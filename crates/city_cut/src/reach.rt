@@ -4,7 +4,7 @@ ghost use Rattle.std.specs.Prelude.{slice_index, slice_set, IfOk, IfErr, OnOk};
 ghost use Rattle.city_cut.specs.Reach.{Reached};
 ghost use Rattle.city_cut.specs.Search.{After, InRange, IsMarked, Grows};
 
-use city_json::Fault;
+use byte_streams::Fault;
 use std::alloc::Global;
 
 /// Marks one thing with the root and puts it after those that were found, unless it has that mark.

@@ -11,7 +11,8 @@ ghost use Rattle.city_cut.specs.Relabelling.{own_text};
 
 use crate::leaves::index;
 use crate::values::{name_of, named, value_of};
-use city_json::{Fault, Items, Json, Member, Members, NumText};
+use byte_streams::Fault;
+use city_json::{Items, Json, Member, Members, NumText};
 use itoa::Buffer;
 use std::alloc::Global;
 

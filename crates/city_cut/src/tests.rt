@@ -4,8 +4,9 @@ mod shapes;
 
 use crate::cuts::Cut;
 use crate::cutting::{cut, cut_lines};
+use byte_streams::{Fault, Line};
 use city_feature::line;
-use city_json::{Fault, Line, print, read};
+use city_json::{print, read};
 use std::alloc::{AllocGlobal, Global};
 use std::process::Abort;
 use std::test::Fail;

@@ -5,7 +5,8 @@ ghost use Rattle.city_json.specs.Tree.{tree, named_tree, items_tree, members_tre
 ghost use Rattle.city_feature.specs.Shapes.{IsObject, IsText};
 ghost use Rattle.city_cut.specs.Items.{items_in, items_of, members_in};
 
-use city_json::{Fault, Json, Member, Str};
+use byte_streams::Fault;
+use city_json::{Json, Member, Str};
 use std::alloc::Global;
 
 pub(crate) fn name_of(member: &Member) -> &str

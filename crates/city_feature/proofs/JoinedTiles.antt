@@ -2,8 +2,8 @@
 use Rattle.std.proofs.Common.{◌≡◌, ◌⊎◌, ◌++◌, ◌∙◌, ◌<◌, ℕ, List, [], ◌∷◌, All, drop, length, slice_index_or, append-nil, inl, inr, ◌+◌, ap, sym, subst, arith}
 use Rattle.city_json.specs.Compact.{compact}
 use Rattle.city_json.specs.Tree.{MemberTrees, no_members}
-use Rattle.city_json.specs.declared.fault.Fault.{Fault}
-use Rattle.city_json.specs.declared.fault.Fault.TheVariants.{Memory}
+use Rattle.byte_streams.specs.declared.fault.Fault.{Fault}
+use Rattle.byte_streams.specs.declared.fault.Fault.TheVariants.{Memory}
 use Rattle.city_grid.specs.Axes.{Triple, Texts}
 use Rattle.city_grid.specs.Transform.{Grid, IsAboveZero}
 use Rattle.city_feature.specs.Header.{HeaderValue}

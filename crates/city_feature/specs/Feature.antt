@@ -2,8 +2,8 @@
 use Rattle.std.specs.Prelude.{◌≡◌, ◌⊎◌, ℕ, suc, List, [], ◌∷◌, All, Some, codes, map}
 use Rattle.city_json.specs.Members.{member_of}
 use Rattle.city_json.specs.Tree.{Tree, array, ItemTrees, no_items, item, item_trees}
-use Rattle.city_json.specs.declared.fault.Fault.{Fault}
-use Rattle.city_json.specs.declared.fault.Fault.TheVariants.{NotAFeature, VertexShape, VertexNotInteger, VertexRange, Memory}
+use Rattle.byte_streams.specs.declared.fault.Fault.{Fault}
+use Rattle.byte_streams.specs.declared.fault.Fault.TheVariants.{NotAFeature, VertexShape, VertexNotInteger, VertexRange, Memory}
 use Rattle.city_grid.specs.Axes.{Triple, IsInRange, sum}
 use Rattle.city_grid.specs.Vertex.{IsVertex, RefusesVertex, vertex_tree}
 use Rattle.city_feature.specs.Changes.{with_member}

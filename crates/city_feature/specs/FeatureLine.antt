@@ -6,8 +6,8 @@ use Rattle.city_json.specs.Fits.{Fits}
 use Rattle.city_json.specs.Grammar.{Spells}
 use Rattle.city_json.specs.Refusals.{RefusesText}
 use Rattle.city_json.specs.Tree.{Tree}
-use Rattle.city_json.specs.declared.fault.Fault.{Fault}
-use Rattle.city_json.specs.declared.fault.Fault.TheVariants.{VertexRange}
+use Rattle.byte_streams.specs.declared.fault.Fault.{Fault}
+use Rattle.byte_streams.specs.declared.fault.Fault.TheVariants.{VertexRange}
 use Rattle.city_grid.specs.Axes.{Triple}
 use Rattle.city_feature.specs.Feature.{FeatureValue, IsFeature, IsMovable, RefusesFeature, moved}
 

@@ -3,8 +3,8 @@
 use Rattle.std.specs.Prelude.{◌≡◌, ◌⊎◌, Option, Some, None, codes}
 use Rattle.city_json.specs.Members.{member_of}
 use Rattle.city_json.specs.Tree.{Tree}
-use Rattle.city_json.specs.declared.fault.Fault.{Fault}
-use Rattle.city_json.specs.declared.fault.Fault.TheVariants.{NotCityJson, Version, NoTransform, Decimal, ScaleNotPositive}
+use Rattle.byte_streams.specs.declared.fault.Fault.{Fault}
+use Rattle.byte_streams.specs.declared.fault.Fault.TheVariants.{NotCityJson, Version, NoTransform, Decimal, ScaleNotPositive}
 use Rattle.city_grid.specs.Transform.{Grid, IsTransform, IsAboveZero, RefusesTransform}
 use Rattle.city_feature.specs.Shapes.{IsObject, IsArray, IsFilledArray, IsFilledObject, IsThere, Says, WhereThere}
 

@@ -4,8 +4,8 @@ use Rattle.std.specs.Prelude.{◌≡◌, ◌≢◌, ◌⊎◌, ◌+◌, ◌≤�
 use Rattle.city_json.specs.Compact.{compact}
 use Rattle.city_json.specs.Members.{member_of, first_named}
 use Rattle.city_json.specs.Tree.{Tree, object, MemberTrees, no_members, member}
-use Rattle.city_json.specs.declared.fault.Fault.{Fault}
-use Rattle.city_json.specs.declared.fault.Fault.TheVariants.{ScaleDiffers, CrsDiffers, OffGrid, ShiftRange, ExtensionClash, TemplatesDiffer, Memory}
+use Rattle.byte_streams.specs.declared.fault.Fault.{Fault}
+use Rattle.byte_streams.specs.declared.fault.Fault.TheVariants.{ScaleDiffers, CrsDiffers, OffGrid, ShiftRange, ExtensionClash, TemplatesDiffer, Memory}
 use Rattle.city_grid.specs.Axes.{Texts, Triple, IsInRange, three}
 use Rattle.city_grid.specs.Shift.{IsShift, RefusesShift}
 use Rattle.city_grid.specs.Transform.{Grid}

@@ -2,15 +2,16 @@
 use Rattle.std.specs.Prelude.{◌≡◌, ◌≢◌, ◌<◌, ◌≤◌, ℕ, List, [], ◌∷◌, length, get_or, slice_range, codes, pos, All}
 use Rattle.city_json.specs.Bytes.{backslash}
 use Rattle.city_json.specs.Compact.{compact}
-use Rattle.city_json.specs.Fits.{HasDistinctNames}
+use Rattle.city_json.specs.Fits.{Fits, HasDistinctNames}
+use Rattle.city_json.specs.Grammar.{Spells}
 use Rattle.city_json.specs.Members.{member_of}
 use Rattle.city_json.specs.Parts.{AreParts, with_value}
-use Rattle.city_json.specs.Tree.{Tree, MemberTrees, object}
-use Rattle.city_json.specs.Writable.{IsWritable}
+use Rattle.city_json.specs.Tree.{Tree, array, ItemTrees, MemberTrees, object}
+use Rattle.city_json.specs.Writable.{AreWritableItems, IsWritable}
 use Rattle.city_json.specs.declared.compacting.parts.Part.{Part}
 use Rattle.city_grid.specs.Axes.{Triple, triple, IsInRange}
 use Rattle.city_feature.specs.Changes.{with_member}
-use Rattle.city_feature.specs.Feature.{vertices_tree}
+use Rattle.city_feature.specs.Feature.{AreVertices, IsFeature, vertices_tree}
 use Rattle.city_feature.specs.Shapes.{IsObject, IsText, IsThere, Says}
 
 -- one of the parts, where this text stands up to the value
@@ -61,3 +62,26 @@ AreLetters (c ∷ cs) = IsLetter c × AreLetters cs
 -- the text that is written for some vertices in range
 abbrev pub IsVerticesText : List ℕ → Type 0
 IsVerticesText text = (ps : List Triple) × (text ≡ compact (vertices_tree ps)) × All IsInRange ps
+
+-- the compact text of an array of these vertices, in whatever spelling of their integers
+abbrev pub SpellsVertices : List ℕ → List Triple → Type 0
+SpellsVertices text ps =
+    (items : ItemTrees) × (text ≡ compact (array items)) × AreWritableItems items × AreVertices items ps
+
+-- the line is the compact text of the object that the bytes spell, and its members lie in these parts
+abbrev pub IsCompacted : List ℕ → List ℕ → List Part → Type 0
+IsCompacted bytes line parts =
+    (members : MemberTrees)
+    × Spells bytes (object members)
+    × Fits (object members)
+    × (line ≡ compact (object members))
+    × AreParts 1 parts members
+
+-- the line is a feature whose vertices stand as they would be written
+abbrev pub IsAsWritten : List ℕ → List Part → Type 0
+IsAsWritten line parts =
+    (part : Part)
+    × (ps : List Triple)
+    × All IsInRange ps
+    × (with_value line part (compact (vertices_tree ps)) ≡ line)
+    × ((members : MemberTrees) → IsLine line parts members → IsFeature (object members) ps × IsPlaceOf (codes "vertices") members line part)

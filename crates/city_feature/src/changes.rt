@@ -4,7 +4,8 @@ ghost use Rattle.city_json.specs.Tree.{tree, named_tree, members_tree};
 ghost use Rattle.city_feature.specs.Changes.{with_named, without_named, changed_named};
 ghost use Rattle.city_feature.specs.Changes.{with_member, without_member, changed_member};
 
-use city_json::{Fault, Json, Member, Members, Str};
+use byte_streams::Fault;
+use city_json::{Json, Member, Members, Str};
 use std::alloc::Global;
 
 fn has_name(member: &Member, name: &str) -> bool

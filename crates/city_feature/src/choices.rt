@@ -7,7 +7,7 @@ pub(crate) mod types;
 
 use crate::choices::area::Area;
 use crate::choices::types::{Types, copied};
-use city_json::Fault;
+use byte_streams::Fault;
 use std::alloc::Global;
 
 /// Which features are wanted: those of some types, those that meet an area, those that do both, or

@@ -16,8 +16,8 @@ use crate::joining::extensions::Extensions;
 use crate::joining::line::joined_line;
 use crate::joining::origin::{Origin, origin_of};
 use crate::joining::tiles::shifts_of_tiles;
+use byte_streams::{Fault, Line, Sequence};
 use city_grid::Shift;
-use city_json::{Fault, Line, Sequence};
 use std::alloc::Global;
 
 /// A shift for each tile, in order.

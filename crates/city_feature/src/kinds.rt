@@ -1,4 +1,4 @@
-//! What kind of value stands at a member, and what it says.
+//! Tests of a member's kind and text.
 ghost use Rattle.std.specs.Prelude.{◌↔◌, IsTrue};
 ghost use Rattle.city_json.specs.Members.{member_of};
 ghost use Rattle.city_json.specs.Tree.{tree};

@@ -3,3 +3,4 @@ pub mod IntegerTexts
 pub mod OneVertex
 pub mod WrittenVertex
 pub mod VertexTexts
+pub mod SpelledIntegers

@@ -1,7 +1,7 @@
 -- The shift of a tile's grid against another: whole steps, by an equation and not by a division.
 use Rattle.std.specs.Prelude.{◌≡◌, ◌≢◌, ◌-ℤ◌, ◌*ℤ◌}
-use Rattle.city_json.specs.declared.fault.Fault.{Fault}
-use Rattle.city_json.specs.declared.fault.Fault.TheVariants.{ScaleDiffers, OffGrid, ShiftRange}
+use Rattle.byte_streams.specs.declared.fault.Fault.{Fault}
+use Rattle.byte_streams.specs.declared.fault.Fault.TheVariants.{ScaleDiffers, OffGrid, ShiftRange}
 use Rattle.city_grid.specs.Axes.{Triple, IsInRange}
 use Rattle.city_grid.specs.Transform.{Grid}
 

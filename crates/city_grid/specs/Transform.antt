@@ -1,8 +1,8 @@
 -- Transforms (CityJSON 2.0, Transform Object): objects with the members `scale` and `translate`,
 -- three numbers each.
 use Rattle.std.specs.Prelude.{◌≡◌, pos, ◌<ℤ◌, Some, codes}
-use Rattle.city_json.specs.declared.fault.Fault.{Fault}
-use Rattle.city_json.specs.declared.fault.Fault.TheVariants.{NoTransform, Decimal, ScaleNotPositive}
+use Rattle.byte_streams.specs.declared.fault.Fault.{Fault}
+use Rattle.byte_streams.specs.declared.fault.Fault.TheVariants.{NoTransform, Decimal, ScaleNotPositive}
 use Rattle.city_json.specs.Members.{member_of}
 use Rattle.city_json.specs.Tree.{Tree}
 use Rattle.city_grid.specs.Axes.{Triple, Texts, three, Each}

@@ -3,8 +3,8 @@ use Rattle.std.specs.Prelude.{◌≡◌, ◌≢◌, ◌⊎◌, ◌<◌, ◌≤�
 use Rattle.std.specs.Fmt.{decimal, signed_decimal}
 use Rattle.city_json.specs.Compact.{compact}
 use Rattle.std.specs.Str.Parse.{signed_digits_value}
-use Rattle.city_json.specs.declared.fault.Fault.{Fault}
-use Rattle.city_json.specs.declared.fault.Fault.TheVariants.{VertexShape, VertexNotInteger, VertexRange}
+use Rattle.byte_streams.specs.declared.fault.Fault.{Fault}
+use Rattle.byte_streams.specs.declared.fault.Fault.TheVariants.{VertexShape, VertexNotInteger, VertexRange}
 use Rattle.city_json.specs.Number.{IsNumber}
 use Rattle.city_json.specs.Tree.{Tree}
 use Rattle.city_grid.specs.Axes.{Triple, Texts, three, Each, IsInRange, most_steps}
@@ -52,3 +52,7 @@ IsShortInteger text at end = (z : ℤ) × (slice_range text at end ≡ signed_de
 -- the text that is written for some vertex in range, from one place of a text up to another
 abbrev pub IsVertexText : List ℕ → ℕ → ℕ → Type 0
 IsVertexText text at end = (p : Triple) × (slice_range text at end ≡ compact (vertex_tree p)) × IsInRange p
+
+-- the compact text of an array of three integers, each as it may be written, and which vertex they are
+abbrev pub SpellsVertex : List ℕ → Triple → Type 0
+SpellsVertex text p = (texts : Texts) × (text ≡ compact (three texts)) × Each IsInteger texts p

@@ -18,6 +18,7 @@ pub use steps::MOST_STEPS;
 pub use transforms::reader::transform;
 pub use transforms::{Transform, least_of};
 pub use vertices::reader::vertex;
+pub use vertices::spelled::spelled_vertex_at;
 pub use vertices::texts::{PlacedVertex, append_vertex, byte_is, vertex_at, vertex_end};
 pub use vertices::writer::{vertex_json, write_vertex};
 pub use vertices::{Vertex, moved};

@@ -8,7 +8,7 @@ use crate::axes::Axes;
 use crate::decimals::Decimal;
 use crate::steps::Steps;
 use crate::transforms::Transform;
-use city_json::Fault;
+use byte_streams::Fault;
 use std::marker::Model;
 
 /// A shift in whole steps of the grid, each component at most 2^53 - 1 in size.

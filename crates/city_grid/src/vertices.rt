@@ -4,13 +4,14 @@ ghost use Rattle.city_grid.specs.Axes.{IsInRange, sum, triple};
 
 mod integers;
 pub(crate) mod reader;
+pub(crate) mod spelled;
 pub(crate) mod texts;
 pub(crate) mod writer;
 
 use crate::axes::Axes;
 use crate::shifts::Shift;
 use crate::steps::Steps;
-use city_json::Fault;
+use byte_streams::Fault;
 use std::marker::Model;
 
 /// A vertex in steps of the grid, each component at most 2^53 - 1 in size (CityJSON 2.0,

@@ -1,5 +1,5 @@
 -- The compact text of a string: each character is written by a piece that stands for it, in UTF-8 and with no byte below a space.
-use Rattle.std.proofs.Common.{cond, ap, add_comm, take, drop, add-one, ◌≡◌, ◌≢◌, inl, inr, ℕ, suc, ◌+◌, ◌*◌, ◌/◌, ◌%◌, ◌<◌, ◌≤◌, ◌&&◌, Bool, true, false, List, [], ◌∷◌, ◌++◌, Some, length, get_or, IsUtf8, refl, sym, subst, arith, ◌∙◌}
+use Rattle.std.proofs.Common.{cond, nat_lt, ap, add_comm, take, drop, add-one, ◌≡◌, ◌≢◌, inl, inr, ℕ, suc, ◌+◌, ◌*◌, ◌/◌, ◌%◌, ◌<◌, ◌≤◌, ◌&&◌, Bool, true, false, List, [], ◌∷◌, ◌++◌, Some, length, get_or, IsUtf8, refl, sym, subst, arith, ◌∙◌}
 use Rattle.std.specs.Char.{IsScalar, digit_char}
 use Rattle.std.specs.List.{flat_map, prefix_len, AllByRecursion}
 use Rattle.std.specs.Prelude.{encode_utf8_all}
@@ -148,6 +148,12 @@ high-run (c ∷ b) high =
     let rest = high-run b (λ k within. high (suc k) (omega arith)) in
     let itself : written c ≡ c ∷ [] = written-itself c (omega arith, omega arith, omega arith, omega arith, omega arith, omega arith, omega arith) (omega arith) in
     (rw (itself, rest.0), (omega arith, rest.1))
+
+above_ascii : (c : ℕ) → nat_lt c 128 ≡ false → 128 ≤ c
+above_ascii c high = grind (arith, nat_tests)
+
+pub written_high : (c : ℕ) → nat_lt c 128 ≡ false → flat_map written (encode_utf8 c) ≡ encode_utf8 c
+written_high c high = (high-run (encode_utf8 c) (λ k within. bytes-high c k (above_ascii c high) within)).0
 
 piece : (c : ℕ) → IsScalar c → StandsFor (flat_map written (encode_utf8 c)) c × IsClean (flat_map written (encode_utf8 c))
 piece c is_scalar =

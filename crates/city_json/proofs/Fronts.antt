@@ -5,8 +5,8 @@ use Rattle.city_json.specs.declared.json.Member.{Member}
 use Rattle.city_json.specs.declared.reading.Mark.{Mark}
 use Rattle.city_json.specs.declared.reading.Mark.TheVariants as mark
 use Rattle.std.proofs.lemmas.List.{map-append}
-use Rattle.city_json.specs.declared.fault.Fault.{Fault}
-use Rattle.city_json.specs.declared.fault.Fault.TheVariants.{Syntax, Memory}
+use Rattle.byte_streams.specs.declared.fault.Fault.{Fault}
+use Rattle.byte_streams.specs.declared.fault.Fault.TheVariants.{Syntax, Memory}
 use Rattle.city_json.specs.Gives.{Refuses}
 use Rattle.city_json.specs.Bytes.{close_bracket, close_brace}
 use Rattle.city_json.specs.Reading.{items_at, items_after, member_at, members_at, members_after, mark_at, after_white}

@@ -3,6 +3,7 @@ pub mod BlockLemmas
 pub mod CompactLaws
 pub mod CompactText
 pub mod Complete
+pub mod DecodedText
 pub mod DepthLaws
 pub mod DepthLemmas
 pub mod DigitRuns
@@ -14,6 +15,8 @@ pub mod NamesApart
 pub mod NumberLaws
 pub mod ParityLemmas
 pub mod PartsOfNumbers
+pub mod PassEscapes
+pub mod PassFlat
 pub mod PassItems
 pub mod PassMembers
 pub mod PassParts

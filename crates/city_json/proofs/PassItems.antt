@@ -6,8 +6,9 @@ use Rattle.std.proofs.lemmas.Bool.Decides.{nat_tests}
 use Rattle.city_json.specs.NumberAt.{past_digits}
 use Rattle.city_json.proofs.NumberLaws.{digits-split}
 use Rattle.std.proofs.lemmas.List.{append_cancel_right}
+use Rattle.std.proofs.lemmas.List.Edits.{between_none}
 use Rattle.std.proofs.lemmas.List.Folds.{drop_split}
-use Rattle.city_json.specs.Bytes.{digit_zero, comma, open_bracket, close_bracket}
+use Rattle.city_json.specs.Bytes.{space, digit_zero, comma, open_bracket, close_bracket}
 use Rattle.city_json.specs.Compact.{compact, compact_items}
 use Rattle.city_json.specs.Compacting.{shown, Taken, TakenItems, IsScalarText, ItemsFrom}
 use Rattle.city_json.specs.Reading.{after_white, is_white}
@@ -94,7 +95,7 @@ items_step levels b behind next rest before mid at_mark behind_mark after taken 
 pub items_skip : (levels : ℕ) (b b' rest before before' after : List ℕ) → b' ≡ b → before' ≡ before → ItemsFrom levels b' rest before' after → ItemsFrom levels b rest before after
 items_skip levels b b' rest before before' after skips is from = subst (λ l. ItemsFrom levels b rest l after) is (subst (λ l. ItemsFrom levels l rest before' after) skips from)
 
-white_once : (b : List ℕ) → after_white (after_white b) ≡ after_white b
+pub white_once : (b : List ℕ) → after_white (after_white b) ≡ after_white b
 white_once [] = refl
 white_once (c ∷ b) = one_more (is_white c) refl (white_once b)
   where
@@ -134,6 +135,14 @@ integer_more levels text line rest after from at end copied some inside is clear
     let goes : after_white (drop end text) ≡ comma ∷ drop (end + 1) text = ap after_white (drop_one text end comma inside is_comma) in
     let stepped = items_step levels (drop at text) (drop end text) (drop (end + 1) text) rest (shown line text from at) (shown line text from end) (shown line text from end) (shown line text from (end + 1)) after taken goes refl (shown_one line text from end comma (omega arith) inside is_comma) further in
     items_skip levels (after_white (drop at text)) (drop at text) rest (shown line text from at) (shown line text from at) after (sym clear) refl stepped
+
+-- a blank that is left out before an item
+pub blank_more : (levels : ℕ) (text line line' rest after : List ℕ) (from from' at : ℕ) → at < length text → get_or text at 0 ≡ space → line' ≡ shown line text from at → from' ≡ at + 1
+    → ItemsFrom levels (after_white (drop (at + 1) text)) rest (shown line' text from' (at + 1)) after → ItemsFrom levels (after_white (drop at text)) rest (shown line text from at) after
+blank_more levels text line line' rest after from from' at inside is_blank was goes_on =
+    items_skip levels (after_white (drop at text)) (after_white (drop (at + 1) text)) rest (shown line text from at) (shown line' text from' (at + 1)) after
+    (sym (ap after_white (drop_one text at space inside is_blank)))
+    (ap (λ n. line' ++ slice_range text n (at + 1)) goes_on ∙ (ap (λ l. line' ++ l) (between_none text (at + 1)) ∙ (append-nil line' ∙ was)))
 
 -- the last item, a whole number
 pub integer_stop : (levels : ℕ) (text line : List ℕ) (from at end : ℕ) → from ≤ at → at < end → end < length text → IsScalarText text at end → after_white (drop at text) ≡ drop at text → get_or text end 0 ≡ close_bracket

@@ -48,7 +48,7 @@ true_is text at end is = words text (codes "true") at end (boolean true) is refl
 pub false_is : (text : List ℕ) (at end : ℕ) → slice_range text at end ≡ codes "false" → IsScalarText text at end
 false_is text at end is = words text (codes "false") at end (boolean false) is refl refl tt refl
 
-pub if_some : (P Q : ℕ → Type 0) (r : Option ℕ) → ((x : ℕ) → P x → Q x) → IfSome r P → IfSome r Q
+pub if_some : {A : Type 0} (P Q : A → Type 0) (r : Option A) → ((x : A) → P x → Q x) → IfSome r P → IfSome r Q
 if_some P Q None onward p = tt
 if_some P Q (Some x) onward p = onward x p
 

@@ -1,15 +1,14 @@
 -- Strings and names that the pass takes, as they stand or written anew.
-use Rattle.std.proofs.Common.{◌≡◌, ◌++◌, ◌∙◌, ◌≤◌, ◌<◌, ◌+◌, ◌-◌, ℕ, suc, List, [], ◌∷◌, Some, length, take, drop, get_or, refl, ap, sym, subst, arith, append_assoc, append-nil, slice_range, IsUtf8, length-drop, length-append, option_and_then}
+use Rattle.std.proofs.Common.{◌≡◌, ◌++◌, ◌∙◌, ◌≤◌, ◌<◌, ◌+◌, ◌-◌, ℕ, suc, List, [], ◌∷◌, Some, length, take, drop, get_or, ap, sym, subst, arith, append_assoc, slice_range, IsUtf8, length-drop}
 use Rattle.std.specs.Str.{IsCharBoundary}
 use Rattle.std.specs.List.{prefix_len}
 use Rattle.std.proofs.lemmas.Str.{IsUtf8-between, IsCharBoundary-after_ascii, IsCharBoundary-before_ascii}
 use Rattle.std.proofs.lemmas.Grind.{flat_map-append}
-use Rattle.std.proofs.lemmas.List.Edits.{between_none}
-use Rattle.city_json.specs.ReadString.{is_plain, checked, decoded, string_at}
+use Rattle.city_json.specs.ReadString.{is_plain, decoded}
 use Rattle.city_json.proofs.CompactText.{written_run}
 use Rattle.city_json.proofs.ReadString.{string_at-some, checked-some}
 use Rattle.city_json.proofs.StringSteps.{run_closes}
-use Rattle.std.proofs.lemmas.List.{drop-drop, take_rest, drop_at, get_or-drop, take-append-drop, append_cancel_right}
+use Rattle.std.proofs.lemmas.List.{drop-drop, take_rest, get_or-drop, take-append-drop, append_cancel_right}
 use Rattle.std.proofs.lemmas.List.Folds.{drop_split}
 use Rattle.std.specs.List.{flat_map}
 use Rattle.city_json.specs.Bytes.{colon, quotation_mark}
@@ -78,42 +77,6 @@ plain_taken text line from at close copied within opened order fits plainly =
       spells = parts.inner_spells;
       is_shown = shown_more line text from at (close + 1) copied (omega arith) ∙ ap (λ l. shown line text from at ++ l) (sym parts.is);
     }
-
--- what was read of a string with escapes
-pub record EscapedEnd (text content rest : List ℕ) (at : ℕ) : Type 0 where
-  pub onward : at + 1 + length rest < length text + 1
-  pub short : length rest ≤ length text
-  pub end_is : drop (length text - length rest) text ≡ rest
-  pub inner : List ℕ
-  pub splits : drop (at + 1) text ≡ inner ++ rest
-  pub spells : SpellsString content (quotation_mark ∷ inner)
-
-pub escaped_end : (text content rest : List ℕ) (at : ℕ) → at < length text → string_at (take (length text - (at + 1)) (drop (at + 1) text)) ≡ Some (content, rest) → EscapedEnd text content rest at
-escaped_end text content rest at within read =
-    let law = string_at-sound (drop (at + 1) text) content rest (ap string_at (sym (rest_is text (at + 1))) ∙ read) in
-    let long : length (drop (at + 1) text) ≡ length law.0 + length rest = ap length law.1 ∙ length-append law.0 rest in
-    let count : length text ≡ (at + 1) + (length law.0 + length rest) = omega (arith, length-drop (at + 1) text) in
-    let place : length text - length rest ≡ (at + 1) + length law.0 = omega arith in
-    record {
-      onward = omega arith;
-      short = omega arith;
-      end_is = ap (λ n. drop n text) place ∙ (sym (drop-drop (length law.0) (at + 1) text) ∙ (ap (drop (length law.0)) law.1 ∙ drop_at law.0 rest (length law.0) refl));
-      inner = law.0;
-      splits = law.1;
-      spells = law.2;
-    }
-
-pub read_when_utf8 : (b content rest shown : List ℕ) → decoded b ≡ Some (content, rest) → shown ≡ content → IsUtf8 shown → string_at b ≡ Some (content, rest)
-read_when_utf8 b content rest shown read is utf8 = ap (option_and_then (λ r. checked r.0 r.1)) read ∙ checked-some content rest (subst IsUtf8 is utf8)
-
-pub respelled_taken : (text content rest line line' before : List ℕ) (at from : ℕ) → at < length text → get_or text at 0 ≡ quotation_mark → EscapedEnd text content rest at
-    → from ≡ length text - length rest → line ≡ before → line' ≡ line ++ quoted content → TakenString content (drop at text) (drop (length text - length rest) text) before (shown line' text from (length text - length rest))
-respelled_taken text content rest line line' before at from within opened end place was now = record {
-  inner = end.inner;
-  splits = drop_one text at quotation_mark within opened ∙ (ap (λ l. quotation_mark ∷ l) end.splits ∙ ap (λ l. quotation_mark ∷ (end.inner ++ l)) (sym end.end_is));
-  spells = end.spells;
-  is_shown = ap (λ n. line' ++ slice_range text n (length text - length rest)) place ∙ (ap (λ l. line' ++ l) (between_none text (length text - length rest)) ∙ (append-nil line' ∙ (now ∙ ap (λ l. l ++ quoted content) was)));
-}
 
 pub string_taken : (levels : ℕ) (content b rest before after : List ℕ) → TakenString content b rest before after → Taken levels b rest before after
 string_taken levels content b rest before after taken = record {

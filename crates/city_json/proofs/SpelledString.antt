@@ -1,5 +1,5 @@
 -- The reader of strings reads the strings that spell a text, each as its text.
-use Rattle.std.proofs.Common.{◌≡◌, ◌⊎◌, ◌++◌, ◌+◌, ◌*◌, ◌<◌, ◌≤◌, ◌==◌, ◌%◌, ◌/◌, ℕ, Bool, true, false, cond, List, [], ◌∷◌, Option, Some, None, refl, sym, ap, ◌∙◌, subst, inl, inr, append_assoc, arith, encode_utf8_all, IsUtf8}
+use Rattle.std.proofs.Common.{◌≡◌, ◌⊎◌, ◌++◌, ◌+◌, ◌*◌, ◌<◌, ◌≤◌, ◌==◌, ◌%◌, ◌/◌, ℕ, Bool, true, false, cond, List, [], ◌∷◌, Option, Some, None, refl, sym, ap, ◌∙◌, subst, inl, inr, append_assoc, arith, encode_utf8_all, length, IsUtf8}
 use Rattle.std.specs.Char.{IsScalar, encode_utf8}
 use Rattle.std.specs.List.{list_all, AllByRecursion}
 use Rattle.std.specs.Str.{is_utf8, all_scalars}
@@ -39,6 +39,14 @@ encode_cases c =
           ])
     ]
 
+-- each character has a byte
+pub some_encoded : (c : ℕ) → 0 < length (encode_utf8 c)
+some_encoded c =
+    elim (encode_cases c) [
+      | inl short ↦ omega (arith, ap length short.1)
+      | inr long ↦ (let parts = long.1 in omega (arith, ap length parts.3))
+    ]
+
 plain_long : (b : ℕ) → 128 ≤ b → is_plain b ≡ true
 plain_long b h = grind (arith, nat_tests)
 
@@ -74,7 +82,7 @@ scalar_letter letter c =
 scalar_pair : (c high low : ℕ) → high < 0x400 → low < 0x400 → c ≡ 0x10000 + high * 0x400 + low → IsScalar c
 scalar_pair c high low h l e = grind (arith, nat_tests)
 
-scalar_piece : (piece : List ℕ) (c : ℕ) → StandsFor piece c → IsScalar c
+pub scalar_piece : (piece : List ℕ) (c : ℕ) → StandsFor piece c → IsScalar c
 scalar_piece piece c (inl itself) = itself.0.0
 scalar_piece piece c (inr (inl letter)) = scalar_letter letter.0 c letter.2
 scalar_piece piece c (inr (inr (inl unit))) = unit.3

@@ -11,9 +11,9 @@ use Rattle.city_json.specs.Reading.{text_at}
 use Rattle.city_json.specs.Refusals.{RefusesText, SpellsNone, SpellsRepeated}
 use Rattle.city_json.specs.Tree.{Tree, tree}
 use Rattle.city_json.specs.Writable.{IsWritable}
-use Rattle.city_json.specs.declared.fault.Fault.{Fault}
+use Rattle.byte_streams.specs.declared.fault.Fault.{Fault}
 use Rattle.city_json.specs.declared.json.Json.{Json}
-use Rattle.city_json.specs.declared.fault.Fault.TheVariants.{NotUtf8, TooDeep, Syntax, DuplicateName, Memory}
+use Rattle.byte_streams.specs.declared.fault.Fault.TheVariants.{NotUtf8, TooDeep, Syntax, DuplicateName, Memory}
 use Rattle.city_json.proofs.CompactLaws.{compact-spells}
 use Rattle.city_json.proofs.Complete.{one_meaning, text_at-complete}
 use Rattle.city_json.proofs.DepthLaws.{nests_as_value}

@@ -1,12 +1,12 @@
 -- What the compactor has taken of a text, and what it has written for it.
-use Rattle.std.specs.Prelude.{◌≡◌, ◌++◌, ◌≤◌, ℕ, suc, List, [], ◌∷◌, Some, length, drop, slice_range, slice_index}
+use Rattle.std.specs.Prelude.{◌≡◌, ◌++◌, ◌≤◌, ◌+◌, ◌-◌, ℕ, suc, List, [], ◌∷◌, Some, length, drop, slice_range, slice_index, encode_utf8}
 use Rattle.std.specs.List.{flat_map}
 use Rattle.city_json.specs.Bytes.{comma, close_bracket, close_brace, colon, quotation_mark}
 use Rattle.city_json.specs.Compact.{written, quoted, compact, compact_items, compact_members}
 use Rattle.city_json.specs.Fits.{depth, items_depth, members_depth, IsDistinct, AreDistinctItems, AreDistinctMembers, HasDistinctNames}
 use Rattle.city_json.specs.Grammar.{SpellsValue, SpellsItems, SpellsMoreItems, SpellsMembers, SpellsMember, IsBlank}
 use Rattle.city_json.specs.Reading.{after_white}
-use Rattle.city_json.specs.ReadString.{string_at}
+use Rattle.city_json.specs.ReadString.{escape_at, decoded, string_at}
 use Rattle.city_json.specs.Strings.{SpellsString}
 use Rattle.city_json.specs.Tree.{Tree, ItemTrees, item, MemberTrees}
 use Rattle.city_json.specs.Parts.{IsPart, AreParts}
@@ -53,6 +53,19 @@ pub record TakenString (content b rest before after : List ℕ) : Type 0 where
   pub splits : b ≡ quotation_mark ∷ inner ++ rest
   pub spells : SpellsString content (quotation_mark ∷ inner)
   pub is_shown : after ≡ before ++ quoted content
+
+-- what stands after a backslash, as what is written for its character
+pub record TakenEscape (b rest before after : List ℕ) : Type 0 where
+  pub character : ℕ
+  pub is_read : escape_at b ≡ Some (character, rest)
+  pub is_shown : after ≡ before ++ flat_map written (encode_utf8 character)
+
+-- a string between two places, of which it is known, too, that what stands after its opening mark is read as its content
+pub record TakenAnew (text : List ℕ) (at end : ℕ) (before after : List ℕ) : Type 0 where
+  pub content : List ℕ
+  pub is_read : decoded (drop (at + 1) text) ≡ Some (content, drop end text)
+  pub closed : slice_index text (end - 1) ≡ quotation_mark
+  pub taken : TakenString content (drop at text) (drop end text) before after
 
 -- the same of a member's name, which was put after the names
 pub record TakenName (b rest before after : List ℕ) (names_before names_after : List (List ℕ)) : Type 0 where

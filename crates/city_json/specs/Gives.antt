@@ -1,8 +1,8 @@
 -- How what a reader of the code returns stands to what a function on lists gives.
 use Rattle.std.specs.Prelude.{◌≡◌, ℕ, List, Option, Some, None, Result, Ok, Err}
-use Rattle.city_json.specs.declared.fault.Fault.{Fault}
+use Rattle.byte_streams.specs.declared.fault.Fault.{Fault}
 use Rattle.city_json.specs.Number.{IsNumber}
-use Rattle.city_json.specs.declared.fault.Fault.TheVariants.{Syntax, Memory}
+use Rattle.byte_streams.specs.declared.fault.Fault.TheVariants.{Syntax, Memory}
 
 -- Want of memory says nothing of the text, and the only other refusal is that nothing was read.
 abbrev pub Refuses : {Y : Type 0} → Fault → Option Y → Type 0

@@ -3,8 +3,8 @@ pub mod Bytes
 pub mod Compact
 pub mod Compacting
 pub mod Depth
-pub mod Faults
 pub mod Fits
+pub mod Flat
 pub mod Gives
 pub mod Grammar
 pub mod MemberName
@@ -19,7 +19,6 @@ pub mod ReadString
 pub mod Reading
 pub mod Refusals
 pub mod ShortBytes
-pub mod Streams
 pub mod Strings
 pub mod Tree
 pub mod Whole

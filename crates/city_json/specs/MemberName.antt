@@ -5,4 +5,4 @@ use Rattle.city_json.specs.declared.compacting.name.Name.TheVariants.{AsWritten,
 
 abbrev pub name_bytes : Name → List ℕ
 name_bytes (AsWritten name) = name.now
-name_bytes (Decoded name) = name
+name_bytes (Decoded name) = name.items

@@ -4,8 +4,8 @@ use Rattle.city_json.specs.Depth.{IsDeep}
 use Rattle.city_json.specs.Fits.{IsDistinct}
 use Rattle.city_json.specs.Grammar.{Spells}
 use Rattle.city_json.specs.Tree.{Tree}
-use Rattle.city_json.specs.declared.fault.Fault.{Fault}
-use Rattle.city_json.specs.declared.fault.Fault.TheVariants.{NotUtf8, TooDeep, Syntax, DuplicateName, Memory}
+use Rattle.byte_streams.specs.declared.fault.Fault.{Fault}
+use Rattle.byte_streams.specs.declared.fault.Fault.TheVariants.{NotUtf8, TooDeep, Syntax, DuplicateName, Memory}
 
 -- no value is spelled
 abbrev pub SpellsNone : List ℕ → Type 0

@@ -12,6 +12,7 @@ ghost use Rattle.city_json.specs.Tree.{Tree};
 
 mod digits;
 mod draft;
+mod flat;
 mod name;
 mod names;
 mod parts;
@@ -20,8 +21,8 @@ mod strings;
 mod values;
 mod whole_arrays;
 
-use crate::line::Line;
 use crate::reading::depth::MOST_DEPTH;
+use byte_streams::Line;
 use draft::{begun, copy_to, skip_white};
 pub use parts::{Compacted, Part, compact_parts};
 use std::alloc::Global;

@@ -2,8 +2,8 @@ ghost use Rattle.std.specs.Prelude.{◌≡◌, IfOk, IfErr, option_copied, optio
 ghost use Rattle.city_json.specs.Members.{member_of};
 ghost use Rattle.city_json.specs.Tree.{tree, named_tree, items_tree, members_tree};
 
-use crate::fault::Fault;
 use crate::text::{NumText, Str};
+use byte_streams::Fault;
 use std::alloc::{AllocError, Global};
 
 /// The items of an array, in order.

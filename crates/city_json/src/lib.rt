@@ -1,35 +1,29 @@
 //! JSON texts (RFC 8259) and their values: [`read`] takes exactly the texts that fit, [`print`] gives the
-//! one compact text of a value, and [`compact`] goes from the one text to the other in one pass. Beside
-//! them the list of faults, and the traits of readers and writers.
+//! one compact text of a value, and [`compact`] goes from the one text to the other in one pass.
 #![tactic(auto)]
 
 mod compacting;
 mod comparing;
-mod fault;
 mod json;
 mod laws;
-mod line;
 mod number_parts;
 mod printing;
 mod reading;
-mod sequence;
 mod short;
-mod streams;
 mod text;
 
+pub use byte_streams::{
+    Bin, Device, Fault, Intake, Line, Sequence, Sink, Source, Stop, Tape, read_all, write_all,
+};
 pub use compacting::{Compacted, Part, compact, compact_parts};
 pub use comparing::same;
-pub use fault::Fault;
 pub use json::{Items, Json, Member, Members};
 pub use laws::{
     a_text_has_one_meaning, compact_text_is_one_line, compact_text_is_read_as_its_value,
     compact_text_spells_its_value, compact_text_tells_its_value, exchanged_text_is_exchanged_value,
     members_lie_in_their_parts, spelled_value_is_writable, texts_nest_as_their_values,
 };
-pub use line::Line;
 pub use number_parts::NumberParts;
 pub use printing::print;
 pub use reading::read;
-pub use sequence::Sequence;
-pub use streams::{Bin, Device, Intake, Sink, Source, Stop, Tape, read_all, write_all};
 pub use text::{NumText, Str};

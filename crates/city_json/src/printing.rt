@@ -1,16 +1,15 @@
 //! The compact text of a value: no white space, numbers as they were written, strings in one spelling.
 ghost use Rattle.std.specs.Prelude.{◌≡◌, ◌++◌, ◌∷◌, ◌<◌, ◌≤◌, length, take, drop, OnOk, OnErr, IfOk, IfErr, IsUtf8};
-ghost use Rattle.std.specs.Char.{digit_char};
+ghost use Rattle.std.specs.Char.{digit_char, encode_utf8};
 ghost use Rattle.std.specs.List.{flat_map};
 ghost use Rattle.city_json.specs.Bytes.{colon, comma};
 ghost use Rattle.city_json.specs.Compact.{written, quoted, compact, compact_items, compact_members};
 ghost use Rattle.city_json.specs.Tree.{tree, named_tree, items_tree, members_tree};
 ghost use Rattle.city_json.specs.Writable.{IsWritable, AreWritableItems, AreWritableMembers};
 
-use crate::fault::Fault;
 use crate::json::{Json, Member};
-use crate::line::Line;
 use crate::reading::plain::plain_len;
+use byte_streams::{Fault, Line};
 use std::alloc::AllocError;
 
 /// Appends the compact text of `value` to `line`. Out of memory, the line is as before, and the
@@ -167,6 +166,17 @@ fn run_length(text: &[u8]) -> usize
         ≡ flat_map written text.now }
 {
     plain_len(text)
+}
+
+/// Appends what is written for a character of a text.
+#[inline(always)]
+pub(crate) fn put_character(line: &mut Line, character: char) -> Result<(), AllocError>
+    ensures { OnOk result (line.new ≡ line.old ++ flat_map written (encode_utf8 character)) }
+{
+    if character.is_ascii() {
+        return put_escape(line, character as u8);
+    }
+    line.append(character.encode_utf8(&mut [0; 4]).as_bytes())
 }
 
 fn put_escape(line: &mut Line, byte: u8) -> Result<(), AllocError>

@@ -22,9 +22,9 @@ pub(crate) mod numbers;
 pub(crate) mod plain;
 pub(crate) mod strings;
 
-use crate::fault::Fault;
 use crate::json::{Items, Json, Member, Members};
 use crate::text::NumText;
+use byte_streams::Fault;
 use depth::{MOST_DEPTH, is_deep};
 use distinct::is_distinct;
 use std::alloc::{AllocError, Global};

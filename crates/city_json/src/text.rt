@@ -5,10 +5,10 @@ ghost use Rattle.city_json.specs.Gives.{Gives, RefusesNumber};
 ghost use Rattle.city_json.specs.Number.{IsNumber};
 ghost use Rattle.city_json.specs.NumberAt.{number_at};
 
-use crate::fault::Fault;
 use crate::number_parts::{NumberParts, number_parts};
 use crate::reading::numbers::{is_number, number};
 use crate::short::ShortBytes;
+use byte_streams::Fault;
 use std::alloc::{AllocError, Global};
 use std::convert::AsStr;
 use std::marker::Model;

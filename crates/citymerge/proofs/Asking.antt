@@ -6,7 +6,7 @@ use Rattle.citymerge.specs.Merging.{IsRefusedAsked, PassedOnAsked}
 use Rattle.tile_merge.specs.Merged.{IsOutputFault, IsRefusedEarly, IsRefusedMerge}
 use Rattle.tile_merge.specs.Threaded.{HasNoThread, IsRefusedThreaded}
 use Rattle.tile_merge.specs.Turns.{AreTurns}
-use Rattle.tile_merge.specs.declared.fault.MergeFault.{MergeFault}
+use Rattle.byte_streams.specs.declared.places.MergeFault.{MergeFault}
 use Rattle.tile_merge.specs.declared.merging.report.Report.{Report}
 
 module _ {R : Type 0} (gives : R → List ℕ → Bool → Type 0) (readers : List R) (in_turn : Bool) (base other : Base) (same : base ≡ other) (result : Result Report MergeFault) where

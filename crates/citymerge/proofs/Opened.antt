@@ -4,8 +4,8 @@ use Rattle.std.specs.List.{AllZip}
 use Rattle.std.proofs.lemmas.List.{length-take-le, take-append-drop, take_more, take_all}
 use Rattle.std.proofs.lemmas.Slice.Zip.{AllZip-long}
 use Rattle.citymerge.specs.Opening.{IsNotOpened}
-use Rattle.city_json.specs.declared.fault.Fault.TheVariants.{Read}
-use Rattle.tile_merge.specs.declared.fault.MergeFault.{MergeFault}
+use Rattle.byte_streams.specs.declared.fault.Fault.TheVariants.{Read}
+use Rattle.byte_streams.specs.declared.places.MergeFault.{MergeFault}
 
 all_zip_push : {A B : Type 0} (P : A → B → Type 0) (xs : List A) (ys : List B) (x : A) (y : B) → AllZip P xs ys → P x y → AllZip P (xs ++ x ∷ []) (ys ++ y ∷ [])
 all_zip_push P [] [] x y all one = (one, tt)

@@ -1,8 +1,8 @@
 -- A text that was written and passed on.
 use Rattle.std.proofs.Common.{◌≡◌, ℕ, Result, Ok, Err, OnOk, List, Option, length, refl, subst, sym, ap, ◌∙◌, inl, inr, take, take_all, le_refl}
 use Rattle.std.specs.Io.KnownBytes.{Appends, Keeps}
-use Rattle.city_json.specs.Streams.Failures.{after_call}
-use Rattle.city_json.specs.declared.fault.Fault.{Fault}
+use Rattle.byte_streams.specs.Failures.{after_call}
+use Rattle.byte_streams.specs.declared.fault.Fault.{Fault}
 use Rattle.citymerge.specs.Passing.{ShownOrFailed}
 use Rattle.tile_merge.proofs.Steps.{Appends-kept}
 

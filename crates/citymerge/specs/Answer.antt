@@ -2,7 +2,7 @@
 use Rattle.std.specs.Prelude.{◌≡◌, ◌⊎◌, ℕ, Bool, List, Option}
 use Rattle.std.specs.List.{AllZip}
 use Rattle.city_feature.specs.Choice.{IsChosen}
-use Rattle.city_json.specs.declared.fault.Fault.TheVariants.{Memory}
+use Rattle.byte_streams.specs.declared.fault.Fault.TheVariants.{Memory}
 use Rattle.citymerge.specs.FaultLine.{fault_line}
 use Rattle.citymerge.specs.Merging.{base_of, mixes_of}
 use Rattle.citymerge.specs.Passing.{ShownOrFailed, WroteOrFailed}
@@ -16,7 +16,7 @@ use Rattle.tile_merge.specs.Head.{SomeTile}
 use Rattle.tile_merge.specs.Merged.{MergedAll}
 use Rattle.tile_merge.specs.Tile.{stream_limits}
 use Rattle.tile_merge.specs.Unread.{IsOfTile}
-use Rattle.tile_merge.specs.declared.fault.MergeFault.{MergeFault}
+use Rattle.byte_streams.specs.declared.places.MergeFault.{MergeFault}
 
 -- a command is done or refused; help is shown; words are wrong; memory ran out
 abbrev pub IsStatus : Parsed → ℕ → Type 0

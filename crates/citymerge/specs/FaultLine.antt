@@ -1,8 +1,8 @@
 -- The line that tells a refusal on standard error.
 use Rattle.std.specs.Prelude.{◌++◌, ◌==◌, ℕ, List, [], ◌∷◌, codes, decimal, if◌then◌else◌}
 use Rattle.city_json.specs.Bytes.{newline}
-use Rattle.city_json.specs.Faults.{text_of}
-use Rattle.tile_merge.specs.declared.fault.MergeFault.{MergeFault}
+use Rattle.byte_streams.specs.Faults.{text_of}
+use Rattle.byte_streams.specs.declared.places.MergeFault.{MergeFault}
 
 -- the tile and the line that a refusal names; what is 0 is left out
 abbrev pub place_text : ℕ → ℕ → List ℕ

@@ -7,7 +7,7 @@ use Rattle.tile_merge.specs.Interleaves.{Interleaves}
 use Rattle.tile_merge.specs.Merged.{IsOutputFault, IsRefusedEarly, IsRefusedMerge}
 use Rattle.tile_merge.specs.Threaded.{HasNoThread, IsRefusedThreaded}
 use Rattle.tile_merge.specs.Turns.{AreTurns}
-use Rattle.tile_merge.specs.declared.fault.MergeFault.{MergeFault}
+use Rattle.byte_streams.specs.declared.places.MergeFault.{MergeFault}
 
 abbrev pub base_of : Bool → Base
 base_of least = if least then Least else First

@@ -2,9 +2,9 @@
 -- opening this path may give this reader, `Fails path` that it may fail.
 use Rattle.std.specs.Prelude.{◌≡◌, ◌⊎◌, ◌<◌, ◌≤◌, ◌+◌, ◌++◌, ℕ, List, ◌∷◌, length}
 use Rattle.std.specs.List.{AllZip}
-use Rattle.city_json.specs.declared.fault.Fault.TheVariants.{Memory, Read, TooManyTiles}
+use Rattle.byte_streams.specs.declared.fault.Fault.TheVariants.{Memory, Read, TooManyTiles}
 use Rattle.tile_merge.specs.Merged.{IsOfNoTile}
-use Rattle.tile_merge.specs.declared.fault.MergeFault.{MergeFault}
+use Rattle.byte_streams.specs.declared.places.MergeFault.{MergeFault}
 
 -- the tile of this number, counted from 1, could not be opened, and those before it were
 pub record IsNotOpened {R : Type 0} (Gives : List ℕ → R → Type 0) (Fails : List ℕ → Type 0) (paths : List (List ℕ)) (refusal : MergeFault) : Type 0 where

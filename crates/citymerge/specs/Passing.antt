@@ -1,7 +1,7 @@
 -- What became of bytes that were to be written, where the status does not depend on it.
 use Rattle.std.specs.Prelude.{◌≡◌, ◌⊎◌, ℕ, List, Option, take}
 use Rattle.std.specs.Io.KnownBytes.{Appends}
-use Rattle.city_json.specs.Streams.Failures.{one_more}
+use Rattle.byte_streams.specs.Failures.{one_more}
 
 -- All of these bytes were written and passed on and no call failed, or some first ones were written
 -- and one did.

@@ -6,11 +6,11 @@ use crate::cat::run_cat;
 use crate::report::{report_fault, show_help, show_usage};
 use crate::run::{run_filter, run_merge};
 use crate::tiles::{Opener, open_tiles};
-use city_json::{Fault, Sink, Source};
+use byte_streams::{Fault, MergeFault, Sink, Source};
 use command_line::{MergeArgs, Parsed};
 use std::sync::Wait;
 use std::thread::Threads;
-use tile_merge::{MergeFault, TileReader};
+use tile_merge::TileReader;
 
 /// Does what the words ask for, and answers the status to end with: 0 where it is done, 1 with a fault
 /// line on `errors` where it is refused, 2 with what is wrong with the words. `filter` and `cat` take

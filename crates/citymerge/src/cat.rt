@@ -5,13 +5,13 @@ ghost use Rattle.document_stream.specs.CutStream.{IsRefusedDocument, WroteCut};
 ghost use Rattle.document_stream.specs.Input.{SomeInput};
 ghost use Rattle.tile_merge.specs.Filtered.{failures_after_write};
 ghost use Rattle.tile_merge.specs.Unread.{failed_reads_after};
-ghost use Rattle.tile_merge.specs.declared.fault.MergeFault.{MergeFault};
+ghost use Rattle.byte_streams.specs.declared.places.MergeFault.{MergeFault};
 
 #[cfg(test)]
 mod tests;
 
 use crate::report::report_fault;
-use city_json::{Sink, Source};
+use byte_streams::{Sink, Source};
 use document_stream::cat_source;
 use std::alloc::Global;
 

@@ -1,10 +1,10 @@
 ghost use Rattle.std.specs.Prelude.{◌≡◌, ◌+◌, ◌≤◌, ◌++◌, length, codes, decimal};
 ghost use Rattle.citymerge.specs.FaultLine.{fault_line, place_text};
 
+use byte_streams::MergeFault;
 use itoa::Buffer;
 use std::fmt::{InlineText, Write};
 use std::marker::Model;
-use tile_merge::MergeFault;
 
 /// More bytes than any fault line has.
 const ROOM: usize = 128;

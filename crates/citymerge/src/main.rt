@@ -15,10 +15,9 @@ use crate::output::buffered;
 use crate::report::report_fault;
 use crate::tiles::SystemFiles;
 use crate::words::parse_args;
-use city_json::Device;
+use byte_streams::{Device, MergeFault};
 use std::env;
 use std::process::ExitCode;
-use tile_merge::MergeFault;
 
 fn main(rt: HostRuntime) -> ExitCode {
     let asked = parse_args(rt.alloc(), env::args(&rt));

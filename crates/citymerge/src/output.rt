@@ -1,8 +1,8 @@
 ghost use Rattle.std.specs.Prelude.{◌≡◌, [], IfOk, IfErr};
 ghost use Rattle.std.specs.Io.Buffered.{writer_buffer, writer_capacity, writer_inner};
-ghost use Rattle.city_json.specs.Streams.Device.{failures_of, inner_of};
+ghost use Rattle.byte_streams.specs.Device.{failures_of, inner_of};
 
-use city_json::{Device, Fault};
+use byte_streams::{Device, Fault};
 use std::alloc::Global;
 use std::io::{BufWriter, Write};
 
@@ -30,7 +30,7 @@ pub fn buffered<W: Write + Drop>(alloc: Global, output: W) -> Result<Device<BufW
 #[cfg(test)]
 mod tests {
     use super::*;
-    use city_json::{Sink, write_all};
+    use byte_streams::{Sink, write_all};
     use std::io;
     use std::sync::atomic::AtomicU64;
     use std::sync::atomic::Ordering::SeqCst;

@@ -3,8 +3,7 @@ ghost use Rattle.citymerge.specs.FaultLine.{fault_line};
 ghost use Rattle.citymerge.specs.Passing.{ShownOrFailed, WroteOrFailed};
 
 use crate::fault_line::FaultLine;
-use city_json::{Line, Sink, write_all};
-use tile_merge::MergeFault;
+use byte_streams::{Line, MergeFault, Sink, write_all};
 
 /// Writes the fault line, and answers the status of a refusal, whatever becomes of the write.
 pub fn report_fault<E: Sink>(refusal: &MergeFault, errors: &mut E) -> u8
@@ -51,7 +50,7 @@ fn show<W: Sink>(text: &[u8], to: &mut W)
 #[cfg(test)]
 mod tests {
     use super::*;
-    use city_json::{Bin, Fault};
+    use byte_streams::{Bin, Fault};
     use std::test::Fail;
 
     #[test]

@@ -8,7 +8,7 @@ ghost use Rattle.tile_merge.specs.Head.{SomeTile};
 ghost use Rattle.tile_merge.specs.Interleaves.{Interleaves};
 ghost use Rattle.tile_merge.specs.Merged.{MergedAll};
 ghost use Rattle.tile_merge.specs.Unread.{Leaves, has_failed};
-ghost use Rattle.tile_merge.specs.declared.fault.MergeFault.{MergeFault};
+ghost use Rattle.byte_streams.specs.declared.places.MergeFault.{MergeFault};
 
 #[cfg(test)]
 mod joining_tests;
@@ -18,13 +18,13 @@ mod merging_tests;
 mod tests;
 
 use crate::report::report_fault;
+use byte_streams::{MergeFault, Sink, Source};
 use city_feature::{Base, Choice};
-use city_json::{Sink, Source};
 use command_line::MergeArgs;
 use std::alloc::Global;
 use std::sync::Wait;
 use std::thread::Threads;
-use tile_merge::{MergeFault, Report, TileReader, filter_tile, merge, merge_in_turn};
+use tile_merge::{Report, TileReader, filter_tile, merge, merge_in_turn};
 
 /// How many texts of a tile are held at most, where each tile has a thread.
 const CAPACITY: u32 = 64;

@@ -2,11 +2,11 @@ ghost use Rattle.std.specs.Prelude.{◌≡◌, ◌<◌, ◌+◌, ℕ, List, Err,
 ghost use Rattle.std.specs.List.{AllZip};
 ghost use Rattle.citymerge.specs.Opening.{RefusesFiles};
 
-use city_json::{Device, Fault, Source};
+use byte_streams::{Device, Fault, MergeFault, Source};
 use command_line::Paths;
 use std::alloc::Global;
 use std::fs::{self, File};
-use tile_merge::{MergeFault, tile_count};
+use tile_merge::tile_count;
 
 /// What opens tiles by their paths.
 pub trait Opener {

@@ -7,7 +7,8 @@ ghost use Rattle.command_line.specs.Asked.{HasTiles, IsAsked};
 ghost use Rattle.command_line.specs.Commands.{faults_of, named_by};
 ghost use Rattle.citymerge.specs.Words.{not_utf8_text};
 
-use city_json::{Line, Str};
+use byte_streams::Line;
+use city_json::Str;
 use command_line::{Parsed, Paths, parse_words};
 use std::alloc::{AllocError, Global};
 use std::env::Args;

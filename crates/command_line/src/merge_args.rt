@@ -7,8 +7,9 @@ ghost use Rattle.command_line.specs.Matches.{rows_in};
 use crate::choosing::{choice_given, is_used};
 use crate::parsing::Paths;
 use crate::refusal::Refusal;
+use byte_streams::Fault;
 use city_feature::Choice;
-use city_json::{Fault, Str};
+use city_json::Str;
 use clap::ArgMatches;
 use std::alloc::Global;
 

@@ -2,7 +2,7 @@ ghost use Rattle.std.specs.Prelude.{◌≡◌, option_map};
 ghost use Rattle.command_line.specs.Answered.{text_of};
 ghost use Rattle.command_line.specs.declared.refusal.Refusal.TheVariants.{Memory};
 
-use city_json::Fault;
+use byte_streams::Fault;
 
 /// Why words are refused that `clap` takes.
 #[derive(Clone, Copy, Debug, PartialEq, Eq)]

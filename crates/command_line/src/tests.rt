@@ -2,8 +2,9 @@ mod cutting;
 mod merging;
 
 use crate::{Parsed, Paths, parse_words};
+use byte_streams::Line;
 use city_feature::Choice;
-use city_json::{Line, Str};
+use city_json::Str;
 use std::alloc::Global;
 use std::process::Abort;
 use std::test::Fail;

@@ -1,7 +1,7 @@
 -- A stream of which some first bytes were written.
 use Rattle.std.proofs.Common.{ℕ, Bool, List, Option, refl, take}
 use Rattle.std.specs.Io.KnownBytes.{Appends}
-use Rattle.city_json.specs.declared.fault.Fault.TheVariants.{Write}
+use Rattle.byte_streams.specs.declared.fault.Fault.TheVariants.{Write}
 use Rattle.document_stream.specs.CutStream.{IsRefusedDocument, IsStreamOf}
 use Rattle.document_stream.specs.Input.{SomeInput}
 

@@ -6,10 +6,10 @@ use Rattle.city_json.specs.Compact.{compact}
 use Rattle.city_json.specs.Grammar.{IsBlank}
 use Rattle.city_json.specs.Reading.{is_white}
 use Rattle.city_json.specs.Refusals.{RefusesText}
-use Rattle.city_json.specs.Streams.Source.{GivesFirst}
+use Rattle.byte_streams.specs.Source.{GivesFirst}
 use Rattle.city_json.specs.Tree.{Tree, tree}
-use Rattle.city_json.specs.declared.fault.Fault.{Fault}
-use Rattle.city_json.specs.declared.fault.Fault.TheVariants.{LineTooLong, Memory, NoHeader, Read}
+use Rattle.byte_streams.specs.declared.fault.Fault.{Fault}
+use Rattle.byte_streams.specs.declared.fault.Fault.TheVariants.{LineTooLong, Memory, NoHeader, Read}
 use Rattle.city_json.specs.declared.json.Json.{Json}
 use Rattle.city_feature.specs.Feature.{FeatureValue}
 use Rattle.city_feature.specs.Header.{HeaderValue}

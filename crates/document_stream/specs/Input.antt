@@ -5,8 +5,8 @@ use Rattle.city_json.specs.Fits.{Fits}
 use Rattle.city_json.specs.Grammar.{IsBlank, Spells}
 use Rattle.city_json.specs.Refusals.{RefusesText}
 use Rattle.city_json.specs.Tree.{Tree}
-use Rattle.city_json.specs.declared.fault.Fault.{Fault}
-use Rattle.city_json.specs.declared.fault.Fault.TheVariants.{LineTooLong, NoHeader, Read}
+use Rattle.byte_streams.specs.declared.fault.Fault.{Fault}
+use Rattle.byte_streams.specs.declared.fault.Fault.TheVariants.{LineTooLong, NoHeader, Read}
 use Rattle.city_cut.specs.Cut.{RefusesCut}
 use Rattle.tile_merge.specs.Tile.{Tile, tile_of}
 

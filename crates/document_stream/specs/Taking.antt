@@ -5,8 +5,8 @@ use Rattle.city_json.specs.Grammar.{IsBlank}
 use Rattle.city_json.specs.Reading.{is_white}
 use Rattle.city_json.specs.Refusals.{RefusesText}
 use Rattle.city_json.specs.Tree.{Tree}
-use Rattle.city_json.specs.declared.fault.Fault.{Fault}
-use Rattle.city_json.specs.declared.fault.Fault.TheVariants.{Memory, NoHeader}
+use Rattle.byte_streams.specs.declared.fault.Fault.{Fault}
+use Rattle.byte_streams.specs.declared.fault.Fault.TheVariants.{Memory, NoHeader}
 use Rattle.tile_merge.specs.Unread.{failed_reads_after}
 use Rattle.document_stream.specs.Input.{IsTextOf, IsWhole, RefusesInput, SomeInput}
 

@@ -5,9 +5,8 @@ ghost use Rattle.tile_merge.specs.Filtered.{failed_reads_after_filter, failures_
 
 use crate::taking::take_stream;
 use crate::writing::write_stream;
-use city_json::{Fault, Sink, Source};
+use byte_streams::{Fault, MergeFault, Sink, Source};
 use std::alloc::Global;
-use tile_merge::MergeFault;
 
 /// Reads a document to its end, and writes the stream of the features that it is cut into: the header's
 /// line, and one for each feature, in order. Answers how many features were written. The document and then

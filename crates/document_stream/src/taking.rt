@@ -10,9 +10,10 @@ ghost use Rattle.document_stream.specs.Input.{IsTextOf, SomeInput};
 ghost use Rattle.document_stream.specs.Taking.{GivesText, IsRefusedInput, RefusesReading, failed_reads_after_taking, is_blank};
 ghost use Rattle.tile_merge.specs.Stream.{with_newline};
 
+use byte_streams::{Fault, Line, Source, Stop, read_all};
 use city_cut::cut_lines;
 use city_feature::Header;
-use city_json::{Fault, Json, Line, Source, Stop, print, read, read_all};
+use city_json::{Json, print, read};
 use std::alloc::Global;
 
 /// The most bytes that a document may have.

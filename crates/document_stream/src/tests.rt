@@ -4,11 +4,10 @@ mod failures;
 mod refusals;
 
 use crate::cat::cat_document;
-use city_json::{Bin, Fault, Line, Tape};
+use byte_streams::{Bin, Fault, Line, MergeFault, Tape};
 use std::alloc::{AllocError, AllocGlobal, Global};
 use std::process::Abort;
 use std::test::Fail;
-use tile_merge::MergeFault;
 
 const HEADER: &str =
     r#"{"type":"CityJSON","version":"2.0","transform":{"scale":[0.001,0.001,0.001],"translate":[0,0,0]},"CityObjects":{},"vertices":[]}"#;

@@ -1,10 +1,10 @@
 //! The stream of a document that was cut, written.
 ghost use Rattle.std.specs.Prelude.{◌≡◌, ◌++◌, ℕ, take, IfErr, OnOk, OnErr};
 ghost use Rattle.std.specs.Io.KnownBytes.{Appends};
-ghost use Rattle.city_json.specs.Streams.Failures.{after_call};
+ghost use Rattle.byte_streams.specs.Failures.{after_call};
 
 use crate::taking::CutStream;
-use city_json::{Fault, Sink, write_all};
+use byte_streams::{Fault, Sink, write_all};
 
 /// Writes a stream, and flushes.
 ///

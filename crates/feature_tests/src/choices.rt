@@ -1,5 +1,6 @@
+use byte_streams::Fault;
 use city_feature::{Area, Choice, Feature, area, feature, selects, types};
-use city_json::{Fault, read};
+use city_json::read;
 use std::alloc::Global;
 use std::test::Fail;
 

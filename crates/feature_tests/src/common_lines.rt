@@ -1,8 +1,8 @@
 //! Lines of a common spelling, which are answered with no value built. That is seen by the memory that the
 //! text has: such a line takes it over, and a value is printed into memory of its own.
+use byte_streams::{Fault, Line};
 use city_feature::{Choice, area, feature_line, types};
 use city_grid::Shift;
-use city_json::{Fault, Line};
 use std::alloc::Global;
 use std::test::Fail;
 
@@ -194,17 +194,62 @@ fn vertices_of_any_size_are_kept(rt: HostRuntime) -> Result<(), Fail> {
     Ok(())
 }
 
+/// The text has room for a quarter more than the line that it was written from: it is asked for at once where no value
+/// is built, and vertices are written anew.
+fn has_room_for_more(text: Line, line: &str) -> bool {
+    text.into_vec().capacity() == line.len() + line.len() / 4
+}
+
+/// A zero with a minus sign is one without when it is written.
 #[test]
-fn a_number_that_is_written_otherwise_takes_the_value(rt: HostRuntime) -> Result<(), Fail> {
+fn a_zero_loses_its_minus_sign(rt: HostRuntime) -> Result<(), Fail> {
     let alloc = rt.alloc();
-    let line = r#"{"type":"CityJSONFeature","id":"a","CityObjects":{},"vertices":[[-0,2,3]]}"#;
-    let (chosen, text) = answer(alloc, line, &Choice::new(None, None, false))?;
-    assert_eq!(rt; chosen, Ok(true));
-    assert_eq!(rt;
-        text.items(),
-        br#"front {"type":"CityJSONFeature","id":"a","CityObjects":{},"vertices":[[10,22,33]]}"#.as_slice()
+    let (front, back) = (
+        r#"{"id":"a","vertices":"#,
+        r#","more":[-0,-0.0],"CityObjects":{"a":{"type":"Building"}},"type":"CityJSONFeature"}"#,
     );
-    assert!(rt; !takes_memory_over(alloc, line, "")?);
+    let rows = [
+        ("[[-0,2,3]]", "[[0,2,3]]", "[[10,22,33]]"),
+        (
+            "[[1,2,3],[4,-0,-6],[7,8,-9]]",
+            "[[1,2,3],[4,0,-6],[7,8,-9]]",
+            "[[11,22,33],[14,20,24],[17,28,21]]",
+        ),
+        (
+            "[[100,200,300],[1,2,-0]]",
+            "[[100,200,300],[1,2,0]]",
+            "[[110,220,330],[11,22,30]]",
+        ),
+        (
+            "[[-0,-0,-0],[-0,0,-0]]",
+            "[[0,0,0],[0,0,0]]",
+            "[[10,20,30],[10,20,30]]",
+        ),
+    ];
+    let Some(shift) = Shift::new(10, 20, 30) else {
+        return Err("no shift".into());
+    };
+    for (given, still, moved) in rows {
+        let line = format!(in alloc; "{front}{given}{back}")?;
+        for (shift, vertices) in [(Shift::zero(), still), (shift, moved)] {
+            let want = format!(in alloc; "{front}{vertices}{back}")?;
+            for bounds in ["", "0,0,100,100"] {
+                let choice = Choice::new(types(alloc, "Building")?, area(bounds), false);
+                let mut text = Line::new(alloc);
+                let bytes = line.as_str().as_bytes();
+                let chosen = feature_line(alloc, bytes, shift, &choice, &mut text);
+                assert_eq!(rt; chosen, Ok(true), "{line}");
+                assert_eq!(rt; text.items(), want.as_str().as_bytes());
+                assert!(rt; has_room_for_more(text, line.as_str()), "{line}");
+            }
+            let choice = Choice::new(None, area("-9,-9,-8,-8"), false);
+            let mut text = Line::new(alloc);
+            let bytes = line.as_str().as_bytes();
+            let chosen = feature_line(alloc, bytes, shift, &choice, &mut text);
+            assert_eq!(rt; chosen, Ok(false), "{line}");
+            assert!(rt; text.items().is_empty());
+        }
+    }
     Ok(())
 }
 

@@ -1,6 +1,7 @@
+use byte_streams::Fault;
 use city_feature::{feature, line, shifted};
 use city_grid::Shift;
-use city_json::{Fault, read};
+use city_json::read;
 use std::alloc::Global;
 use std::test::Fail;
 

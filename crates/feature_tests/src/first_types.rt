@@ -1,9 +1,9 @@
 //! Types that are found where city objects begin, and those that stand elsewhere: each is that of the object
 //! that the identifier names.
 use crate::common_lines::takes_memory_over;
+use byte_streams::Line;
 use city_feature::{Choice, feature_line, types};
 use city_grid::Shift;
-use city_json::Line;
 use std::alloc::Global;
 use std::test::Fail;
 

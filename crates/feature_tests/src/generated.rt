@@ -1,8 +1,9 @@
 //! Generated lines: what is answered is what the value gives, whether one is built or not.
 use crate::common_lines::takes_memory_over;
+use byte_streams::{Fault, Line};
 use city_feature::{Choice, area, feature, feature_line, line, selects, shifted, types};
 use city_grid::Shift;
-use city_json::{Fault, Line, read};
+use city_json::read;
 use std::alloc::Global;
 use std::process::Abort;
 use std::test::Fail;

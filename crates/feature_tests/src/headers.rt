@@ -1,5 +1,6 @@
+use byte_streams::{Fault, Line};
 use city_feature::{Header, header, is_document};
-use city_json::{Fault, Json, Line, print, read};
+use city_json::{Json, print, read};
 use std::alloc::Global;
 use std::test::Fail;
 

@@ -1,6 +1,7 @@
 //! The line of joined headers: what is changed in it, and where.
+use byte_streams::Line;
 use city_feature::{Base, header, join_headers};
-use city_json::{Line, read};
+use city_json::read;
 use std::alloc::Global;
 use std::test::Fail;
 

@@ -1,6 +1,6 @@
+use byte_streams::{Fault, Line};
 use city_feature::{Choice, area, feature_line};
 use city_grid::Shift;
-use city_json::{Fault, Line};
 use std::alloc::Global;
 use std::test::Fail;
 

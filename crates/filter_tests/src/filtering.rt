@@ -1,14 +1,14 @@
 //! One tile, filtered: what is written, and what is refused where.
 
+use byte_streams::{Bin, Device, Fault, Line, MergeFault, Source, Tape};
 use city_feature::{Choice, area, types};
-use city_json::{Bin, Device, Fault, Line, Source, Tape};
 use std::alloc::{AllocError, Global};
 use std::io::{self, ErrorKind, Write};
 use std::process::Abort;
 use std::sync::atomic::AtomicU64;
 use std::sync::atomic::Ordering::SeqCst;
 use std::test::Fail;
-use tile_merge::{MergeFault, TileReader, filter_stream, filter_tile};
+use tile_merge::{TileReader, filter_stream, filter_tile};
 
 pub(crate) const HEADER: &str =
     r#"{"type":"CityJSON","version":"2.0","transform":{"scale":[0.001,0.001,0.001],"translate":[0,0,0]},"CityObjects":{},"vertices":[]}"#;
@@ -387,7 +387,7 @@ struct CountedTape<'a> {
 
 impl<'a> Source for CountedTape<'a> {
     ghost use Rattle.std.specs.Prelude.{refl};
-    ghost use Rattle.city_json.specs.Streams.Tape.{PlaysOut};
+    ghost use Rattle.byte_streams.specs.Tape.{PlaysOut};
 
     ghost gives = { λ reader. PlaysOut reader.tape };
 

@@ -2,8 +2,8 @@
 ghost use Rattle.std.specs.Prelude.{◌≤◌, length};
 
 use crate::filtering::{FEATURE_A, HEADER, every_feature, stream_of};
+use byte_streams::Device;
 use city_feature::{Choice, types};
-use city_json::Device;
 use std::io::{self, ErrorKind, Read, Write};
 use std::sync::atomic::AtomicU64;
 use std::sync::atomic::Ordering::SeqCst;

@@ -1,13 +1,13 @@
 //! Lines by readers that give few or many bytes a read, fail, or have no end.
 
-use city_json::{Device, Fault, Line, Source, Tape};
+use byte_streams::{Device, Fault, Line, LineFault, Source, Tape};
 use std::alloc::{AllocError, Global};
 use std::io::{self, ErrorKind, Read};
 use std::process::Abort;
 use std::sync::atomic::AtomicU64;
 use std::sync::atomic::Ordering::SeqCst;
 use std::test::Fail;
-use tile_merge::{LineFault, Lines};
+use tile_merge::Lines;
 
 const HEADER: &str =
     r#"{"type":"CityJSON","version":"2.0","transform":{"scale":[0.001,0.001,0.001],"translate":[0,0,0]},"CityObjects":{},"vertices":[]}"#;
@@ -167,7 +167,7 @@ struct CountedTape<'a> {
 
 impl<'a> Source for CountedTape<'a> {
     ghost use Rattle.std.specs.Prelude.{refl};
-    ghost use Rattle.city_json.specs.Streams.Tape.{PlaysOut};
+    ghost use Rattle.byte_streams.specs.Tape.{PlaysOut};
 
     ghost gives = { λ reader. PlaysOut reader.tape };
 

@@ -1,5 +1,6 @@
+use byte_streams::Fault;
 use city_grid::decimal;
-use city_json::{Fault, NumText};
+use city_json::NumText;
 use std::alloc::Global;
 use std::test::Fail;
 

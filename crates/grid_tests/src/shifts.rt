@@ -1,6 +1,6 @@
 use crate::transforms::transform_of;
+use byte_streams::Fault;
 use city_grid::{Shift, shift_of};
-use city_json::Fault;
 use std::test::Fail;
 
 #[test]

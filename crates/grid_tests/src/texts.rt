@@ -1,6 +1,6 @@
 //! Vertices in compact texts: what is read of them, and what is looked at, at each length of their numbers.
-use city_grid::{Vertex, append_vertex, vertex_at, vertex_end};
-use city_json::Line;
+use byte_streams::Line;
+use city_grid::{Vertex, append_vertex, spelled_vertex_at, vertex_at, vertex_end};
 use std::alloc::Global;
 use std::process::Abort;
 use std::test::Fail;
@@ -53,6 +53,29 @@ fn expect_none(rt: &impl Abort, text: &str) {
     }
     assert_eq!(rt; vertex_end(bytes, 1), 1, "{text}");
     assert!(rt; vertex_at(bytes, 1).is_none(), "{text}");
+    assert!(rt; spelled_vertex_at(bytes, 1).is_none(), "{text}");
+}
+
+/// The vertex stands in a text otherwise than it is written: only the one call reads it.
+fn expect_spelled(
+    rt: &impl Abort,
+    text: &str,
+    vertex: Option<Vertex>,
+    after: &str,
+) -> Result<(), Fail> {
+    let bytes = text.as_bytes();
+    if bytes.is_empty() {
+        return Err("no text".into());
+    }
+    assert_eq!(rt; vertex_end(bytes, 1), 1, "{text}");
+    assert!(rt; vertex_at(bytes, 1).is_none(), "{text}");
+    let Some(placed) = spelled_vertex_at(bytes, 1) else {
+        return Err("no vertex".into());
+    };
+    assert_eq!(rt; Some(placed.vertex), vertex, "{text}");
+    let end = bytes.len().saturating_sub(after.len());
+    assert_eq!(rt; placed.end, end, "{text}");
+    Ok(())
 }
 
 /// The vertex stands in a text as it is written: it is read, and its end is found, whatever stands after it.
@@ -73,6 +96,7 @@ fn expect_vertex(rt: &impl Abort, alloc: Global, x: i64, y: i64, z: i64) -> Resu
         assert_eq!(rt; placed.vertex, vertex, "{text}");
         assert_eq!(rt; placed.end, end, "{text}");
         assert_eq!(rt; vertex_end(bytes, 1), end, "{text}");
+        assert_eq!(rt; spelled_vertex_at(bytes, 1), Some(placed), "{text}");
     }
     let mut line = Line::new(alloc);
     append_vertex(b',', &vertex, &mut line)?;
@@ -99,7 +123,7 @@ fn vertices_of_all_lengths_are_taken(rt: HostRuntime) -> Result<(), Fail> {
 fn other_spellings_are_passed_over(rt: HostRuntime) -> Result<(), Fail> {
     let alloc = rt.alloc();
     let numbers = [
-        "-0",
+        "-00",
         "00",
         "01",
         "-01",
@@ -138,6 +162,22 @@ fn other_spellings_are_passed_over(rt: HostRuntime) -> Result<(), Fail> {
                 expect_none(&rt, text.as_str());
             }
         }
+    }
+    Ok(())
+}
+
+#[test]
+fn a_zero_may_have_a_minus_sign(rt: HostRuntime) -> Result<(), Fail> {
+    let alloc = rt.alloc();
+    for after in AFTER {
+        let text = format!(in alloc; "[[-0,2,3]{after}")?;
+        expect_spelled(&rt, text.as_str(), Vertex::new(0, 2, 3), after)?;
+        let text = format!(in alloc; "[[10,-0,30000000]{after}")?;
+        expect_spelled(&rt, text.as_str(), Vertex::new(10, 0, 30_000_000), after)?;
+        let text = format!(in alloc; "[[-1,2,-0]{after}")?;
+        expect_spelled(&rt, text.as_str(), Vertex::new(-1, 2, 0), after)?;
+        let text = format!(in alloc; "[[-0,-0,-0]{after}")?;
+        expect_spelled(&rt, text.as_str(), Vertex::new(0, 0, 0), after)?;
     }
     Ok(())
 }

@@ -1,5 +1,6 @@
+use byte_streams::Fault;
 use city_grid::{Transform, least_of, transform};
-use city_json::{Fault, read};
+use city_json::read;
 use std::alloc::Global;
 use std::test::Fail;
 

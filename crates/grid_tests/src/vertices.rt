@@ -1,5 +1,6 @@
+use byte_streams::{Fault, Line};
 use city_grid::{Shift, Vertex, moved, three_numbers, vertex, vertex_json, write_vertex};
-use city_json::{Fault, Line, print, read};
+use city_json::{print, read};
 use std::test::Fail;
 
 #[test]

@@ -1,6 +1,7 @@
 //! Of the one pass where it takes many bytes at once: at each place of a block it says what the reader says.
 use crate::texts::{compacted, repeated};
-use city_json::{Line, compact};
+use byte_streams::Line;
+use city_json::compact;
 use std::alloc::Global;
 use std::process::Abort;
 use std::test::Fail;

@@ -1,6 +1,7 @@
 //! Of the one pass: that it answers for the texts that users have, and says nothing of others.
 use crate::texts::{COMPACTED, NO_JSON, REFUSED, SPELLINGS, repeated};
-use city_json::{Line, compact, compact_parts};
+use byte_streams::Line;
+use city_json::{compact, compact_parts};
 use std::alloc::Global;
 use std::test::Fail;
 
@@ -39,7 +40,7 @@ fn numbered(alloc: Global, count: usize) -> Result<Vec<String>, Fail> {
 
 #[test]
 fn texts_are_taken_in_all_their_spellings(rt: HostRuntime) -> Result<(), Fail> {
-    let others: [(&[u8], &[u8]); 13] = [
+    let others: [(&[u8], &[u8]); 19] = [
         (b"{\"\\u0061\\n\":1,\"b\":2}", b"{\"a\\n\":1,\"b\":2}"),
         (b"{ \"caf\\u00e9\" : [ ] }", b"{\"caf\xc3\xa9\":[]}"),
         (
@@ -50,6 +51,24 @@ fn texts_are_taken_in_all_their_spellings(rt: HostRuntime) -> Result<(), Fail> {
         (b"[[1,2],[3]]", b"[[1,2],[3]]"),
         (b"{\"v\":[[0,10,2],[],[3]]}", b"{\"v\":[[0,10,2],[],[3]]}"),
         (b"{\"v\":[[0, 1],[2]]}", b"{\"v\":[[0,1],[2]]}"),
+        (b"[1, 22, 333]", b"[1,22,333]"),
+        (
+            b"[0, 10,2, 30 , 4,  5, null, -6, 7.5, \"a\", [8, 9], 1]",
+            b"[0,10,2,30,4,5,null,-6,7.5,\"a\",[8,9],1]",
+        ),
+        (
+            b"{\"v\": [[0, 1, 2], [12345678901234567890, 4, 5], []]}",
+            b"{\"v\":[[0,1,2],[12345678901234567890,4,5],[]]}",
+        ),
+        (b"[1, 2, 3\t]", b"[1,2,3]"),
+        (
+            b"[[1, 2], [3, [4, 5], [], [ ], [ 6 ]], [[[7]] ], 8, [\"a\", [null]]]",
+            b"[[1,2],[3,[4,5],[],[],[6]],[[[7]]],8,[\"a\",[null]]]",
+        ),
+        (
+            b"{\"a\": [[[0, 1]], {\"b\": [[2, 3], [4]]}], \"c\": [-1, [2.5, 3]]}",
+            b"{\"a\":[[[0,1]],{\"b\":[[2,3],[4]]}],\"c\":[-1,[2.5,3]]}",
+        ),
         (b"-0", b"-0"),
         (
             b"[0.5,-1E-24,1e99999999999999999999]",
@@ -87,8 +106,19 @@ fn nothing_is_said_of_a_faulty_text(rt: HostRuntime) -> Result<(), Fail> {
     for (text, _) in REFUSED {
         assert_eq!(rt; compacted(rt.alloc(), text)?, None);
     }
-    let others: [&[u8]; 11] = [
+    let others: [&[u8]; 22] = [
         b"{\"\\ud800\":1}",
+        b"[1, 2, ]",
+        b"[1, 2,",
+        b"[1, 2, ",
+        b"[1, 02, 3]",
+        b"[1, , 2]",
+        b"[1, 2 3]",
+        b"[[1, 2], [3]",
+        b"[[1, 2]], [3]]",
+        b"[[1, 2] [3]]",
+        b"[[1, 2], [3], ]",
+        b"[[1, 2}, [3]]",
         b"{\"v\":[1,2,03]}",
         b"{\"v\":[1,2,]}",
         b"{\"v\":[[1,2],[3]}",
@@ -154,6 +184,7 @@ fn nesting_is_taken_up_to_its_limit(rt: HostRuntime) -> Result<(), Fail> {
         (b"[".as_slice(), b"]".as_slice()),
         (b"{\"a\":", b"}"),
         (b"{\"a\":[", b"]}"),
+        (b"[0,", b"]"),
     ] {
         let levels = if open.len() == 6 { 2 } else { 1 };
         for (depth, taken) in [(128, true), (129 + levels - 1, false)] {

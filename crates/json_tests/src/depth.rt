@@ -1,6 +1,7 @@
 //! Which texts are too deep. This is looked for before the text is read, so that it says nothing of what
 //! else is wrong with it.
-use city_json::{Fault, read};
+use byte_streams::Fault;
+use city_json::read;
 use std::alloc::{AllocError, Global};
 use std::test::Fail;
 

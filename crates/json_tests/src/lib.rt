@@ -9,10 +9,6 @@ mod compacting;
 #[cfg(test)]
 mod depth;
 #[cfg(test)]
-mod devices;
-#[cfg(test)]
-mod faults;
-#[cfg(test)]
 mod names;
 #[cfg(test)]
 mod numbers;
@@ -20,10 +16,6 @@ mod numbers;
 mod printing;
 #[cfg(test)]
 mod reading;
-#[cfg(test)]
-mod sequences;
-#[cfg(test)]
-mod streams;
 #[cfg(test)]
 mod strings;
 #[cfg(test)]

@@ -1,6 +1,7 @@
 //! That no object has a repeated name: which texts are refused for it, and that it takes no long time.
 use crate::texts::repeated;
-use city_json::{Fault, read};
+use byte_streams::Fault;
+use city_json::read;
 use std::alloc::Global;
 use std::test::Fail;
 

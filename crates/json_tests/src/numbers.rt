@@ -1,5 +1,6 @@
 use crate::texts::compacted;
-use city_json::{Fault, Json, NumText, read};
+use byte_streams::Fault;
+use city_json::{Json, NumText, read};
 use std::test::Fail;
 
 #[test]

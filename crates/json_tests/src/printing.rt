@@ -1,4 +1,5 @@
-use city_json::{Fault, Json, Line, Str, print, read};
+use byte_streams::{Fault, Line};
+use city_json::{Json, Str, print, read};
 use std::alloc::Global;
 use std::test::Fail;
 

@@ -1,5 +1,6 @@
 use crate::texts::{COMPACTED, NO_JSON, REFUSED, SPELLINGS, compacted, repeated};
-use city_json::{Fault, read};
+use byte_streams::Fault;
+use city_json::read;
 use std::test::Fail;
 
 #[test]

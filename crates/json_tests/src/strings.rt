@@ -1,4 +1,5 @@
-use city_json::{Fault, Json, Str, read};
+use byte_streams::Fault;
+use city_json::{Json, Str, read};
 use std::alloc::Global;
 use std::test::Fail;
 

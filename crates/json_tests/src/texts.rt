@@ -1,5 +1,6 @@
 //! Texts for the tests of both paths: the reader and printer, and the one pass.
-use city_json::{Fault, Line, print, read};
+use byte_streams::{Fault, Line};
+use city_json::{print, read};
 use std::alloc::Global;
 use std::test::Fail;
 

@@ -1,5 +1,5 @@
 use crate::text::said_to;
-use city_json::{Fault, Line};
+use byte_streams::{Fault, Line};
 use clap::Command;
 use std::io::{self, ErrorKind};
 

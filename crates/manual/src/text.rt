@@ -1,5 +1,6 @@
 use crate::types::TYPES;
-use city_json::{Line, Str};
+use byte_streams::Line;
+use city_json::Str;
 use clap::{Arg, ArgAction, Command};
 use command_line::{Parsed, Paths, parse_words};
 use std::alloc::Global;

@@ -1,7 +1,7 @@
 use crate::devices::LineReader;
 use crate::merging::{answer_of, merge_readers, plain};
 use crate::texts::A1;
-use city_json::Device;
+use byte_streams::Device;
 use std::io::{self, ErrorKind, Write};
 use std::sync::atomic::AtomicU64;
 use std::sync::atomic::Ordering::SeqCst;

@@ -2,14 +2,13 @@ ghost use Rattle.std.specs.Prelude.{◌≤◌, length};
 
 use crate::merging::{answer_of, merge_readers, plain, readers_of, stream_of};
 use crate::texts::{A1, A2, B1, C1, CUT, HEADER};
-use city_json::{Bin, Device, Fault};
+use byte_streams::{Bin, Device, Fault, MergeFault};
 use std::alloc::{AllocError, Global};
 use std::io::{self, ErrorKind, Read, Write};
 use std::process::Abort;
 use std::sync::atomic::AtomicU64;
 use std::sync::atomic::Ordering::SeqCst;
 use std::test::Fail;
-use tile_merge::MergeFault;
 
 pub(crate) const NOT_WRITTEN: MergeFault = MergeFault {
     tile: 0,

@@ -11,14 +11,14 @@ use crate::texts::{
     TITLE_HEADER, UNBOUNDED_DOCUMENT, UNUSED_LAST_DOCUMENT, VERTEX_ALONE_HEADER, VERTEX_HEADER,
     WIDE_DOCUMENT, X, Y, Z,
 };
+use byte_streams::{Bin, Fault, Line, MergeFault, Tape};
 use city_feature::{Base, Choice, area, types};
-use city_json::{Bin, Fault, Line, Tape};
 use std::alloc::Global;
 use std::process::Abort;
 use std::sync::Wait;
 use std::test::Fail;
 use std::thread::Threads;
-use tile_merge::{MergeFault, filter_stream};
+use tile_merge::filter_stream;
 
 /// Documents that cannot be cut, each with its first fault.
 const FAULTY: [(&str, Fault); 8] = [

@@ -1,6 +1,6 @@
 use crate::merging::{expect_merge, plain, refused};
 use crate::texts::{A1, A2, A3, B1, C1, C2, CUT, HALF_HEADER, HEADER};
-use city_json::Fault;
+use byte_streams::Fault;
 use std::test::Fail;
 
 #[test]

@@ -5,7 +5,7 @@ use crate::texts::{
     FINE_HEADERS, FLAT_HEADER, GRIDLESS_HEADER, HALF_HEADER, HEADER, OLD_DUTCH_HEADER, OLD_HEADER,
     OTHER_EXTENSION_A_HEADER, POWER_HEADER, TEMPLATES_HEADER, TITLE_HEADER,
 };
-use city_json::Fault;
+use byte_streams::Fault;
 use std::test::Fail;
 
 #[test]

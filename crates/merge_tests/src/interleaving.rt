@@ -1,14 +1,14 @@
 //! Merges with a thread for each tile, whose features stand as they come.
 
 use crate::merging::{Asked, Wanted, answer_of, expect_merge, readers_of, stream_of};
-use city_json::Bin;
+use byte_streams::{Bin, MergeFault};
 use std::alloc::{AllocError, Global};
 use std::process::Abort;
 use std::sync::Wait;
 use std::test::Fail;
 use std::thread::Threads;
 use tile_handoff::MAX_CAPACITY;
-use tile_merge::{MergeFault, merge};
+use tile_merge::merge;
 
 /// What a merge answers, the header that it writes, if it does, and the lines of each tile. No two tiles share a line.
 #[derive(Clone, Copy)]

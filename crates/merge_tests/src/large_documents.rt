@@ -3,7 +3,7 @@
 use crate::devices::NOT_WRITTEN;
 use crate::merging::{answer_of, merge_readers, plain, readers_of, stream_of};
 use crate::texts::{A1, B1, BUILDING, DOCUMENT, HEADER, POINTS, X, Y, Z};
-use city_json::{Bin, Fault};
+use byte_streams::{Bin, Fault};
 use std::alloc::{AllocError, Global};
 use std::test::Fail;
 use tile_handoff::MAX_CAPACITY;

@@ -1,12 +1,12 @@
 use crate::devices::LineReader;
 use crate::merging::{answer_of, merge_readers, plain, readers_of, stream_of};
 use crate::texts::{A1, B1, C1, HEADER};
-use city_json::{Bin, Device, Fault};
+use byte_streams::{Bin, Device, Fault, MergeFault};
 use std::process::Abort;
 use std::sync::atomic::AtomicU64;
 use std::sync::atomic::Ordering::SeqCst;
 use std::test::Fail;
-use tile_merge::{MergeFault, tile_count};
+use tile_merge::tile_count;
 
 /// Merges with ample memory and many bytes a read and a write.
 fn expect_large(

@@ -1,12 +1,12 @@
 //! Merges of tapes, and what is wanted of them.
 
+use byte_streams::{Bin, Fault, Line, MergeFault, Sink, Source, Tape};
 use city_feature::{Base, Choice};
-use city_json::{Bin, Fault, Line, Sink, Source, Tape};
 use std::alloc::{AllocError, Global};
 use std::process::Abort;
 use std::test::Fail;
 use tile_handoff::MAX_CAPACITY;
-use tile_merge::{MergeFault, Report, merge_in_turn};
+use tile_merge::{Report, merge_in_turn};
 
 /// What a merge is asked.
 #[derive(Drop)]

@@ -3,8 +3,8 @@ use crate::texts::{
     A, B, BEFORE_HEADER, EAST_A, FAR_B, FAR_HEADER, HALF_BEFORE_HEADER, HEADER, LAST_B, NORTH_A,
     NORTH_HEADER, ONE_HEADER, ONE_POINT_HEADER,
 };
+use byte_streams::Fault;
 use city_feature::{Base, Choice, area};
-use city_json::Fault;
 use std::test::Fail;
 
 /// All features, on the grid with the least translation.

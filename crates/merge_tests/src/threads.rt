@@ -5,7 +5,7 @@ use crate::documents::of_types;
 use crate::interleaving::is_mixed;
 use crate::merging::{plain, stream_of};
 use crate::texts::{A1, A2, A3, B1, C1, C2, CUT, HEADER};
-use city_json::{Bin, Device, Fault, Line, Tape};
+use byte_streams::{Bin, Device, Fault, Line, MergeFault, Tape};
 use std::alloc::{AllocError, Global};
 use std::io::{self, ErrorKind, Read, Write};
 use std::process::Abort;
@@ -13,7 +13,7 @@ use std::sync::Arc;
 use std::sync::atomic::AtomicU64;
 use std::sync::atomic::Ordering::SeqCst;
 use std::test::Fail;
-use tile_merge::{MergeFault, merge, merge_in_turn};
+use tile_merge::{merge, merge_in_turn};
 
 /// How many turns of one load a reader waits at most.
 const TURNS: u64 = 1_000_000_000;

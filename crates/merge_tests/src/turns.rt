@@ -3,8 +3,8 @@ use crate::texts::{
     A, A1, A2, A3, B, B1, BEFORE_HEADER, BEFORE_LAST_B, C1, C2, EAST, EAST_FROM_WEST, FAR_B,
     FAR_HEADER, HEADER, LAST_B, NEXT_HEADER, WEST,
 };
+use byte_streams::Fault;
 use city_feature::{Base, Choice, area, types};
-use city_json::Fault;
 use std::test::Fail;
 
 #[test]

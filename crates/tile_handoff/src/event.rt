@@ -1,5 +1,5 @@
 use crate::note::End;
-use city_json::{Line, Sequence};
+use byte_streams::{Line, Sequence};
 
 /// What is asked of a row. Tiles are counted from 0.
 #[derive(Debug, Drop)]

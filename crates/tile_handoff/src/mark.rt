@@ -1,4 +1,4 @@
-use city_json::Sequence;
+use byte_streams::Sequence;
 
 /// What an accepted event did.
 #[derive(Clone, Copy, Debug, PartialEq, Eq)]

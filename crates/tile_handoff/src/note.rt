@@ -1,4 +1,4 @@
-use city_json::Line;
+use byte_streams::Line;
 
 /// What a tile says at its end.
 #[derive(Clone, Copy, Debug, PartialEq, Eq)]

@@ -1,5 +1,5 @@
 use crate::note::End;
-use city_json::Line;
+use byte_streams::Line;
 
 /// Why a line was not put, with the line.
 #[derive(Debug, Drop)]

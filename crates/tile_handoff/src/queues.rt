@@ -7,8 +7,8 @@ ghost use Rattle.tile_handoff.specs.Takes.{took_of};
 
 use crate::note::{End, Note};
 use crate::outcome::{NoClose, NoPut, Took};
+use byte_streams::{Fault, Line};
 use circular_buffer::HeapCircularBuffer;
-use city_json::{Fault, Line};
 use std::alloc::{AllocError, Global};
 use std::marker::Model;
 

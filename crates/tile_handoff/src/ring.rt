@@ -7,7 +7,7 @@ mod sender;
 mod tests;
 
 use crate::queues::MAX_CAPACITY;
-use city_json::Fault;
+use byte_streams::Fault;
 pub use receiver::{Receiver, Whole};
 use rtrb::RingBuffer;
 pub use sender::{Closed, Sender};

@@ -11,7 +11,7 @@ use crate::mark::{Kind, Mark, Marks};
 use crate::note::End;
 use crate::outcome::{NoClose, NoPut, Took};
 use crate::queues::{MAX_CAPACITY, MAX_TILES, Queues, took_of};
-use city_json::{Fault, Line};
+use byte_streams::{Fault, Line};
 use std::alloc::Global;
 use std::marker::Model;
 

@@ -11,7 +11,7 @@ use crate::history::Run;
 use crate::outcome::{NoClose, NoPut, Took};
 use crate::queues::{MAX_CAPACITY, MAX_TILES};
 use crate::row::Row;
-use city_json::Fault;
+use byte_streams::Fault;
 use std::alloc::Global;
 
 /// Asks the events of a new row, one after the other. The replies are those by counting, so that,

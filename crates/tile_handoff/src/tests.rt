@@ -6,7 +6,7 @@ use crate::{
     End, Event, Events, Kind, MAX_CAPACITY, MAX_TILES, Mark, Marks, NoClose, NoPut, Queues,
     Replies, Reply, Row, Run, Took, order_and_close, run,
 };
-use city_json::Line;
+use byte_streams::Line;
 use std::alloc::{AllocError, Global};
 use std::process::Abort;
 use std::str;

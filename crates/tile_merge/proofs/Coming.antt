@@ -7,9 +7,9 @@ use Rattle.std.proofs.lemmas.List.{drop_more, take-append-drop}
 use Rattle.std.proofs.lemmas.List.Elements.{All-append}
 use Rattle.memchr.specs.Find.{IsFirstByte}
 use Rattle.city_json.specs.Bytes.{newline}
-use Rattle.city_json.specs.Streams.Source.{GivesFirst}
-use Rattle.city_json.specs.declared.fault.Fault.{Fault}
-use Rattle.city_json.specs.declared.fault.Fault.TheVariants.{LineTooLong, TileTooLong, Read, Memory}
+use Rattle.byte_streams.specs.Source.{GivesFirst}
+use Rattle.byte_streams.specs.declared.fault.Fault.{Fault}
+use Rattle.byte_streams.specs.declared.fault.Fault.TheVariants.{LineTooLong, TileTooLong, Read, Memory}
 use Rattle.tile_merge.specs.declared.limits.Limits.{Limits}
 use Rattle.tile_merge.specs.Ahead.{Ahead, MayCome}
 use Rattle.tile_merge.specs.Taking.{HasNoNewline, IsFineFront, IsLimitFault, IsFillFault, IsRefusedLine, IsRefusal}
@@ -79,6 +79,14 @@ module _ {R : Type 0} (gives : R → List ℕ → Bool → Type 0) (first now : 
   all_held others fails given =
       let P : List ℕ → Type 0 = λ bytes. MayCome gives first bytes fails in
       subst P (sym (append_assoc line now.held others)) (follows (now.held ++ others) fails (others, given, refl))
+
+  -- all that was held was taken, and nothing more was read
+  pub all_taken : (next : Ahead R) → next.reader ≡ now.reader → next.held ≡ [] → (bytes : List ℕ) (fails : Bool) → MayCome gives next bytes fails → MayCome gives first ((line ++ now.held) ++ bytes) fails
+  all_taken next same empty bytes fails comes =
+      let P : List ℕ → Type 0 = λ more. MayCome gives first ((line ++ now.held) ++ more) fails in
+      let Gives : R → Type 0 = λ reader. gives reader comes.0 fails in
+      let is : comes.0 ≡ bytes = sym (comes.2 ∙ ap (λ held. held ++ comes.0) empty) in
+      subst P is (all_held comes.0 fails (subst Gives same comes.1))
 
   -- the end came, or an error
   pub end_came : (skipped : Ahead R) (fails : Bool) → skipped.reader ≡ now.reader → gives skipped.reader [] fails → MayCome gives first (line ++ now.held) fails

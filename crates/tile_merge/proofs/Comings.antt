@@ -1,8 +1,8 @@
 -- What one line does to what may be to come of a tile.
 use Rattle.std.proofs.Common.{◌≡◌, ◌≢◌, ◌≤◌, ◌<◌, ◌++◌, ℕ, Bool, true, false, List, [], ◌∷◌, Option, Some, None, is_some, unwrap_or, option_to_list, refl, sym, ap, subst, ◌∙◌, inl, inr, arith, append_assoc, append-nil}
 use Rattle.city_json.specs.Bytes.{newline}
-use Rattle.city_json.specs.declared.fault.Fault.{Fault}
-use Rattle.city_json.specs.declared.fault.Fault.TheVariants.{Memory, Read, Write}
+use Rattle.byte_streams.specs.declared.fault.Fault.{Fault}
+use Rattle.byte_streams.specs.declared.fault.Fault.TheVariants.{Memory, Read, Write}
 use Rattle.city_feature.specs.Feature.{FeatureValue}
 use Rattle.city_feature.specs.FeatureLine.{GivesFeature, RefusesFeatureLine}
 use Rattle.city_grid.specs.Axes.{Triple}
@@ -10,7 +10,8 @@ use Rattle.tile_merge.specs.Coming.{LeftComesTo, LinesMayComeTo, GivesText, Some
 use Rattle.tile_merge.specs.Stream.{with_newline}
 use Rattle.tile_merge.specs.Texts.{Outcome, EndsAfter, LinesComeTo}
 use Rattle.tile_merge.specs.Tile.{Part, FaultyLine, TileLines, part_of, line_before, nothing_left, only_fault}
-use Rattle.tile_merge.specs.Unread.{Unread, Leaves, GivesLine, IsRefused, IsFaultFrom, BeginsFrom, is_read}
+use Rattle.tile_merge.specs.Unread.{Unread, Leaves, GivesLine, MayBeOver, IsRefused, IsFaultFrom, BeginsFrom, ComesFrom, is_read}
+use Rattle.tile_merge.proofs.Leaving.{begins_before}
 
 abbrev at_line : ℕ → Fault → FaultyLine
 at_line number fault = record { number = number; fault = fault }
@@ -19,16 +20,10 @@ false_is_true : false ≡ true → ⊥
 false_is_true is = cc is
 
 -- memory may run out at the next line
-memory_in : (Gives : List ℕ → Option (List ℕ) → Type 0) (Refuses : Fault → List ℕ → Type 0) (lines : List Part) (fault : Option FaultyLine) (number : ℕ) → BeginsFrom number lines fault → LinesComeTo Gives Refuses lines fault [] (Some (at_line number Memory))
-memory_in Gives Refuses [] None number begins = (refl, refl)
-memory_in Gives Refuses [] (Some fault) number begins = (refl, inr (refl, begins))
-memory_in Gives Refuses (line ∷ others) fault number begins = inl (refl, inr (refl, begins))
-
--- what begins at a number begins at each lower one
-begins_before : (first number : ℕ) (lines : List Part) (fault : Option FaultyLine) → first ≤ number → BeginsFrom number lines fault → BeginsFrom first lines fault
-begins_before first number [] None low begins = tt
-begins_before first number [] (Some fault) low begins = omega (arith, low, begins)
-begins_before first number (line ∷ others) fault low begins = omega (arith, low, begins)
+memory_in : (Gives : List ℕ → Option (List ℕ) → Type 0) (Refuses : Fault → List ℕ → Type 0) (lines : List Part) (fault : Option FaultyLine) (last number : ℕ) → ComesFrom number lines fault last → LinesComeTo Gives Refuses lines fault last [] (Some (at_line number Memory))
+memory_in Gives Refuses [] None last number comes = (refl, (refl, comes))
+memory_in Gives Refuses [] (Some fault) last number comes = (refl, inr (refl, comes))
+memory_in Gives Refuses (line ∷ others) fault last number comes = inl (refl, inr (refl, comes))
 
 pub ends_after : (number next : ℕ) (outcome : Outcome) → number < next → IsFaultFrom next outcome → EndsAfter number outcome
 ends_after number next None below from = tt
@@ -39,22 +34,27 @@ ends_from first number None low after = tt
 ends_from first number (Some at) low after = omega (arith, low, after)
 
 -- something comes of the lines that are left
-pub left_comes : (IsWanted : FeatureValue → Type 0) (k : Triple) (number : ℕ) (left : TileLines) → BeginsFrom number left.lines left.fault → SomethingComes (LeftComesTo IsWanted k number left)
-left_comes IsWanted k number left begins =
-    ([], (Some (at_line number Memory), (omega arith, memory_in (GivesFeature IsWanted k) (RefusesFeatureLine k) left.lines left.fault number begins)))
+module _ (IsWanted : FeatureValue → Type 0) (k : Triple) (number : ℕ) where
+  lines_come : (lines : List Part) (fault : Option FaultyLine) (last : ℕ) → BeginsFrom number lines fault → SomethingComes (LeftComesTo IsWanted k number (record { lines = lines; fault = fault; last = last }))
+  lines_come [] None last begins = ([], (None, (tt, (refl, tt))))
+  lines_come [] (Some fault) last begins = ([], (Some fault, (begins, (refl, inl refl))))
+  lines_come (line ∷ others) fault last begins = ([], (Some (at_line number Memory), (omega arith, inl (refl, inr (refl, begins)))))
+
+  pub left_comes : (left : TileLines) → BeginsFrom number left.lines left.fault → SomethingComes (LeftComesTo IsWanted k number left)
+  left_comes left begins = lines_come left.lines left.fault left.last begins
 
 module _ {R : Type 0} (gives : R → List ℕ → Bool → Type 0) (IsWanted : FeatureValue → Type 0) (k : Triple) where
   abbrev Comes : Unread R → List (List ℕ) → Outcome → Type 0
   Comes lines texts outcome = LinesMayComeTo gives IsWanted k lines texts outcome
 
   module _ (before : Unread R) where
-    pub nothing_comes : Leaves gives before nothing_left → Comes before [] None
-    nothing_comes over = (nothing_left, (over, tt), (tt, (refl, tt)))
+    pub nothing_comes : MayBeOver (Leaves gives before) → Comes before [] None
+    nothing_comes over = (nothing_left over.0, (over.1, tt), (tt, (refl, tt)))
 
     pub fault_comes : (fault : Fault) (number : ℕ) → before.number ≤ number → IsRefused fault number (Leaves gives before) → Comes before [] (Some (at_line number fault))
     fault_comes Memory number from refused =
         let left = refused.0 in
-        (left, (refused.1, begins_before before.number number left.lines left.fault from refused.2), (from, memory_in (GivesFeature IsWanted k) (RefusesFeatureLine k) left.lines left.fault number refused.2))
+        (left, (refused.1, begins_before before.number number left.lines left.fault left.last from refused.2), (from, memory_in (GivesFeature IsWanted k) (RefusesFeatureLine k) left.lines left.fault left.last number refused.2))
     fault_comes other number from refused = (only_fault number other, (refused, from), (from, (refl, inl refl)))
 
     module _ (after : Unread R) (number : ℕ) (bytes : List ℕ) (taken : GivesLine (Leaves gives before) (Leaves gives after) number bytes) (from : before.number ≤ number) where

@@ -1,9 +1,9 @@
 -- The number of a fault tells the fault, and so an end note tells how a tile ended.
 use Rattle.std.proofs.Common.{◌≡◌, ℕ, zero, suc, List, [], ◌∷◌, Option, Some, None, refl, sym, ap, ◌∙◌}
 use Rattle.std.specs.Option.{option_map}
-use Rattle.city_json.specs.Faults.{number_of}
-use Rattle.city_json.specs.declared.fault.Fault.{Fault}
-use Rattle.city_json.specs.declared.fault.Fault.TheVariants.{NoHeader, NotUtf8, Syntax, TooDeep, DuplicateName, NotCityJson, Version, NoTransform, Decimal, ScaleNotPositive, HeaderNotEmpty, ScaleDiffers, CrsDiffers, OffGrid, ShiftRange, ExtensionClash, TemplatesDiffer, NotAFeature, VertexShape, VertexNotInteger, VertexRange, LineTooLong, TileTooLong, Read, Write, Memory, NoThread, Handoff, TooManyTiles, ChildMissing, Orphan, BoundaryIndex}
+use Rattle.byte_streams.specs.Faults.{number_of}
+use Rattle.byte_streams.specs.declared.fault.Fault.{Fault}
+use Rattle.byte_streams.specs.declared.fault.Fault.TheVariants.{NoHeader, NotUtf8, Syntax, TooDeep, DuplicateName, NotCityJson, Version, NoTransform, Decimal, ScaleNotPositive, HeaderNotEmpty, ScaleDiffers, CrsDiffers, OffGrid, ShiftRange, ExtensionClash, TemplatesDiffer, NotAFeature, VertexShape, VertexNotInteger, VertexRange, LineTooLong, TileTooLong, Read, Write, Memory, NoThread, Handoff, TooManyTiles, ChildMissing, Orphan, BoundaryIndex}
 use Rattle.tile_handoff.specs.declared.note.End.{End}
 use Rattle.tile_merge.specs.EndNotes.{Ended, end_of, end_with, ended_so}
 use Rattle.tile_merge.specs.Texts.{Outcome}

@@ -4,9 +4,9 @@ use Rattle.std.proofs.Math.Seq.{take-append-add}
 use Rattle.std.specs.Io.KnownBytes.{Appends, Keeps}
 use Rattle.std.proofs.KnownBytes.{Appends-trans, Keeps-refl, Keeps-trans}
 use Rattle.city_json.specs.Compact.{compact}
-use Rattle.city_json.specs.declared.fault.Fault.{Fault}
-use Rattle.city_json.specs.declared.fault.Fault.TheVariants.{Read, Write}
-use Rattle.city_json.specs.Streams.Failures.{one_more}
+use Rattle.byte_streams.specs.declared.fault.Fault.{Fault}
+use Rattle.byte_streams.specs.declared.fault.Fault.TheVariants.{Read, Write}
+use Rattle.byte_streams.specs.Failures.{one_more}
 use Rattle.city_feature.specs.Feature.{FeatureValue}
 use Rattle.city_feature.specs.Header.{HeaderValue}
 use Rattle.tile_merge.specs.Coming.{MayComeTo, SomethingComes}
@@ -17,7 +17,7 @@ use Rattle.tile_merge.specs.Progress.{WroteTexts, IsRefusedAfter}
 use Rattle.tile_merge.specs.Stream.{stream, with_newline}
 use Rattle.tile_merge.specs.Texts.{Outcome}
 use Rattle.tile_merge.specs.Tile.{FaultyLine, TileLines}
-use Rattle.tile_merge.specs.declared.fault.MergeFault.{MergeFault}
+use Rattle.byte_streams.specs.declared.places.MergeFault.{MergeFault}
 use Rattle.tile_merge.specs.TileState.{TileState}
 use Rattle.tile_merge.specs.Unread.{Leaves, failed_reads_after}
 use Rattle.tile_merge.proofs.HeldFirst.{tile_comes}

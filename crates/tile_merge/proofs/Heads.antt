@@ -1,12 +1,12 @@
 -- The head of a tile, from its first line.
-use Rattle.std.proofs.Common.{◌≡◌, ◌≢◌, ℕ, Bool, true, false, map, List, [], ◌∷◌, Option, Some, None, Result, Ok, Err, IfOk, IfErr, refl, sym, ap, subst, ◌∙◌, inl, inr, arith}
+use Rattle.std.proofs.Common.{◌≡◌, ◌≢◌, ◌<◌, ℕ, Bool, true, false, map, List, [], ◌∷◌, Option, Some, None, Result, Ok, Err, IfOk, IfErr, refl, sym, ap, subst, ◌∙◌, inl, inr, arith}
 use Rattle.city_json.specs.Compact.{compact}
 use Rattle.city_json.specs.Fits.{Fits}
 use Rattle.city_json.specs.Grammar.{Spells}
 use Rattle.city_json.specs.Tree.{Tree, tree}
 use Rattle.city_json.specs.declared.json.Json.{Json}
-use Rattle.city_json.specs.declared.fault.Fault.{Fault}
-use Rattle.city_json.specs.declared.fault.Fault.TheVariants.{NoHeader, Memory, Write}
+use Rattle.byte_streams.specs.declared.fault.Fault.{Fault}
+use Rattle.byte_streams.specs.declared.fault.Fault.TheVariants.{NoHeader, Memory, Write}
 use Rattle.city_cut.specs.Cut.{IsCut, IsCuttable}
 use Rattle.city_feature.specs.Feature.{FeatureValue}
 use Rattle.city_feature.specs.Header.{HeaderValue, HoldsCity, IsHeader}
@@ -15,8 +15,8 @@ use Rattle.tile_merge.specs.Head.{SpellsHead, StandsFor, RefusesFirst, RefusesHe
 use Rattle.tile_merge.specs.Held.{Held}
 use Rattle.tile_merge.specs.Stream.{with_newline}
 use Rattle.tile_merge.specs.Tile.{Part, FaultyLine, TileLines, part_of, line_before, nothing_left, only_fault}
-use Rattle.tile_merge.specs.declared.lines.state.LineFault.{LineFault}
-use Rattle.tile_merge.specs.Unread.{GivesLine, IsRefused, BeginsFrom}
+use Rattle.byte_streams.specs.declared.places.LineFault.{LineFault}
+use Rattle.tile_merge.specs.Unread.{GivesLine, MayBeOver, IsRefused, ComesFrom}
 
 abbrev at_line : ℕ → Fault → FaultyLine
 at_line number fault = record { number = number; fault = fault }
@@ -43,18 +43,18 @@ module _ (line : List ℕ) (value : Tree) (spells : Spells line value) (fits : F
   head_refused (Ok x) is = tt
   head_refused (Err fault) is = inr (value, spells, fits, is)
 
-memory_in : (lines : List Part) (fault : Option FaultyLine) (number : ℕ) → BeginsFrom number lines fault → LinesHaveNoHead lines fault (at_line number Memory)
-memory_in [] None number begins = inr refl
-memory_in [] (Some fault) number begins = inr (refl, begins)
-memory_in (line ∷ others) fault number begins = inr (refl, begins)
+memory_in : (lines : List Part) (fault : Option FaultyLine) (last number : ℕ) → 0 < number → ComesFrom number lines fault last → LinesHaveNoHead lines fault last (at_line number Memory)
+memory_in [] None last number counted comes = inr (counted, (refl, comes))
+memory_in [] (Some fault) last number counted comes = inr (counted, (refl, comes))
+memory_in (line ∷ others) fault last number counted comes = inr (counted, (refl, comes))
 
 module _ (before : TileLines → Type 0) where
-  pub no_line : before nothing_left → SomeTile before (λ tile. HasNoHead tile (at_line 0 NoHeader))
-  no_line over = (nothing_left, over, inl (refl, refl))
+  pub no_line : MayBeOver before → SomeTile before (λ tile. HasNoHead tile (at_line 0 NoHeader))
+  no_line over = (nothing_left over.0, over.1, inl (refl, refl))
 
-  pub no_head : (fault : Fault) (number : ℕ) → IsRefused fault number before → SomeTile before (λ tile. HasNoHead tile (at_line number fault))
-  no_head Memory number refused = (refused.0, refused.1, memory_in refused.0.lines refused.0.fault number refused.2)
-  no_head other number refused = (only_fault number other, refused, inl refl)
+  pub no_head : (fault : Fault) (number : ℕ) → 0 < number → IsRefused fault number before → SomeTile before (λ tile. HasNoHead tile (at_line number fault))
+  no_head Memory number counted refused = (refused.0, refused.1, memory_in refused.0.lines refused.0.fault refused.0.last number counted refused.2)
+  no_head other number counted refused = (only_fault number other, refused, inl refl)
 
   module _ (after : TileLines → Type 0) (number : ℕ) (bytes : List ℕ) (gives : GivesLine before after number bytes) where
     pub gives_head : (header : HeaderValue) (features : List FeatureValue) → SpellsHead bytes header features → GivesHead before after header (record { line = number; features = features })
@@ -85,16 +85,16 @@ module _ (before after : TileLines → Type 0) (header : HeaderValue) (held : He
   line_given (Ok l) is = (header, is, gives)
   line_given (Err e) is = tt
 
-  pub no_memory : (left : TileLines) → after left → SomeTile before (λ tile. HasNoHead tile (at_line held.line Memory))
-  no_memory left leaves =
+  pub no_memory : 0 < held.line → (left : TileLines) → after left → SomeTile before (λ tile. HasNoHead tile (at_line held.line Memory))
+  no_memory counted left leaves =
       let given = gives left leaves in
       let line = given.2.0 in
-      let out : LinesHaveNoHead (line ∷ left.lines) left.fault (at_line held.line Memory) = inr (refl, omega (arith, given.2.2)) in
+      let out : LinesHaveNoHead (line ∷ left.lines) left.fault left.last (at_line held.line Memory) = inr (counted, (refl, omega (arith, given.2.2))) in
       (given.0, given.1, subst (λ (tile : TileLines). HasNoHead tile (at_line held.line Memory)) (sym given.2.1) out)
 
-  pub line_refused : (number : ℕ) → number ≡ held.line → (left : TileLines) → after left → (result : Result (List ℕ) LineFault) → IfErr result (λ e. e ≡ record { line = number; fault = Memory })
+  pub line_refused : (number : ℕ) → number ≡ held.line → 0 < number → (left : TileLines) → after left → (result : Result (List ℕ) LineFault) → IfErr result (λ e. e ≡ record { line = number; fault = Memory })
       → IfErr result (λ e. SomeTile before (λ tile. HasNoHead tile (at_line e.line e.fault)))
-  line_refused number at left leaves (Ok l) is = tt
-  line_refused number at left leaves (Err e) is =
+  line_refused number at counted left leaves (Ok l) is = tt
+  line_refused number at counted left leaves (Err e) is =
       let Refused : LineFault → Type 0 = λ at. SomeTile before (λ tile. HasNoHead tile (at_line at.line at.fault)) in
-      subst Refused (sym (is ∙ ap (λ n. record { line = n; fault = Memory }) at)) (no_memory left leaves)
+      subst Refused (sym (is ∙ ap (λ n. record { line = n; fault = Memory }) at)) (no_memory (omega (arith, at, counted)) left leaves)

@@ -4,8 +4,8 @@ use Rattle.std.proofs.lemmas.Bool.{false_from_ne_true}
 use Rattle.std.proofs.lemmas.Bool.Decides.{nat_tests}
 use Rattle.std.proofs.lemmas.List.{append_cancel_right}
 use Rattle.city_json.specs.Bytes.{newline}
-use Rattle.city_json.specs.declared.fault.Fault.{Fault}
-use Rattle.city_json.specs.declared.fault.Fault.TheVariants.{VertexRange, Memory}
+use Rattle.byte_streams.specs.declared.fault.Fault.{Fault}
+use Rattle.byte_streams.specs.declared.fault.Fault.TheVariants.{VertexRange, Memory}
 use Rattle.city_feature.specs.Feature.{FeatureValue}
 use Rattle.city_feature.specs.FeatureLine.{GivesFeature, RefusesFeatureLine}
 use Rattle.city_feature.specs.Values.{feature_value}
@@ -18,7 +18,7 @@ use Rattle.tile_merge.specs.Texts.{Outcome, ComesTo, EndsAfter}
 use Rattle.tile_merge.specs.Tile.{TileLines}
 use Rattle.tile_merge.specs.TileState.{TileState, AreLines, IsPassed}
 use Rattle.tile_merge.specs.Unread.{Unread}
-use Rattle.tile_merge.specs.declared.lines.state.LineFault.{LineFault}
+use Rattle.byte_streams.specs.declared.places.LineFault.{LineFault}
 use Rattle.tile_merge.proofs.Comings.{ends_after, left_comes}
 
 -- what was tested to be 0

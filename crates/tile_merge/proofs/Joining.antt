@@ -1,7 +1,7 @@
 -- The headers of tiles, joined or refused.
 use Rattle.std.proofs.Common.{◌≡◌, ◌≤◌, ◌<◌, ◌+◌, ◌-◌, ◌++◌, ◌⊎◌, ℕ, zero, suc, Bool, List, [], ◌∷◌, IsSomeAnd, slice_get, length, map, refl, sym, ap, subst, inl, inr, arith}
-use Rattle.city_json.specs.declared.fault.Fault.{Fault}
-use Rattle.city_json.specs.declared.fault.Fault.TheVariants.{Memory}
+use Rattle.byte_streams.specs.declared.fault.Fault.{Fault}
+use Rattle.byte_streams.specs.declared.fault.Fault.TheVariants.{Memory}
 use Rattle.city_json.specs.Tree.{MemberTrees}
 use Rattle.city_feature.specs.Header.{HeaderValue}
 use Rattle.city_feature.specs.Joined.{AllAgree, IsFirstMisfit, RefusesJoin, IsJoined, IsMisfit, extensions_of, union}
@@ -10,7 +10,7 @@ use Rattle.city_grid.specs.Axes.{Triple}
 use Rattle.city_grid.specs.Transform.{Grid}
 use Rattle.tile_merge.specs.Merged.{HeadedTile, HaveHeads, headers_of, IsFirstHeadless, IsFirstUnfit, IsOfNoTile}
 use Rattle.tile_merge.specs.Opened.{AllThree, OpenState, IsOpened}
-use Rattle.tile_merge.specs.declared.fault.MergeFault.{MergeFault}
+use Rattle.byte_streams.specs.declared.places.MergeFault.{MergeFault}
 use Rattle.tile_merge.proofs.Opening.{all_three_long, have_heads}
 
 module _ (first : HeaderValue) (grid : Grid) where

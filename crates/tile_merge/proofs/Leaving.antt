@@ -1,16 +1,15 @@
 -- What one cut does to what may be left.
 use Rattle.std.proofs.Common.{◌≡◌, ◌≤◌, ◌+◌, ◌++◌, ℕ, Bool, true, false, List, [], ◌∷◌, Option, Some, None, length, refl, sym, ap, subst, ◌∙◌, arith, ⊎_elim, ◌⊎◌, inl, inr}
-use Rattle.std.specs.List.{slice_split}
 use Rattle.std.proofs.lemmas.Bool.{cases_Bool}
 use Rattle.city_json.specs.Bytes.{newline}
-use Rattle.city_json.specs.declared.fault.Fault.{Fault}
-use Rattle.city_json.specs.declared.fault.Fault.TheVariants.{LineTooLong, TileTooLong, Read, Memory}
+use Rattle.byte_streams.specs.declared.fault.Fault.{Fault}
+use Rattle.byte_streams.specs.declared.fault.Fault.TheVariants.{LineTooLong, TileTooLong, Read, Memory}
 use Rattle.tile_merge.specs.declared.limits.Limits.{Limits}
 use Rattle.tile_merge.specs.Ahead.{Ahead, MayCome}
 use Rattle.tile_merge.specs.Taking.{HasNoNewline, IsFineFront, IsFineLine, IsRefusal}
-use Rattle.tile_merge.specs.Unread.{Unread, Leaves, part_before, IsRefused, BeginsFrom, EndsFrom}
-use Rattle.tile_merge.specs.Tile.{TileLines, part_of, number_parts, is_newline, is_blank, fault_at, lines_of_parts, lines_from, line_before, nothing_left, only_fault}
-use Rattle.tile_merge.proofs.FirstParts.{by_fault, by_blank, by_line, whole_blank, whole_line, last_blank, last_line}
+use Rattle.tile_merge.specs.Unread.{Unread, Leaves, part_before, IsRefused, BeginsFrom, ComesFrom, EndsFrom}
+use Rattle.tile_merge.specs.Tile.{Part, FaultyLine, TileLines, part_of, number_parts, is_blank, fault_at, lines_of_parts, lines_from, line_before, nothing_left, only_fault}
+use Rattle.tile_merge.proofs.FirstParts.{split-cons, by_fault, after_blank, after_line, by_blank, whole_blank, whole_line, last_blank, last_line}
 
 part_blank : (number start : ℕ) (bytes : List ℕ) (left : TileLines) → is_blank bytes ≡ true → part_before (part_of number start bytes) left ≡ left
 part_blank number start bytes left blank = rw blank refl
@@ -25,19 +24,45 @@ fault_cases (Some fault) = inr (fault, refl)
 abbrev Begins : ℕ → TileLines → Type 0
 Begins from left = BeginsFrom from left.lines left.fault
 
+abbrev Comes : ℕ → TileLines → Type 0
+Comes from left = ComesFrom from left.lines left.fault left.last
+
+-- what comes at a number or above it begins at each lower one
+pub begins_before : (first number : ℕ) (lines : List Part) (fault : Option FaultyLine) (last : ℕ) → first ≤ number → ComesFrom number lines fault last → BeginsFrom first lines fault
+begins_before first number [] None last low comes = tt
+begins_before first number [] (Some fault) last low comes = omega (arith, low, comes)
+begins_before first number (line ∷ others) fault last low comes = omega (arith, low, comes)
+
 -- what is given from a line on bears its number or one above it
-begins : (limits : Limits) (size : ℕ) (fails : Bool) (from number start : ℕ) (parts : List (List ℕ)) → from ≤ number → Begins from (lines_of_parts limits size fails (number_parts number start parts))
-begins limits size fails from number start [] low = tt
-begins limits size fails from number start (bytes ∷ others) low =
-    let part = part_of number start bytes in
-    let after = number_parts (number + 1) (start + length bytes + 1) others in
-    ⊎_elim
-    (λ fine. ⊎_elim
-    (λ blank. subst (Begins from) (sym (by_blank limits size fails part after fine blank)) (begins limits size fails from (number + 1) (start + length bytes + 1) others (omega arith)))
-    (λ full. subst (Begins from) (sym (by_line limits size fails part after fine full)) low)
-    (cases_Bool (is_blank bytes)))
-    (λ faulty. subst (Begins from) (sym (by_fault limits size fails part after faulty.0 faulty.1)) low)
-    (fault_cases (fault_at limits size fails part))
+module _ (limits : Limits) (size : ℕ) (fails : Bool) (from : ℕ) where
+  abbrev Given : List Part → Type 0
+  Given parts = Comes from (lines_of_parts limits size fails parts)
+
+  first_comes : (part : Part) (others : List Part) → from ≤ part.number → (fault_at limits size fails part ≡ None → is_blank part.bytes ≡ true → Given (part ∷ others)) → Given (part ∷ others)
+  first_comes part others low if_blank =
+      ⊎_elim
+      (λ fine. ⊎_elim
+      (λ blank. if_blank fine blank)
+      (λ full. subst (Comes from) (sym (after_line limits size fails part others fine full)) low)
+      (cases_Bool (is_blank part.bytes)))
+      (λ faulty. subst (Comes from) (sym (by_fault limits size fails part others faulty.0 faulty.1)) low)
+      (fault_cases (fault_at limits size fails part))
+
+  parts_come : (number start : ℕ) (bytes : List ℕ) (others : List (List ℕ)) → from ≤ number → Given (number_parts number start (bytes ∷ others))
+  parts_come number start bytes [] low =
+      let part = part_of number start bytes in
+      first_comes part [] low (λ fine blank. subst (Comes from) (sym (after_blank limits size fails part [] fine blank)) low)
+  parts_come number start bytes (next ∷ others) low =
+      let part = part_of number start bytes in
+      let after = number_parts (number + 1) (start + length bytes + 1) (next ∷ others) in
+      first_comes part after low (λ fine blank.
+      subst (Comes from) (sym (by_blank limits size fails part after fine (part_of (number + 1) (start + length bytes + 1) next, number_parts (number + 1 + 1) (start + length bytes + 1 + length next + 1) others, refl) blank)) (parts_come (number + 1) (start + length bytes + 1) next others (omega arith)))
+
+lines_come : (limits : Limits) (number start : ℕ) (bytes : List ℕ) (fails : Bool) → Comes number (lines_from limits number start bytes fails)
+lines_come limits number start bytes fails =
+    let split = split-cons bytes in
+    let Given : List (List ℕ) → Type 0 = λ parts. Comes number (lines_of_parts limits (start + length bytes) fails (number_parts number start parts)) in
+    subst Given (sym split.1.1.0) (parts_come limits (start + length bytes) fails number number start split.0 split.1.0 (omega arith))
 
 module _ {R : Type 0} (gives : R → List ℕ → Bool → Type 0) (limits : Limits) (number start : ℕ) (before : Ahead R) where
   abbrev unread : Ahead R → ℕ → ℕ → Unread R
@@ -59,11 +84,11 @@ module _ {R : Type 0} (gives : R → List ℕ → Bool → Type 0) (limits : Lim
             (cases_Bool (is_blank line)),
       )
 
-  pub by_last_blank : (line : List ℕ) → HasNoNewline line → IsFineFront limits start line → MayCome gives before line false → is_blank line ≡ true → Leaves gives (unread before number start) nothing_left
+  pub by_last_blank : (line : List ℕ) → HasNoNewline line → IsFineFront limits start line → MayCome gives before line false → is_blank line ≡ true → Leaves gives (unread before number start) (nothing_left number)
   by_last_blank line none fine comes blank = (line, false, comes, sym (last_blank limits number start line none fine blank))
 
   pub by_last : (line : List ℕ) → HasNoNewline line → IsFineFront limits start line → MayCome gives before line false → is_blank line ≡ false
-      → (left : TileLines) → left ≡ nothing_left → Leaves gives (unread before number start) (part_before (part_of number start line) left)
+      → (left : TileLines) → left ≡ nothing_left number → Leaves gives (unread before number start) (part_before (part_of number start line) left)
   by_last line none fine comes full left is =
       (line, false, comes, part_full number start line left full ∙ ap (line_before (part_of number start line)) is ∙ sym (last_line limits number start line none fine full))
 
@@ -72,7 +97,7 @@ module _ {R : Type 0} (gives : R → List ℕ → Bool → Type 0) (limits : Lim
       let bytes = is.0 in
       let fails = is.1 in
       let left = lines_from limits number start bytes fails in
-      (left, (bytes, fails, is.2, refl), begins limits (start + length bytes) fails number number start (slice_split is_newline bytes) (omega arith))
+      (left, (bytes, fails, is.2, refl), lines_come limits number start bytes fails)
   by_refusal LineTooLong is = (is.0, is.1, is.2, sym (is.3 number))
   by_refusal TileTooLong is = (is.0, is.1, is.2, sym (is.3 number))
   by_refusal Read is = (is.0, is.1, is.2, sym (is.3 number))
@@ -89,10 +114,12 @@ something_if gives some (Some known) lines is from = rw is (known, refl, from)
 something_if gives some None lines is from =
     let rest = some lines.ahead.reader in
     let bytes = lines.ahead.held ++ rest.0 in
+    let left = lines_from lines.limits lines.number lines.start bytes rest.1.0 in
+    let comes = lines_come lines.limits lines.number lines.start bytes rest.1.0 in
     rw is (
-      lines_from lines.limits lines.number lines.start bytes rest.1.0,
+      left,
       (bytes, rest.1.0, (rest.0, rest.1.1, refl), refl),
-      begins lines.limits (lines.start + length bytes) rest.1.0 lines.number lines.number lines.start (slice_split is_newline bytes) (omega arith),
+      begins_before lines.number lines.number left.lines left.fault left.last (omega arith) comes,
     )
 
 pub something_left : {R : Type 0} (gives : R → List ℕ → Bool → Type 0) → ((reader : R) → (bytes : List ℕ) × ((fails : Bool) × gives reader bytes fails)) → (lines : Unread R) → EndsFrom lines.number lines.ended → (left : TileLines) × Leaves gives lines left × Begins lines.number left

@@ -9,8 +9,8 @@ use Rattle.tile_merge.specs.Merged.{HeadedTile, HaveHeads, headers_of, IsFirstHe
 use Rattle.tile_merge.specs.Opened.{AllThree, OpenState, IsOpened}
 use Rattle.tile_merge.specs.Tile.{TileLines, stream_limits}
 use Rattle.tile_merge.specs.Unread.{IsOfTile}
-use Rattle.tile_merge.specs.declared.fault.MergeFault.{MergeFault}
-use Rattle.tile_merge.specs.declared.lines.state.LineFault.{LineFault}
+use Rattle.byte_streams.specs.declared.places.MergeFault.{MergeFault}
+use Rattle.byte_streams.specs.declared.places.LineFault.{LineFault}
 use Rattle.tile_merge.proofs.Threes.{all_three_push}
 
 -- a head that was given of lines that may be left is one of a tile that the reader may give

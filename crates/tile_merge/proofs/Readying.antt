@@ -1,14 +1,14 @@
 -- Tiles that are ready to be merged in turn, or why they are not.
 use Rattle.std.proofs.Common.{◌≡◌, ◌≤◌, ◌+◌, ◌⊎◌, ◌==◌, ℕ, zero, suc, Bool, false, All, List, [], ◌∷◌, length, inl, inr, refl, ap, arith, if◌then◌else◌}
 use Rattle.std.proofs.lemmas.Bool.Decides.{nat_tests}
-use Rattle.city_json.specs.declared.fault.Fault.TheVariants.{Memory}
+use Rattle.byte_streams.specs.declared.fault.Fault.TheVariants.{Memory}
 use Rattle.city_feature.specs.Header.{HeaderValue}
 use Rattle.city_feature.specs.declared.base.Base.{Base}
 use Rattle.tile_merge.specs.Filtered.{failures_after_refusal, failures_after_write}
 use Rattle.tile_merge.specs.Merged.{IsFirstHeadless, IsFirstUnfit, IsOfNoTile, IsRefusedEarly}
 use Rattle.tile_merge.specs.Opened.{AllThree, OpenState, IsOpened}
 use Rattle.tile_merge.specs.TileState.{most_to_come, most_texts}
-use Rattle.tile_merge.specs.declared.fault.MergeFault.{MergeFault}
+use Rattle.byte_streams.specs.declared.places.MergeFault.{MergeFault}
 
 -- a refusal that names a tile is no failed write
 pub quiet_tile : (refusal : MergeFault) (n : ℕ) → refusal.tile ≡ n + 1 → (count : ℕ) → failures_after_refusal refusal count ≡ count

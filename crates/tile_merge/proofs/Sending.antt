@@ -7,9 +7,9 @@ use Rattle.std.proofs.Crossing as crossing
 use Rattle.std.specs.contracts.alloc.Global as heap
 use Rattle.std.specs.contracts.collections.VecDeque as deque
 use Rattle.std.specs.contracts.impls.GlobalAllocator.TheImpl.{ghosts}
-use Rattle.city_json.specs.contracts.line.Line as line_type
+use Rattle.byte_streams.specs.contracts.line.Line as line_type
 use Rattle.city_json.proofs.json.Json.TheLaws.TheKnot as json
-use Rattle.city_json.proofs.line.Line.TheSendSync as line
+use Rattle.byte_streams.proofs.line.Line.TheSendSync as line
 use Rattle.city_grid.proofs.shifts.Shift.TheSendSync as shift
 use Rattle.city_grid.proofs.vertices.Vertex.TheSendSync as vertex
 use Rattle.city_feature.specs.contracts.features.Feature as feature_type

@@ -1,15 +1,15 @@
 -- Which fault is told, found by going through the end notes.
 use Rattle.std.proofs.Common.{◌≡◌, ◌≤◌, ◌<◌, ◌+◌, Bool, true, false, ℕ, List, [], ◌∷◌, Option, Some, None, length, get_or, drop, map, refl, sym, ap, subst, add-one, drop-cons}
 use Rattle.std.proofs.lemmas.List.{drop_all}
-use Rattle.city_json.specs.contracts.fault.Fault.{the_type}
-use Rattle.city_json.specs.declared.fault.Fault.{Fault}
-use Rattle.city_json.specs.declared.fault.Fault.TheVariants.{Memory}
+use Rattle.byte_streams.specs.contracts.fault.Fault.{the_type}
+use Rattle.byte_streams.specs.declared.fault.Fault.{Fault}
+use Rattle.byte_streams.specs.declared.fault.Fault.TheVariants.{Memory}
 use Rattle.tile_handoff.specs.declared.note.End.{End}
 use Rattle.tile_merge.specs.EndNotes.{Ended, AreEnds, end_of, end_with, outcome_at, outcomes_in, totals_in}
 use Rattle.tile_merge.specs.Texts.{Outcome}
 use Rattle.tile_merge.specs.Told.{first_where, is_memory}
-use Rattle.tile_merge.specs.declared.fault.MergeFault.{MergeFault}
-use Rattle.tile_merge.specs.declared.lines.state.LineFault.{LineFault}
+use Rattle.byte_streams.specs.declared.places.MergeFault.{MergeFault}
+use Rattle.byte_streams.specs.declared.places.LineFault.{LineFault}
 use denote.Enum.Bare.{sameb}
 
 -- this is the fault of the first tile of which the test holds, whatever tiles these are the ends of

@@ -5,8 +5,8 @@ use Rattle.std.specs.List.{AllZip, concat}
 use Rattle.std.proofs.lemmas.List.{length-map, map-append}
 use Rattle.std.proofs.lemmas.List.Folds.{concat-append}
 use Rattle.std.proofs.lemmas.Slice.Zip.{AllZip-long}
-use Rattle.city_json.specs.declared.fault.Fault.{Fault}
-use Rattle.city_json.specs.declared.fault.Fault.TheVariants.{Write, Memory}
+use Rattle.byte_streams.specs.declared.fault.Fault.{Fault}
+use Rattle.byte_streams.specs.declared.fault.Fault.TheVariants.{Write, Memory}
 use Rattle.city_feature.specs.Choice.{IsChosen}
 use Rattle.city_feature.specs.Feature.{FeatureValue}
 use Rattle.city_feature.specs.declared.base.Base.{Base}
@@ -22,7 +22,7 @@ use Rattle.tile_merge.specs.Rounds.{ends_in, texts_in}
 use Rattle.tile_merge.specs.Stream.{with_newline, stream}
 use Rattle.tile_merge.specs.Threads.{Fed, RunningState, AreStarted, AreUncancelled, HasGiven, HaveGiven, IsRunOf, LinesSoFar, WroteUnless, feds_of, lines_taken, fed_of}
 use Rattle.tile_merge.specs.Told.{told}
-use Rattle.tile_merge.specs.declared.fault.MergeFault.{MergeFault}
+use Rattle.byte_streams.specs.declared.places.MergeFault.{MergeFault}
 use Rattle.tile_merge.specs.declared.merging.report.Report.{Report}
 use Rattle.tile_merge.proofs.InTurn.{ends_long, of_write, of_memory, of_tile}
 use Rattle.tile_merge.proofs.MergedTiles.{AreMerged, MayGive, are_merged, merges}

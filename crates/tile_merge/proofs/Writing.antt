@@ -6,9 +6,9 @@ use Rattle.std.proofs.KnownBytes.{Appends-trans}
 use Rattle.std.proofs.lemmas.List.{get_or-map, length-map, map-set}
 use Rattle.std.proofs.lemmas.List.Folds.{concat-append}
 use Rattle.std.specs.List.{AllByRecursion, concat}
-use Rattle.city_json.specs.Streams.Failures.{after_call}
-use Rattle.city_json.specs.declared.fault.Fault.{Fault}
-use Rattle.city_json.specs.declared.fault.Fault.TheVariants.{Write}
+use Rattle.byte_streams.specs.Failures.{after_call}
+use Rattle.byte_streams.specs.declared.fault.Fault.{Fault}
+use Rattle.byte_streams.specs.declared.fault.Fault.TheVariants.{Write}
 use Rattle.tile_merge.specs.Interleaves.{Interleaves}
 use Rattle.tile_merge.specs.Threads.{Fed, RunningState, AreFresh, AreUncancelled, LinesSoFar, WroteUnless, feds_of, lines_taken}
 use Rattle.tile_merge.proofs.Steps.{Appends-kept, first_of_longer}

@@ -1,13 +1,13 @@
 -- The notes by which a tile is handed on: its texts, a line each, and then the end note.
 use Rattle.std.specs.Prelude.{◌≡◌, ◌++◌, ℕ, List, [], ◌∷◌, Option, Some, None, map}
 use Rattle.std.specs.List.{AllZip}
-use Rattle.city_json.specs.Faults.{number_of}
+use Rattle.byte_streams.specs.Faults.{number_of}
 use Rattle.tile_handoff.specs.declared.note.End.{End}
 use Rattle.tile_handoff.specs.declared.note.Note.{Note}
 use Rattle.tile_handoff.specs.declared.note.Note.TheVariants.{Line as LineNote, End as EndNote}
 use Rattle.tile_merge.specs.Stream.{with_newline}
 use Rattle.tile_merge.specs.Texts.{Outcome}
-use Rattle.tile_merge.specs.declared.lines.state.LineFault.{LineFault}
+use Rattle.byte_streams.specs.declared.places.LineFault.{LineFault}
 
 -- how many texts a tile gave in all, and how it ended
 pub record Ended : Type 0 where

@@ -1,17 +1,19 @@
 -- The head of a tile: the header and the features for which its first line stands, or why it has none.
-use Rattle.std.specs.Prelude.{◌≡◌, ◌⊎◌, ℕ, List, [], ◌∷◌, Option, Some, None}
+use Rattle.std.specs.Prelude.{◌≡◌, ◌⊎◌, ◌<◌, ℕ, Bool, List, [], ◌∷◌, Option, Some, None}
 use Rattle.city_json.specs.Fits.{Fits}
 use Rattle.city_json.specs.Grammar.{Spells}
 use Rattle.city_json.specs.Refusals.{RefusesText}
 use Rattle.city_json.specs.Tree.{Tree}
-use Rattle.city_json.specs.declared.fault.Fault.{Fault}
-use Rattle.city_json.specs.declared.fault.Fault.TheVariants.{NoHeader, Memory}
+use Rattle.byte_streams.specs.declared.fault.Fault.{Fault}
+use Rattle.byte_streams.specs.declared.fault.Fault.TheVariants.{NoHeader}
 use Rattle.city_cut.specs.Cut.{IsCut, IsCuttable, RefusesCut}
 use Rattle.city_feature.specs.Feature.{FeatureValue}
 use Rattle.city_feature.specs.Header.{HeaderValue, HoldsCity, IsHeader, RefusesHeader}
+use Rattle.tile_merge.specs.Ahead.{MayCome}
 use Rattle.tile_merge.specs.Held.{Held}
 use Rattle.tile_merge.specs.Texts.{IsOutOfMemory}
 use Rattle.tile_merge.specs.Tile.{Part, FaultyLine, TileLines, line_before}
+use Rattle.tile_merge.specs.Unread.{Unread, Leaves, GivesLine, StandsAt}
 
 -- A value with city objects or vertices is a document and is cut; each other one is a header, and
 -- holds no features.
@@ -43,16 +45,26 @@ HasHead tile header held after =
     × (line.number ≡ held.line)
     × SpellsHead line.bytes header held.features
 
+-- memory ran out before the first line was taken: at a line, of this number at the latest
+abbrev pub IsOutOfMemoryBy : ℕ → FaultyLine → Type 0
+IsOutOfMemoryBy number at = (0 < at.number) × IsOutOfMemory number at
+
 -- why there is none: there is no line; or the tile is at fault before its first line ends; or that
 -- line is refused; memory may run out before
-abbrev pub LinesHaveNoHead : List Part → Option FaultyLine → FaultyLine → Type 0
-LinesHaveNoHead [] None at = ((at.number ≡ 0) × (at.fault ≡ NoHeader)) ⊎ (at.fault ≡ Memory)
-LinesHaveNoHead [] (Some fault) at = (at ≡ fault) ⊎ IsOutOfMemory fault.number at
-LinesHaveNoHead (line ∷ others) fault at =
-    ((at.number ≡ line.number) × RefusesHead at.fault line.bytes) ⊎ IsOutOfMemory line.number at
+abbrev pub LinesHaveNoHead : List Part → Option FaultyLine → ℕ → FaultyLine → Type 0
+LinesHaveNoHead [] None last at = ((at.number ≡ 0) × (at.fault ≡ NoHeader)) ⊎ IsOutOfMemoryBy last at
+LinesHaveNoHead [] (Some fault) last at = (at ≡ fault) ⊎ IsOutOfMemoryBy fault.number at
+LinesHaveNoHead (line ∷ others) fault last at =
+    ((at.number ≡ line.number) × RefusesHead at.fault line.bytes) ⊎ IsOutOfMemoryBy line.number at
 
 abbrev pub HasNoHead : TileLines → FaultyLine → Type 0
-HasNoHead tile at = LinesHaveNoHead tile.lines tile.fault at
+HasNoHead tile at = LinesHaveNoHead tile.lines tile.fault tile.last at
+
+-- Out of memory at the line of this number: reading stands at it, or it is the one that was taken.
+abbrev pub RanOutAt : {R : Type 0} → (R → List ℕ → Bool → Type 0) → ℕ → Unread R → Unread R → Type 0
+RanOutAt gives number before after =
+    StandsAt number after.limits (Leaves gives before) (MayCome gives after.ahead)
+    ⊎ ((bytes : List ℕ) × GivesLine (Leaves gives before) (Leaves gives after) number bytes)
 
 -- Some tile may be the one that is read, and this holds of it.
 abbrev pub SomeTile : (TileLines → Type 0) → (TileLines → Type 0) → Type 0

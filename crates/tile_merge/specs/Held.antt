@@ -1,7 +1,7 @@
 -- City objects that the first line of a tile holds itself: features that come before those of the lines after it.
 use Rattle.std.specs.Prelude.{◌≡◌, ◌≢◌, ◌⊎◌, ◌++◌, ℕ, List, [], ◌∷◌, Any, Option, Some, None, map, option_to_list}
-use Rattle.city_json.specs.declared.fault.Fault.{Fault}
-use Rattle.city_json.specs.declared.fault.Fault.TheVariants.{VertexRange, Memory}
+use Rattle.byte_streams.specs.declared.fault.Fault.{Fault}
+use Rattle.byte_streams.specs.declared.fault.Fault.TheVariants.{VertexRange, Memory}
 use Rattle.city_feature.specs.Feature.{FeatureValue, IsMovable, moved}
 use Rattle.city_feature.specs.FeatureLine.{GivesFeature, RefusesFeatureLine, IsTextOf}
 use Rattle.city_feature.specs.Values.{FeatureJson, feature_value}

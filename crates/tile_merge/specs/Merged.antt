@@ -3,7 +3,7 @@
 use Rattle.std.specs.Prelude.{◌≡◌, ◌⊎◌, ◌<◌, ◌+◌, ◌++◌, ℕ, Bool, List, ◌∷◌, Option, Some, None, length, map, take}
 use Rattle.std.specs.Io.KnownBytes.{Appends, Keeps}
 use Rattle.std.specs.List.{AllZip, AllByRecursion}
-use Rattle.city_json.specs.declared.fault.Fault.TheVariants.{Write, Memory, TooManyTiles}
+use Rattle.byte_streams.specs.declared.fault.Fault.TheVariants.{Write, Memory, TooManyTiles}
 use Rattle.city_feature.specs.Feature.{FeatureValue}
 use Rattle.city_feature.specs.Header.{HeaderValue}
 use Rattle.city_feature.specs.Joined.{IsJoined, RefusesJoin}
@@ -16,7 +16,7 @@ use Rattle.tile_merge.specs.Texts.{Outcome}
 use Rattle.tile_merge.specs.Tile.{TileLines, stream_limits}
 use Rattle.tile_merge.specs.Unread.{IsOfTile}
 use Rattle.tile_merge.specs.Told.{told}
-use Rattle.tile_merge.specs.declared.fault.MergeFault.{MergeFault}
+use Rattle.byte_streams.specs.declared.places.MergeFault.{MergeFault}
 
 -- ---- tiles ----
 

@@ -2,8 +2,8 @@
 -- which end may be to come.
 use Rattle.std.specs.Prelude.{◌≡◌, ◌++◌, ℕ, List, Option, Some, None, length, take, flat_map}
 use Rattle.std.specs.Io.KnownBytes.{Appends}
-use Rattle.city_json.specs.declared.fault.Fault.{Fault}
-use Rattle.city_json.specs.declared.fault.Fault.TheVariants.{Write}
+use Rattle.byte_streams.specs.declared.fault.Fault.{Fault}
+use Rattle.byte_streams.specs.declared.fault.Fault.TheVariants.{Write}
 use Rattle.tile_merge.specs.Stream.{with_newline}
 use Rattle.tile_merge.specs.Texts.{Outcome}
 use Rattle.tile_merge.specs.Tile.{FaultyLine}

@@ -2,8 +2,8 @@
 use Rattle.std.specs.Prelude.{◌≡◌, ◌+◌, ℕ, Bool, false, List, ◌∷◌, ◌++◌, None, length, Result, Ok, Err}
 use Rattle.std.specs.List.{All}
 use Rattle.city_json.specs.Bytes.{newline}
-use Rattle.city_json.specs.declared.fault.Fault.{Fault}
-use Rattle.city_json.specs.declared.fault.Fault.TheVariants.{LineTooLong, TileTooLong, Read, Memory}
+use Rattle.byte_streams.specs.declared.fault.Fault.{Fault}
+use Rattle.byte_streams.specs.declared.fault.Fault.TheVariants.{LineTooLong, TileTooLong, Read, Memory}
 use Rattle.tile_merge.specs.declared.limits.Limits.{Limits}
 use Rattle.tile_merge.specs.declared.lines.part.NextPart.{NextPart}
 use Rattle.tile_merge.specs.declared.lines.part.NextPart.TheVariants.{Ended, Last}
@@ -49,6 +49,12 @@ IsRefusal LineTooLong limits start before = IsRefusedLine LineTooLong limits sta
 IsRefusal TileTooLong limits start before = IsRefusedLine TileTooLong limits start before
 IsRefusal Read limits start before = IsRefusedLine Read limits start before
 IsRefusal other limits start before = ⊥
+
+-- Some first bytes of a part were taken: whatever may be to come now may, after these, have been to come
+-- before.
+abbrev pub StandsWithin : (List ℕ → Bool → Type 0) → (List ℕ → Bool → Type 0) → Type 0
+StandsWithin before after =
+    (front : List ℕ) × HasNoNewline front × ((bytes : List ℕ) (fails : Bool) → after bytes fails → before (front ++ bytes) fails)
 
 -- What was to come, as `before` says, is this part and then what is to come now, as `after` says.
 abbrev pub IsTaken : NextPart → Limits → ℕ → (List ℕ → Bool → Type 0) → (List ℕ → Bool → Type 0) → Type 0

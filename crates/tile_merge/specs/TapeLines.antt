@@ -1,6 +1,6 @@
 -- What a tape leaves: one list of lines, since it is known what a tape gives.
 use Rattle.std.specs.Prelude.{◌++◌, Option, Some, None}
-use Rattle.city_json.specs.Streams.Tape.{TapeState}
+use Rattle.byte_streams.specs.Tape.{TapeState}
 use Rattle.tile_merge.specs.Tile.{TileLines, lines_from}
 use Rattle.tile_merge.specs.Unread.{Unread}
 

@@ -1,7 +1,7 @@
 -- What a merge with a thread for each tile may answer, and what was written then.
 use Rattle.std.specs.Prelude.{◌≡◌, ◌⊎◌, ◌≤◌, ◌<◌, ◌++◌, ℕ, Bool, List, Option, Some, None, length}
 use Rattle.std.specs.Io.KnownBytes.{Keeps}
-use Rattle.city_json.specs.declared.fault.Fault.TheVariants.{NoThread}
+use Rattle.byte_streams.specs.declared.fault.Fault.TheVariants.{NoThread}
 use Rattle.city_feature.specs.Feature.{FeatureValue}
 use Rattle.city_feature.specs.Joined.{IsJoined}
 use Rattle.city_feature.specs.declared.base.Base.{Base}
@@ -10,7 +10,7 @@ use Rattle.tile_merge.specs.Interleaves.{Interleaves}
 use Rattle.tile_merge.specs.Merged.{HeadedTile, HaveHeads, headers_of, MergedTile, Merges, outcomes_of, texts_of, IsRefusedMerge}
 use Rattle.tile_merge.specs.Stream.{stream}
 use Rattle.tile_merge.specs.Told.{told}
-use Rattle.tile_merge.specs.declared.fault.MergeFault.{MergeFault}
+use Rattle.byte_streams.specs.declared.places.MergeFault.{MergeFault}
 
 -- the tiles of these readers have headers, and these join
 abbrev pub HeadersJoin : {R : Type 0} → (R → List ℕ → Bool → Type 0) → Base → List R → Type 0

@@ -2,9 +2,9 @@
 use Rattle.std.specs.Prelude.{◌≡◌, ◌⊎◌, ◌≤◌, ◌<◌, ◌++◌, ℕ, Bool, List, [], ◌∷◌, Option, Some, None, is_some, Result, Ok, Err, IfErr, OnOk, length, map, take}
 use Rattle.std.specs.Io.KnownBytes.{Appends}
 use Rattle.std.specs.List.{AllZip, AllByRecursion, concat, list_all}
-use Rattle.city_json.specs.Streams.Failures.{after_call}
-use Rattle.city_json.specs.declared.fault.Fault.{Fault}
-use Rattle.city_json.specs.declared.fault.Fault.TheVariants.{Write, Memory, NoThread}
+use Rattle.byte_streams.specs.Failures.{after_call}
+use Rattle.byte_streams.specs.declared.fault.Fault.{Fault}
+use Rattle.byte_streams.specs.declared.fault.Fault.TheVariants.{Write, Memory, NoThread}
 use Rattle.city_feature.specs.Choice.{IsChosen}
 use Rattle.city_feature.specs.Header.{HeaderValue}
 use Rattle.city_feature.specs.Joined.{IsJoined}
@@ -22,7 +22,7 @@ use Rattle.tile_merge.specs.Opened.{AllThree, OpenState, IsOpened}
 use Rattle.tile_merge.specs.Stream.{with_newline}
 use Rattle.tile_merge.specs.Texts.{Outcome}
 use Rattle.tile_merge.specs.TileState.{TileState}
-use Rattle.tile_merge.specs.declared.fault.MergeFault.{MergeFault}
+use Rattle.byte_streams.specs.declared.places.MergeFault.{MergeFault}
 
 -- ---- in the thread of a tile ----
 

@@ -2,8 +2,8 @@
 use Rattle.std.specs.Prelude.{◌+◌, ◌-◌, ◌^◌, ◌==◌, ◌&&◌, ◌||◌, ℕ, Bool, not, List, [], ◌∷◌, Option, Some, None, length, filter, filter_map, take_while, option_map, is_none, nat_le, nat_lt, if◌then◌else◌}
 use Rattle.std.specs.List.{slice_split, list_all}
 use Rattle.city_json.specs.Bytes.{space, tab, newline, carriage_return}
-use Rattle.city_json.specs.declared.fault.Fault.{Fault}
-use Rattle.city_json.specs.declared.fault.Fault.TheVariants.{LineTooLong, TileTooLong, Read}
+use Rattle.byte_streams.specs.declared.fault.Fault.{Fault}
+use Rattle.byte_streams.specs.declared.fault.Fault.TheVariants.{LineTooLong, TileTooLong, Read}
 use Rattle.tile_merge.specs.declared.limits.Limits.{Limits}
 
 -- what a reader gave: its bytes up to its first end or its first Err, and whether an Err came
@@ -79,16 +79,29 @@ abbrev pub first_of : {X : Type 0} → List X → Option X
 first_of [] = None
 first_of (x ∷ xs) = Some x
 
--- What a tile gives: the lines before the first part at fault, blank ones left out, and that fault, if there is one.
+-- the number of the last of these parts, or where there is none of the part before them
+abbrev pub last_number : ℕ → List Part → ℕ
+last_number before [] = before
+last_number before (part ∷ others) = last_number part.number others
+
+-- What a tile gives: the lines before the first part at fault, blank ones left out, and that fault, if
+-- there is one; and the number of the part at which it ends, the one at fault or else its last.
 pub record TileLines : Type 0 where
   pub lines : List Part
   pub fault : Option FaultyLine
+  pub last : ℕ
+
+-- the part at fault, or else the last of these
+abbrev pub end_number : Option FaultyLine → List Part → ℕ
+end_number None some_parts = last_number 0 some_parts
+end_number (Some at) some_parts = at.number
 
 -- what these parts give, in a tile of `size` bytes
 abbrev pub lines_of_parts : Limits → ℕ → Bool → List Part → TileLines
 lines_of_parts limits size fails some_parts = record {
   lines = filter (λ part. not (is_blank part.bytes)) (take_while (λ part. is_none (fault_at limits size fails part)) some_parts);
   fault = first_of (filter_map (faulty_line limits size fails) some_parts);
+  last = end_number (first_of (filter_map (faulty_line limits size fails) some_parts)) some_parts;
 }
 
 -- what a tile gives from byte `start` on, where the line of this number begins and these bytes follow
@@ -100,12 +113,12 @@ tile_lines limits tile = lines_from limits 1 0 tile.bytes tile.fails
 
 -- a line, and then what else is given
 abbrev pub line_before : Part → TileLines → TileLines
-line_before part after = record { lines = part ∷ after.lines; fault = after.fault }
+line_before part after = record { lines = part ∷ after.lines; fault = after.fault; last = after.last }
 
--- nothing is to come
-abbrev pub nothing_left : TileLines
-nothing_left = record { lines = []; fault = None }
+-- nothing is to come after the part of this number
+abbrev pub nothing_left : ℕ → TileLines
+nothing_left number = record { lines = []; fault = None; last = number }
 
 -- only a fault is to come
 abbrev pub only_fault : ℕ → Fault → TileLines
-only_fault number fault = record { lines = []; fault = Some (record { number = number; fault = fault }) }
+only_fault number fault = record { lines = []; fault = Some (record { number = number; fault = fault }); last = number }

@@ -1,14 +1,15 @@
 -- A tile that is being read: which lines it may still leave, and what the next of them does to that.
-use Rattle.std.specs.Prelude.{◌≡◌, ◌≤◌, ◌+◌, ◌-◌, ◌⊎◌, ℕ, Bool, true, false, List, [], ◌∷◌, Option, Some, None, Result, Ok, Err, if◌then◌else◌}
-use Rattle.city_json.specs.Streams.Failures.{one_more}
-use Rattle.city_json.specs.declared.fault.Fault.{Fault}
-use Rattle.city_json.specs.declared.fault.Fault.TheVariants.{LineTooLong, TileTooLong, Read, Memory}
+use Rattle.std.specs.Prelude.{◌≡◌, ◌≤◌, ◌+◌, ◌++◌, ◌-◌, ◌⊎◌, ℕ, Bool, true, false, List, [], ◌∷◌, Option, Some, None, is_some, Result, Ok, Err, if◌then◌else◌}
+use Rattle.std.specs.List.{All}
+use Rattle.byte_streams.specs.Failures.{one_more}
+use Rattle.byte_streams.specs.declared.fault.Fault.{Fault}
+use Rattle.byte_streams.specs.declared.fault.Fault.TheVariants.{LineTooLong, TileTooLong, Read, Memory}
 use Rattle.tile_merge.specs.declared.limits.Limits.{Limits}
-use Rattle.tile_merge.specs.declared.lines.state.LineFault.{LineFault}
+use Rattle.byte_streams.specs.declared.places.LineFault.{LineFault}
 use Rattle.tile_merge.specs.declared.lines.state.State.{State}
 use Rattle.tile_merge.specs.declared.lines.state.State.TheVariants.{Open, Over, Refused}
 use Rattle.tile_merge.specs.Ahead.{Ahead, MayCome}
-use Rattle.tile_merge.specs.Tile.{Part, FaultyLine, TileLines, part_of, is_blank, tile_of, tile_lines, lines_from, line_before, nothing_left, only_fault}
+use Rattle.tile_merge.specs.Tile.{Part, FaultyLine, TileLines, part_of, is_newline, is_blank, tile_of, tile_lines, lines_from, line_before, nothing_left, only_fault}
 
 -- What is ahead of the reader, the number of the next line, the byte at which it begins, and, once no
 -- more is read, what is left.
@@ -22,7 +23,7 @@ pub record Unread (R : Type 0) : Type 0 where
 -- what is left once no more is read
 abbrev pub ended_by : State → Option TileLines
 ended_by Open = None
-ended_by Over = Some nothing_left
+ended_by (Over last) = Some (nothing_left last)
 ended_by (Refused at) = Some (only_fault at.line at.fault)
 
 -- the faults that a line may be refused for while the tile is read
@@ -36,7 +37,7 @@ IsLineFault other = ⊥
 -- A refused line bears this number or a higher one, and a fault of lines.
 abbrev pub IsKeptFrom : ℕ → State → Type 0
 IsKeptFrom number Open = Unit {0}
-IsKeptFrom number Over = Unit {0}
+IsKeptFrom number (Over last) = Unit {0}
 IsKeptFrom number (Refused at) = (number ≤ at.line) × IsLineFault at.fault
 
 -- These lines and this fault may be left: what some bytes give that may be to come.
@@ -78,11 +79,38 @@ abbrev pub EndsFrom : ℕ → Option TileLines → Type 0
 EndsFrom number None = Unit {0}
 EndsFrom number (Some left) = BeginsFrom number left.lines left.fault
 
--- A line is refused: out of memory in place of what comes next, a line, a fault or the end; else because
--- that fault is all that is left.
+-- What comes next, a line, a fault or the end, bears this number or a higher one.
+abbrev pub ComesFrom : ℕ → List Part → Option FaultyLine → ℕ → Type 0
+ComesFrom number [] None last = number ≤ last
+ComesFrom number [] (Some at) last = number ≤ at.number
+ComesFrom number (line ∷ others) fault last = number ≤ line.number
+
+-- A line is refused: out of memory in place of what comes next; else because that fault is all that is
+-- left.
 abbrev pub IsRefused : Fault → ℕ → (TileLines → Type 0) → Type 0
-IsRefused Memory number before = (left : TileLines) × before left × BeginsFrom number left.lines left.fault
+IsRefused Memory number before = (left : TileLines) × before left × ComesFrom number left.lines left.fault left.last
 IsRefused fault number before = before (only_fault number fault)
+
+-- Reading stands at the line of this number, of which some first bytes were taken: whatever may be to come
+-- now gives, after these and from that line on, what may have been left before.
+abbrev pub StandsAt : ℕ → Limits → (TileLines → Type 0) → (List ℕ → Bool → Type 0) → Type 0
+StandsAt number limits before after =
+    (start : ℕ)
+    × (front : List ℕ)
+    × All (λ b. is_newline b ≡ false) front
+    × ((bytes : List ℕ) (fails : Bool) → after bytes fails → before (lines_from limits number start (front ++ bytes) fails))
+
+-- Nothing may have been left, since some part was the last.
+abbrev pub MayBeOver : (TileLines → Type 0) → Type 0
+MayBeOver before = (last : ℕ) × before (nothing_left last)
+
+-- whether a line was refused
+abbrev pub is_refused_if : Option TileLines → Bool
+is_refused_if None = false
+is_refused_if (Some left) = is_some left.fault
+
+abbrev pub is_refused : {R : Type 0} → Unread R → Bool
+is_refused lines = is_refused_if lines.ended
 
 -- how many lines may be left at most
 abbrev pub most_left_if : Option TileLines → ℕ → ℕ → ℕ

@@ -1,7 +1,7 @@
 ghost use Rattle.std.specs.Prelude.{◌≡◌, ◌≢◌, ◌≤◌, ◌<◌, ℕ, List, [], length, take, false, Some, None, IfOk, IfErr, OnOk, OnErr};
 ghost use Rattle.std.specs.Io.KnownBytes.{Appends, Keeps};
 ghost use Rattle.city_json.specs.Compact.{compact};
-ghost use Rattle.city_json.specs.Streams.Failures.{after_call};
+ghost use Rattle.byte_streams.specs.Failures.{after_call};
 ghost use Rattle.city_feature.specs.Choice.{IsChosen};
 ghost use Rattle.city_feature.specs.Header.{HeaderValue};
 ghost use Rattle.city_feature.specs.Values.{header_value};
@@ -15,13 +15,12 @@ ghost use Rattle.tile_merge.specs.Tile.{TileLines, stream_limits};
 ghost use Rattle.tile_merge.specs.TileState.{most_to_come, most_texts};
 ghost use Rattle.tile_merge.specs.Unread.{IsOfTile, Leaves, has_failed, is_read, failed_reads_between};
 
-use crate::fault::MergeFault;
 use crate::line_end::{emptied, end_line};
-use crate::lines::LineFault;
 use crate::tile_reader::{Head, Passed, TileReader};
+use byte_streams::{Fault, Line, LineFault, MergeFault, Sink, Source, write_all};
 use city_feature::Choice;
 use city_grid::Shift;
-use city_json::{Fault, Line, Sink, Source, print, write_all};
+use city_json::print;
 use std::alloc::Global;
 
 /// Writes the stream of the features of a tile that are chosen, each as it stands, with the tile's
@@ -159,8 +158,8 @@ fn header_line(alloc: Global, head: &Head) -> Result<Line, LineFault>
     end_line(text, head.line)
 }
 
-/// Writes the lines of the features of a tile that are chosen, and says how many there are. The text
-/// is taken for its memory alone.
+/// Writes the lines of a tile's chosen features, and says how many there are. `text` is a buffer
+/// to reuse.
 fn write_features<R: Source, W: Sink>(
     alloc: Global,
     tile: &mut TileReader<R>,

@@ -1,6 +1,6 @@
 //! Laws of the definitions alone: each is the contract of a function that does nothing.
 ghost use Rattle.std.specs.Prelude.{◌↔◌, ◌≡◌, ℕ, List};
-ghost use Rattle.city_json.specs.Streams.Tape.{TapeState, PlaysOut};
+ghost use Rattle.byte_streams.specs.Tape.{TapeState, PlaysOut};
 ghost use Rattle.tile_merge.specs.Interleaves.{Interleaves};
 ghost use Rattle.tile_merge.specs.TapeLines.{left_on_tape};
 ghost use Rattle.tile_merge.specs.Tile.{TileLines};

@@ -5,7 +5,6 @@
 //! onto the grid that they share. What either writes is an interleaving ([`turns_interleave`]).
 #![tactic(auto)]
 
-mod fault;
 mod filter;
 mod laws;
 mod limits;
@@ -14,11 +13,11 @@ mod lines;
 mod merging;
 mod tile_reader;
 
-pub use fault::MergeFault;
+pub use byte_streams::{LineFault, MergeFault};
 pub use filter::{filter_stream, filter_tile, write_line};
 pub use laws::{tape_leaves_one_list, turns_interleave};
 pub use line_end::end_line;
-pub use lines::{LineFault, Lines, NumberedLine};
+pub use lines::{Lines, NumberedLine};
 pub use merging::in_turn::merge_in_turn;
 pub use merging::report::{Counts, Report};
 pub use merging::threaded::merge;

@@ -1,8 +1,7 @@
 ghost use Rattle.std.specs.Prelude.{◌≡◌, [], IfOk, IfErr};
 ghost use Rattle.tile_merge.specs.Stream.{with_newline};
 
-use crate::lines::LineFault;
-use city_json::{Fault, Line};
+use byte_streams::{Fault, Line, LineFault};
 
 /// Ends a text that the line of this number gave with a newline.
 ///

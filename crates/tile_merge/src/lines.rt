@@ -1,6 +1,7 @@
 ghost use Rattle.std.specs.Prelude.{◌≡◌, ◌≤◌, ◌<◌, ◌+◌, ◌^◌, ◌↔◌, false, Some, None, IfOk, IfErr, IfSome, IfNone};
-ghost use Rattle.tile_merge.specs.Tile.{TileLines, nothing_left, only_fault, limits_of, stream_limits};
-ghost use Rattle.tile_merge.specs.Unread.{Leaves, IsOfTile, GivesPart, GivesLine, IsRefused, IsLineFault, IsAgain, BeginsFrom, EndsFrom, most_left, has_failed, failed_reads_between};
+ghost use Rattle.tile_merge.specs.Ahead.{MayCome};
+ghost use Rattle.tile_merge.specs.Tile.{TileLines, only_fault, limits_of, stream_limits};
+ghost use Rattle.tile_merge.specs.Unread.{Leaves, IsOfTile, GivesPart, GivesLine, MayBeOver, StandsAt, IsRefused, IsLineFault, IsAgain, BeginsFrom, EndsFrom, is_refused, most_left, has_failed, failed_reads_between};
 
 mod part;
 mod read_ahead;
@@ -10,10 +11,9 @@ mod taking;
 use crate::limits::{Limits, STREAM_LIMITS};
 use crate::lines::part::NextPart;
 use crate::lines::read_ahead::ReadAhead;
-pub use crate::lines::state::LineFault;
 use crate::lines::state::State;
 use crate::lines::taking::{is_blank, take_part};
-use city_json::{Line, Source};
+use byte_streams::{Fault, Line, LineFault, Source};
 use std::alloc::Global;
 use std::marker::Model;
 
@@ -37,7 +37,7 @@ pub struct Lines<R> {
 }
 
 impl<R> Model for Lines<R> {
-    ghost use Rattle.std.specs.Prelude.{◌≤◌, ◌+◌, ◌^◌};
+    ghost use Rattle.std.specs.Prelude.{◌≤◌, ◌<◌, ◌+◌, ◌^◌};
     ghost use Rattle.tile_merge.specs.Unread.{Unread, ended_by, IsKeptFrom};
 
     ghost Value = { Unread R };
@@ -51,7 +51,7 @@ impl<R> Model for Lines<R> {
     } };
 
     ghost invariant = { λ l. (l.limits.tile ≤ 2 ^ 40) × (l.start ≤ l.limits.tile)
-        × (l.number ≤ l.start + 1) × IsKeptFrom l.number l.state };
+        × (0 < l.number) × (l.number ≤ l.start + 1) × IsKeptFrom l.number l.state };
 }
 
 impl<R: Source> Lines<R> {
@@ -100,9 +100,9 @@ impl<R: Source> Lines<R> {
     pub fn next(&mut self) -> Result<Option<NumberedLine>, LineFault>
         ensures line { IfOk result (λ next. IfSome next (λ line.
             GivesLine (Leaves R.gives self.old) (Leaves R.gives self.new) line.number line.bytes)) }
-        ensures over { IfOk result (λ next. IfNone next (Leaves R.gives self.old nothing_left)) }
+        ensures over { IfOk result (λ next. IfNone next (MayBeOver (Leaves R.gives self.old))) }
         ensures stays_over { IfOk result (λ next. IfNone next
-            (self.new.ended ≡ Some nothing_left)) }
+            (MayBeOver (λ left. self.new.ended ≡ Some left))) }
         ensures refused { IfErr result (λ e. IsRefused e.fault e.line (Leaves R.gives self.old)) }
         ensures kind { IfErr result (λ e. IsLineFault e.fault) }
         ensures stays { IfErr result (λ e. self.new.ended ≡ Some (only_fault e.line e.fault)) }
@@ -110,6 +110,11 @@ impl<R: Source> Lines<R> {
         ensures first { IfOk result (λ next. IfSome next (λ line. self.old.number ≤ line.number)) }
         ensures later { IfOk result (λ next. IfSome next (λ line. line.number < self.new.number)) }
         ensures at { IfErr result (λ e. self.old.number ≤ e.line) }
+        ensures stands { IfErr result (λ e. e.fault ≡ Fault.Memory → is_refused self.old ≡ false
+            → StandsAt e.line self.new.limits (Leaves R.gives self.old)
+            (MayCome R.gives self.new.ahead)) }
+        ensures counted { IfErr result (λ e. 0 < e.line) }
+        ensures given_counted { IfOk result (λ next. IfSome next (λ line. 0 < line.number)) }
         ensures fewer { IfOk result (λ next. IfSome next (λ line.
             most_left self.new < most_left self.old)) }
         ensures most { most_left self.new ≤ 2 ^ 40 + 1 }
@@ -143,9 +148,9 @@ impl<R: Source> Lines<R> {
     fn next_part(&mut self) -> Result<Option<NumberedLine>, LineFault>
         ensures part { IfOk result (λ next. IfSome next (λ line.
             GivesPart (Leaves R.gives self.old) (Leaves R.gives self.new) line.number line.bytes)) }
-        ensures over { IfOk result (λ next. IfNone next (Leaves R.gives self.old nothing_left)) }
+        ensures over { IfOk result (λ next. IfNone next (MayBeOver (Leaves R.gives self.old))) }
         ensures stays_over { IfOk result (λ next. IfNone next
-            (self.new.ended ≡ Some nothing_left)) }
+            (MayBeOver (λ left. self.new.ended ≡ Some left))) }
         ensures refused { IfErr result (λ e. IsRefused e.fault e.line (Leaves R.gives self.old)) }
         ensures kind { IfErr result (λ e. IsLineFault e.fault) }
         ensures stays { IfErr result (λ e. self.new.ended ≡ Some (only_fault e.line e.fault)) }
@@ -154,6 +159,12 @@ impl<R: Source> Lines<R> {
         ensures first { IfOk result (λ next. IfSome next (λ line. self.old.number ≤ line.number)) }
         ensures later { IfOk result (λ next. IfSome next (λ line. line.number < self.new.number)) }
         ensures at { IfErr result (λ e. self.old.number ≤ e.line) }
+        ensures stands { IfErr result (λ e. e.fault ≡ Fault.Memory → is_refused self.old ≡ false
+            → StandsAt e.line self.new.limits (Leaves R.gives self.old)
+            (MayCome R.gives self.new.ahead)) }
+        ensures goes_on { IfOk result (λ next. IfSome next (λ line. is_refused self.new ≡ false)) }
+        ensures counted { IfErr result (λ e. 0 < e.line) }
+        ensures given_counted { IfOk result (λ next. IfSome next (λ line. 0 < line.number)) }
         ensures fewer { IfOk result (λ next. IfSome next (λ line.
             most_left self.new < most_left self.old)) }
         ensures most { most_left self.new ≤ 2 ^ 40 + 1 }
@@ -165,7 +176,7 @@ impl<R: Source> Lines<R> {
     {
         match self.state {
             State::Open => {}
-            State::Over => return Ok(None),
+            State::Over(_) => return Ok(None),
             State::Refused(fault) => return Err(fault),
         }
         let number = self.number;
@@ -176,7 +187,7 @@ impl<R: Source> Lines<R> {
                 Ok(Some(NumberedLine { number, bytes }))
             }
             Ok(NextPart::Last(bytes)) => {
-                self.state = State::Over;
+                self.state = State::Over(number);
                 if is_blank(bytes.items()) {
                     return Ok(None);
                 }

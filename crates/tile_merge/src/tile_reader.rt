@@ -2,27 +2,27 @@ ghost use Rattle.std.specs.Prelude.{◌≡◌, ◌≢◌, ◌≤◌, ◌<◌, �
 ghost use Rattle.city_feature.specs.Choice.{IsChosen};
 ghost use Rattle.city_feature.specs.Values.{header_value};
 ghost use Rattle.tile_merge.specs.Coming.{MayComeTo, MayLeave, GivesText, ComesBack, SomethingComes};
-ghost use Rattle.tile_merge.specs.Head.{HasNoHead, SomeTile, GivesHead};
+ghost use Rattle.tile_merge.specs.Head.{HasNoHead, SomeTile, GivesHead, RanOutAt};
 ghost use Rattle.tile_merge.specs.Held.{held_value};
 ghost use Rattle.tile_merge.specs.Stream.{with_newline};
 ghost use Rattle.tile_merge.specs.Tile.{TileLines, stream_limits};
 ghost use Rattle.tile_merge.specs.TileState.{IsPassed, most_to_come, most_texts};
-ghost use Rattle.tile_merge.specs.Unread.{Leaves, IsOfTile, has_failed, is_read, failed_reads_between};
+ghost use Rattle.tile_merge.specs.Unread.{Leaves, IsOfTile, has_failed, is_read, is_refused, failed_reads_between};
 
 mod feature_lines;
 mod head;
 mod held;
 
 use crate::line_end::emptied;
-use crate::lines::{LineFault, Lines};
+use crate::lines::Lines;
 pub use crate::tile_reader::feature_lines::Passed;
 use crate::tile_reader::feature_lines::{pass_line, take_feature};
 pub use crate::tile_reader::head::Head;
 use crate::tile_reader::head::{FirstLine, read_first_line};
 use crate::tile_reader::held::{Held, lines_of};
+use byte_streams::{Fault, Line, LineFault, Source};
 use city_feature::Choice;
 use city_grid::Shift;
-use city_json::{Fault, Line, Source};
 use std::alloc::Global;
 use std::collections::VecDeque;
 use std::marker::Model;
@@ -89,11 +89,18 @@ impl<R: Source> TileReader<R> {
         ensures head { IfOk result (λ head. GivesHead (Leaves R.gives self.old.lines)
             (Leaves R.gives self.new.lines) (header_value head.header) (held_value self.new.held)) }
         ensures line { IfOk result (λ head. head.line ≡ self.new.held.line) }
+        ensures counted { IfOk result (λ head. 0 < head.line) }
         ensures none_ready { OnOk result (self.new.ready ≡ []) }
         ensures later { IfOk result (λ head. head.line < self.new.lines.number) }
         ensures refused { IfErr result (λ e. SomeTile (Leaves R.gives self.old.lines) (λ tile.
             HasNoHead tile (record { number = e.line; fault = e.fault }))) }
         ensures not_written { IfErr result (λ e. e.fault ≢ Fault.Write) }
+
+        // Out of memory is told at the line at which reading stands, or at the one that was taken.
+        ensures memory { IfErr result (λ e. e.fault ≡ Fault.Memory
+            → is_refused self.old.lines ≡ false
+            → RanOutAt R.gives e.line self.old.lines self.new.lines) }
+
         ensures some { (left : TileLines) × MayLeave R.gives self.new.lines left }
         ensures most { OnOk result (most_to_come self.new ≤ most_texts) }
         ensures had_not_failed { OnOk result (has_failed self.old.lines ≡ false) }
@@ -135,7 +142,7 @@ impl<R: Source> TileReader<R> {
     }
 
     /// Takes the line of the next feature that is chosen when it is moved by the shift: its compact
-    /// text, so moved, and a newline. None after the last. `spare` is taken for its memory alone.
+    /// text, so moved, and a newline. None after the last. `spare` is a buffer to reuse.
     ///
     /// # Errors
     ///
@@ -175,7 +182,7 @@ impl<R: Source> TileReader<R> {
     }
 
     /// Takes the line of the next feature of the first line that is chosen, or else the next line,
-    /// which may come to nothing. None after the last. `spare` is taken for its memory alone, and
+    /// which may come to nothing. None after the last. `spare` is a buffer to reuse, and
     /// comes back empty with a line that comes to nothing.
     ///
     /// # Errors

@@ -3,8 +3,8 @@ use Rattle.std.proofs.Common.{◌≡◌, ◌∙◌, ◌⊎◌, ◌++◌, ◌+◌
 use Rattle.std.proofs.lemmas.List.{drop_all, drop_more}
 use Rattle.city_json.specs.Members.{member_of}
 use Rattle.city_json.specs.Tree.{Tree, tree, array, ItemTrees, no_items, item, items_tree}
-use Rattle.city_json.specs.declared.fault.Fault.{Fault}
-use Rattle.city_json.specs.declared.fault.Fault.TheVariants.{VertexShape, VertexNotInteger, VertexRange, Memory}
+use Rattle.byte_streams.specs.declared.fault.Fault.{Fault}
+use Rattle.byte_streams.specs.declared.fault.Fault.TheVariants.{VertexShape, VertexNotInteger, VertexRange, Memory}
 use Rattle.city_json.specs.declared.json.Json.{Json}
 use Rattle.city_grid.specs.Axes.{Triple, IsInRange}
 use Rattle.city_grid.specs.Vertex.{IsVertex, RefusesVertex}

@@ -4,8 +4,8 @@ use Rattle.city_json.specs.Compact.{compact}
 use Rattle.city_json.specs.Fits.{Fits}
 use Rattle.city_json.specs.Grammar.{Spells}
 use Rattle.city_json.specs.Tree.{tree}
-use Rattle.city_json.specs.declared.fault.Fault.{Fault}
-use Rattle.city_json.specs.declared.fault.Fault.TheVariants.{VertexRange, Memory}
+use Rattle.byte_streams.specs.declared.fault.Fault.{Fault}
+use Rattle.byte_streams.specs.declared.fault.Fault.TheVariants.{VertexRange, Memory}
 use Rattle.city_json.specs.declared.json.Json.{Json}
 use Rattle.city_grid.specs.Axes.{Triple}
 use Rattle.city_feature.specs.Feature.{FeatureValue, IsFeature, RefusesMove, IsMovable, moved}

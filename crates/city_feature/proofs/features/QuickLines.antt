@@ -23,7 +23,7 @@ use Rattle.city_grid.specs.Axes.{Triple, IsInRange}
 use Rattle.city_grid.specs.Vertex.{vertex_tree}
 use Rattle.city_feature.specs.Changes.{with_named}
 use Rattle.city_feature.specs.Feature.{AreReadAgain, HasFeatureShape, IsFeature, vertices_tree}
-use Rattle.city_feature.specs.Quick.{HasOtherMembers, IsLine, IsPartNamed, IsPlaceOf}
+use Rattle.city_feature.specs.Quick.{HasOtherMembers, IsLine, IsPartNamed, IsPlaceOf, SpellsVertices}
 use Rattle.city_feature.specs.Shapes.{IsArray, IsObject, IsText, IsThere}
 
 pub equal_names : (other name : List ℕ) → other ≡ name → bytes_eq other name ≡ true
@@ -189,11 +189,15 @@ are_writable : (ps : List Triple) → All IsInRange ps → AreWritableItems (ite
 are_writable [] range = tt
 are_writable (p ∷ ps) range = (vertex_is_writable p (range 0 p (omega arith)), are_writable ps (All-tail IsInRange p ps range))
 
-pub feature_at : (line : List ℕ) (parts : List Part) (members : MemberTrees) (part : Part) (ps : List Triple) → IsLine line parts members → HasOtherMembers (object members) → IsPartNamed line parts (quoted (codes "vertices") ++ colon ∷ []) part → slice_range line part.value part.end ≡ compact (vertices_tree ps) → All IsInRange ps
+-- what is written for vertices in range spells them
+pub written_vertices : (text : List ℕ) (ps : List Triple) → text ≡ compact (vertices_tree ps) → All IsInRange ps → SpellsVertices text ps
+written_vertices text ps written range = (item_trees (map vertex_tree ps), written, are_writable ps range, are_vertices ps range)
+
+pub feature_at : (line : List ℕ) (parts : List Part) (members : MemberTrees) (part : Part) (ps : List Triple) → IsLine line parts members → HasOtherMembers (object members) → IsPartNamed line parts (quoted (codes "vertices") ++ colon ∷ []) part → SpellsVertices (slice_range line part.value part.end) ps
     → IsFeature (object members) ps × IsPlaceOf (codes "vertices") members line part
-feature_at line parts members part ps is others named vertices range =
+feature_at line parts members part ps is others named (items, written, writable, vertices) =
     let name = codes "vertices" in
     let found = found_at line parts members name part (utf8 name refl) is named in
-    let here : member_of name (object members) ≡ Some (vertices_tree ps) = says_at line members name part (vertices_tree ps) (are_writable ps range) found vertices in
+    let here : member_of name (object members) ≡ Some (array items) = says_at line members name part (array items) writable found written in
     let shape : HasFeatureShape (object members) = (others.0, others.1, others.2, subst (IsThere IsArray) (sym here) tt) in
-    ((shape, (item_trees (map vertex_tree ps), here, are_vertices ps range)), found.exchanged)
+    ((shape, (items, here, vertices)), found.exchanged)

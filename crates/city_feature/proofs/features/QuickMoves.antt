@@ -4,6 +4,7 @@ use Rattle.std.proofs.Math.IntN.{+ℤ_idr}
 use Rattle.std.proofs.lemmas.List.{append-nil, drop-drop, take-append-drop}
 use Rattle.city_json.proofs.SpelledWritable.{spelled_writable}
 use Rattle.city_json.specs.Compact.{compact}
+use Rattle.city_json.specs.Depth.{IsDeep}
 use Rattle.city_json.specs.Fits.{Fits}
 use Rattle.city_json.specs.Grammar.{Spells}
 use Rattle.city_json.specs.Members.{first_named}
@@ -17,7 +18,7 @@ use Rattle.city_feature.specs.Choice.{HasType, IsChosen}
 use Rattle.city_feature.specs.declared.choices.Choice.{Choice}
 use Rattle.city_feature.specs.Feature.{FeatureValue, IsFeature, moved, moved_vertices, vertices_tree}
 use Rattle.city_feature.specs.FeatureLine.{GivesFeature, SpellsMoved}
-use Rattle.city_feature.specs.Quick.{IsLine, IsPlaceOf, no_steps}
+use Rattle.city_feature.specs.Quick.{IsCompacted, IsLine, IsPlaceOf, no_steps}
 use Rattle.city_feature.specs.Shapes.{IsText, IsThere}
 
 -- what lies in a part, put there again
@@ -91,9 +92,13 @@ kept_there bytes line items parts passed members part ps types has spells fits w
     let (there, moved_is, vertices, text, typed_there) = moved_there bytes line items parts passed members part ps ps no_steps types has spells fits written are_parts same_line same_parts placed typed stay range in
     (there, moved_is, text ∙ kept_line line items part ps ps no_steps same_line stays stay refl, typed_there)
 
-pub still_given : (IsWanted : FeatureValue → Type 0) (shift : Triple) (bytes old before new : List ℕ) (found : Option Bool) → shift ≡ no_steps → before ≡ old
-    → IfSome found (λ is_chosen. (given : Option (List ℕ)) × GivesFeature IsWanted no_steps bytes given × (is_some given ≡ is_chosen) × (new ≡ before ++ unwrap_or given []))
+pub still_given : (IsWanted : FeatureValue → Type 0) (shift : Triple) (bytes line old before new : List ℕ) (parts : List Part) (found : Option Bool) → shift ≡ no_steps → before ≡ old → IsCompacted bytes line parts
+    → IfSome found (λ is_chosen. (from : List ℕ) → IsCompacted from line parts → (given : Option (List ℕ)) × GivesFeature IsWanted no_steps from given × (is_some given ≡ is_chosen) × (new ≡ before ++ unwrap_or given []))
     → IfSome found (λ is_chosen. (given : Option (List ℕ)) × GivesFeature IsWanted shift bytes given × (is_some given ≡ is_chosen) × (new ≡ old ++ unwrap_or given []))
-still_given IsWanted shift bytes old before new None still same told = tt
-still_given IsWanted shift bytes old before new (Some b) still same (given, gives, is, put) =
-    (given, subst (λ k. GivesFeature IsWanted k bytes given) (sym still) gives, is, put ∙ ap (λ l. l ++ unwrap_or given []) same)
+still_given IsWanted shift bytes line old before new parts None still same is told = tt
+still_given IsWanted shift bytes line old before new parts (Some b) still same is told =
+    let (given, gives, is_given, put) = told bytes is in
+    (given, subst (λ k. GivesFeature IsWanted k bytes given) (sym still) gives, is_given, put ∙ ap (λ l. l ++ unwrap_or given []) same)
+
+pub compacted : (bytes line : List ℕ) (parts : List Part) → (members : MemberTrees) × Spells bytes (object members) × Fits (object members) × (¬ IsDeep bytes) × (line ≡ compact (object members)) × AreParts 1 parts members → IsCompacted bytes line parts
+compacted bytes line parts (members, spells, fits, shallow, written, are_parts) = (members, spells, fits, written, are_parts)

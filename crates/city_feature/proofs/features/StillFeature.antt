@@ -3,8 +3,8 @@ use Rattle.std.proofs.Common.{◌≡◌, ◌∙◌, ℕ, suc, sym, ap, refl, sub
 use Rattle.std.proofs.lemmas.Slice.Eq.{bytes_eq-Decides}
 use Rattle.city_json.specs.Members.{first_named, member_of}
 use Rattle.city_json.specs.Tree.{Tree, null, boolean, number, string, array, object, ItemTrees, no_items, item, item_trees, MemberTrees, no_members, member}
-use Rattle.city_json.specs.declared.fault.Fault.{Fault}
-use Rattle.city_json.specs.declared.fault.Fault.TheVariants.{VertexRange}
+use Rattle.byte_streams.specs.declared.fault.Fault.{Fault}
+use Rattle.byte_streams.specs.declared.fault.Fault.TheVariants.{VertexRange}
 use Rattle.city_grid.specs.Axes.{Triple, IsInRange}
 use Rattle.city_grid.specs.Vertex.{vertex_tree}
 use Rattle.city_feature.specs.Changes.{with_named, with_member}

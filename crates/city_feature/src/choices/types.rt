@@ -1,7 +1,8 @@
 ghost use Rattle.std.specs.Prelude.{◌≡◌, ◌↔◌, IfOk, IfErr, IfSome, IsTrue};
 ghost use Rattle.city_feature.specs.Choice.{names_between_commas, HasEmptyName};
 
-use city_json::{Fault, Sequence, Str};
+use byte_streams::{Fault, Sequence};
+use city_json::Str;
 use std::alloc::Global;
 
 /// Names of types of city objects, in order.

@@ -9,8 +9,9 @@ use crate::features::Feature;
 use crate::features::moving::shifted;
 use crate::features::quick::quick_line;
 use crate::features::reader::feature;
+use byte_streams::{Fault, Line};
 use city_grid::Shift;
-use city_json::{Fault, Line, print, read};
+use city_json::{print, read};
 use std::alloc::Global;
 
 /// Reads a line as a feature, and moves it by the shift.

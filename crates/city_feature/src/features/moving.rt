@@ -10,8 +10,9 @@ ghost use Rattle.city_feature.specs.Shapes.{IsThere};
 ghost use Rattle.city_feature.specs.Values.{feature_value};
 
 use crate::features::Feature;
+use byte_streams::Fault;
 use city_grid::{Shift, Vertex, moved, write_vertex};
-use city_json::{Fault, Items, Json, Member, Members};
+use city_json::{Items, Json, Member, Members};
 use std::alloc::Global;
 
 /// The vertices, each moved by the shift.

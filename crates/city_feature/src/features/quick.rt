@@ -9,7 +9,7 @@ ghost use Rattle.city_grid.specs.Axes.{IsInRange};
 ghost use Rattle.city_feature.specs.Choice.{HasType, IsChosen};
 ghost use Rattle.city_feature.specs.Feature.{FeatureValue, IsFeature, moved_vertices, vertices_tree};
 ghost use Rattle.city_feature.specs.FeatureLine.{GivesFeature, SpellsMoved};
-ghost use Rattle.city_feature.specs.Quick.{HasOtherMembers, IsLine, IsPartNamed, IsPlaceOf, no_steps};
+ghost use Rattle.city_feature.specs.Quick.{HasOtherMembers, IsCompacted, IsLine, IsPartNamed, IsPlaceOf, SpellsVertices, no_steps};
 
 mod kept;
 mod types;
@@ -18,28 +18,31 @@ use crate::choices::Choice;
 use crate::choices::selecting::selects_of;
 use crate::choices::types::Types;
 use crate::features::moving::moved_all;
-use crate::features::texts::{append_vertices, vertices_of};
+use crate::features::texts::{SpelledVertices, append_vertices, vertices_of};
+use byte_streams::Line;
 use city_grid::{Shift, Vertex, byte_is};
-use city_json::{Line, Part, compact_parts};
-use kept::put_kept;
+use city_json::{Compacted, Part, compact_parts};
+use kept::{has_vertices, put_kept};
 use std::alloc::Global;
 use std::mem::swap;
 use types::has_given_type;
 
-/// The vertices of a line, and their place in it.
+/// The vertices of a line, their place in it, and whether they stand there as they would be written.
 #[derive(Drop)]
 struct PlacedVertices {
     part: Part,
     vertices: Vec<Vertex>,
+    as_written: bool,
 }
 
-/// A line in its compact text, the place of its vertices, the vertices that are to stand there, and whether the
-/// feature has one of the types that are asked for.
+/// A line in its compact text, the place of its vertices, the vertices that are to stand there, whether they do, and
+/// whether the feature has one of the types that are asked for.
 #[derive(Drop)]
 struct MovedLine {
     line: Line,
     part: Part,
     vertices: Vec<Vertex>,
+    stay: bool,
     has_type: bool,
 }
 
@@ -103,11 +106,13 @@ fn has_other_members(line: &[u8], parts: &[Part]) -> bool
 }
 
 /// The vertices that stand between two places of a line.
-fn vertices_between(alloc: Global, line: &[u8], from: usize, to: usize) -> Option<Vec<Vertex>>
-    ensures text { IfSome result (λ vertices. slice_range line.now from to
-        ≡ compact (vertices_tree vertices.items)) }
-    ensures range { IfSome result (λ vertices. All IsInRange vertices.items) }
-    ensures ordered { IfSome result (λ vertices. from ≤ to) }
+fn vertices_between(alloc: Global, line: &[u8], from: usize, to: usize) -> Option<SpelledVertices>
+    ensures spelled { IfSome result (λ found.
+        SpellsVertices (slice_range line.now from to) found.vertices.items) }
+    ensures written { IfSome result (λ found. IsTrue found.as_written
+        → slice_range line.now from to ≡ compact (vertices_tree found.vertices.items)) }
+    ensures range { IfSome result (λ found. All IsInRange found.vertices.items) }
+    ensures ordered { IfSome result (λ found. from ≤ to) }
 {
     let found = between(line, from, to)?;
     vertices_of(alloc, found)
@@ -119,14 +124,19 @@ fn placed_vertices(alloc: Global, line: &[u8], parts: &[Part]) -> Option<PlacedV
         → IsFeature (object members) placed.vertices.items
         × IsPlaceOf (codes "vertices") members line.now placed.part) }
     ensures range { IfSome result (λ placed. All IsInRange placed.vertices.items) }
-    ensures text { IfSome result (λ placed. with_value line.now placed.part (compact (vertices_tree placed.vertices.items)) ≡ line.now) }
+    ensures text { IfSome result (λ placed. IsTrue placed.as_written
+        → with_value line.now placed.part (compact (vertices_tree placed.vertices.items)) ≡ line.now) }
 {
     if !has_other_members(line, parts) {
         return None;
     }
     let part = part_named(line, parts, b"\"vertices\":")?;
-    let vertices = vertices_between(alloc, line, part.value, part.end)?;
-    Some(PlacedVertices { part, vertices })
+    let found = vertices_between(alloc, line, part.value, part.end)?;
+    Some(PlacedVertices {
+        part,
+        vertices: found.vertices,
+        as_written: found.as_written,
+    })
 }
 
 /// Whether all vertices stay where they are.
@@ -150,32 +160,41 @@ fn shifted_vertices(vertices: Vec<Vertex>, shift: Shift) -> Option<Vec<Vertex>>
     Some(moved)
 }
 
-/// Reads a line as a feature, and moves its vertices. The compact text takes the memory of `spare`.
+/// Whether vertices are to stand as they stood.
+fn are_to_stay(as_written: bool, shift: Shift) -> bool
+    ensures { IsTrue result → (IsTrue as_written × (shift ≡ no_steps)) }
+{
+    as_written && is_still(shift)
+}
+
+/// Takes a line as a feature, and moves its vertices.
 fn moved_line(
     alloc: Global,
-    bytes: &[u8],
+    found: Compacted,
     shift: Shift,
     types: &Option<Types>,
-    spare: Line,
 ) -> Option<MovedLine>
-    ensures there { IfSome result (λ moved. (there : FeatureValue)
-        × SpellsMoved shift bytes.now there
+    ensures there { IfSome result (λ moved. (bytes : List ℕ)
+        → IsCompacted bytes found.line found.parts.items
+        → (there : FeatureValue)
+        × SpellsMoved shift bytes there
         × (there.vertices ≡ moved.vertices.items)
         × (compact there.value
         ≡ with_value moved.line moved.part (compact (vertices_tree moved.vertices.items)))
         × (IsTrue moved.has_type ↔ IfSome types.now (λ types. HasType types there.value))) }
-    ensures same { IfSome result (λ moved. shift ≡ no_steps
+    ensures same { IfSome result (λ moved. IsTrue moved.stay
         → with_value moved.line moved.part (compact (vertices_tree moved.vertices.items)) ≡ moved.line) }
 {
-    let found = compact_parts(alloc, bytes, spare)?;
     let (line, parts) = (found.line.items(), found.parts.as_slice());
     let placed = placed_vertices(alloc, line, parts)?;
     let has_type = has_given_type(alloc, types, line, parts)?;
+    let stay = are_to_stay(placed.as_written, shift);
     let vertices = shifted_vertices(placed.vertices, shift)?;
     Some(MovedLine {
         line: found.line,
         part: placed.part,
         vertices,
+        stay,
         has_type,
     })
 }
@@ -193,12 +212,12 @@ fn append_moved(moved: &MovedLine, to: &mut Line) -> Option<()>
 }
 
 /// The line with the vertices in their place: the one that was read, where they stand there already.
-fn written(alloc: Global, moved: MovedLine, shift: Shift) -> Option<Line>
+fn written(alloc: Global, moved: MovedLine) -> Option<Line>
     ensures { IfSome result (λ line.
-        (shift ≡ no_steps → with_value moved.line moved.part (compact (vertices_tree moved.vertices.items)) ≡ moved.line)
+        (IsTrue moved.stay → with_value moved.line moved.part (compact (vertices_tree moved.vertices.items)) ≡ moved.line)
         → line ≡ with_value moved.line moved.part (compact (vertices_tree moved.vertices.items))) }
 {
-    if is_still(shift) {
+    if moved.stay {
         return Some(moved.line);
     }
     // vertices that are moved away from 0 have more digits
@@ -236,7 +255,7 @@ fn put_after(given: Line, to: &mut Line) -> Option<()>
 }
 
 /// Appends the compact text of the feature that a line spells, moved by the shift, where it is chosen then, and says
-/// whether it is. None says nothing of the line, and leaves the text as before.
+/// whether it is. `None`: undecided; the text is unchanged.
 pub fn quick_line(
     alloc: Global,
     bytes: &[u8],
@@ -251,16 +270,19 @@ pub fn quick_line(
     ensures none { IfNone result (text.new ≡ text.old) }
 {
     let spare = spare_of(alloc, text);
+    let found = compact_parts(alloc, bytes, spare)?;
     if is_still(shift) {
         if choice.area.is_none() {
-            return put_kept(alloc, bytes, choice, spare, text);
+            if has_vertices(found.line.items(), &found.parts) {
+                return put_kept(alloc, found, choice, text);
+            }
         }
     }
-    let moved = moved_line(alloc, bytes, shift, &choice.types, spare)?;
+    let moved = moved_line(alloc, found, shift, &choice.types)?;
     if !selects_of(choice, moved.has_type, &moved.vertices) {
         return Some(false);
     }
-    let given = written(alloc, moved, shift)?;
+    let given = written(alloc, moved)?;
     put_after(given, text)?;
     Some(true)
 }

@@ -7,8 +7,9 @@ ghost use Rattle.city_feature.specs.Shapes.{IsArray, IsThere};
 
 use crate::features::Feature;
 use crate::kinds::{Kind, is_there, says};
+use byte_streams::Fault;
 use city_grid::{Vertex, vertex};
-use city_json::{Fault, Json};
+use city_json::Json;
 use std::alloc::Global;
 
 fn has_feature_shape(value: &Json) -> bool

@@ -1,16 +1,59 @@
 //! The vertices of a feature in their compact text.
-ghost use Rattle.std.specs.Prelude.{◌≡◌, ◌++◌, ◌∷◌, [], All, IfSome, IsTrue, OnSome, OnOk};
+ghost use Rattle.std.specs.Prelude.{◌≡◌, ◌++◌, ◌∷◌, [], ◌<◌, ◌≤◌, length, slice_range, All, IfSome, IsTrue, OnSome, OnOk};
 ghost use Rattle.city_json.specs.Compact.{compact};
 ghost use Rattle.city_grid.specs.Axes.{IsInRange};
+ghost use Rattle.city_grid.specs.Vertex.{SpellsVertex, vertex_tree};
 ghost use Rattle.city_feature.specs.Feature.{vertices_tree};
-ghost use Rattle.city_feature.specs.Quick.{IsVerticesText};
+ghost use Rattle.city_feature.specs.Quick.{IsVerticesText, SpellsVertices};
 
-use city_grid::{Vertex, append_vertex, byte_is, vertex_at, vertex_end};
-use city_json::Line;
+use byte_streams::Line;
+use city_grid::{Vertex, append_vertex, byte_is, spelled_vertex_at, vertex_at, vertex_end};
 use std::alloc::{AllocError, Global};
 
 /// How many bytes the text of a vertex and a comma have mostly at least.
 const COMMON_LEN: usize = 20;
+
+/// A vertex, where its text ends, and whether that is the text that would be written for it.
+#[derive(Clone, Copy, Drop)]
+struct SpelledVertex {
+    vertex: Vertex,
+    end: usize,
+    as_written: bool,
+}
+
+/// The vertices that a text spells, and whether it is the text that would be written for them.
+#[derive(Drop)]
+pub struct SpelledVertices {
+    pub vertices: Vec<Vertex>,
+    pub as_written: bool,
+}
+
+/// The vertex at `at`. None says nothing of the text.
+#[inline(always)]
+fn spelled_at(text: &[u8], at: usize) -> Option<SpelledVertex>
+    requires { at ≤ length text.now }
+    ensures onward { IfSome result (λ found. at < found.end) }
+    ensures within { IfSome result (λ found. found.end ≤ length text.now) }
+    ensures spelled { IfSome result (λ found.
+        SpellsVertex (slice_range text.now at found.end) found.vertex) }
+    ensures written { IfSome result (λ found. IsTrue found.as_written
+        → slice_range text.now at found.end ≡ compact (vertex_tree found.vertex)) }
+    ensures range { IfSome result (λ found. IsInRange found.vertex) }
+{
+    if let Some(found) = vertex_at(text, at) {
+        return Some(SpelledVertex {
+            vertex: found.vertex,
+            end: found.end,
+            as_written: true,
+        });
+    }
+    let found = spelled_vertex_at(text, at)?;
+    Some(SpelledVertex {
+        vertex: found.vertex,
+        end: found.end,
+        as_written: false,
+    })
+}
 
 #[inline(always)]
 fn push_vertex(vertex: Vertex, to: &mut Vec<Vertex>) -> Option<()>
@@ -22,28 +65,45 @@ fn push_vertex(vertex: Vertex, to: &mut Vec<Vertex>) -> Option<()>
     Some(())
 }
 
-/// The vertices that the text would be written for. None says nothing of the text.
+#[inline(always)]
+fn both(one: bool, other: bool) -> bool
+    ensures { IsTrue result → (IsTrue one × IsTrue other) }
+{
+    one && other
+}
+
+/// The vertices that the text spells. None says nothing of the text.
 #[inline(never)]
-pub fn vertices_of(alloc: Global, text: &[u8]) -> Option<Vec<Vertex>>
-    ensures text { IfSome result (λ vertices. text.now ≡ compact (vertices_tree vertices.items)) }
-    ensures range { IfSome result (λ vertices. All IsInRange vertices.items) }
+pub fn vertices_of(alloc: Global, text: &[u8]) -> Option<SpelledVertices>
+    ensures spelled { IfSome result (λ found. SpellsVertices text.now found.vertices.items) }
+    ensures written { IfSome result (λ found. IsTrue found.as_written
+        → text.now ≡ compact (vertices_tree found.vertices.items)) }
+    ensures range { IfSome result (λ found. All IsInRange found.vertices.items) }
 {
     let mut vertices = Vec::with_capacity(alloc, text.len() / COMMON_LEN).ok()?;
+    let mut as_written = true;
     if text == b"[]".as_slice() {
-        return Some(vertices);
+        return Some(SpelledVertices {
+            vertices,
+            as_written,
+        });
     }
     if !byte_is(text, 0, b'[') {
         return None;
     }
     let mut at = 1usize;
     'vertices: loop {
-        let found = vertex_at(text, at)?;
+        let found = spelled_at(text, at)?;
         push_vertex(found.vertex, &mut vertices)?;
+        as_written = both(as_written, found.as_written);
         if byte_is(text, found.end, b']') {
             if found.end + 1 < text.len() {
                 return None;
             }
-            return Some(vertices);
+            return Some(SpelledVertices {
+                vertices,
+                as_written,
+            });
         }
         if !byte_is(text, found.end, b',') {
             return None;

@@ -3,7 +3,8 @@ ghost use Rattle.city_json.specs.Compact.{compact};
 ghost use Rattle.city_json.specs.Tree.{tree};
 
 use crate::features::Feature;
-use city_json::{Fault, Line, print};
+use byte_streams::{Fault, Line};
+use city_json::print;
 use std::alloc::Global;
 
 /// The compact text of the feature, with no newline. The only fault is [`Fault::Memory`].

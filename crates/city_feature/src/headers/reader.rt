@@ -7,8 +7,9 @@ ghost use Rattle.city_feature.specs.Header.{RefusesGrid, RefusesHeader};
 
 use crate::headers::Header;
 use crate::kinds::{Kind, is_there, is_where_there, says};
+use byte_streams::Fault;
 use city_grid::{Transform, transform};
-use city_json::{Fault, Json};
+use city_json::Json;
 
 /// Whether it is an object of the type `CityJSON` of which `metadata`, `extensions` and `CityObjects` are
 /// objects, where they are there, and `vertices` an array (CityJSON 2.0, CityJSON Object).

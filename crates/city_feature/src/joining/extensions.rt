@@ -6,7 +6,8 @@ ghost use Rattle.city_feature.specs.Joined.{RefusesExtensions, TakesIn, extensio
 ghost use Rattle.city_feature.specs.Values.{header_value, lent_members};
 
 use crate::headers::Header;
-use city_json::{Fault, Json, Member, Members, Str, same};
+use byte_streams::Fault;
+use city_json::{Json, Member, Members, Str, same};
 use indexmap::IndexMap;
 use std::alloc::Global;
 

@@ -7,8 +7,9 @@ ghost use Rattle.city_feature.specs.Joined.{joined_value, with_extensions};
 
 use crate::changes::{drop_inner_member, set_inner_member, set_member};
 use crate::headers::Header;
+use byte_streams::{Fault, Line};
 use city_grid::Axes;
-use city_json::{Fault, Json, Line, Members, NumText, print};
+use city_json::{Json, Members, NumText, print};
 use std::alloc::Global;
 
 fn number_json(alloc: Global, written: &NumText) -> Result<Json, Fault>

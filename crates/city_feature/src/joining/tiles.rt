@@ -8,8 +8,9 @@ ghost use Rattle.city_feature.specs.Values.{header_value, lent_members};
 use crate::headers::Header;
 use crate::joining::extensions::Extensions;
 use crate::joining::{HeaderFault, OUT_OF_MEMORY, Shifts};
+use byte_streams::{Fault, Sequence};
 use city_grid::{Shift, Transform, shift_of};
-use city_json::{Fault, Json, Sequence, same};
+use city_json::{Json, same};
 use std::alloc::Global;
 
 /// Whether both are absent, or both are there and the same.

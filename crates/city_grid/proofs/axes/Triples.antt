@@ -1,7 +1,7 @@
 -- Triples that are answered where they are in range, and refused where they are not.
 use Rattle.std.proofs.Common.{◌≡◌, ℤ, ◌∙◌, ap, sym, refl, subst, Option, Some, None, Result, IfOk, IfErr}
 use Rattle.std.specs.Option.{SomeIff, ok_or}
-use Rattle.city_json.specs.declared.fault.Fault.{Fault}
+use Rattle.byte_streams.specs.declared.fault.Fault.{Fault}
 use Rattle.city_grid.specs.Axes.{Triple, IsInRange}
 
 pub same_triple : (p q : Triple) → p.x ≡ q.x → p.y ≡ q.y → p.z ≡ q.z → p ≡ q

@@ -1,7 +1,7 @@
 -- Two grids have one shift at most, which is answered where it is in range, and else refused.
 use Rattle.std.proofs.Common.{◌≡◌, ◌∙◌, ap, sym, subst, Option, Some, None, Ok, IfOk, IfErr}
 use Rattle.std.specs.Option.{SomeIff, ok_or}
-use Rattle.city_json.specs.declared.fault.Fault.TheVariants.{ShiftRange}
+use Rattle.byte_streams.specs.declared.fault.Fault.TheVariants.{ShiftRange}
 use Rattle.city_grid.specs.Axes.{Triple, IsInRange}
 use Rattle.city_grid.specs.Shift.{IsShift, RefusesShift}
 use Rattle.city_grid.specs.Transform.{Grid, IsAboveZero}

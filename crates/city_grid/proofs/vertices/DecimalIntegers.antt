@@ -9,8 +9,8 @@ use Rattle.std.specs.Str.Parse.{AllDigits}
 use Rattle.city_json.specs.Bytes.{minus}
 use Rattle.city_json.specs.Gives.{RefusesNumber}
 use Rattle.city_json.specs.Number.{IsNumber, IsWhole}
-use Rattle.city_json.specs.declared.fault.Fault.{Fault}
-use Rattle.city_json.specs.declared.fault.Fault.TheVariants.{Memory, Syntax}
+use Rattle.byte_streams.specs.declared.fault.Fault.{Fault}
+use Rattle.byte_streams.specs.declared.fault.Fault.TheVariants.{Memory, Syntax}
 
 -- digits that do not begin with a zero
 whole_from : (ds : List ℕ) → AllDigits 10 ds → 48 < get_or ds 0 0 → IsWhole ds

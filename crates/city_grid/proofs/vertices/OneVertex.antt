@@ -1,7 +1,7 @@
 -- A value is one vertex at most, which is answered where it is in range, and else refused.
 use Rattle.std.proofs.Common.{◌≡◌, ◌∙◌, ap, sym, subst, Option, Some, None, Ok, IfOk, IfErr}
 use Rattle.std.specs.Option.{SomeIff, ok_or}
-use Rattle.city_json.specs.declared.fault.Fault.TheVariants.{VertexRange}
+use Rattle.byte_streams.specs.declared.fault.Fault.TheVariants.{VertexRange}
 use Rattle.city_json.specs.Tree.{Tree}
 use Rattle.city_grid.specs.Axes.{Triple, IsInRange, Texts, three, Each}
 use Rattle.city_grid.specs.Vertex.{IsInteger, IsSameOrLarge, IsVertex, RefusesVertex}

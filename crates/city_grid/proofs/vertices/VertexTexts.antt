@@ -11,7 +11,7 @@ use Rattle.std.specs.Str.Parse.{AllDigits, digits_value}
 use Rattle.city_json.proofs.Places.{slice_more, slice_one}
 use Rattle.city_json.specs.Bytes.{comma, minus, open_bracket, close_bracket}
 use Rattle.city_json.specs.Compact.{compact}
-use Rattle.city_grid.specs.Axes.{Triple, most_steps}
+use Rattle.city_grid.specs.Axes.{Triple, most_steps, three}
 use Rattle.city_grid.specs.Vertex.{vertex_tree, IsShortNumber, IsShortInteger}
 use Rattle.city_grid.proofs.decimals.DigitValues.{digit_byte, value_after-append, all_digits-append}
 
@@ -77,16 +77,23 @@ run_slice text first found at middle end onward more is rest =
 regroup : (x y z : List ℕ) → x ++ (comma ∷ (y ++ (comma ∷ (z ++ close_bracket ∷ [])))) ≡ (x ++ (comma ∷ (y ++ (comma ∷ (z ++ []))))) ++ close_bracket ∷ []
 regroup x y z = simp (append_assoc, append-nil)
 
+pub three_text : (text xs ys zs : List ℕ) (at a b c : ℕ) → at < length text → get_or text at 0 ≡ open_bracket
+    → at + 1 < a → slice_range text (at + 1) a ≡ xs → a < length text → get_or text a 0 ≡ comma
+    → a + 1 < b → slice_range text (a + 1) b ≡ ys → b < length text → get_or text b 0 ≡ comma
+    → b + 1 < c → slice_range text (b + 1) c ≡ zs → c < length text → get_or text c 0 ≡ close_bracket
+    → slice_range text at (c + 1) ≡ compact (three (record { x = xs; y = ys; z = zs }))
+three_text text xs ys zs at a b c within opened a1 is_x wa comma_a b1 is_y wb comma_b c1 is_z wc closed =
+    let last : slice_range text (b + 1) (c + 1) ≡ zs ++ close_bracket ∷ [] = run_slice text _ _ (b + 1) c (c + 1) (omega arith) (omega arith) is_z (slice_one text c close_bracket wc closed) in
+    let second : slice_range text (a + 1) (c + 1) ≡ ys ++ (comma ∷ (zs ++ close_bracket ∷ [])) = run_slice text _ _ (a + 1) b (c + 1) (omega arith) (omega arith) is_y (mark_slice text _ b (c + 1) comma wb comma_b (omega arith) last) in
+    let first : slice_range text (at + 1) (c + 1) ≡ xs ++ (comma ∷ (ys ++ (comma ∷ (zs ++ close_bracket ∷ [])))) = run_slice text _ _ (at + 1) a (c + 1) (omega arith) (omega arith) is_x (mark_slice text _ a (c + 1) comma wa comma_a (omega arith) second) in
+    mark_slice text _ at (c + 1) open_bracket within opened (omega arith) first ∙ ap (λ l. open_bracket ∷ l) (regroup xs ys zs)
+
 pub vertex_text : (text : List ℕ) (at a b c : ℕ) (p : Triple) → at < length text → get_or text at 0 ≡ open_bracket
     → at + 1 < a → slice_range text (at + 1) a ≡ signed_decimal p.x → a < length text → get_or text a 0 ≡ comma
     → a + 1 < b → slice_range text (a + 1) b ≡ signed_decimal p.y → b < length text → get_or text b 0 ≡ comma
     → b + 1 < c → slice_range text (b + 1) c ≡ signed_decimal p.z → c < length text → get_or text c 0 ≡ close_bracket
     → slice_range text at (c + 1) ≡ compact (vertex_tree p)
-vertex_text text at a b c p within opened a1 is_x wa comma_a b1 is_y wb comma_b c1 is_z wc closed =
-    let last : slice_range text (b + 1) (c + 1) ≡ signed_decimal p.z ++ close_bracket ∷ [] = run_slice text _ _ (b + 1) c (c + 1) (omega arith) (omega arith) is_z (slice_one text c close_bracket wc closed) in
-    let second : slice_range text (a + 1) (c + 1) ≡ signed_decimal p.y ++ (comma ∷ (signed_decimal p.z ++ close_bracket ∷ [])) = run_slice text _ _ (a + 1) b (c + 1) (omega arith) (omega arith) is_y (mark_slice text _ b (c + 1) comma wb comma_b (omega arith) last) in
-    let first : slice_range text (at + 1) (c + 1) ≡ signed_decimal p.x ++ (comma ∷ (signed_decimal p.y ++ (comma ∷ (signed_decimal p.z ++ close_bracket ∷ [])))) = run_slice text _ _ (at + 1) a (c + 1) (omega arith) (omega arith) is_x (mark_slice text _ a (c + 1) comma wa comma_a (omega arith) second) in
-    mark_slice text _ at (c + 1) open_bracket within opened (omega arith) first ∙ ap (λ l. open_bracket ∷ l) (regroup (signed_decimal p.x) (signed_decimal p.y) (signed_decimal p.z))
+vertex_text text at a b c p = three_text text (signed_decimal p.x) (signed_decimal p.y) (signed_decimal p.z) at a b c
 
 -- the same written from its end
 pub put_text : (a0 a1 a2 a3 a4 a5 a6 a7 : List ℕ) (p : Triple) (x y z : ℤ) → x ≡ p.x → y ≡ p.y → z ≡ p.z

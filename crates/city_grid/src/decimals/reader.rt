@@ -3,7 +3,8 @@ ghost use Rattle.city_grid.specs.Decimal.{IsUnits};
 
 use crate::decimals::Decimal;
 use crate::decimals::digits::{move_place, place_point};
-use city_json::{Fault, NumText};
+use byte_streams::Fault;
+use city_json::NumText;
 
 /// The places of decimals that a unit has.
 const UNIT_PLACES: u128 = 24;

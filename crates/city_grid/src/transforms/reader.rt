@@ -9,7 +9,8 @@ use crate::axes::{Axes, three_numbers};
 use crate::decimals::Decimal;
 use crate::decimals::reader::decimal_of;
 use crate::transforms::Transform;
-use city_json::{Fault, Json, NumText};
+use byte_streams::Fault;
+use city_json::{Json, NumText};
 
 /// The three numbers of a member.
 fn numbers_named<'a>(value: &'a Json, name: &str) -> Option<Axes<&'a NumText>>

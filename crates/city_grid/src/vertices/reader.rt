@@ -6,7 +6,8 @@ ghost use Rattle.city_grid.specs.Vertex.{IsInteger, IsSameOrLarge, IsVertex, Ref
 use crate::axes::{Axes, three_numbers};
 use crate::vertices::Vertex;
 use crate::vertices::integers::integer;
-use city_json::{Fault, Json, NumText};
+use byte_streams::Fault;
+use city_json::{Json, NumText};
 
 /// The integers that the numbers write, as far as they are not too large; none where one has a
 /// fraction or an exponent.

@@ -9,7 +9,7 @@ ghost use Rattle.city_grid.specs.Axes.{IsInRange, most_steps};
 ghost use Rattle.city_grid.specs.Vertex.{vertex_tree, IsShortNumber, IsShortInteger, IsVertexText};
 
 use crate::vertices::Vertex;
-use city_json::Line;
+use byte_streams::Line;
 use core::dec2flt::read_digits;
 use itoa::write_digits;
 use std::alloc::AllocError;
@@ -26,16 +26,16 @@ const MOST_LEN: usize = 64;
 
 /// The number that digits write, and where they end.
 #[derive(Clone, Copy, Drop)]
-struct Digits {
-    size: u64,
-    end: usize,
+pub(super) struct Digits {
+    pub size: u64,
+    pub end: usize,
 }
 
 /// An integer, and where its text ends.
 #[derive(Clone, Copy, Drop)]
-struct PlacedInteger {
-    value: i64,
-    end: usize,
+pub(super) struct PlacedInteger {
+    pub value: i64,
+    pub end: usize,
 }
 
 /// A vertex, and where its text ends.
@@ -72,7 +72,7 @@ fn digits_at(text: &[u8], at: usize) -> Digits
 
 /// The number at `at` that is written in at most sixteen digits, with no zero before others.
 #[inline(always)]
-fn number_at(text: &[u8], at: usize) -> Option<Digits>
+pub(super) fn number_at(text: &[u8], at: usize) -> Option<Digits>
     requires { at ≤ length text.now }
     ensures onward { IfSome result (λ found. at < found.end) }
     ensures within { IfSome result (λ found. found.end ≤ length text.now) }

@@ -5,7 +5,8 @@ ghost use Rattle.city_grid.specs.Axes.{IsInRange};
 ghost use Rattle.city_grid.specs.Vertex.{IsVertex, vertex_tree};
 
 use crate::vertices::Vertex;
-use city_json::{Fault, Items, Json, NumText};
+use byte_streams::Fault;
+use city_json::{Items, Json, NumText};
 use itoa::Buffer;
 use std::alloc::Global;
 

@@ -31,7 +31,7 @@ fn not_digits(bytes: u8x16) -> u64
     (bytes.simd_lt(u8x16::splat(b'0')) | bytes.simd_gt(u8x16::splat(b'9'))).to_bitmask()
 }
 
-/// The same, a byte at a time.
+/// Scalar fallback of `digits_end`.
 #[inline(never)]
 fn digits_end_slowly(text: &[u8], at: usize) -> usize
     requires { at ≤ length text.now }

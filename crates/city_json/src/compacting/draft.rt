@@ -4,21 +4,20 @@ ghost use Rattle.city_json.specs.Compacting.{shown};
 ghost use Rattle.city_json.specs.Reading.{after_white};
 
 use super::names::Names;
-use crate::line::Line;
+use byte_streams::Line;
 use std::alloc::Global;
 
 /// At most so many bytes are few, and are copied by one move of as many.
 const SHORT: usize = 16;
 
 /// What is written so far: the line, and after it the text from `from` on, which is still to be copied. Beside it
-/// the names of the objects that are open, those of an inner one last, and memory for a string that is decoded.
+/// the names of the objects that are open, those of an inner one last.
 #[derive(Drop)]
 pub(super) struct Draft<'a> {
     pub(super) alloc: Global,
     pub(super) line: Line,
     pub(super) from: usize,
     pub(super) names: Names<'a>,
-    pub(super) kept: Vec<u8>,
 }
 
 /// A draft with nothing written.
@@ -34,7 +33,6 @@ pub(super) fn begun<'a>(alloc: Global, line: Line) -> Draft<'a>
         line,
         from: 0,
         names: Names::new(alloc),
-        kept: Vec::new(alloc),
     }
 }
 

@@ -1,13 +1,11 @@
 //! The name of a member.
 ghost use Rattle.std.specs.Prelude.{◌≡◌};
 
-use crate::text::Str;
-
 /// A name as it stands in the text, or decoded where an escape stands in it.
 #[derive(Drop)]
 pub(super) enum Name<'a> {
     AsWritten(&'a [u8]),
-    Decoded(Str),
+    Decoded(Vec<u8>),
 }
 
 impl<'a> Name<'a> {
@@ -20,7 +18,7 @@ impl<'a> Name<'a> {
     {
         match self {
             Name::AsWritten(name) => name,
-            Name::Decoded(name) => name.as_str().as_bytes(),
+            Name::Decoded(name) => name.as_slice(),
         }
     }
 }

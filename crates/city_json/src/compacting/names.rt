@@ -67,7 +67,7 @@ impl<'a> Names<'a> {
         self.listed.truncate(base);
     }
 
-    /// Whether the names from `base` on are pairwise different. No says nothing: there may be no memory to tell.
+    /// Whether the names from `base` on are pairwise different. `false` may also mean out of memory.
     /// The time is near linear in the names' bytes, whatever they are.
     pub(super) fn are_apart_from(&self, alloc: Global, base: usize) -> bool
         requires { base ≤ length self.now }

@@ -12,8 +12,8 @@ ghost use Rattle.city_json.specs.declared.compacting.parts.Part.{Part};
 use super::draft::{Draft, begun, copy_to, skip, skip_white, written_len};
 use super::strings::name_and_colon;
 use super::values::member_value;
-use crate::line::Line;
 use crate::reading::depth::MOST_DEPTH;
+use byte_streams::Line;
 use std::alloc::Global;
 
 /// Most features have no more members.

@@ -1,14 +1,18 @@
-//! Strings and names: as they stand where no escape is in them, else decoded and written anew.
-ghost use Rattle.std.specs.Prelude.{◌≡◌, ◌<◌, ◌≤◌, length, drop, slice_index, IfSome, OnSome, IsUtf8};
+//! Strings and names: as they stand where no escape is in them, else written anew.
+ghost use Rattle.std.specs.Prelude.{◌≡◌, ◌+◌, ◌<◌, ◌≤◌, Some, List, ℕ, length, drop, slice_index, IfSome, OnSome, IsUtf8};
+ghost use Rattle.std.specs.List.{flat_map};
 ghost use Rattle.city_json.specs.Bytes.{quotation_mark};
-ghost use Rattle.city_json.specs.Compacting.{shown, Taken, TakenString, TakenName, TakenStart};
+ghost use Rattle.city_json.specs.Compact.{written};
+ghost use Rattle.city_json.specs.Compacting.{shown, Taken, TakenAnew, TakenEscape, TakenName, TakenStart};
+ghost use Rattle.city_json.specs.ReadString.{decoded};
 
 use super::draft::{Draft, copy_to, skip};
 use super::name::Name;
 use super::scalars::plain_string;
-use crate::printing::put_string;
-use crate::reading::strings::{decode_into, string};
-use crate::text::Str;
+use crate::printing::put_character;
+use crate::reading::plain::plain_len;
+use crate::reading::strings::{decode_into, escape};
+use std::alloc::Global;
 
 /// A string whose opening mark is at `at`: where it ends.
 #[inline(always)]
@@ -32,65 +36,105 @@ pub(super) fn text_value<'a>(
 {
     match plain_string(text, at + 1) {
         Some(close) => Some(close + 1),
-        None => respelled_value(text, at, levels, draft),
+        None => respelled(text, at, draft),
     }
 }
 
-/// The same of a string that is decoded and written in its one spelling.
+/// A string whose opening mark is at `at`, written in its one spelling piece by piece: where it ends.
 #[inline(never)]
-fn respelled_value<'a>(
-    text: &'a [u8],
-    at: usize,
-    levels: usize,
-    draft: &mut Draft<'a>,
-) -> Option<usize>
+fn respelled<'a>(text: &'a [u8], at: usize, draft: &mut Draft<'a>) -> Option<usize>
+    requires utf8 { IsUtf8 text.now }
+    requires copied { draft.old.from ≤ at }
+    requires within { at < length text.now }
+    requires opened { slice_index text.now at ≡ quotation_mark }
+    ensures onward { IfSome result (λ end. at < end) }
+    ensures within { IfSome result (λ end. end ≤ length text.now) }
+    ensures copied { IfSome result (λ end. draft.new.from < end) }
+    ensures names { OnSome result (draft.new.names ≡ draft.old.names) }
+    ensures taken { IfSome result (λ end. TakenAnew text.now at end
+        (shown draft.old.line text.now draft.old.from at)
+        (shown draft.new.line text.now draft.new.from end)) }
+{
+    let mut i = at + 1;
+    'pieces: loop {
+        let stop = i + plain_len(&text[i..]);
+        if stop == text.len() {
+            return None;
+        }
+        if text[stop] == b'"' {
+            return Some(stop + 1);
+        }
+        if text[stop] != b'\\' {
+            return None;
+        }
+        i = respelled_escape(text, stop, draft)?;
+    }
+}
+
+/// An escape whose backslash is at `at`, as its character is written: where it ends.
+#[inline(always)]
+fn respelled_escape<'a>(text: &'a [u8], at: usize, draft: &mut Draft<'a>) -> Option<usize>
+    requires copied { draft.old.from ≤ at }
+    requires within { at < length text.now }
+    ensures onward { IfSome result (λ end. at < end) }
+    ensures within { IfSome result (λ end. end ≤ length text.now) }
+    ensures copied { IfSome result (λ end. draft.new.from ≤ end) }
+    ensures names { OnSome result (draft.new.names ≡ draft.old.names) }
+    ensures taken { IfSome result (λ end. TakenEscape (drop (at + 1) text.now) (drop end text.now)
+        (shown draft.old.line text.now draft.old.from at)
+        (shown draft.new.line text.now draft.new.from end)) }
+{
+    let (character, rest) = escape(&text[at + 1..])?;
+    let end = text.len() - rest.len();
+    copy_to(text, at, end, draft)?;
+    let Ok(()) = put_character(&mut draft.line, character) else {
+        return None;
+    };
+    Some(end)
+}
+
+/// A name with escapes whose opening mark is at `at`: where it ends. It stands last among the names.
+#[inline(never)]
+fn respelled_name<'a>(text: &'a [u8], at: usize, draft: &mut Draft<'a>) -> Option<usize>
+    requires utf8 { IsUtf8 text.now }
     requires copied { draft.old.from ≤ at }
     requires within { at < length text.now }
     requires opened { slice_index text.now at ≡ quotation_mark }
     ensures onward { IfSome result (λ end. at < end) }
     ensures within { IfSome result (λ end. end ≤ length text.now) }
     ensures copied { IfSome result (λ end. draft.new.from ≤ end) }
-    ensures names { OnSome result (draft.new.names ≡ draft.old.names) }
-    ensures taken { IfSome result (λ end. Taken levels (drop at text.now) (drop end text.now)
+    ensures taken { IfSome result (λ end. TakenName (drop at text.now) (drop end text.now)
         (shown draft.old.line text.now draft.old.from at)
-        (shown draft.new.line text.now draft.new.from end)) }
+        (shown draft.new.line text.now draft.new.from end)
+        draft.old.names draft.new.names) }
 {
     copy_to(text, at, at, draft)?;
-    let rest = decode_into(&text[at + 1..], &mut draft.kept)?;
-    let Ok(content) = simdutf8::basic::from_utf8(&draft.kept) else {
-        return None;
-    };
-    let end = text.len() - rest.len();
-    if put_string(&mut draft.line, content).is_err() {
-        return None;
-    }
-    draft.from = end;
+    let mark = draft.line.items().len();
+    let end = respelled(text, at, draft)?;
+    copy_to(text, end - 1, end - 1, draft)?;
+    let content = content_of(
+        draft.alloc,
+        &text[at + 1..],
+        &draft.line.items()[mark + 1..],
+    )?;
+    draft.names.push(Name::Decoded(content))?;
     Some(end)
 }
 
-/// A string whose opening mark is at `at`, decoded and written in its one spelling: what it spells, and where it ends.
-#[inline(never)]
-fn respelled<'a>(text: &'a [u8], at: usize, draft: &mut Draft<'a>) -> Option<(Str, usize)>
-    requires copied { draft.old.from ≤ at }
-    requires within { at < length text.now }
-    requires opened { slice_index text.now at ≡ quotation_mark }
-    ensures onward { IfSome result (λ p. at < p.1) }
-    ensures within { IfSome result (λ p. p.1 ≤ length text.now) }
-    ensures copied { IfSome result (λ p. draft.new.from ≤ p.1) }
-    ensures names { OnSome result (draft.new.names ≡ draft.old.names) }
-    ensures taken { IfSome result (λ p. TakenString p.0 (drop at text.now) (drop p.1 text.now)
-        (shown draft.old.line text.now draft.old.from at)
-        (shown draft.new.line text.now draft.new.from p.1)) }
+/// The content of the string whose opening mark stands before `bytes`, and whose characters are written as in `line`.
+fn content_of(alloc: Global, bytes: &[u8], line: &[u8]) -> Option<Vec<u8>>
+    ensures { IfSome result (λ name. (content rest : List ℕ) → decoded bytes.now ≡ Some (content, rest)
+        → flat_map written content ≡ line.now → content ≡ name.items) }
 {
-    let Ok((content, rest)) = string(draft.alloc, &text[at + 1..]) else {
-        return None;
-    };
-    let end = text.len() - rest.len();
-    copy_to(text, at, end, draft)?;
-    if put_string(&mut draft.line, content.as_str()).is_err() {
-        return None;
+    if plain_len(line) == line.len() {
+        let Ok(name) = line.to_vec(alloc) else {
+            return None;
+        };
+        return Some(name);
     }
-    Some((content, end))
+    let mut name = Vec::new(alloc);
+    decode_into(bytes, &mut name)?;
+    Some(name)
 }
 
 /// A member's name whose opening mark is at `at`: where it ends. It stands last among the names.
@@ -113,11 +157,7 @@ fn name<'a>(text: &'a [u8], at: usize, draft: &mut Draft<'a>) -> Option<usize>
             draft.names.push(Name::AsWritten(&text[at + 1..close]))?;
             Some(close + 1)
         }
-        None => {
-            let (content, end) = respelled(text, at, draft)?;
-            draft.names.push(Name::Decoded(content))?;
-            Some(end)
-        }
+        None => respelled_name(text, at, draft),
     }
 }
 

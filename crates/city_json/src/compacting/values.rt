@@ -1,9 +1,11 @@
 //! Values, one within another.
-ghost use Rattle.std.specs.Prelude.{◌≡◌, ◌<◌, ◌≤◌, length, drop, IfSome, OnSome, IsUtf8};
+ghost use Rattle.std.specs.Prelude.{◌≡◌, ◌+◌, ◌<◌, ◌≤◌, ℕ, List, length, drop, IfSome, OnSome, IsUtf8};
 ghost use Rattle.city_json.specs.Compacting.{shown, Taken, TakenItems, ItemsFrom, TakenMembers, TakenMember};
+ghost use Rattle.city_json.specs.Flat.{ItemIsNext};
 ghost use Rattle.city_json.specs.Reading.{after_white};
 
 use super::draft::{Draft, skip};
+use super::flat::{Place, after_item, numbers, opens_array};
 use super::scalars::{integer_end, scalar_end};
 use super::strings::{name_and_colon, text_value};
 use super::whole_arrays::whole_from;
@@ -125,34 +127,65 @@ fn items<'a>(text: &'a [u8], at: usize, levels: usize, draft: &mut Draft<'a>) ->
         (shown draft.new.line text.now draft.new.from end)) }
 {
     let mut i = at;
+    let mut depth = 1usize;
     'items: loop {
-        let start = skip(text, i, draft);
-        if start == text.len() {
-            return None;
+        let next = next_item(text, i, depth, levels, draft)?;
+        if next.depth == 0 {
+            return Some(next.at);
         }
-        let stop = integer_end(text, start);
-        if start < stop && stop < text.len() {
-            if text[stop] == b',' {
-                i = stop + 1;
-                continue;
-            }
-            if text[stop] == b']' {
-                return Some(stop + 1);
-            }
-        }
-        let end = value(text, start, levels, draft)?;
-        let place = skip(text, end, draft);
-        if place == text.len() {
-            return None;
-        }
-        if text[place] == b']' {
-            return Some(place + 1);
-        }
-        if text[place] != b',' {
-            return None;
-        }
-        i = place + 1;
+        i = next.at;
+        depth = next.depth;
     }
+}
+
+/// Goes over the item that is next at `at`, or into it where it is an array, with so many arrays open.
+#[cycle(value)]
+#[inline(always)]
+fn next_item<'a>(
+    text: &'a [u8],
+    at: usize,
+    depth: usize,
+    levels: usize,
+    draft: &mut Draft<'a>,
+) -> Option<Place>
+    requires utf8 { IsUtf8 text.now }
+    requires copied { draft.old.from ≤ at }
+    requires within { at ≤ length text.now }
+    requires some { 0 < depth }
+    requires few { depth ≤ levels + 1 }
+    ensures onward { IfSome result (λ next. at < next.at) }
+    ensures within { IfSome result (λ next. next.at ≤ length text.now) }
+    ensures copied { IfSome result (λ next. draft.new.from ≤ next.at) }
+    ensures names { OnSome result (draft.new.names ≡ draft.old.names) }
+    ensures few { IfSome result (λ next. next.depth ≤ levels + 1) }
+    ensures goes_on { IfSome result (λ next. (rest after : List ℕ)
+        → ItemIsNext next.depth (levels + 1) (drop next.at text.now) rest
+        (shown draft.new.line text.now draft.new.from next.at) after
+        → ItemIsNext depth (levels + 1) (drop at text.now) rest
+        (shown draft.old.line text.now draft.old.from at) after) }
+{
+    let start = skip(text, at, draft);
+    if start == text.len() {
+        return None;
+    }
+    let run = numbers(text, start, draft)?;
+    if run.closed {
+        return after_item(text, run.at, depth - 1, draft);
+    }
+    let item = skip(text, run.at, draft);
+    if item == text.len() {
+        return None;
+    }
+    if depth < levels {
+        if opens_array(text, item) {
+            return Some(Place {
+                at: item + 1,
+                depth: depth + 1,
+            });
+        }
+    }
+    let end = value(text, item, levels - (depth - 1), draft)?;
+    after_item(text, end, depth, draft)
 }
 
 /// The members after an opening brace, and the closing one: where it ends.

@@ -96,7 +96,7 @@ fn brackets_of(block: u8x64, before: u8, zeroed: bool) -> Option<Brackets>
     })
 }
 
-/// Whether so many open arrays stay open through a block with these brackets.
+/// Whether nesting stays above 0 throughout the block.
 #[inline(always)]
 fn stays_open(depth: usize, opens: u64, closes: u64) -> bool
     requires { depth ≤ 1000 }

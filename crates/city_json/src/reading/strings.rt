@@ -6,9 +6,9 @@ ghost use Rattle.city_json.specs.ReadString.{is_high_surrogate, unit_at, pair_at
 ghost use Rattle.city_json.specs.Strings.{letter_meaning};
 ghost use Rattle.city_json.specs.PlainRun.{IsPlainRun};
 
-use crate::fault::Fault;
 use crate::reading::plain::plain_len;
 use crate::text::Str;
+use byte_streams::Fault;
 use std::alloc::Global;
 
 /// Most texts with an escape are no longer.
@@ -115,7 +115,7 @@ fn finished<'a>(alloc: Global, text: &[u8], rest: &'a [u8]) -> Result<(Str, &'a 
 
 /// The character that the bytes after a backslash stand for, and what follows.
 #[tactic(auto, unfolding(crate::specs::ReadString::escape_at))]
-fn escape(bytes: &[u8]) -> Option<(char, &[u8])>
+pub(crate) fn escape(bytes: &[u8]) -> Option<(char, &[u8])>
     ensures { option_map (λ p. (p.0, p.1.now)) result ≡ escape_at bytes.now }
 {
     match bytes {

@@ -1,6 +1,6 @@
 use super::*;
 use crate::output::buffered;
-use city_json::{Bin, Line, Tape};
+use byte_streams::{Bin, Line, Tape};
 use std::alloc::Global;
 use std::io::{self, ErrorKind, Write};
 use std::process::Abort;

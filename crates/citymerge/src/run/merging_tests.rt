@@ -1,7 +1,7 @@
 use super::tests::{FEATURE_A, HEADER, Wanted, done, every_feature, refused, stream_of};
 use crate::run::run_merge;
+use byte_streams::{Bin, Line, Tape};
 use city_feature::{Choice, area, types};
-use city_json::{Bin, Line, Tape};
 use command_line::{MergeArgs, Paths};
 use std::alloc::{AllocError, Global};
 use std::process::Abort;

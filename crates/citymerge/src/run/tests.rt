@@ -1,7 +1,7 @@
 use crate::output::buffered;
 use crate::run::run_filter;
+use byte_streams::{Bin, Line, Tape};
 use city_feature::{Choice, area, types};
-use city_json::{Bin, Line, Tape};
 use std::alloc::{AllocError, Global};
 use std::io::{self, ErrorKind, Write};
 use std::process::Abort;

@@ -1,6 +1,6 @@
 //! Documents that are cut, and the streams that are written.
 use super::*;
-use city_json::Device;
+use byte_streams::Device;
 
 #[test]
 fn a_building_and_its_parts_are_one_line(rt: HostRuntime) -> Result<(), Fail> {

@@ -1,7 +1,7 @@
 //! Readers and writers that fail.
 use super::*;
 use crate::cat::cat_source;
-use city_json::{Device, Source};
+use byte_streams::{Device, Source};
 use std::io::{self, ErrorKind, Read, Write};
 use std::sync::atomic::AtomicU64;
 use std::sync::atomic::Ordering::SeqCst;

@@ -5,7 +5,7 @@ ghost use Rattle.tile_handoff.specs.declared.queues.TheConstants.{MAX_CAPACITY};
 use crate::note::Note;
 use crate::queues::MAX_CAPACITY;
 use crate::ring::sender::Closed;
-use city_json::Fault;
+use byte_streams::Fault;
 use rtrb::Consumer;
 
 /// The end of a tile's ring that takes notes.

@@ -3,7 +3,7 @@ ghost use Rattle.rtrb.specs.Ring.{sent};
 ghost use Rattle.tile_handoff.specs.Notes.{has_end, are_ended};
 
 use crate::note::{End, Note};
-use city_json::Line;
+use byte_streams::Line;
 use rtrb::Producer;
 
 /// The end of a tile's ring that puts lines, and at last the end note.

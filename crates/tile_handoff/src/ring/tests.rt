@@ -5,7 +5,7 @@ ghost use Rattle.tile_handoff.specs.declared.note.Note.{Note};
 
 use crate::ring::{Closed, Receiver, Sender, Whole, ends};
 use crate::{End, MAX_CAPACITY, Note};
-use city_json::{Fault, Line};
+use byte_streams::{Fault, Line};
 use std::alloc::{AllocError, Global};
 use std::snapshot::Snapshot;
 use std::sync::Wait;

@@ -1,4 +1,4 @@
-use city_json::Line;
+use byte_streams::Line;
 
 /// The next part of a tile, blank or not.
 #[derive(Debug, Drop)]

@@ -1,8 +1,8 @@
 ghost use Rattle.std.specs.Prelude.{◌≡◌, ◌≤◌, true, false, [], length, drop, IfOk, IfErr};
-ghost use Rattle.city_json.specs.Streams.Source.{GivesFirst};
+ghost use Rattle.byte_streams.specs.Source.{GivesFirst};
 ghost use Rattle.tile_merge.specs.Taking.{IsFillFault, failed_reads_after_call};
 
-use city_json::{Fault, Source};
+use byte_streams::{Fault, Source};
 use memchr::memrchr;
 use std::alloc::Global;
 use std::marker::Model;
@@ -83,6 +83,7 @@ impl<R: Source> ReadAhead<R> {
         ensures failed { IfErr result (λ fault. fault ≡ Fault.Read
             → R.gives self.old.reader [] true) }
         ensures kind { IfErr result IsFillFault }
+        ensures kept { IfErr result (λ fault. fault ≡ Fault.Memory → self.new ≡ self.old) }
         ensures failures { R.failures self.new.reader
             ≡ failed_reads_after_call result (R.failures self.old.reader) }
     {

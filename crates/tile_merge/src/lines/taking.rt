@@ -1,12 +1,12 @@
 ghost use Rattle.std.specs.Prelude.{◌≡◌, ◌≤◌, ◌+◌, ◌^◌, false, IfOk, IfErr, IfSome};
 ghost use Rattle.tile_merge.specs.Ahead.{MayCome};
-ghost use Rattle.tile_merge.specs.Taking.{IsTaken, IsRefusal, IsLimitFault, failed_reads_after_call};
+ghost use Rattle.tile_merge.specs.Taking.{IsTaken, IsRefusal, IsLimitFault, StandsWithin, failed_reads_after_call};
 ghost use Rattle.tile_merge.specs.Tile.{fault_between, is_blank};
 
 use crate::limits::Limits;
 use crate::lines::part::NextPart;
 use crate::lines::read_ahead::ReadAhead;
-use city_json::{Fault, Line, Source};
+use byte_streams::{Fault, Line, Source};
 use memchr::memchr;
 use std::alloc::Global;
 
@@ -24,6 +24,8 @@ pub fn take_part<R: Source>(
         (MayCome R.gives ahead.new)) }
     ensures refused { IfErr result (λ fault. IsRefusal fault limits start
         (MayCome R.gives ahead.old)) }
+    ensures stands { IfErr result (λ fault. fault ≡ Fault.Memory
+        → StandsWithin (MayCome R.gives ahead.old) (MayCome R.gives ahead.new)) }
     ensures failures { R.failures ahead.new.reader
         ≡ failed_reads_after_call result (R.failures ahead.old.reader) }
 {

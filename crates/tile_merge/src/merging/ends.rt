@@ -1,7 +1,7 @@
 ghost use Rattle.std.specs.Prelude.{◌≡◌};
 ghost use Rattle.tile_merge.specs.EndNotes.{end_of, ended_so, outcome_at};
 
-use crate::lines::LineFault;
+use byte_streams::LineFault;
 use tile_handoff::End;
 
 /// The end note of a tile that gave so many lines, and stopped there or not at all.

@@ -1,6 +1,6 @@
 ghost use Rattle.std.specs.Prelude.{◌≡◌, ◌≤◌, ◌<◌, ◌+◌, List, [], ℕ, false, Some, None, length, IfOk, IfErr, OnOk, IfSome, IfNone, IsTrue};
 ghost use Rattle.std.specs.Io.KnownBytes.{Keeps};
-ghost use Rattle.city_json.specs.Streams.Failures.{after_call};
+ghost use Rattle.byte_streams.specs.Failures.{after_call};
 ghost use Rattle.city_feature.specs.Choice.{IsChosen};
 ghost use Rattle.tile_handoff.specs.Queues.{queue_of, empty_queue};
 ghost use Rattle.tile_merge.specs.Feeds.{fresh_feed, MayTake, SomeCourse, TakesNone, TakesTurn, HasRoom, IsAhead, most_ahead, most_lines};
@@ -10,9 +10,9 @@ ghost use Rattle.tile_merge.specs.TileState.{most_to_come, most_texts};
 use crate::filter::pass_on;
 use crate::merging::ends::end_note;
 use crate::tile_reader::{Passed, TileReader};
+use byte_streams::{Fault, Line, Sink, Source};
 use city_feature::Choice;
 use city_grid::Shift;
-use city_json::{Fault, Line, Sink, Source};
 use std::alloc::Global;
 use std::marker::Model;
 use std::mem;

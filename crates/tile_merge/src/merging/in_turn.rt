@@ -1,5 +1,5 @@
 ghost use Rattle.std.specs.Prelude.{◌≡◌, ◌⊎◌, ◌≤◌, ◌<◌, ◌+◌, ◌^◌, ℕ, All, Err, length, filter_map, IfOk, IfErr, OnOk, OnErr};
-ghost use Rattle.city_json.specs.Streams.Failures.{after_call};
+ghost use Rattle.byte_streams.specs.Failures.{after_call};
 ghost use Rattle.city_feature.specs.Choice.{IsChosen};
 ghost use Rattle.tile_merge.specs.Filtered.{failures_after_merge, failures_after_refusal};
 ghost use Rattle.tile_merge.specs.Interleaves.{Interleaves};
@@ -9,14 +9,13 @@ ghost use Rattle.tile_merge.specs.Turns.{AreTurns};
 ghost use Rattle.tile_merge.specs.TileState.{most_to_come, most_texts};
 ghost use Rattle.tile_merge.specs.Rounds.{AreReady, IsFeedOf, MayTakeAll, SomeCourses, WroteRound, WroteTurns, WroteTurnsFront};
 
-use crate::fault::MergeFault;
 use crate::filter::write_line;
 use crate::merging::feed::Feed;
 use crate::merging::report::{Report, report_of};
 use crate::merging::tiles::{JoinedTiles, OpenTile, join_tiles, tile_count};
+use byte_streams::{Fault, Line, MergeFault, Sink, Source};
 use city_feature::{Base, Choice};
 use city_grid::Shift;
-use city_json::{Fault, Line, Sink, Source};
 use std::alloc::{AllocError, Global};
 use tile_handoff::{End, MAX_CAPACITY, Queues};
 
@@ -76,7 +75,7 @@ pub fn merge_in_turn<R: Source + Drop, W: Sink>(
     merge_few(alloc, readers, choice, base, capacity, output)
 }
 
-/// The same of tiles that are not too many.
+/// As above, for at most 64 tiles.
 fn merge_few<R: Source + Drop, W: Sink>(
     alloc: Global,
     readers: Vec<R>,

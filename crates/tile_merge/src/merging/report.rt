@@ -2,9 +2,7 @@ ghost use Rattle.std.specs.Prelude.{◌≡◌, ◌⊎◌, ◌<◌, ◌^◌, List
 ghost use Rattle.tile_merge.specs.EndNotes.{Ended, AreEnds, end_of, outcome_at, outcomes_in, totals_in};
 ghost use Rattle.tile_merge.specs.Told.{told, first_where, is_memory, fault_of_tile};
 
-use crate::fault::MergeFault;
-use crate::lines::LineFault;
-use city_json::{Fault, Sequence};
+use byte_streams::{Fault, LineFault, MergeFault, Sequence};
 use std::alloc::Global;
 use tile_handoff::End;
 

@@ -18,16 +18,15 @@ mod running;
 mod waiting;
 mod writing;
 
-use crate::fault::MergeFault;
 use crate::merging::report::{Report, report_of};
 use crate::merging::threaded::feeder::FedTile;
 use crate::merging::threaded::running::{RunningTile, start};
 use crate::merging::threaded::waiting::Bell;
 use crate::merging::threaded::writing::write_stream;
 use crate::merging::tiles::{JoinedTiles, OpenTile, join_tiles, tile_count};
+use byte_streams::{Fault, Line, MergeFault, Sink, Source};
 use city_feature::{Base, Choice};
 use city_grid::Shift;
-use city_json::{Fault, Line, Sink, Source};
 use std::alloc::{AllocError, Global};
 use std::sync::Wait;
 use std::thread::Threads;
@@ -96,7 +95,7 @@ where
     merge_few(rt, alloc, readers, choice, base, capacity, output)
 }
 
-/// The same of tiles that are not too many.
+/// As above, for at most 64 tiles.
 fn merge_few<H, R, W>(
     rt: &H,
     alloc: Global,

@@ -9,11 +9,9 @@ ghost use Rattle.tile_merge.specs.Stream.{with_newline};
 ghost use Rattle.tile_merge.specs.Tile.{stream_limits};
 ghost use Rattle.tile_merge.specs.Unread.{IsOfTile};
 
-use crate::fault::MergeFault;
-use crate::lines::LineFault;
 use crate::tile_reader::{Head, TileReader};
+use byte_streams::{Fault, Line, LineFault, MergeFault, Source};
 use city_feature::{Base, Header, HeaderFault, Joined, Shifts, join_headers};
-use city_json::{Fault, Line, Source};
 use std::alloc::Global;
 use std::marker::Model;
 
@@ -55,7 +53,7 @@ pub(crate) struct JoinedTiles<R> {
     pub(crate) shifts: Shifts,
 }
 
-/// Whether so many tiles can be merged.
+/// Refuses more than 64 tiles.
 ///
 /// # Errors
 ///

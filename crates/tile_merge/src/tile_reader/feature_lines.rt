@@ -5,10 +5,10 @@ ghost use Rattle.tile_merge.specs.Stream.{with_newline};
 ghost use Rattle.tile_merge.specs.Unread.{EndsFrom, most_left, has_failed, is_read, failed_reads_between};
 
 use crate::line_end::end_line;
-use crate::lines::{LineFault, Lines};
+use crate::lines::Lines;
+use byte_streams::{Fault, Line, LineFault, Source};
 use city_feature::{Choice, feature_line};
 use city_grid::Shift;
-use city_json::{Fault, Line, Source};
 use std::alloc::Global;
 
 /// What the next line of a tile came to: the text of its feature and a newline, or, where that is not

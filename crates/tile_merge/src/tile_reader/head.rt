@@ -4,9 +4,10 @@ ghost use Rattle.city_json.specs.Tree.{tree};
 ghost use Rattle.city_feature.specs.Values.{feature_value, header_value};
 ghost use Rattle.tile_merge.specs.Head.{SpellsHead, RefusesHead, StandsFor, RefusesFirst};
 
+use byte_streams::Fault;
 use city_cut::{Cut, cut};
 use city_feature::{Feature, Header, header, is_document};
-use city_json::{Fault, Json, read};
+use city_json::{Json, read};
 use std::alloc::Global;
 
 /// The header of a tile, and the number of the line that spells it, from 1.
@@ -36,7 +37,7 @@ pub(crate) fn read_first_line(alloc: Global, bytes: &[u8]) -> Result<FirstLine, 
     first_line(alloc, read(alloc, bytes)?)
 }
 
-/// A value with city objects or vertices is cut, each other one is a header.
+/// Cuts a document; takes any other value as a header.
 fn first_line(alloc: Global, value: Json) -> Result<FirstLine, Fault>
     requires { IsDistinct (tree value) }
     ensures ok { IfOk result (λ first. StandsFor (tree value) (header_value first.header)

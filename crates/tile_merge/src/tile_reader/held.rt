@@ -8,9 +8,9 @@ ghost use Rattle.city_feature.specs.Values.{feature_value};
 ghost use Rattle.tile_merge.specs.Held.{GiveTexts, RefusesHeld};
 ghost use Rattle.tile_merge.specs.Stream.{with_newline};
 
+use byte_streams::{Fault, Line};
 use city_feature::{Choice, Feature, line, selects, shifted};
 use city_grid::Shift;
-use city_json::{Fault, Line};
 use std::alloc::Global;
 use std::collections::VecDeque;
 

@@ -10,7 +10,8 @@ ghost use Rattle.city_feature.specs.Shapes.{IsText, IsThere, member_in};
 
 use super::{between, part_named};
 use crate::choices::types::Types;
-use city_json::{Compacted, Json, Line, Part, compact_parts, read};
+use byte_streams::Line;
+use city_json::{Compacted, Json, Part, compact_parts, read};
 use std::alloc::Global;
 
 /// The members of an object that is the value of a member. The name is given as it stands in the line, with its marks

@@ -1,7 +1,7 @@
 use Rattle.std.proofs.Common.{ap, ℤ, ◌+ℤ◌, to_z, of_z, w64, arith}
 use Rattle.std.proofs.lemmas.Int.{ints}
 use Rattle.std.specs.Option.{SomeIff}
-use Rattle.city_json.specs.declared.fault.Fault.TheVariants.{VertexRange}
+use Rattle.byte_streams.specs.declared.fault.Fault.TheVariants.{VertexRange}
 use Rattle.city_grid.specs.Axes.{Triple, IsInRange, sum}
 use Rattle.city_grid.proofs.axes.Triples.{found_at, answered, answered_in_range, refused}
 use Rattle.city_grid.proofs.vertices.moved.Goals as goal

@@ -1,5 +1,5 @@
 use Rattle.std.proofs.Common.{ap, ◌∙◌}
-use Rattle.city_json.specs.Streams.Failures.{after_call}
+use Rattle.byte_streams.specs.Failures.{after_call}
 use Rattle.citymerge.proofs.Shown.{shown}
 use Rattle.citymerge.proofs.report.show_help.Goals as goal
 

@@ -13,4 +13,4 @@ pub returns-clause-refused : goal.returns-clause-refused
 returns-clause-refused g c =
     let header = header_value c.in-Ok.head.header in
     let some = c.take_head.ensures.some in
-    line_refused (Leaves g.R.Source.gives c.args.tile.now.lines) (Leaves g.R.Source.gives c.take_head.new.self.lines) header (held_value c.take_head.new.self.held) c.in-Ok.ensures.head c.in-Ok.head.line c.in-Ok.ensures.line some.0 some.1.0 c.header_line.result c.header_line.ensures.err
+    line_refused (Leaves g.R.Source.gives c.args.tile.now.lines) (Leaves g.R.Source.gives c.take_head.new.self.lines) header (held_value c.take_head.new.self.held) c.in-Ok.ensures.head c.in-Ok.head.line c.in-Ok.ensures.line c.in-Ok.ensures.counted some.0 some.1.0 c.header_line.result c.header_line.ensures.err

@@ -8,7 +8,7 @@ ghost use Rattle.tile_merge.specs.TileState.{most_to_come, most_texts};
 use crate::merging::threaded::cancelling::{Canceller, cancel_ends};
 use crate::merging::threaded::feeder::{FedTile, Feeds, Finished, Links};
 use crate::merging::threaded::waiting::{Bell, Patience, SpacedBell};
-use city_json::{Fault, Line, Source};
+use byte_streams::{Fault, Line, Source};
 use std::alloc::Global;
 use std::marker::Model;
 use std::snapshot::Snapshot;

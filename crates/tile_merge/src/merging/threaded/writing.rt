@@ -1,11 +1,11 @@
 ghost use Rattle.std.specs.Prelude.{◌≡◌, ◌≤◌, ◌<◌, ◌++◌, ℕ, List, Option, Some, None, true, [], IfOk, IfErr, OnOk, IsOk, IsTrue, filter_map};
-ghost use Rattle.city_json.specs.Streams.Failures.{after_call};
+ghost use Rattle.byte_streams.specs.Failures.{after_call};
 ghost use Rattle.tile_merge.specs.Threads.{AreFresh, are_all_ended, GoesOn, GoesOnWriting, LinesSoFar, WroteUnless, feds_of};
 
 use crate::filter::write_line;
 use crate::merging::threaded::running::RunningTile;
 use crate::merging::threaded::waiting::{Bell, Patience};
-use city_json::{Fault, Line, Sink, Source};
+use byte_streams::{Fault, Line, Sink, Source};
 use crossbeam_utils::sync::Key;
 use std::sync::Wait;
 

@@ -2,14 +2,16 @@ use Rattle.city_feature.proofs.features.QuickMoves.{kept_line, moved_there}
 use Rattle.city_feature.proofs.features.quick.moved_line.Goals as goal
 
 pub returns-clause-there : goal.returns-clause-there
-returns-clause-there c =
-    let found = c.in_ok-found.found in
-    let (members, spells, fits, shallow, written, are_parts) = c.in_ok-found.ensures in
+returns-clause-there c = λ bytes compacted.
+    let found = c.args.found in
+    let (members, spells, fits, written, are_parts) = compacted in
     let placed = c.in_ok-placed.placed in
-    moved_there c.args.bytes.now found.line c.items-line.result.now found.parts.items c.as_slice-parts.result.now members placed.part placed.vertices.items c.in_ok-vertices.vertices.items c.args.shift c.args.types.now c.in_ok-has_type.has_type spells fits written are_parts c.items-line.ensures c.as_slice-parts.ensures.value (c.in_ok-placed.ensures.feature members) (c.in_ok-has_type.ensures members) (c.in_ok-vertices.ensures c.in_ok-placed.ensures.range).0 (c.in_ok-vertices.ensures c.in_ok-placed.ensures.range).1
+    let moved = c.in_ok-vertices.ensures c.in_ok-placed.ensures.range in
+    moved_there bytes found.line c.items-line.result.now found.parts.items c.as_slice-parts.result.now members placed.part placed.vertices.items c.in_ok-vertices.vertices.items c.args.shift c.args.types.now c.in_ok-has_type.has_type spells fits written are_parts c.items-line.ensures c.as_slice-parts.ensures.value (c.in_ok-placed.ensures.feature members) (c.in_ok-has_type.ensures members) moved.0 moved.1
 
 pub returns-clause-same : goal.returns-clause-same
-returns-clause-same c = λ none.
-    let found = c.in_ok-found.found in
+returns-clause-same c = λ stay.
+    let found = c.args.found in
     let placed = c.in_ok-placed.placed in
-    kept_line found.line c.items-line.result.now placed.part placed.vertices.items c.in_ok-vertices.vertices.items c.args.shift c.items-line.ensures c.in_ok-placed.ensures.text (c.in_ok-vertices.ensures c.in_ok-placed.ensures.range).0 none
+    let (as_written, still) = c.are_to_stay-stay.ensures stay in
+    kept_line found.line c.items-line.result.now placed.part placed.vertices.items c.in_ok-vertices.vertices.items c.args.shift c.items-line.ensures (c.in_ok-placed.ensures.text as_written) (c.in_ok-vertices.ensures c.in_ok-placed.ensures.range).0 still

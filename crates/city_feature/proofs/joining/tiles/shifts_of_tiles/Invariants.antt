@@ -1,5 +1,5 @@
 use Rattle.std.proofs.Common.{◌≡◌, ◌+◌, ◌++◌, ℕ, List, drop, map}
-use Rattle.city_json.specs.declared.fault.Fault.{Fault}
+use Rattle.byte_streams.specs.declared.fault.Fault.{Fault}
 use Rattle.city_grid.specs.Axes.{Triple}
 use Rattle.city_feature.specs.Joined.{AllAgree, IsFirstMisfit, all_extensions}
 use Rattle.city_feature.specs.Values.{header_value, lent_members}

@@ -1,6 +1,6 @@
 use Rattle.std.proofs.Common.{◌∙◌, ap}
 use Rattle.std.specs.Option.{ok_or}
-use Rattle.city_json.specs.declared.fault.Fault.TheVariants.{Decimal}
+use Rattle.byte_streams.specs.declared.fault.Fault.TheVariants.{Decimal}
 use Rattle.city_grid.proofs.decimals.reader.decimal.Goals as goal
 
 pub returns-clause-only : goal.returns-clause-only

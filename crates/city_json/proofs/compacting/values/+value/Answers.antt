@@ -1,10 +1,10 @@
-use Rattle.std.proofs.Common.{◌≡◌, ◌≤◌, ◌<◌, ◌+◌, ◌∙◌, length, drop, get_or, refl, arith, ap, subst, take_all, append-nil, [], ◌∷◌}
+use Rattle.std.proofs.Common.{◌≡◌, ◌≤◌, ◌<◌, ◌+◌, ◌-◌, ◌∙◌, length, drop, get_or, refl, arith, ap, subst, take_all, append-nil, [], ◌∷◌}
 use Rattle.std.proofs.lemmas.List.{drop_all, length_push}
 use Rattle.city_json.specs.Bytes.{comma, close_bracket, open_bracket, close_brace, open_brace}
-use Rattle.city_json.specs.Compacting.{shown}
-use Rattle.city_json.specs.Reading.{after_white}
+use Rattle.city_json.specs.Compacting.{shown, Taken}
 use Rattle.city_json.proofs.WholeArrays.{whole_taken}
-use Rattle.city_json.proofs.PassItems.{array_taken, integer_more, integer_stop, items_none, items_skip, items_start, items_step, items_stop}
+use Rattle.city_json.proofs.PassFlat.{all_taken, next_array, next_closed, next_run, next_skip, next_value, one_open}
+use Rattle.city_json.proofs.PassItems.{array_taken, items_none, items_start}
 use Rattle.city_json.proofs.PassMembers.{MembersWhole, member_taken, members_none, members_start, members_step, members_stop, names_kept, names_more, object_taken}
 use Rattle.city_json.proofs.PassScalars.{if_some, if_some_both, scalar_taken}
 use Rattle.city_json.proofs.Places.{at_mark, drop_one, mark_shown, shown_one}
@@ -134,80 +134,88 @@ pub member_value-returns-then-may_end-clause-taken : goal.member_value-returns-t
 member_value-returns-then-may_end-clause-taken t c =
     scalar_taken c.args.levels c.args.draft.now.line c.args.text.now c.args.draft.now.from c.args.at c.integer_end-end.result c.requires.copied c.if-at-end.true (c.integer_end-end.ensures.is c.if-at-end.true)
 
-pub items-returns-then-text-place-eq93-clause-taken : goal.items-returns-then-text-place-eq93-clause-taken
-items-returns-then-text-place-eq93-clause-taken t c =
-    let text = c.args.text.now in
-    let start_end : c.skip-start.result ≤ length text = c.skip-start.ensures.within in
-    let start_inside : c.skip-start.result < length text = omega (arith, c.if-start-text.false) in
-    let before_end : c.skip-place.result ≤ length text = c.skip-place.ensures.within in
-    let inside : c.skip-place.result < length text = omega (arith, c.if-place-text.false) in
-    let draft = c.skip-place.new.draft in
-    let now = c.items.draft in
-    c.items.invariant.goes_on _ _
-    (items_skip c.args.levels (after_white (drop c.items.i text)) (drop c.skip-start.result text) _ (shown now.line text now.from c.items.i) _ (shown draft.line text draft.from (c.skip-place.result + 1)) (c.skip-start.ensures.skipped start_inside) (c.skip-start.ensures.is_shown start_inside)
-    (items_stop c.args.levels (drop c.skip-start.result text) (drop c.in_ok-end.end text) (drop (c.skip-place.result + 1) text) _ _ _ (shown draft.line text draft.from (c.skip-place.result + 1)) c.in_ok-end.ensures.taken
-    (at_mark text (drop c.in_ok-end.end text) c.skip-place.result close_bracket (c.skip-place.ensures.skipped inside) inside c.if-text-place-eq93.true) (c.skip-place.ensures.is_shown inside)
-    (mark_shown draft.line text _ draft.from c.skip-place.result close_bracket (c.skip-place.ensures.copied inside) inside c.if-text-place-eq93.true refl)))
+pub items-items-init : goal.items-items-init
+items-items-init t c = record {
+  onward = omega arith;
+  within = c.requires.within;
+  copied = c.requires.copied;
+  names = refl;
+  some = omega arith;
+  few = omega arith;
+  goes_on = λ rest after all. one_open c.args.levels (drop c.args.at c.args.text.now) rest (shown c.args.draft.now.line c.args.text.now c.args.draft.now.from c.args.at) after all;
+}
+
+pub items-returns-then-next-eq0-clause-taken : goal.items-returns-then-next-eq0-clause-taken
+items-returns-then-next-eq0-clause-taken t c =
+    c.items.invariant.goes_on _ _ (c.in_ok-next.ensures.goes_on _ _ (all_taken c.in_ok-next.next.depth (c.args.levels + 1) _ _ c.if-next-eq0.true))
 
 pub items-items-preserved : goal.items-items-preserved
 items-items-preserved t c =
-    let text = c.args.text.now in
-    let start_end : c.skip-start.result ≤ length text = c.skip-start.ensures.within in
-    let start_inside : c.skip-start.result < length text = omega (arith, c.if-start-text.false) in
-    let before_end : c.skip-place.result ≤ length text = c.skip-place.ensures.within in
-    let inside : c.skip-place.result < length text = omega (arith, c.if-place-text.false) in
-    let is_comma : get_or text c.skip-place.result 0 ≡ comma = omega (arith, c.if-text-place-ne44.false) in
-    let one : c.args.at ≤ c.items.i = c.items.invariant.onward in
-    let two : c.items.i ≤ c.skip-start.result = c.skip-start.ensures.onward start_inside in
-    let four : c.skip-start.result < c.in_ok-end.end = c.in_ok-end.ensures.onward in
-    let five : c.in_ok-end.end ≤ c.skip-place.result = c.skip-place.ensures.onward inside in
-    let copied : c.skip-place.new.draft.from ≤ c.skip-place.result = c.skip-place.ensures.copied inside in
-    let draft = c.skip-place.new.draft in
-    let now = c.items.draft in
+    let first : c.args.at ≤ c.items.i = c.items.invariant.onward in
+    let onward : c.items.i < c.in_ok-next.next.at = c.in_ok-next.ensures.onward in
     record {
-      onward = omega (arith, one, two, four, five);
-      within = omega (arith, inside);
-      copied = omega (arith, copied);
-      names = c.skip-place.ensures.names inside ∙ (c.in_ok-end.ensures.names ∙ (c.skip-start.ensures.names start_inside ∙ c.items.invariant.names));
-      goes_on = λ rest after from. c.items.invariant.goes_on rest after
-          (items_skip c.args.levels (after_white (drop c.items.i text)) (drop c.skip-start.result text) rest (shown now.line text now.from c.items.i) _ after (c.skip-start.ensures.skipped start_inside) (c.skip-start.ensures.is_shown start_inside)
-          (items_step c.args.levels (drop c.skip-start.result text) (drop c.in_ok-end.end text) (drop (c.skip-place.result + 1) text) rest _ _ _ (shown draft.line text draft.from (c.skip-place.result + 1)) after c.in_ok-end.ensures.taken
-          (at_mark text (drop c.in_ok-end.end text) c.skip-place.result comma (c.skip-place.ensures.skipped inside) inside is_comma) (c.skip-place.ensures.is_shown inside)
-          (mark_shown draft.line text _ draft.from c.skip-place.result comma (c.skip-place.ensures.copied inside) inside is_comma refl) from));
+      onward = omega (arith, first, onward);
+      within = c.in_ok-next.ensures.within;
+      copied = c.in_ok-next.ensures.copied;
+      names = c.in_ok-next.ensures.names ∙ c.items.invariant.names;
+      some = omega (arith, c.if-next-eq0.false);
+      few = c.in_ok-next.ensures.few;
+      goes_on = λ rest after further. c.items.invariant.goes_on rest after (c.in_ok-next.ensures.goes_on rest after further);
     }
 
-pub items-items-preserved-then-text-stop-eq44 : goal.items-items-preserved-then-text-stop-eq44
-items-items-preserved-then-text-stop-eq44 t c =
+pub next_item-returns-then-run-clause-goes_on : goal.next_item-returns-then-run-clause-goes_on
+next_item-returns-then-run-clause-goes_on t c =
     let text = c.args.text.now in
-    let start_end : c.skip-start.result ≤ length text = c.skip-start.ensures.within in
-    let start_inside : c.skip-start.result < length text = omega (arith, c.if-start-text.false) in
-    let one : c.args.at ≤ c.items.i = c.items.invariant.onward in
-    let two : c.items.i ≤ c.skip-start.result = c.skip-start.ensures.onward start_inside in
-    let some : c.skip-start.result < c.integer_end-stop.result = c.if-start-stop.true in
-    let inside : c.integer_end-stop.result < length text = c.if-stop-text.true in
-    let draft = c.skip-start.new.draft in
-    let copied : draft.from ≤ c.skip-start.result = c.skip-start.ensures.copied start_inside in
-    let now = c.items.draft in
-    record {
-      onward = omega (arith, one, two, some);
-      within = omega (arith, inside);
-      copied = omega (arith, copied, some);
-      names = c.skip-start.ensures.names start_inside ∙ c.items.invariant.names;
-      goes_on = λ rest after from. c.items.invariant.goes_on rest after
-          (items_skip c.args.levels (after_white (drop c.items.i text)) (drop c.skip-start.result text) rest (shown now.line text now.from c.items.i) _ after (c.skip-start.ensures.skipped start_inside) (c.skip-start.ensures.is_shown start_inside)
-          (items_skip c.args.levels (drop c.skip-start.result text) (after_white (drop c.skip-start.result text)) rest (shown draft.line text draft.from c.skip-start.result) _ after (c.integer_end-stop.ensures.clear some) refl
-          (integer_more c.args.levels text draft.line rest after draft.from c.skip-start.result c.integer_end-stop.result copied some inside (c.integer_end-stop.ensures.is some) (c.integer_end-stop.ensures.clear some) c.if-text-stop-eq44.true from)));
-    }
+    let total = c.args.levels + 1 in
+    let start = c.skip-start.result in
+    let before_end : start ≤ length text = c.skip-start.ensures.within in
+    let inside : start < length text = omega (arith, before_end, c.if-start-text.false) in
+    let begun = c.skip-start.new.draft in
+    let run = c.in_ok-run.run' in
+    let now = c.numbers.new.draft in
+    if_some _ _ c.after_item.result (λ next goes_on rest after further. next_skip c.args.depth total (drop c.args.at text) (drop start text) rest _ (shown begun.line text begun.from start) after c.requires.some (c.skip-start.ensures.skipped inside) (c.skip-start.ensures.is_shown inside)
+    (next_closed c.args.depth total (drop start text) (drop run.at text) rest (shown begun.line text begun.from start) (shown now.line text now.from run.at) after c.requires.some (c.in_ok-run.ensures.closes c.if-run.true) (goes_on total rest after further))) c.after_item.ensures.goes_on
 
-pub items-returns-then-text-stop-eq93-clause-taken : goal.items-returns-then-text-stop-eq93-clause-taken
-items-returns-then-text-stop-eq93-clause-taken t c =
+pub next_item-returns-then-opens_array-clause-goes_on : goal.next_item-returns-then-opens_array-clause-goes_on
+next_item-returns-then-opens_array-clause-goes_on t c =
     let text = c.args.text.now in
-    let start_end : c.skip-start.result ≤ length text = c.skip-start.ensures.within in
-    let start_inside : c.skip-start.result < length text = omega (arith, c.if-start-text.false) in
-    let some : c.skip-start.result < c.integer_end-stop.result = c.if-start-stop.true in
-    let draft = c.skip-start.new.draft in
-    let now = c.items.draft in
-    c.items.invariant.goes_on _ _
-    (items_skip c.args.levels (after_white (drop c.items.i text)) (drop c.skip-start.result text) _ (shown now.line text now.from c.items.i) _ _ (c.skip-start.ensures.skipped start_inside) (c.skip-start.ensures.is_shown start_inside)
-    (items_skip c.args.levels (drop c.skip-start.result text) (after_white (drop c.skip-start.result text)) _ (shown draft.line text draft.from c.skip-start.result) _ _ (c.integer_end-stop.ensures.clear some) refl
-    (integer_stop c.args.levels text draft.line draft.from c.skip-start.result c.integer_end-stop.result (c.skip-start.ensures.copied start_inside) some c.if-stop-text.true (c.integer_end-stop.ensures.is some) (c.integer_end-stop.ensures.clear some) c.if-text-stop-eq93.true)))
+    let total = c.args.levels + 1 in
+    let start = c.skip-start.result in
+    let before_end : start ≤ length text = c.skip-start.ensures.within in
+    let inside : start < length text = omega (arith, before_end, c.if-start-text.false) in
+    let begun = c.skip-start.new.draft in
+    let run = c.in_ok-run.run' in
+    let now = c.numbers.new.draft in
+    let item = c.skip-item.result in
+    let before_end₂ : item ≤ length text = c.skip-item.ensures.within in
+    let inside₂ : item < length text = omega (arith, before_end₂, c.if-item-text.false) in
+    let draft = c.skip-item.new.draft in
+    let opens : get_or text item 0 ≡ open_bracket = c.opens_array.ensures c.if-opens_array.true in
+    let room : c.args.depth < total = omega (arith, c.if-depth-levels.true) in
+    λ rest after further. next_skip c.args.depth total (drop c.args.at text) (drop start text) rest _ (shown begun.line text begun.from start) after c.requires.some (c.skip-start.ensures.skipped inside) (c.skip-start.ensures.is_shown inside)
+    (next_run c.args.depth total (drop start text) (drop run.at text) rest (shown begun.line text begun.from start) (shown now.line text now.from run.at) after c.requires.some (c.in_ok-run.ensures.goes_on c.if-run.false)
+    (next_array c.args.depth total (drop run.at text) (drop item text) (drop (item + 1) text) rest (shown now.line text now.from run.at) (shown draft.line text draft.from (item + 1)) after c.requires.some room (c.skip-item.ensures.skipped inside₂) (drop_one text item open_bracket inside₂ opens)
+    (mark_shown draft.line text (shown now.line text now.from run.at) draft.from item open_bracket (c.skip-item.ensures.copied inside₂) inside₂ opens (c.skip-item.ensures.is_shown inside₂)) further))
+
+pub next_item-returns-clause-goes_on : goal.next_item-returns-clause-goes_on
+next_item-returns-clause-goes_on t c =
+    let text = c.args.text.now in
+    let total = c.args.levels + 1 in
+    let start = c.skip-start.result in
+    let before_end : start ≤ length text = c.skip-start.ensures.within in
+    let inside : start < length text = omega (arith, before_end, c.if-start-text.false) in
+    let begun = c.skip-start.new.draft in
+    let run = c.in_ok-run.run' in
+    let now = c.numbers.new.draft in
+    let item = c.skip-item.result in
+    let before_end₂ : item ≤ length text = c.skip-item.ensures.within in
+    let inside₂ : item < length text = omega (arith, before_end₂, c.if-item-text.false) in
+    let draft = c.skip-item.new.draft in
+    let end = c.in_ok-end.end in
+    let ended = c.value.new.draft in
+    let some : 0 < c.args.depth = c.requires.some in
+    let room : c.args.levels - (c.args.depth - 1) ≡ total - c.args.depth = omega (arith, some) in
+    let taken = subst (λ n. Taken n (drop item text) (drop end text) (shown draft.line text draft.from item) (shown ended.line text ended.from end)) room c.in_ok-end.ensures.taken in
+    if_some _ _ c.after_item-2.result (λ next goes_on rest after further. next_skip c.args.depth total (drop c.args.at text) (drop start text) rest _ (shown begun.line text begun.from start) after c.requires.some (c.skip-start.ensures.skipped inside) (c.skip-start.ensures.is_shown inside)
+    (next_run c.args.depth total (drop start text) (drop run.at text) rest (shown begun.line text begun.from start) (shown now.line text now.from run.at) after c.requires.some (c.in_ok-run.ensures.goes_on c.if-run.false)
+    (next_value c.args.depth total (drop run.at text) (drop item text) (drop end text) rest (shown now.line text now.from run.at) (shown draft.line text draft.from item) (shown ended.line text ended.from end) after some (c.skip-item.ensures.skipped inside₂) (c.skip-item.ensures.is_shown inside₂) taken (goes_on total rest after further)))) c.after_item-2.ensures.goes_on

@@ -1,5 +1,6 @@
-use Rattle.std.proofs.Common.{◌≡◌, ◌++◌, ◌≤◌, ◌-◌, ◌+◌, ◌*◌, List, ℕ, length, take, drop}
+use Rattle.std.proofs.Common.{◌≡◌, ◌++◌, ◌≤◌, ◌<◌, ◌-◌, ◌+◌, ◌*◌, List, ℕ, length, take, drop}
 use Rattle.city_json.specs.Compacting.{shown, ItemsFrom}
+use Rattle.city_json.specs.Flat.{ItemIsNext}
 use Rattle.city_json.specs.Reading.{after_white}
 use Rattle.city_json.proofs.PassMembers.{MembersFrom, MembersWhole}
 use Rattle.city_json.proofs.compacting.values.+value.Given as goal
@@ -22,13 +23,18 @@ decreases-object l = 4 * l.levels + 3
 abbrev pub decreases-items : goal.decreases-items
 decreases-items l = 4 * l.levels + 2
 
+abbrev pub decreases-next_item : goal.decreases-next_item
+decreases-next_item l = 4 * l.levels + 1
+
 abbrev pub invariant-items-items : goal.invariant-items-items
 invariant-items-items l = record {
   onward : l.at ≤ l.i;
   within : l.i ≤ length l.text;
   copied : l.draft.from ≤ l.i;
   names : l.draft.names ≡ l.fn.draft.names;
-  goes_on : (rest after : List ℕ) → ItemsFrom l.levels (after_white (drop l.i l.text)) rest (shown l.draft.line l.text l.draft.from l.i) after
+  some : 0 < l.depth;
+  few : l.depth ≤ l.levels + 1;
+  goes_on : (rest after : List ℕ) → ItemIsNext l.depth (l.levels + 1) (drop l.i l.text) rest (shown l.draft.line l.text l.draft.from l.i) after
       → ItemsFrom l.levels (after_white (drop l.at l.text)) rest (shown l.fn.draft.line l.text l.fn.draft.from l.at) after;
 }
 

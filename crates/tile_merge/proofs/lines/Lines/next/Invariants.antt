@@ -1,6 +1,6 @@
 use Rattle.std.proofs.Common.{◌≡◌, ◌≤◌}
 use Rattle.tile_merge.specs.Tile.{TileLines}
-use Rattle.tile_merge.specs.Unread.{Leaves, most_left, has_failed, IsSameOrOpen}
+use Rattle.tile_merge.specs.Unread.{Leaves, most_left, has_failed, is_refused, IsSameOrOpen}
 use Rattle.tile_merge.proofs.lines.Lines.next.Given as goal
 
 -- what may be left now may have been left at the start: only blank parts were skipped
@@ -10,6 +10,7 @@ invariant-parts g l = record {
   kept : IsSameOrOpen l.initial.self.ended l.self.ended;
   later : l.initial.self.number ≤ l.self.number;
   fewer : most_left l.self ≤ most_left l.initial.self;
+  refused : is_refused l.self ≡ is_refused l.initial.self;
   failed : has_failed l.self ≡ has_failed l.initial.self;
   failures : g.R.Source.failures l.self.ahead.reader ≡ g.R.Source.failures l.initial.self.ahead.reader;
 }

@@ -1,4 +1,4 @@
-use Rattle.std.proofs.Common.{◌≡◌, ◌+◌, true, false, length, sym, ap, ◌∙◌, arith}
+use Rattle.std.proofs.Common.{◌≡◌, ◌+◌, ◌++◌, true, false, length, refl, sym, ap, ◌∙◌, arith}
 use Rattle.tile_merge.specs.Tile.{is_blank}
 use Rattle.tile_merge.proofs.Leaving.{by_ended, by_last_blank, by_last, by_refusal, by_kept}
 use Rattle.tile_merge.proofs.lines.Lines.next_part.Goals as goal
@@ -11,7 +11,7 @@ returns-then-is_blank-clause-over g c =
     let s = c.self.inside in
     let taken = rw c.in-Ok-Last.field-0-is at c.in-Ok-Last.ensures.taken in
     let blank : is_blank c.in-Ok-Last.bytes ≡ true = ap is_blank (sym c.items-in-Ok-Last.ensures) ∙ sym c.is_blank.ensures ∙ c.if-is_blank.true in
-    rw (← c.self.view_is, c.in-Open.is) (by_last_blank g.R.Source.gives s.limits s.number s.start s.ahead c.in-Ok-Last.bytes taken.0 taken.1 taken.2 blank)
+    rw (← c.self.view_is, c.in-Open.is) (s.number, by_last_blank g.R.Source.gives s.limits s.number s.start s.ahead c.in-Ok-Last.bytes taken.0 taken.1 taken.2 blank)
 
 pub returns-in-Ok-Ended-clause-part : goal.returns-in-Ok-Ended-clause-part
 returns-in-Ok-Ended-clause-part g c =
@@ -32,3 +32,9 @@ pub returns-in-Err-clause-refused : goal.returns-in-Err-clause-refused
 returns-in-Err-clause-refused g c =
     let s = c.self.inside in
     rw (← c.self.view_is, c.in-Open.is) (by_refusal g.R.Source.gives s.limits s.number s.start s.ahead c.in-Err.fault c.in-Err.ensures.refused)
+
+pub returns-in-Err-clause-stands : goal.returns-in-Err-clause-stands
+returns-in-Err-clause-stands g c memory going =
+    let s = c.self.inside in
+    let within = c.in-Err.ensures.stands memory in
+    rw (← c.self.view_is, c.in-Open.is) (s.start, within.0, within.1, λ bytes fails comes. (within.0 ++ bytes, fails, within.2 bytes fails comes, refl))

@@ -1,10 +1,10 @@
-use Rattle.std.proofs.Common.{◌≡◌, ◌+◌, ◌++◌, false, length, take, ap, ◌∙◌, arith}
+use Rattle.std.proofs.Common.{◌≡◌, ◌+◌, ◌++◌, false, [], length, take, drop, ap, ◌∙◌, arith}
 use Rattle.std.proofs.lemmas.Grind.{common_steps}
 use Rattle.std.proofs.lemmas.Result.{err_from_is_err_and}
-use Rattle.city_json.specs.declared.fault.Fault.TheVariants.{Read}
+use Rattle.byte_streams.specs.declared.fault.Fault.TheVariants.{Read}
 use Rattle.tile_merge.specs.Ahead.{MayCome}
 use Rattle.tile_merge.specs.Taking.{IsRefusedLine}
-use Rattle.tile_merge.proofs.Coming.{limit_refusal, fill_refusal, something, whole, whole_refused, part_refused, end_came, end_refused, ends, goes_on, no_newline, none_before, none_found, more_came}
+use Rattle.tile_merge.proofs.Coming.{all_taken, limit_refusal, fill_refusal, something, whole, whole_refused, part_refused, end_came, end_refused, ends, goes_on, no_newline, none_before, none_found, more_came}
 use Rattle.tile_merge.proofs.lines.taking.take_part.Goals as goal
 
 pub returns-in-Some-fault_between-clause-refused : goal.returns-in-Some-fault_between-clause-refused
@@ -91,3 +91,25 @@ returns-in-Err-clause-refused g c =
     λ is. end_refused g.R.Source.gives c.args.ahead.now now c.pieces.line.items c.pieces.invariant.follows found c.pieces.invariant.begun c.args.limits c.args.start c.skip-in-None.new.self reader (c.in-Err.ensures.failed is) fine in
     let some = something g.R.Source.gives c.args.ahead.now now c.pieces.line.items c.pieces.invariant.follows (g.met.R.Source.gives_something now.reader) in
     fill_refusal c.in-Err.fault c.args.limits c.args.start _ c.in-Err.ensures.kind failed some
+
+pub returns-in_err-extend_from_slice-in-Some-clause-stands : goal.returns-in_err-extend_from_slice-in-Some-clause-stands
+returns-in_err-extend_from_slice-in-Some-clause-stands g c =
+    let refusal = err_from_is_err_and c.from_residual.result c.from_residual.ensures.1 in
+    rw (refusal.1, refusal.2) (λ memory. (c.pieces.line.items, c.pieces.invariant.begun, c.pieces.invariant.follows))
+
+pub returns-in_err-extend_from_slice-in-None-clause-stands : goal.returns-in_err-extend_from_slice-in-None-clause-stands
+returns-in_err-extend_from_slice-in-None-clause-stands g c =
+    let refusal = err_from_is_err_and c.from_residual-in_err-extend_from_slice-in-None.result c.from_residual-in_err-extend_from_slice-in-None.ensures.1 in
+    rw (refusal.1, refusal.2) (λ memory. (c.pieces.line.items, c.pieces.invariant.begun, c.pieces.invariant.follows))
+
+pub returns-in-Err-clause-stands : goal.returns-in-Err-clause-stands
+returns-in-Err-clause-stands g c memory =
+    let now = c.pieces.ahead in
+    let found = rw c.held-held.ensures at c.in-None.ensures in
+    let reader = ap (λ ahead. ahead.reader) (c.in-Err.ensures.kept memory ∙ c.skip-in-None.ensures) in
+    let none : drop (length c.held-held.result.now) now.held ≡ [] = grind (arith, common_steps, c.held-held.ensures) in
+    let empty = ap (λ ahead. ahead.held) (c.in-Err.ensures.kept memory ∙ c.skip-in-None.ensures) ∙ none in (
+      c.pieces.line.items ++ now.held,
+      no_newline c.pieces.line.items now.held c.pieces.invariant.begun (none_found now.held found),
+      all_taken g.R.Source.gives c.args.ahead.now now c.pieces.line.items c.pieces.invariant.follows c.fill.new.self reader empty,
+    )

@@ -1,5 +1,5 @@
 use Rattle.std.proofs.Common.{◌+◌, Bool, true, refl, ap}
-use Rattle.city_json.specs.declared.fault.Fault.{Fault}
+use Rattle.byte_streams.specs.declared.fault.Fault.{Fault}
 use Rattle.tile_merge.proofs.Telling.{tells_none, tells_on, tells_this}
 use Rattle.tile_merge.proofs.merging.report.first_stop.Goals as goal
 

@@ -1,7 +1,7 @@
 use Rattle.std.proofs.Common.{◌≤◌, ◌∙◌, Result, List, length, filter_map, sym, ap, subst, arith}
 use Rattle.std.proofs.lemmas.Result.{err_from_is_err_and}
-use Rattle.city_json.specs.Streams.Failures.{after_call}
-use Rattle.city_json.specs.declared.fault.Fault.{Fault}
+use Rattle.byte_streams.specs.Failures.{after_call}
+use Rattle.byte_streams.specs.declared.fault.Fault.{Fault}
 use Rattle.tile_handoff.specs.declared.note.End.{End}
 use Rattle.tile_merge.specs.EndNotes.{AreEnds}
 use Rattle.tile_merge.specs.Rounds.{ends_in}

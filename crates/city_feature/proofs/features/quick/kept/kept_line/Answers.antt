@@ -1,9 +1,14 @@
+use Rattle.std.proofs.Common.{subst, sym}
 use Rattle.city_feature.proofs.features.QuickMoves.{kept_there}
+use Rattle.city_feature.specs.Quick.{IsAsWritten}
 use Rattle.city_feature.proofs.features.quick.kept.kept_line.Goals as goal
 
 pub returns : goal.returns
-returns c =
-    let found = c.in_ok-found.found in
-    let (members, spells, fits, shallow, written, are_parts) = c.in_ok-found.ensures in
-    let (part, ps, range, stays, placed) = c.has_vertices.ensures c.if-not-has_vertices.false in
-    kept_there c.args.bytes.now found.line c.items-line.result.now found.parts.items c.as_slice-parts.result.now members part ps c.args.types.now c.in_ok-has_type.has_type spells fits written are_parts c.items-line.ensures c.as_slice-parts.ensures.value (placed members) (c.in_ok-has_type.ensures members) range stays
+returns c = λ bytes compacted.
+    let found = c.args.found in
+    let line = c.items.result.now in
+    let parts = c.as_slice.result.now in
+    let (members, spells, fits, written, are_parts) = compacted in
+    let here : IsAsWritten line parts = subst (λ l. IsAsWritten l parts) (sym c.items.ensures) (subst (IsAsWritten found.line) (sym c.as_slice.ensures.value) c.requires) in
+    let (part, ps, range, stays, placed) = here in
+    kept_there bytes found.line line found.parts.items parts members part ps c.args.types.now c.in_ok-has_type.has_type spells fits written are_parts c.items.ensures c.as_slice.ensures.value (placed members) (c.in_ok-has_type.ensures members) range stays

@@ -1,5 +1,5 @@
 use Rattle.std.proofs.Common.{subst, Result}
-use Rattle.city_json.specs.declared.fault.Fault.{Fault}
+use Rattle.byte_streams.specs.declared.fault.Fault.{Fault}
 use Rattle.tile_merge.specs.Threads.{WroteUnless}
 use Rattle.tile_merge.proofs.Writing.{flushed}
 use Rattle.tile_merge.proofs.merging.threaded.writing.flush_if.Goals as goal

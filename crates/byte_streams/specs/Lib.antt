@@ -1,0 +1,7 @@
+pub mod Bin
+pub mod Device
+pub mod Failures
+pub mod Faults
+pub mod Intake
+pub mod Source
+pub mod Tape

@@ -1,0 +1,27 @@
+//! What all crates stand on: the list of faults and the places that they are told of, bytes that grow, lists, and
+//! readers and writers of bytes with the two loops over them, read all and write all.
+#![tactic(auto)]
+
+mod bin;
+mod device;
+mod fault;
+mod intake;
+mod line;
+mod output;
+mod places;
+mod sequence;
+mod sink;
+mod source;
+mod tape;
+
+pub use bin::Bin;
+pub use device::Device;
+pub use fault::Fault;
+pub use intake::{Intake, Stop, read_all};
+pub use line::Line;
+pub use output::write_all;
+pub use places::{LineFault, MergeFault};
+pub use sequence::Sequence;
+pub use sink::Sink;
+pub use source::Source;
+pub use tape::Tape;
