@@ -1,6 +1,6 @@
 # The short commands. `make` alone prints those for users; docs/CONTRIBUTING.md has the others.
 
-.PHONY: help build check demo install uninstall dist test program-test install-test docs-test compile-test bench clean
+.PHONY: help build check demo install uninstall dist test contracts program-test install-test docs-test compile-test torture bench clean
 
 help:
 	@echo 'citymerge: merges, filters and makes streams of 3D city features (CityJSONSeq)'
@@ -14,10 +14,13 @@ help:
 	@echo '  make dist    an archive and a Debian package of the program, in build/dist'
 	@echo '  make test    all that has to hold: the documents, what must not compile, the gate (every proof from nothing, the edits'
 	@echo '               that must fail, the tests), and the program that it built; takes long'
+	@echo '  make torture the program held against a model of it on 100,000 random inputs, and where each of its calls is'
+	@echo '               refused in turn (TORTURE="--seed=7" draws others)'
 	@echo '  make bench   how fast it is, beside jq, and how much memory it takes (BENCH="--help" lists the options)'
 	@echo '  make clean   remove what was built and what the proofs kept'
 	@echo
-	@echo 'Needed: the Rattle kit, its command rt on PATH, which itself needs python3. For make bench also jq and valgrind.'
+	@echo 'Needed: the Rattle kit, its command rt on PATH, which itself needs python3. For make test and make torture also cc,'
+	@echo 'for make bench jq and valgrind.'
 
 # Flags for rt, as in: make build RTFLAGS='--jobs 1'
 RTFLAGS =
@@ -42,6 +45,11 @@ install-test: build
 	@python3 tools/commands_test.py build/citymerge
 	@tools/dist_test.sh
 
+# The public contracts of all crates, or of the crate CRATE.
+contracts:
+	@tools/need.sh python3
+	@tools/contracts.py $(CRATE)
+
 docs-test:
 	@tools/need.sh python3
 	@python3 tools/docs_test.py
@@ -49,6 +57,11 @@ docs-test:
 compile-test:
 	@tools/need.sh rt python3
 	@python3 tools/must_not_compile.py
+
+# Wrong runs are kept in build/torture.
+torture: build
+	@tools/need.sh python3 cc
+	@python3 tools/torture/torture.py $(TORTURE) build/citymerge
 
 # The documents, what must not compile, the gate, and the program that the gate built, at its edges.
 test:

@@ -74,7 +74,7 @@ class Bench:
         self.cat = [self.program, "cat"]
         self.wrong = []
         self.load = os.getloadavg()[0]
-        # of each stream and program, what is to stand in the README's tables
+        # of each stream and program, what is to stand in the README's table
         self.figures = {}
 
     def say(self, text):
@@ -85,7 +85,7 @@ class Bench:
         self.wrong.append(what)
 
     def tell(self, row, column, figure):
-        """Keeps a figure for the README's tables."""
+        """Keeps a figure for the README's table."""
         self.figures.setdefault((row, column), []).append(figure)
 
     def path(self, name):
@@ -114,7 +114,7 @@ def read_options():
     reader.add_argument("--tries", type=int, default=3, help="runs of each hostile shape (3)")
     reader.add_argument("--functions", type=int, default=0, metavar="N", help="show the N functions that execute most")
     reader.add_argument("--seed", type=int, default=1, help="of all streams (1)")
-    reader.add_argument("--table", action="store_true", help="run %s and write the README's tables" % ", ".join(TABLE_PARTS))
+    reader.add_argument("--table", action="store_true", help="run %s and write the README's table" % ", ".join(TABLE_PARTS))
     options = reader.parse_args()
     if options.table and not options.only:
         options.only = ",".join(TABLE_PARTS)

@@ -3,12 +3,31 @@
 import os
 import shutil
 
-from measured import BUILDINGS, BY_BOX, BY_TYPES, CHOSEN, MEASURED, MOVED
+from measured import (
+    BUILDINGS, BY_BOX, BY_TYPES, CHOSEN, ESCAPED, HOUSES, MEASURED, MINUS_ZERO, MOVED, ONE_LINE, REGISTER, SPACED, TINY, WIDE,
+)
 from running import counted, dominant
 from streams import HEADER, elsewhere
 
-# The most that is wanted for each input byte. None is set for the other streams.
-MOST = {(BUILDINGS, ()): 14, (BUILDINGS, BY_BOX): 16, (BUILDINGS, BY_TYPES): 14, (MOVED, ()): 22}
+# The most that is wanted for each input byte.
+MOST = {
+    (BUILDINGS, ()): 12,
+    (BUILDINGS, BY_TYPES): 12,
+    (BUILDINGS, BY_BOX): 15,
+    (HOUSES, ()): 16,
+    (HOUSES, BY_TYPES): 16,
+    (HOUSES, BY_BOX): 18,
+    (TINY, ()): 25,
+    (TINY, BY_TYPES): 28,
+    (TINY, BY_BOX): 28,
+    (WIDE, ()): 16,
+    (REGISTER, ()): 16,
+    (SPACED, ()): 22,
+    (ESCAPED, ()): 30,
+    (MINUS_ZERO, ()): 22,
+    (ONE_LINE, ()): 13,
+    (MOVED, ()): 20,
+}
 
 
 def each_byte(bench, words, path):

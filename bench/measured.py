@@ -1,12 +1,12 @@
 """The streams whose speed and instructions are measured, and what is chosen of them."""
 
-from streams import buildings, escaped, one_line, plain, spaced, tiny, wide
+from streams import buildings, escaped, minus_zero, one_line, spaced, tiny, wide
 from town import houses, register
 
 BUILDINGS, TINY, HOUSES = "building tiles", "tiny features, 200 bytes a line", "town houses, mixed attributes"
 WIDE, REGISTER = "features with 300 attributes", "features with 60 mixed attributes"
 SPACED, ESCAPED = "a blank after each comma and colon", "names and texts with escapes"
-PLAIN, ONE_LINE = "building tiles, a -0 in each", "one long line"
+MINUS_ZERO, ONE_LINE = "building tiles, a -0 in each", "one long line"
 MEASURED = {
     BUILDINGS: buildings,
     HOUSES: houses,
@@ -15,7 +15,7 @@ MEASURED = {
     REGISTER: register,
     SPACED: spaced,
     ESCAPED: escaped,
-    PLAIN: plain,
+    MINUS_ZERO: minus_zero,
     ONE_LINE: one_line,
 }
 # Building tiles whose vertices a merge moves.

@@ -5,7 +5,7 @@ import os
 
 from chooser import choose
 from compactor import compact
-from measured import BY_BOX, BY_TYPE, CHOSEN, MEASURED, PLAIN
+from measured import BY_BOX, BY_TYPE, CHOSEN, MEASURED, MINUS_ZERO
 from running import Run
 from streams import HEADER, STEPS_AWAY, elsewhere, loose
 
@@ -63,7 +63,7 @@ def right(bench):
         stream = b"".join(lines(bench.options.seed, size))
         path = bench.write("small", (stream,))
         expected = compact(stream)
-        if name == PLAIN:
+        if name == MINUS_ZERO:
             # The compactor knows of no vertices, and keeps a -0 among them.
             expected = expected.replace(b'"vertices":[[-0,', b'"vertices":[[0,')
         compare(bench, name, path, expected)

@@ -279,8 +279,8 @@ def one_line(seed, size):
     yield b"]}\n"
 
 
-def plain(seed, size):
-    """Building tiles, each with a vertex at -0, so that the value of each line is built."""
+def minus_zero(seed, size):
+    """Building tiles, each with a vertex at -0, so that the vertices of each line are written anew."""
     for line in buildings(seed, size):
         yield line.replace(b'"vertices":[[', b'"vertices":[[-0,0,0],[')
 

@@ -1,4 +1,4 @@
-"""The tables of speeds in README.md, made of what was measured."""
+"""The table of speeds in README.md, made of what was measured."""
 
 import os
 
@@ -10,33 +10,32 @@ FILTERED = ("all features", "two types", "a box", "jq -c .", "instructions")
 MERGED = ("in turn", "with a thread for each tile")
 
 
-def rows(figures, columns):
-    """The lines of a table of what was told for these columns."""
-    yield "| | %s |" % " | ".join(columns)
-    yield "|" + "---|" * (len(columns) + 1)
-    for row in dict.fromkeys(row for row, column in figures if column in columns):
-        cells = [", ".join(figures.get((row, column), [])) for column in columns]
+def rows(figures):
+    """The lines of the table: a row for each stream, then one for each merge, in turn and with threads."""
+    yield "| | %s |" % " | ".join(FILTERED)
+    yield "|" + "---|" * (len(FILTERED) + 1)
+    for row in dict.fromkeys(row for row, column in figures if column in FILTERED):
+        cells = [", ".join(figures.get((row, column), [])) for column in FILTERED]
         yield "| %s | %s |" % (row, " | ".join(cells))
+    for row in dict.fromkeys(row for row, column in figures if column in MERGED):
+        both = "; ".join(", ".join(figures.get((row, column), [])) for column in MERGED)
+        yield "| a merge of %s: in turn; with threads | %s |%s" % (row, both, " |" * (len(FILTERED) - 1))
 
 
 def text(bench):
     options = bench.options
     yield (
-        "Measured on a machine with %d processors at a load of %.1f, the best of %d runs of each in turn. "
-        "MB/s by processor time, of %g MB of building tiles and of one long line and a fifth of that of the other "
-        "streams; beside it the instructions for each input byte, of %g MB of each stream:"
-        % (os.cpu_count(), bench.load, options.rounds, options.size, options.small)
+        "MB/s of `filter` by processor time, the best of %d runs on %d processors at a load of %.1f: %g MB of building "
+        "tiles and of one long line, a fifth of that of the other streams; beside it the instructions for each input "
+        "byte, of %g MB. Merges are of %g MB of building tiles, each vertex moved, by the clock."
+        % (options.rounds, os.cpu_count(), bench.load, options.size, options.small, LARGER * options.size)
     )
     yield ""
-    yield from rows(bench.figures, FILTERED)
-    yield ""
-    yield "Merges of building tiles, %g MB together, each vertex moved; MB/s by the clock:" % (LARGER * options.size)
-    yield ""
-    yield from rows(bench.figures, MERGED)
+    yield from rows(bench.figures)
 
 
 def write_table(bench):
-    """Puts the tables into README.md, in the place of those that are there."""
+    """Puts the table into README.md, in the place of the one that is there."""
     with open(README, encoding="utf-8") as file:
         before, rest = file.read().split(BEGIN)
     after = rest.split(END)[1]

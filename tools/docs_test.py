@@ -1,10 +1,10 @@
 #!/usr/bin/env python3
 """What the documents say of the code must be so.
 
-docs/CONTRACTS.md quotes contracts whole. docs/DEFINITIONS.md tells each file of specs/ and each name in a public
-clause, and sets apart exactly the files that no public promise needs. The clauses that README.md and
-docs/PROVED.md name are there. docs/FAULTS.md has the table of faults of the code. Version and day of the release are
-the same everywhere. Files and links that are named are there.
+docs/DEFINITIONS.md tells each file of specs/ and each name in a public clause, and sets apart exactly the files that
+no public promise needs. The clauses that docs/PROVED.md names are there. docs/FAULTS.md has the table of faults of the
+code. Version and day of the release are the same everywhere. Files and links that are named are there. README.md is
+short.
 """
 
 import glob
@@ -15,11 +15,12 @@ import sys
 sys.dont_write_bytecode = True
 os.chdir(os.path.dirname(os.path.dirname(os.path.abspath(__file__))))
 
-from sources import contracts, flat, needed_names, public_names, read
+from sources import contracts, needed_names, public_names, read
 
-FAULTS = "crates/city_json/specs/Faults.antt"
+FAULTS = "crates/byte_streams/specs/Faults.antt"
 CONTRACTS = contracts()
 DOCUMENTS = ["README.md", *sorted(glob.glob("docs/*.md"))]
+MOST_OF_README = 10_000
 
 
 def crate_of(path):
@@ -43,14 +44,6 @@ def told_of(crate):
 def words_in_code(text):
     """The words that a document writes as code."""
     return set(re.findall(r"\w+", " ".join(re.findall(r"`([^`\n]*)`", text))))
-
-
-def quoted_contracts():
-    whole = {contract.text for contract in CONTRACTS}
-    for block in re.findall(r"```\n(.*?)```", read("docs/CONTRACTS.md"), re.DOTALL):
-        for quote in re.split(r"\n(?=pub fn |fn )", block):
-            if flat(quote) not in whole:
-                yield "docs/CONTRACTS.md: no contract reads, as a whole: " + flat(quote)
 
 
 def told_definitions():
@@ -90,14 +83,14 @@ def clauses_of(call):
 
 
 def named_clauses():
-    """The rows of docs/PROVED.md, call | text | clauses, where an empty call is that of the row above."""
+    """The rows of docs/PROVED.md, call | text | clauses, where an empty call is that of the row above; its promises."""
     calls = ""
     for row in re.findall(r"^\|(.*)\|$", read("docs/PROVED.md"), re.MULTILINE):
         cells = [cell.strip() for cell in row.split("|")]
         calls = cells[0] or calls
         yield from missing_clauses("docs/PROVED.md", calls, cells[-1])
-    for call, clauses in re.findall(r"\((`[\w:]+`), clauses? (.*?)\)", read("README.md")):
-        yield from missing_clauses("README.md", call, clauses)
+    for call, clauses in re.findall(r"\((`[\w:]+`), clauses? (.*?)\)", read("docs/PROVED.md")):
+        yield from missing_clauses("docs/PROVED.md", call, clauses)
 
 
 def missing_clauses(document, calls, clauses):
@@ -139,8 +132,14 @@ def links():
                 yield "%s: no such file: %s" % (path, target)
 
 
+def short():
+    length = os.path.getsize("README.md")
+    if length > MOST_OF_README:
+        yield "README.md has %d bytes, more than %d" % (length, MOST_OF_README)
+
+
 def main():
-    tests = (quoted_contracts, told_definitions, told_files, named_files, named_clauses, fault_table, release, links)
+    tests = (told_definitions, told_files, named_files, named_clauses, fault_table, release, links, short)
     wrong = [line for test in tests for line in test()]
     for line in wrong:
         print("FAILED: " + line)

@@ -4,7 +4,7 @@
 # installed, given many tiles and the documents' commands, and packed. Ends in the gate's own last line.
 set -u
 cd "$(dirname "$0")/.."
-tools/need.sh rt python3 || exit 1
+tools/need.sh rt python3 cc || exit 1
 python3 tools/docs_test.py || exit 1
 python3 tools/must_not_compile.py || exit 1
 
@@ -31,5 +31,6 @@ tools/program_test.sh build/citymerge || exit 1
 tools/install_test.sh || exit 1
 python3 tools/many_tiles_test.py build/citymerge || exit 1
 python3 tools/commands_test.py build/citymerge || exit 1
+python3 tools/torture/torture.py --short build/citymerge || exit 1
 tools/dist_test.sh || exit 1
 tail -n 1 "$log"

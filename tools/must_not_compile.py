@@ -28,7 +28,7 @@ CASES = [
     Case(
         shows="a put after the end",
         function="""
-pub fn puts_after_the_end(sender: Sender, line: city_json::Line, end: crate::End) -> (bool, bool) {
+pub fn puts_after_the_end(sender: Sender, line: byte_streams::Line, end: crate::End) -> (bool, bool) {
     let mut sender = sender;
     let ended = sender.try_end(end).is_ok();
     (ended, HERE)
@@ -80,8 +80,8 @@ pub fn confirms_it_twice(receiver: Receiver, other: Receiver, closed: Closed) ->
 pub fn puts_in_two_threads<R: std::thread::Threads>(
     rt: &R,
     sender: Sender,
-    line: city_json::Line,
-    other: city_json::Line,
+    line: byte_streams::Line,
+    other: byte_streams::Line,
 ) -> (bool, bool) {
     let mut sender = sender;
     std::thread::join(rt, || sender.try_put(line).is_ok(), || HERE)
@@ -97,8 +97,8 @@ pub fn puts_in_two_threads<R: std::thread::Threads>(
 pub fn puts_beside_its_thread<R: std::thread::Threads>(
     rt: &R,
     sender: Sender,
-    line: city_json::Line,
-    other: city_json::Line,
+    line: byte_streams::Line,
+    other: byte_streams::Line,
 ) -> (bool, bool) {
     let mut sender = sender;
     let there = std::thread::spawn(rt, move || sender.try_put(line).is_ok());

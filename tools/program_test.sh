@@ -167,16 +167,15 @@ expect 'a fault after features that are not chosen' "1|$header" "$?|$(cat "$room
 tr '\0' ' ' </dev/zero | timeout 60 "$program" filter >"$room/out" 2>"$room/errors"
 expect 'a line without end' 'citymerge: tile 1 line 1: the line is too long' "$(cat "$room/errors")"
 
-# memory for a long line, and not for its value, which only uncommon spellings need; then not even for the line
+# memory for a long line, and not for its value, which only uncommon features need, as one without the city object of its
+# id where types are asked for; then not even for the line
 { printf '['; yes '1,' | tr -d '\n' | head -c 60000000; printf '1]'; } | holding >"$room/in"
 for most in '250000|0|same' '60000|1|'; do
     (ulimit -v "${most%%|*}"; exec timeout 60 "$program" filter <"$room/in" >"$room/out" 2>"$room/errors")
     expect "a long line in ${most%%|*} KB" "${most#*|}" "$?|$(cmp -s "$room/in" "$room/out" && echo same)"
 done
 expect 'no memory for a line' "$header|citymerge: tile 1 line 2: there is not enough memory" "$(cat "$room/out")|$(cat "$room/errors")"
-sed '2s/"vertices":\[\]/"vertices":[[-0,0,0]]/' "$room/in" >"$room/uncommon"
-mv "$room/uncommon" "$room/in"
-expect 'no memory for a value' "1|$header|citymerge: tile 1 line 2: there is not enough memory" "$(ulimit -v 250000; answer filter)"
+expect 'no memory for a value' "1|$header|citymerge: tile 1 line 2: there is not enough memory" "$(ulimit -v 250000; answer filter --exclude --cotype=Road)"
 
 # a directory can be opened, and cannot be read
 timeout 60 "$program" filter <"$room" >"$room/out" 2>"$room/errors"
@@ -386,7 +385,11 @@ if (ulimit -s 1000000) 2>/dev/null; then
     for most in '500000|1||citymerge: tile 1: a thread could not be started' '1500000|1||citymerge: tile 2: a thread could not be started' "4000000|0|$(printf '%s\n%s\n%s' "$header" "$one" "$far")|"; do
         expect "threads in ${most%%|*} KB" "${most#*|}" "$(ulimit -s 1000000; ulimit -v "${most%%|*}"; mixed a b)"
     done
-    expect 'no thread beside one whose ring is full' '1||citymerge: tile 2: a thread could not be started' "$(ulimit -s 1000000; ulimit -v 1500000; merged many b)"
+    # while the choice is copied for tile 2, the ring of tile 1 mostly fills: who stops has to empty it
+    types="--cotype=Building,$(seq -f 'A%g' -s , 18000)"
+    for _ in $(seq 8); do
+        expect 'no thread beside one whose ring is full' '1||citymerge: tile 2: a thread could not be started' "$(ulimit -s 1000000; ulimit -v 1500000; merged "$types" many b)"
+    done
     expect 'no thread, in turn' "0|$(printf '%s\n%s\n%s' "$header" "$one" "$far")|" "$(ulimit -s 1000000; ulimit -v 500000; merged --in-turn a b)"
     beside "$room/b" 1500000 &
     (
@@ -787,5 +790,24 @@ for length in 24000 32000 56000; do
     done
     expect "memory that ends with a word of $length letters" told "$told$seen"
 done
+
+# Memory that ends while the threads of a merge are started, each with a stack of 8 MB and a choice of 12,000 types of its
+# own: the merge is done, or refused before a byte is written, or a tile ends at a line for which there is no room.
+for _ in $(seq 8); do printf '%s ' "$room/short"; done >"$room/eight"
+{ printf '%s\n' "$header"; printf '%s\n' "$a"; } >"$room/short"
+{ printf '%s\n' "$header"; yes "$a" | head -n 8; } >"$room/wanted"
+word="Building,$(seq -f 'A%g' -s , 12000)"
+started() {
+    (ulimit -s 8192; ulimit -v "$1"; exec timeout 20 "$program" merge "--cotype=$word" $(cat "$room/eight") >"$room/out" 2>"$room/errors") 2>"$room/ignored"
+    case "$?|$(cat "$room/errors")" in
+    '0|') cmp -s "$room/wanted" "$room/out" && echo done || echo "done wrongly in $1 KB" ;;
+    '1|citymerge: there is not enough memory') [ -s "$room/out" ] && echo "written in $1 KB" || echo memory ;;
+    '1|citymerge: tile '[1-8]': a thread could not be started') [ -s "$room/out" ] && echo "written in $1 KB" || echo thread ;;
+    '1|citymerge: tile '[1-8]' line '[12]': there is not enough memory') echo line ;;
+    *) echo "ended wrongly in $1 KB" ;;
+    esac
+}
+seen=$(for most in $(seq 4000 500 90000); do started "$most"; done | sort -u | grep -v '^line$' | tr '\n' ' ')
+expect 'memory that ends while threads are started' 'done memory thread ' "$seen"
 
 counted 'The program at its edges'

@@ -19,30 +19,31 @@ def flat(text):
 class Contract:
     """The head and the clauses of a public function, with the type or trait that it belongs to."""
 
-    def __init__(self, path, owner, name, text):
+    def __init__(self, path, owner, name, lines):
         self.path = path
         self.owner = owner
         self.name = name
-        self.text = text
+        self.lines = lines
+        self.text = re.sub(r" ?(\{\}?|;)$", "", flat("\n".join(lines)))
 
     def clauses(self):
         return set(re.findall(r"\b(?:requires|ensures) (\w+) \{", self.text))
 
 
-def contract_text(lines):
+def contract_lines(lines):
     """The function that begins at the first line, up to its body, or to the end of its declaration."""
     indent = re.match(" *", lines[0]).group()
-    taken = ""
+    taken = []
     for line in lines:
         own = re.match(" *", line).group() == indent
         if own and line.strip() in ("{", "{}"):
             break
-        taken += line + "\n"
+        taken.append(line)
         if own and re.search(r"\{\}?$", line):
             break
-        if line.endswith(";") and taken.count("{") == taken.count("}"):
+        if line.endswith(";") and "".join(taken).count("{") == "".join(taken).count("}"):
             break
-    return re.sub(r" ?(\{\}?|;)$", "", flat(taken))
+    return taken
 
 
 def exported(crate):
@@ -77,7 +78,7 @@ def contracts_in(path):
             continue
         owner = header[-1] if header else ""
         if names is None or (owner or head[2]) in names:
-            yield Contract(path, owner, head[2], contract_text(lines[at:]))
+            yield Contract(path, owner, head[2], contract_lines(lines[at:]))
 
 
 def contracts():
