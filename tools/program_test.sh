@@ -810,4 +810,25 @@ started() {
 seen=$(for most in $(seq 4000 500 90000); do started "$most"; done | sort -u | grep -v '^line$' | tr '\n' ' ')
 expect 'memory that ends while threads are started' 'done memory thread ' "$seen"
 
+# The deepest values in a stack of 128 KiB, which each thread of a merge has, too: lines that are written as they are, a
+# line that is refused, a document that is cut.
+nested="$(printf '[%.0s' $(seq 124))$(printf ']%.0s' $(seq 124))"
+deep="{\"type\":\"CityJSONFeature\",\"id\":\"d\",\"CityObjects\":{\"d\":{\"type\":\"Building\",\"attributes\":{\"n\":$nested}}},\"vertices\":[[1,2,3]]}"
+{ printf '%s\n' "$header"; printf '%s\n' "$deep"; } >"$room/deep"
+{ printf '%s\n' "$header"; printf '%s\n' "$deep" | sed 's/3\]\]}$/3.0]]}/'; } >"$room/deep_refused"
+printf '%s\n' "$header" | sed 's/"CityObjects":{}/"CityObjects":{"d":{"type":"Building","attributes":{"n":'"$nested"'}}}/' >"$room/deep_document"
+printf '%s\n%s\n' "$header" "$deep" | sed 's/\[\[1,2,3\]\]/[]/' >"$room/deep_cut"
+in_small_stack() {
+    (ulimit -s 128; exec env -i "$program" "$@") >"$room/out" 2>"$room/errors"
+    echo "$?|$(cat "$room/errors")"
+}
+expect 'the deepest line in a small stack' '0|' "$(in_small_stack filter <"$room/deep")$(cmp "$room/deep" "$room/out")"
+expect 'the deepest refused line in a small stack' '1|citymerge: tile 1 line 2: a vertex number is not written as a whole number' "$(in_small_stack filter <"$room/deep_refused")"
+for command in cat filter; do
+    expect "the deepest document of $command in a small stack" '0|' "$(in_small_stack $command <"$room/deep_document")$(cmp "$room/deep_cut" "$room/out")"
+done
+for order in '' --in-turn; do
+    expect "a merge $order of the deepest lines in small stacks" '1|citymerge: tile 2 line 2: a vertex number is not written as a whole number' "$(in_small_stack merge $order "$room/deep" "$room/deep_refused")$(cmp "$room/deep" "$room/out")"
+done
+
 counted 'The program at its edges'

@@ -31,12 +31,12 @@ const PLACED: [&str; 4] = [
 ];
 
 /// A stream as people write it, and the same with no white space.
-const SPACED: [&str; 2] = [
+pub(crate) const SPACED: [&str; 2] = [
     r#"{ "type": "CityJSON", "version": "2.0", "transform": {"scale": [0.001, 0.001, 0.001], "translate": [0, 0, 0]}, "CityObjects": {}, "vertices": [] }"#,
     r#"{"type":"CityJSONFeature", "id":"a", "CityObjects":{"a":{"type":"Building", "attributes":{"h":1.50e+3}}}, "vertices":[[1,2,3]]}"#,
 ];
 
-const COMPACT: [&str; 2] = [
+pub(crate) const COMPACT: [&str; 2] = [
     HEADER,
     r#"{"type":"CityJSONFeature","id":"a","CityObjects":{"a":{"type":"Building","attributes":{"h":1.50e+3}}},"vertices":[[1,2,3]]}"#,
 ];
@@ -46,7 +46,7 @@ pub(crate) fn every_feature() -> Choice {
     Choice::new(None, None, false)
 }
 
-fn at_line(line: u64, fault: Fault) -> Result<u64, MergeFault> {
+pub(crate) fn at_line(line: u64, fault: Fault) -> Result<u64, MergeFault> {
     Err(MergeFault {
         tile: 1,
         line,
@@ -54,7 +54,7 @@ fn at_line(line: u64, fault: Fault) -> Result<u64, MergeFault> {
     })
 }
 
-const NOT_WRITTEN: MergeFault = MergeFault {
+pub(crate) const NOT_WRITTEN: MergeFault = MergeFault {
     tile: 0,
     line: 0,
     fault: Fault::Write,
@@ -72,7 +72,7 @@ pub(crate) fn stream_of(alloc: Global, texts: &[&str]) -> Result<Vec<u8>, AllocE
 
 /// Filters with ample memory, at few and at many bytes a read and a write, and compares all that is
 /// answered and written.
-fn expect_filter(
+pub(crate) fn expect_filter(
     rt: &(impl Abort + AllocGlobal),
     choice: &Choice,
     (input, fails): (&[u8], bool),
@@ -86,7 +86,7 @@ fn expect_filter(
             step.max(1),
             fails,
         );
-        let mut output = Bin::new(rt.alloc(), 8192, step, false)?;
+        let mut output = Bin::new(rt.alloc(), 65_536, step, false)?;
         assert_eq!(rt;
             filter_stream(rt.alloc(), tape, choice, &mut output),
             answer,

@@ -7,4 +7,6 @@ mod filtering;
 #[cfg(test)]
 mod following;
 #[cfg(test)]
+mod hostile;
+#[cfg(test)]
 mod lines;

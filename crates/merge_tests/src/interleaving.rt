@@ -1,14 +1,14 @@
 //! Merges with a thread for each tile, whose features stand as they come.
 
 use crate::merging::{Asked, Wanted, answer_of, expect_merge, readers_of, stream_of};
-use byte_streams::{Bin, MergeFault};
+use byte_streams::{Bin, MergeFault, Sink, Source};
 use std::alloc::{AllocError, Global};
 use std::process::Abort;
 use std::sync::Wait;
 use std::test::Fail;
 use std::thread::Threads;
 use tile_handoff::MAX_CAPACITY;
-use tile_merge::merge;
+use tile_merge::{Report, merge};
 
 /// What a merge answers, the header that it writes, if it does, and the lines of each tile. No two tiles share a line.
 #[derive(Clone, Copy)]
@@ -57,6 +57,76 @@ pub(crate) fn is_mixed(
     Ok(lines.len() == length)
 }
 
+/// The texts of a tile but for those that stand among the lines, each after those before it.
+fn left_after<'a, 'b>(lines: &[u8], texts: &'a [&'b str]) -> &'a [&'b str] {
+    let mut left = texts;
+    for line in lines.split(|byte| *byte == b'\n') {
+        let [next, others @ ..] = left else {
+            return left;
+        };
+        if next.as_bytes() == line {
+            left = others;
+        }
+    }
+    left
+}
+
+/// Whether what was written is a front of such a stream: whole lines of the tiles, and then a front of the next one
+/// of a tile.
+pub(crate) fn is_mixed_front(
+    alloc: Global,
+    written: &[u8],
+    header: &str,
+    tiles: &[&[&str]],
+) -> Result<bool, AllocError> {
+    let header = stream_of(alloc, &[header])?;
+    let Some(lines) = written.strip_prefix(header.as_slice()) else {
+        return Ok(header.as_slice().starts_with(written));
+    };
+    let mut begun = lines;
+    for piece in lines.split(|byte| *byte == b'\n') {
+        begun = piece;
+    }
+    let (whole, _) = lines.split_at(lines.len().saturating_sub(begun.len()));
+    let mut length = 0usize;
+    let mut is_next = begun.is_empty();
+    for texts in tiles {
+        let left = left_after(whole, texts);
+        let taken = texts.len().saturating_sub(left.len());
+        length = length.saturating_add(stream_of(alloc, &texts[..taken.min(texts.len())])?.len());
+        if let [next, ..] = left {
+            is_next = is_next || next.as_bytes().starts_with(begun);
+        }
+    }
+    Ok(is_next && whole.len() == length)
+}
+
+/// Merges these readers, of which there is one at least, with a thread for each.
+pub(crate) fn merge_with_threads<H, R, W>(
+    rt: &H,
+    readers: Vec<R>,
+    asked: &Asked,
+    capacity: u32,
+    output: &mut W,
+) -> Result<Report, MergeFault>
+where
+    H: Abort + AllocGlobal + Threads + Wait + Copy + Send + 'static,
+    R: Source + Send + Drop + 'static,
+    W: Sink,
+{
+    assert!(rt; !readers.is_empty());
+    assert!(rt; 0 < capacity && capacity <= MAX_CAPACITY);
+    merge(
+        rt,
+        rt.alloc(),
+        readers,
+        &asked.choice,
+        asked.base,
+        capacity,
+        output,
+    )
+}
+
 /// Merges with ample memory and threads, with few and with many texts held and bytes a read and a write.
 pub(crate) fn expect_mixed<H>(
     rt: &H,
@@ -70,18 +140,8 @@ where
     let alloc = rt.alloc();
     for (capacity, step, is_ended) in [(1u32, 7usize, true), (2, 100_000, false), (64, 500, true)] {
         let readers = readers_of(alloc, tiles, step, is_ended)?;
-        assert!(rt; !readers.is_empty());
-        assert!(rt; 0 < capacity && capacity <= MAX_CAPACITY);
         let mut output = Bin::new(alloc, 65_536, step, false)?;
-        let merged = merge(
-            rt,
-            alloc,
-            readers,
-            &asked.choice,
-            asked.base,
-            capacity,
-            &mut output,
-        );
+        let merged = merge_with_threads(rt, readers, asked, capacity, &mut output);
         assert_eq!(rt; answer_of(&merged), wanted.answer, "capacity {capacity}");
         let is_right = is_mixed(alloc, output.bytes(), wanted.header, wanted.lines)?;
         assert!(rt; is_right, "capacity {capacity}");

@@ -14,6 +14,8 @@ mod faults;
 #[cfg(test)]
 mod headers;
 #[cfg(test)]
+mod hostile;
+#[cfg(test)]
 mod interleaving;
 #[cfg(test)]
 mod large_documents;
