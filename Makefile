@@ -58,9 +58,10 @@ compile-test:
 	@tools/need.sh rt python3
 	@python3 tools/must_not_compile.py
 
-# Wrong runs are kept in build/torture.
+# Wrong runs are kept in build/torture and build/growths.
 torture: build
 	@tools/need.sh python3 cc
+	@tools/growths.sh
 	@python3 tools/torture/torture.py $(TORTURE) build/citymerge
 
 # The documents, what must not compile, the gate, and the program that the gate built, at its edges.
