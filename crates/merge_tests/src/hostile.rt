@@ -16,6 +16,9 @@ const FAULTY: [&[&str]; 2] = [&[HEADER, A1, A2], &[HEADER, B1, CUT]];
 
 const WHOLE: [&[&str]; 3] = [&[HEADER, A1, A2, A3], &[HEADER, B1], &[HEADER, C1, C2]];
 
+/// The first of the two, and a blank line, so that its whole text is a front.
+const LONGER: [&str; 4] = [HEADER, A1, A2, ""];
+
 /// The readers of the two faulty tiles, seven bytes a read; that of the first gives so many bytes and then fails.
 fn failing_tiles(alloc: Global, bytes: &[u8]) -> Result<Vec<Tape>, AllocError> {
     let mut readers = Vec::new(alloc);
@@ -46,14 +49,15 @@ fn failed_read(lines: usize) -> Result<&'static [u64], MergeFault> {
 #[test]
 fn a_read_may_fail_after_each_byte(rt: HostRuntime) -> Result<(), Fail> {
     let alloc = rt.alloc();
-    let stream = stream_of(alloc, FAULTY[0])?;
+    let stream = stream_of(alloc, &LONGER)?;
     for length in 0..stream.len() {
         let bytes = &stream[..length];
         let lines = newlines(bytes);
         let written = match lines {
             0 => stream_of(alloc, &[])?,
             1 => stream_of(alloc, &[HEADER, B1])?,
-            _ => stream_of(alloc, &[HEADER, A1, B1])?,
+            2 => stream_of(alloc, &[HEADER, A1, B1])?,
+            _ => stream_of(alloc, &[HEADER, A1, B1, A2])?,
         };
         for capacity in [1u32, 64] {
             let readers = failing_tiles(alloc, bytes)?;
@@ -69,7 +73,7 @@ fn a_read_may_fail_after_each_byte(rt: HostRuntime) -> Result<(), Fail> {
 #[test]
 fn a_read_beside_a_thread_may_fail_after_each_byte(rt: HostRuntime) -> Result<(), Fail> {
     let alloc = rt.alloc();
-    let stream = stream_of(alloc, FAULTY[0])?;
+    let stream = stream_of(alloc, &LONGER)?;
     for length in 0..stream.len() {
         let bytes = &stream[..length];
         let lines = newlines(bytes);
@@ -81,7 +85,8 @@ fn a_read_beside_a_thread_may_fail_after_each_byte(rt: HostRuntime) -> Result<()
             let is_right = match lines {
                 0 => output.bytes().is_empty(),
                 1 => is_mixed(alloc, output.bytes(), &[HEADER], &[&[], &[B1]])?,
-                _ => is_mixed(alloc, output.bytes(), &[HEADER], &[&[A1], &[B1]])?,
+                2 => is_mixed(alloc, output.bytes(), &[HEADER], &[&[A1], &[B1]])?,
+                _ => is_mixed(alloc, output.bytes(), &[HEADER], &[&[A1, A2], &[B1]])?,
             };
             assert!(rt; is_right, "after {length}");
         }
