@@ -4,7 +4,7 @@ use Rattle.std.specs.Io.KnownBytes.{Appends, Keeps}
 use Rattle.byte_streams.specs.Failures.{after_call}
 use Rattle.byte_streams.specs.declared.fault.Fault.{Fault}
 use Rattle.citymerge.specs.Passing.{ShownOrFailed}
-use Rattle.tile_merge.proofs.Steps.{Appends-kept}
+use Rattle.tile_stream.proofs.Steps.{Appends-kept}
 
 module _ (bytes : List ℕ) (IsFlushed : Type 0) (old mid new : Option (List ℕ)) (before after : ℕ) (wrote : Appends old mid bytes) (kept : Keeps mid new) where
   pub shown : (flushed : Result (Unit {0}) Fault) → OnOk flushed IsFlushed → after ≡ after_call flushed before → ShownOrFailed bytes IsFlushed old new before after

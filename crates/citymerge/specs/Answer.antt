@@ -11,11 +11,11 @@ use Rattle.command_line.specs.declared.parsing.Parsed.{Parsed}
 use Rattle.command_line.specs.declared.parsing.Parsed.TheVariants as parsed
 use Rattle.document_stream.specs.CutStream.{WroteCut}
 use Rattle.document_stream.specs.Input.{SomeInput}
-use Rattle.tile_merge.specs.Filtered.{WroteStream}
-use Rattle.tile_merge.specs.Head.{SomeTile}
+use Rattle.tile_stream.specs.Filtered.{WroteStream}
+use Rattle.tile_stream.specs.Head.{SomeTile}
 use Rattle.tile_merge.specs.Merged.{MergedAll}
-use Rattle.tile_merge.specs.Tile.{stream_limits}
-use Rattle.tile_merge.specs.Unread.{IsOfTile}
+use Rattle.tile_stream.specs.Tile.{stream_limits}
+use Rattle.tile_stream.specs.Unread.{IsOfTile}
 use Rattle.byte_streams.specs.declared.places.MergeFault.{MergeFault}
 
 -- a command is done or refused; help is shown; words are wrong; memory ran out

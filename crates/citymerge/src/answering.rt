@@ -10,7 +10,7 @@ use byte_streams::{Fault, MergeFault, Sink, Source};
 use command_line::{MergeArgs, Parsed};
 use std::sync::Wait;
 use std::thread::Threads;
-use tile_merge::TileReader;
+use tile_stream::TileReader;
 
 /// Does what the words ask for, and answers the status to end with: 0 where it is done, 1 with a fault
 /// line on `errors` where it is refused, 2 with what is wrong with the words. `filter` and `cat` take

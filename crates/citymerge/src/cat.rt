@@ -3,8 +3,8 @@ ghost use Rattle.citymerge.specs.FaultLine.{fault_line};
 ghost use Rattle.citymerge.specs.Passing.{WroteOrFailed};
 ghost use Rattle.document_stream.specs.CutStream.{IsRefusedDocument, WroteCut};
 ghost use Rattle.document_stream.specs.Input.{SomeInput};
-ghost use Rattle.tile_merge.specs.Filtered.{failures_after_write};
-ghost use Rattle.tile_merge.specs.Unread.{failed_reads_after};
+ghost use Rattle.tile_stream.specs.Filtered.{failures_after_write};
+ghost use Rattle.tile_stream.specs.Unread.{failed_reads_after};
 ghost use Rattle.byte_streams.specs.declared.places.MergeFault.{MergeFault};
 
 #[cfg(test)]

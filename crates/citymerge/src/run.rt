@@ -3,11 +3,11 @@ ghost use Rattle.city_feature.specs.Choice.{IsChosen};
 ghost use Rattle.citymerge.specs.FaultLine.{fault_line};
 ghost use Rattle.citymerge.specs.Merging.{base_of, mixes_of, IsRefusedAsked, PassedOnAsked};
 ghost use Rattle.citymerge.specs.Passing.{WroteOrFailed};
-ghost use Rattle.tile_merge.specs.Filtered.{WroteStream, IsRefusedFilter, CountsReads, PassedOn, failures_after_merge, failures_after_refusal, failures_after_write};
-ghost use Rattle.tile_merge.specs.Head.{SomeTile};
+ghost use Rattle.tile_stream.specs.Filtered.{WroteStream, IsRefusedFilter, CountsReads, PassedOn, failures_after_merge, failures_after_refusal, failures_after_write};
+ghost use Rattle.tile_stream.specs.Head.{SomeTile};
 ghost use Rattle.tile_merge.specs.Interleaves.{Interleaves};
 ghost use Rattle.tile_merge.specs.Merged.{MergedAll};
-ghost use Rattle.tile_merge.specs.Unread.{Leaves, has_failed};
+ghost use Rattle.tile_stream.specs.Unread.{Leaves, has_failed};
 ghost use Rattle.byte_streams.specs.declared.places.MergeFault.{MergeFault};
 
 #[cfg(test)]
@@ -24,7 +24,8 @@ use command_line::MergeArgs;
 use std::alloc::Global;
 use std::sync::Wait;
 use std::thread::Threads;
-use tile_merge::{Report, TileReader, filter_tile, merge, merge_in_turn};
+use tile_merge::{Report, merge, merge_in_turn};
+use tile_stream::{TileReader, filter_tile};
 
 /// How many texts of a tile are held at most, where each tile has a thread.
 const CAPACITY: u32 = 64;

@@ -15,7 +15,7 @@ use Rattle.city_feature.specs.Feature.{FeatureValue}
 use Rattle.city_feature.specs.Header.{HeaderValue}
 use Rattle.city_cut.specs.Cut.{IsCut, IsCuttable, RefusesCut}
 use Rattle.city_cut.specs.Lines.{lines_of}
-use Rattle.tile_merge.specs.Stream.{with_newline}
+use Rattle.tile_stream.specs.Stream.{with_newline}
 use Rattle.document_stream.specs.CutStream.{IsStreamOf, cut_stream}
 use Rattle.document_stream.specs.Input.{IsTextOf, RefusesInput, SomeInput, most_bytes}
 use Rattle.document_stream.specs.Taking.{GivesText, IsRefusedInput, RefusesReading, is_blank}

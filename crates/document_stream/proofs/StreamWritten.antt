@@ -3,8 +3,8 @@ use Rattle.std.proofs.Common.{◌++◌, ◌+◌, ℕ, List, Option, Result, Ok, 
 use Rattle.std.proofs.Math.Seq.{take-append-add}
 use Rattle.std.proofs.KnownBytes.{Appends-trans}
 use Rattle.std.specs.Io.KnownBytes.{Appends, Keeps}
-use Rattle.tile_merge.proofs.Steps.{Appends-kept}
-use Rattle.tile_merge.proofs.Steps.{first_of_longer}
+use Rattle.tile_stream.proofs.Steps.{Appends-kept}
+use Rattle.tile_stream.proofs.Steps.{first_of_longer}
 
 pub on_err : {A B P : Type 0} (answer : Result A B) → P → OnErr answer P
 on_err (Ok x) holds = tt

@@ -10,8 +10,8 @@ use Rattle.city_feature.specs.Feature.{FeatureValue}
 use Rattle.city_feature.specs.Header.{HeaderValue}
 use Rattle.city_cut.specs.Cut.{IsCut, IsCuttable}
 use Rattle.city_cut.specs.Lines.{texts_of}
-use Rattle.tile_merge.specs.Stream.{stream}
-use Rattle.tile_merge.specs.Tile.{Tile}
+use Rattle.tile_stream.specs.Stream.{stream}
+use Rattle.tile_stream.specs.Tile.{Tile}
 use Rattle.document_stream.specs.Input.{IsTextOf, IsWhole, RefusesInput, SomeInput}
 
 -- The input spells a document of which nothing is refused, and this is the header and these are the features that it is

@@ -7,7 +7,7 @@ use Rattle.city_json.specs.Refusals.{RefusesText}
 use Rattle.city_json.specs.Tree.{Tree}
 use Rattle.byte_streams.specs.declared.fault.Fault.{Fault}
 use Rattle.byte_streams.specs.declared.fault.Fault.TheVariants.{Memory, NoHeader}
-use Rattle.tile_merge.specs.Unread.{failed_reads_after}
+use Rattle.tile_stream.specs.Unread.{failed_reads_after}
 use Rattle.document_stream.specs.Input.{IsTextOf, IsWhole, RefusesInput, SomeInput}
 
 abbrev pub is_blank : List ℕ → Bool

@@ -1,7 +1,7 @@
 ghost use Rattle.std.specs.Prelude.{◌≡◌, IfOk, IfErr, OnOk};
 ghost use Rattle.document_stream.specs.CutStream.{IsRefusedDocument, WroteCut};
 ghost use Rattle.document_stream.specs.Input.{SomeInput};
-ghost use Rattle.tile_merge.specs.Filtered.{failed_reads_after_filter, failures_after_filter};
+ghost use Rattle.tile_stream.specs.Filtered.{failed_reads_after_filter, failures_after_filter};
 
 use crate::taking::take_stream;
 use crate::writing::write_stream;

@@ -8,7 +8,7 @@ ghost use Rattle.city_feature.specs.Values.{header_value};
 ghost use Rattle.document_stream.specs.CutStream.{IsStreamOf};
 ghost use Rattle.document_stream.specs.Input.{IsTextOf, SomeInput};
 ghost use Rattle.document_stream.specs.Taking.{GivesText, IsRefusedInput, RefusesReading, failed_reads_after_taking, is_blank};
-ghost use Rattle.tile_merge.specs.Stream.{with_newline};
+ghost use Rattle.tile_stream.specs.Stream.{with_newline};
 
 use byte_streams::{Fault, Line, Source, Stop, read_all};
 use city_cut::cut_lines;

@@ -8,7 +8,8 @@ use std::process::Abort;
 use std::sync::Wait;
 use std::test::Fail;
 use std::thread::Threads;
-use tile_merge::{Lines, Report, filter_stream, merge, merge_in_turn};
+use tile_merge::{Report, merge, merge_in_turn};
+use tile_stream::{Lines, filter_stream};
 
 const HEADER: &str =
     r#"{"type":"CityJSON","version":"2.0","transform":{"scale":[0.001,0.001,0.001],"translate":[0,0,0]},"CityObjects":{},"vertices":[]}"#;

@@ -6,7 +6,7 @@ use Rattle.byte_streams.specs.declared.fault.Fault.{Fault}
 use Rattle.byte_streams.specs.declared.fault.Fault.TheVariants.{NoHeader, NotUtf8, Syntax, TooDeep, DuplicateName, NotCityJson, Version, NoTransform, Decimal, ScaleNotPositive, HeaderNotEmpty, ScaleDiffers, CrsDiffers, OffGrid, ShiftRange, ExtensionClash, TemplatesDiffer, NotAFeature, VertexShape, VertexNotInteger, VertexRange, LineTooLong, TileTooLong, Read, Write, Memory, NoThread, Handoff, TooManyTiles, ChildMissing, Orphan, BoundaryIndex}
 use Rattle.tile_handoff.specs.declared.note.End.{End}
 use Rattle.tile_merge.specs.EndNotes.{Ended, end_of, end_with, ended_so}
-use Rattle.tile_merge.specs.Texts.{Outcome}
+use Rattle.tile_stream.specs.Texts.{Outcome}
 
 -- the item at a place, counted from 1
 abbrev at_place : ℕ → List Fault → Option Fault

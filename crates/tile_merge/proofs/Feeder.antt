@@ -5,10 +5,10 @@ use Rattle.std.proofs.lemmas.List.{map-append}
 use Rattle.tile_handoff.specs.declared.note.End.{End}
 use Rattle.tile_handoff.specs.declared.note.Note.{Note}
 use Rattle.tile_handoff.specs.declared.note.Note.TheVariants.{Line as LineNote, End as EndNote}
-use Rattle.tile_merge.specs.Coming.{ComesBack, GivesText, SomethingComes}
+use Rattle.tile_stream.specs.Coming.{ComesBack, GivesText, SomethingComes}
 use Rattle.tile_merge.specs.EndNotes.{end_of, ended_so, line_note, notes_of}
-use Rattle.tile_merge.specs.Stream.{with_newline}
-use Rattle.tile_merge.specs.Texts.{Outcome}
+use Rattle.tile_stream.specs.Stream.{with_newline}
+use Rattle.tile_stream.specs.Texts.{Outcome}
 use Rattle.tile_merge.specs.Threads.{Fed, FedSoFar, IsFed, MayFeed}
 
 module _ (before : List (List ℕ) → Outcome → Type 0) (old : List Note) where

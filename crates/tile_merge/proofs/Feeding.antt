@@ -9,12 +9,12 @@ use Rattle.tile_handoff.specs.Queues.{Queue, QueuesState, queue_of, with_queue, 
 use Rattle.tile_handoff.specs.declared.note.End.{End}
 use Rattle.tile_handoff.specs.declared.note.Note.{Note}
 use Rattle.tile_handoff.specs.declared.note.Note.TheVariants.{Line as LineNote, End as EndNote}
-use Rattle.tile_merge.specs.Coming.{MayComeTo, ComesBack, GivesText, SomethingComes}
+use Rattle.tile_stream.specs.Coming.{MayComeTo, ComesBack, GivesText, SomethingComes}
 use Rattle.tile_merge.specs.EndNotes.{Ended, end_of, ended_so}
 use Rattle.tile_merge.specs.Feeds.{FeedState, Course, course_of, ThenComes, NotesCome, MayTake, TakesNone, TakesTurn, SomeCourse}
-use Rattle.tile_merge.specs.Stream.{with_newline}
-use Rattle.tile_merge.specs.Texts.{Outcome}
-use Rattle.tile_merge.specs.TileState.{TileState, most_to_come}
+use Rattle.tile_stream.specs.Stream.{with_newline}
+use Rattle.tile_stream.specs.Texts.{Outcome}
+use Rattle.tile_stream.specs.TileState.{TileState, most_to_come}
 use Rattle.tile_merge.proofs.FaultNumbers.{end_tells}
 
 not_empty : (left : List Note) (note : Note) → left ++ note ∷ [] ≡ [] → ⊥

@@ -10,7 +10,7 @@ use Rattle.tile_merge.specs.Feeds.{FeedState, fresh_feed}
 use Rattle.tile_merge.specs.Opened.{AllThree, OpenState}
 use Rattle.tile_merge.specs.Rounds.{IsFeedOf}
 use Rattle.std.specs.List.{AllZip}
-use Rattle.tile_merge.proofs.Opening.{is_longer}
+use Rattle.tile_stream.proofs.GoneThrough.{is_longer}
 use Rattle.tile_merge.proofs.Threes.{all_three_push}
 
 -- one item more of the front of a list

@@ -12,22 +12,22 @@ use Rattle.city_feature.specs.Feature.{FeatureValue}
 use Rattle.city_feature.specs.declared.base.Base.{Base}
 use Rattle.tile_handoff.specs.declared.note.End.{End}
 use Rattle.tile_merge.specs.EndNotes.{Ended, AreEnds, outcomes_in, totals_in}
-use Rattle.tile_merge.specs.Filtered.{failures_after_merge}
+use Rattle.tile_stream.specs.Filtered.{failures_after_merge}
 use Rattle.tile_merge.specs.Feeds.{FeedState, Course}
 use Rattle.tile_merge.specs.Interleaves.{Interleaves}
 use Rattle.tile_merge.specs.Merged.{MergedAll, StoppedAtTile, WroteMerge, WroteFrontOf, IsRefusedEarly, IsOutputFault, IsRefusedMerge, texts_of}
 use Rattle.tile_merge.specs.Rounds.{AreReady, MayTakeAll, SomeCourses, WroteTurns, WroteTurnsFront, texts_in, ends_in, lines_of}
-use Rattle.tile_merge.specs.Stream.{with_newline, stream}
-use Rattle.tile_merge.specs.Texts.{Outcome}
-use Rattle.tile_merge.specs.Tile.{FaultyLine}
+use Rattle.tile_stream.specs.Stream.{with_newline, stream}
+use Rattle.tile_stream.specs.Texts.{Outcome}
+use Rattle.tile_stream.specs.Tile.{FaultyLine}
 use Rattle.tile_merge.specs.Told.{told, first_where, or_else, is_memory, fault_of_tile}
 use Rattle.tile_merge.specs.Turns.{turns, AreTurns}
 use Rattle.byte_streams.specs.declared.places.MergeFault.{MergeFault}
 use Rattle.tile_merge.specs.declared.merging.report.Report.{Report}
-use Rattle.tile_merge.proofs.Steps.{Appends-kept}
+use Rattle.tile_stream.proofs.Steps.{Appends-kept}
 use Rattle.tile_merge.proofs.MergedTiles.{AreMerged, given_all, some_ahead, are_merged, merges}
 use Rattle.tile_merge.proofs.Readying.{quiet_tile, quiet_memory}
-use Rattle.tile_merge.proofs.Steps.{first_of_longer}
+use Rattle.tile_stream.proofs.Steps.{first_of_longer}
 use Rattle.tile_merge.proofs.TurnsInterleave.{interleaves}
 
 -- ---- refusals ----

@@ -1,17 +1,9 @@
-pub mod Coming
-pub mod Comings
 pub mod FaultNumbers
 pub mod Feeder
 pub mod Feeding
 pub mod Feeds
-pub mod Filtering
-pub mod FirstParts
-pub mod Heads
-pub mod HeldFirst
-pub mod HeldTexts
 pub mod InTurn
 pub mod Joining
-pub mod Leaving
 pub mod MergedTiles
 pub mod Mixing
 pub mod Opening
@@ -19,7 +11,6 @@ pub mod Readying
 pub mod Rounding
 pub mod Sending
 pub mod Starting
-pub mod Steps
 pub mod Taken
 pub mod Telling
 pub mod Threaded

@@ -6,15 +6,15 @@ use Rattle.city_feature.specs.Header.{HeaderValue}
 use Rattle.city_feature.specs.Joined.{IsJoined}
 use Rattle.city_feature.specs.declared.base.Base.{Base}
 use Rattle.city_grid.specs.Axes.{Triple}
-use Rattle.tile_merge.specs.Coming.{MayComeTo}
+use Rattle.tile_stream.specs.Coming.{MayComeTo}
 use Rattle.tile_merge.specs.EndNotes.{ended_so, outcomes_in, totals_in}
 use Rattle.tile_merge.specs.Feeds.{FeedState, Course, course_of, MayTake}
 use Rattle.tile_merge.specs.Merged.{HeadedTile, MergedTile, HaveHeads, headers_of, shifts_of, texts_of, outcomes_of, ComesToTexts, Merges}
 use Rattle.tile_merge.specs.Opened.{AllThree, OpenState, IsOpened}
-use Rattle.tile_merge.specs.TileState.{AreLines}
+use Rattle.tile_stream.specs.TileState.{AreLines}
 use Rattle.tile_merge.specs.Rounds.{IsFeedOf, MayTakeAll, SomeCourses, texts_in, ends_in}
-use Rattle.tile_merge.specs.Held.{held_value}
-use Rattle.tile_merge.proofs.HeldFirst.{something, tile_comes}
+use Rattle.tile_stream.specs.Held.{held_value}
+use Rattle.tile_stream.proofs.HeldFirst.{something, tile_comes}
 
 module _ {R : Type 0} (gives : R → List ℕ → Bool → Type 0) (IsWanted : FeatureValue → Type 0) where
   -- what may come of a tile that was opened, moved by its shift

@@ -10,7 +10,7 @@ use Rattle.city_json.specs.Bytes.{newline}
 use Rattle.tile_merge.specs.Interleaves.{Interleaves, items_at}
 use Rattle.tile_merge.specs.Opened.{AllThree}
 use Rattle.tile_merge.specs.Rounds.{lines_of}
-use Rattle.tile_merge.specs.Stream.{with_newline}
+use Rattle.tile_stream.specs.Stream.{with_newline}
 use Rattle.tile_merge.proofs.Opening.{all_three_long}
 use Rattle.tile_merge.proofs.TurnsInterleave.{at-append, at_other, at_own}
 

@@ -1,14 +1,14 @@
 -- Tiles whose headers were taken, one after another.
-use Rattle.std.proofs.Common.{◌≡◌, ◌<◌, ◌+◌, ◌++◌, ℕ, Bool, List, [], ◌∷◌, length, length-append, map, refl, sym, ap, subst, ◌∙◌, arith}
+use Rattle.std.proofs.Common.{◌≡◌, ◌+◌, ◌++◌, ℕ, Bool, List, [], ◌∷◌, length, map, refl, sym, ap, subst, ◌∙◌, arith}
 use Rattle.std.proofs.lemmas.List.{map-append}
 use Rattle.city_feature.specs.Header.{HeaderValue}
 use Rattle.city_feature.specs.Values.{HeaderJson, header_value}
-use Rattle.tile_merge.specs.Head.{SomeTile, HasNoHead, GivesHead}
-use Rattle.tile_merge.specs.Held.{Held, held_value}
+use Rattle.tile_stream.specs.Head.{SomeTile, HasNoHead, GivesHead}
+use Rattle.tile_stream.specs.Held.{Held, held_value}
 use Rattle.tile_merge.specs.Merged.{HeadedTile, HaveHeads, headers_of, IsFirstHeadless}
 use Rattle.tile_merge.specs.Opened.{AllThree, OpenState, IsOpened}
-use Rattle.tile_merge.specs.Tile.{TileLines, stream_limits}
-use Rattle.tile_merge.specs.Unread.{IsOfTile}
+use Rattle.tile_stream.specs.Tile.{TileLines, stream_limits}
+use Rattle.tile_stream.specs.Unread.{IsOfTile}
 use Rattle.byte_streams.specs.declared.places.MergeFault.{MergeFault}
 use Rattle.byte_streams.specs.declared.places.LineFault.{LineFault}
 use Rattle.tile_merge.proofs.Threes.{all_three_push}
@@ -19,15 +19,6 @@ module _ (MayBe MayGive : TileLines → Type 0) (same : (tile : TileLines) → M
   head_given after header held gives left leaves =
       let head = gives left leaves in
       (head.0, same head.0 head.1, head.2)
-
--- ---- lists that are gone through ----
-
--- a list goes on with the next of the items that are left
-pub goes_on : {X : Type 0} (all front left : List X) (x : X) (after : List X) → all ≡ front ++ left → left ≡ x ∷ after → all ≡ front ++ x ∷ after
-goes_on all front left x after whole next = whole ∙ ap (λ l. front ++ l) next
-
-pub is_longer : {X : Type 0} (all front : List X) (x : X) (after : List X) → all ≡ front ++ x ∷ after → length front < length all
-is_longer all front x after whole = omega (arith, ap length whole, length-append front (x ∷ after))
 
 -- ---- three lists, place by place ----
 

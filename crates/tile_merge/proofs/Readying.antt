@@ -4,10 +4,10 @@ use Rattle.std.proofs.lemmas.Bool.Decides.{nat_tests}
 use Rattle.byte_streams.specs.declared.fault.Fault.TheVariants.{Memory}
 use Rattle.city_feature.specs.Header.{HeaderValue}
 use Rattle.city_feature.specs.declared.base.Base.{Base}
-use Rattle.tile_merge.specs.Filtered.{failures_after_refusal, failures_after_write}
+use Rattle.tile_stream.specs.Filtered.{failures_after_refusal, failures_after_write}
 use Rattle.tile_merge.specs.Merged.{IsFirstHeadless, IsFirstUnfit, IsOfNoTile, IsRefusedEarly}
 use Rattle.tile_merge.specs.Opened.{AllThree, OpenState, IsOpened}
-use Rattle.tile_merge.specs.TileState.{most_to_come, most_texts}
+use Rattle.tile_stream.specs.TileState.{most_to_come, most_texts}
 use Rattle.byte_streams.specs.declared.places.MergeFault.{MergeFault}
 
 -- a refusal that names a tile is no failed write

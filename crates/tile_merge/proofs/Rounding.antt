@@ -10,7 +10,7 @@ use Rattle.tile_merge.specs.EndNotes.{Ended, end_of}
 use Rattle.tile_merge.specs.Feeds.{FeedState, Course, ThenComes, NotesCome, MayTake, TakesTurn, SomeCourse, IsOver, most_ahead, text_before}
 use Rattle.tile_merge.specs.Opened.{AllThree}
 use Rattle.tile_merge.specs.Rounds.{texts_in, ends_in, MayTakeAll, SomeCourses, all_ahead, texts_given, lines_of, WroteRound, WroteTurns, WroteTurnsFront, TurnsSoFar}
-use Rattle.tile_merge.specs.Stream.{with_newline}
+use Rattle.tile_stream.specs.Stream.{with_newline}
 use Rattle.tile_merge.specs.Turns.{firsts, rests, turns}
 use Rattle.tile_merge.proofs.TurnsLaws.{turns_step, turns_nothing}
 

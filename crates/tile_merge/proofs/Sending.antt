@@ -16,10 +16,10 @@ use Rattle.city_feature.specs.contracts.features.Feature as feature_type
 use Rattle.city_feature.proofs.choices.Choice.TheSendSync as choice
 use Rattle.tile_merge.specs.contracts.merging.threaded.feeder.FedTile as fed_tile
 use Rattle.tile_merge.specs.contracts.merging.threaded.feeder.FedTile.TheInside as fed_inside
-use Rattle.tile_merge.specs.contracts.tile_reader.TileReader as reader_type
-use Rattle.tile_merge.specs.contracts.tile_reader.TileReader.TheInside as reader_inside
-use Rattle.tile_merge.specs.contracts.tile_reader.held.Held as held_type
-use Rattle.tile_merge.proofs.lines.Lines.TheSendSync as lines
+use Rattle.tile_stream.specs.contracts.tile_reader.TileReader as reader_type
+use Rattle.tile_stream.specs.contracts.tile_reader.TileReader.TheInside as reader_inside
+use Rattle.tile_stream.specs.contracts.tile_reader.held.Held as held_type
+use Rattle.tile_stream.proofs.lines.Lines.TheSendSync as lines
 
 feature_send : IsSend feature_type.the_row
 feature_send = search (sendable, crossing.crosses, json.send-Json, vertex.the_send) depth 20

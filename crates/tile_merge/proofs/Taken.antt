@@ -6,7 +6,7 @@ use Rattle.tile_handoff.specs.declared.note.Note.TheVariants.{Line as LineNote, 
 use Rattle.tile_handoff.specs.Notes.{has_end}
 use Rattle.tile_merge.specs.EndNotes.{end_of, ended_so, line_note, notes_of}
 use Rattle.tile_merge.specs.Feeds.{Course, course_of}
-use Rattle.tile_merge.specs.Stream.{with_newline}
+use Rattle.tile_stream.specs.Stream.{with_newline}
 use Rattle.tile_merge.specs.Threads.{Fed, IsFed, HasGiven, TellsEnd, lines_in}
 
 -- a line more, and the end note

@@ -6,7 +6,7 @@ use Rattle.byte_streams.specs.declared.fault.Fault.{Fault}
 use Rattle.byte_streams.specs.declared.fault.Fault.TheVariants.{Memory}
 use Rattle.tile_handoff.specs.declared.note.End.{End}
 use Rattle.tile_merge.specs.EndNotes.{Ended, AreEnds, end_of, end_with, outcome_at, outcomes_in, totals_in}
-use Rattle.tile_merge.specs.Texts.{Outcome}
+use Rattle.tile_stream.specs.Texts.{Outcome}
 use Rattle.tile_merge.specs.Told.{first_where, is_memory}
 use Rattle.byte_streams.specs.declared.places.MergeFault.{MergeFault}
 use Rattle.byte_streams.specs.declared.places.LineFault.{LineFault}

@@ -19,7 +19,7 @@ use Rattle.tile_merge.specs.Interleaves.{Interleaves}
 use Rattle.tile_merge.specs.Merged.{MergedAll, WroteMerge, WroteFrontOf, IsRefusedMerge, texts_of}
 use Rattle.tile_merge.specs.Opened.{AllThree, OpenState}
 use Rattle.tile_merge.specs.Rounds.{ends_in, texts_in}
-use Rattle.tile_merge.specs.Stream.{with_newline, stream}
+use Rattle.tile_stream.specs.Stream.{with_newline, stream}
 use Rattle.tile_merge.specs.Threads.{Fed, RunningState, AreStarted, AreUncancelled, HasGiven, HaveGiven, IsRunOf, LinesSoFar, WroteUnless, feds_of, lines_taken, fed_of}
 use Rattle.tile_merge.specs.Told.{told}
 use Rattle.byte_streams.specs.declared.places.MergeFault.{MergeFault}
@@ -27,7 +27,7 @@ use Rattle.tile_merge.specs.declared.merging.report.Report.{Report}
 use Rattle.tile_merge.proofs.InTurn.{ends_long, of_write, of_memory, of_tile}
 use Rattle.tile_merge.proofs.MergedTiles.{AreMerged, MayGive, are_merged, merges}
 use Rattle.tile_merge.proofs.Mixing.{AreParted, AreTexts, flat, mixed_on, texts_mixed}
-use Rattle.tile_merge.proofs.Steps.{first_of_longer}
+use Rattle.tile_stream.proofs.Steps.{first_of_longer}
 use Rattle.tile_merge.proofs.Writing.{on_ok}
 
 -- ---- what the threads gave ----

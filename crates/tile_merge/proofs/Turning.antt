@@ -10,11 +10,11 @@ use Rattle.city_feature.specs.Feature.{FeatureValue}
 use Rattle.tile_merge.specs.Feeds.{FeedState, Course, MayTake, TakesTurn, SomeCourse, text_before}
 use Rattle.tile_merge.specs.Opened.{AllThree}
 use Rattle.tile_merge.specs.Rounds.{texts_in, MayTakeAll, SomeCourses, texts_given, lines_of, WroteRound, WroteTurnsFront, RoundSoFar}
-use Rattle.tile_merge.specs.Stream.{with_newline}
+use Rattle.tile_stream.specs.Stream.{with_newline}
 use Rattle.tile_merge.specs.Turns.{firsts, rests, turns}
 use Rattle.tile_merge.proofs.Threes.{all_three_push}
 use Rattle.tile_merge.proofs.Rounding.{round_back, round_some}
-use Rattle.tile_merge.proofs.Steps.{first_of_longer, Appends-kept}
+use Rattle.tile_stream.proofs.Steps.{first_of_longer, Appends-kept}
 use Rattle.tile_merge.proofs.TurnsLaws.{turns_step, firsts-append}
 
 -- the item at the seam of two lists, and what comes after it

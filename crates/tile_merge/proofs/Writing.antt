@@ -11,7 +11,7 @@ use Rattle.byte_streams.specs.declared.fault.Fault.{Fault}
 use Rattle.byte_streams.specs.declared.fault.Fault.TheVariants.{Write}
 use Rattle.tile_merge.specs.Interleaves.{Interleaves}
 use Rattle.tile_merge.specs.Threads.{Fed, RunningState, AreFresh, AreUncancelled, LinesSoFar, WroteUnless, feds_of, lines_taken}
-use Rattle.tile_merge.proofs.Steps.{Appends-kept, first_of_longer}
+use Rattle.tile_stream.proofs.Steps.{Appends-kept, first_of_longer}
 use Rattle.tile_merge.proofs.Mixing.{none_mixed, one_mixed}
 
 abbrev Done : Type 0

@@ -5,8 +5,8 @@ use Rattle.byte_streams.specs.Faults.{number_of}
 use Rattle.tile_handoff.specs.declared.note.End.{End}
 use Rattle.tile_handoff.specs.declared.note.Note.{Note}
 use Rattle.tile_handoff.specs.declared.note.Note.TheVariants.{Line as LineNote, End as EndNote}
-use Rattle.tile_merge.specs.Stream.{with_newline}
-use Rattle.tile_merge.specs.Texts.{Outcome}
+use Rattle.tile_stream.specs.Stream.{with_newline}
+use Rattle.tile_stream.specs.Texts.{Outcome}
 use Rattle.byte_streams.specs.declared.places.LineFault.{LineFault}
 
 -- how many texts a tile gave in all, and how it ended

@@ -6,10 +6,10 @@ use Rattle.tile_handoff.specs.Queues.{Queue, empty_queue}
 use Rattle.tile_handoff.specs.declared.note.End.{End}
 use Rattle.tile_handoff.specs.declared.note.Note.{Note}
 use Rattle.tile_handoff.specs.declared.note.Note.TheVariants.{Line as LineNote, End as EndNote}
-use Rattle.tile_merge.specs.Coming.{MayComeTo}
+use Rattle.tile_stream.specs.Coming.{MayComeTo}
 use Rattle.tile_merge.specs.EndNotes.{Ended, end_of}
-use Rattle.tile_merge.specs.Stream.{with_newline}
-use Rattle.tile_merge.specs.TileState.{TileState, most_to_come}
+use Rattle.tile_stream.specs.Stream.{with_newline}
+use Rattle.tile_stream.specs.TileState.{TileState, most_to_come}
 
 -- The reader, the shift, how many notes may be read ahead, those that were, how many lines were put
 -- among them, and the end note once it was taken.

@@ -9,12 +9,12 @@ use Rattle.city_feature.specs.Header.{HeaderValue}
 use Rattle.city_feature.specs.Joined.{IsJoined, RefusesJoin}
 use Rattle.city_feature.specs.declared.base.Base.{Base}
 use Rattle.city_grid.specs.Axes.{Triple}
-use Rattle.tile_merge.specs.Head.{HasHead, HasNoHead, SomeTile}
-use Rattle.tile_merge.specs.Held.{Held, TileComesTo}
-use Rattle.tile_merge.specs.Stream.{stream}
-use Rattle.tile_merge.specs.Texts.{Outcome}
-use Rattle.tile_merge.specs.Tile.{TileLines, stream_limits}
-use Rattle.tile_merge.specs.Unread.{IsOfTile}
+use Rattle.tile_stream.specs.Head.{HasHead, HasNoHead, SomeTile}
+use Rattle.tile_stream.specs.Held.{Held, TileComesTo}
+use Rattle.tile_stream.specs.Stream.{stream}
+use Rattle.tile_stream.specs.Texts.{Outcome}
+use Rattle.tile_stream.specs.Tile.{TileLines, stream_limits}
+use Rattle.tile_stream.specs.Unread.{IsOfTile}
 use Rattle.tile_merge.specs.Told.{told}
 use Rattle.byte_streams.specs.declared.places.MergeFault.{MergeFault}
 

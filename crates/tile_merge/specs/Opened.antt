@@ -1,12 +1,12 @@
 -- Tiles whose headers were taken, and of which the features are still to be read.
 use Rattle.std.specs.Prelude.{◌≡◌, ◌≤◌, ◌<◌, ℕ, Bool, List, [], ◌∷◌}
 use Rattle.city_feature.specs.Header.{HeaderValue}
-use Rattle.tile_merge.specs.Coming.{MayLeave}
-use Rattle.tile_merge.specs.Head.{GivesHead}
-use Rattle.tile_merge.specs.Held.{held_value}
-use Rattle.tile_merge.specs.Tile.{TileLines, stream_limits}
-use Rattle.tile_merge.specs.TileState.{TileState, most_to_come, most_texts}
-use Rattle.tile_merge.specs.Unread.{Leaves, IsOfTile}
+use Rattle.tile_stream.specs.Coming.{MayLeave}
+use Rattle.tile_stream.specs.Head.{GivesHead}
+use Rattle.tile_stream.specs.Held.{held_value}
+use Rattle.tile_stream.specs.Tile.{TileLines, stream_limits}
+use Rattle.tile_stream.specs.TileState.{TileState, most_to_come, most_texts}
+use Rattle.tile_stream.specs.Unread.{Leaves, IsOfTile}
 
 -- This holds of the items of three lists, place by place.
 abbrev pub AllThree : {A B C : Type 0} → (A → B → C → Type 0) → List A → List B → List C → Type 0

@@ -10,7 +10,7 @@ use Rattle.city_grid.specs.Axes.{Triple}
 use Rattle.tile_merge.specs.EndNotes.{Ended, end_of}
 use Rattle.tile_merge.specs.Feeds.{FeedState, fresh_feed, Course, MayTake, TakesTurn, most_ahead}
 use Rattle.tile_merge.specs.Opened.{AllThree, OpenState, IsOpened}
-use Rattle.tile_merge.specs.Stream.{with_newline}
+use Rattle.tile_stream.specs.Stream.{with_newline}
 use Rattle.tile_merge.specs.Turns.{turns}
 
 -- the tile and its shift, with an empty queue

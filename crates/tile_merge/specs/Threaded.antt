@@ -8,7 +8,7 @@ use Rattle.city_feature.specs.declared.base.Base.{Base}
 use Rattle.city_grid.specs.Axes.{Triple}
 use Rattle.tile_merge.specs.Interleaves.{Interleaves}
 use Rattle.tile_merge.specs.Merged.{HeadedTile, HaveHeads, headers_of, MergedTile, Merges, outcomes_of, texts_of, IsRefusedMerge}
-use Rattle.tile_merge.specs.Stream.{stream}
+use Rattle.tile_stream.specs.Stream.{stream}
 use Rattle.tile_merge.specs.Told.{told}
 use Rattle.byte_streams.specs.declared.places.MergeFault.{MergeFault}
 

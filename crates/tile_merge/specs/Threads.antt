@@ -14,14 +14,14 @@ use Rattle.city_grid.specs.Axes.{Triple}
 use Rattle.tile_handoff.specs.declared.note.End.{End}
 use Rattle.tile_handoff.specs.declared.note.Note.{Note}
 use Rattle.tile_handoff.specs.declared.note.Note.TheVariants.{Line as LineNote, End as EndNote}
-use Rattle.tile_merge.specs.Coming.{MayComeTo}
+use Rattle.tile_stream.specs.Coming.{MayComeTo}
 use Rattle.tile_merge.specs.EndNotes.{end_of, ended_so, line_note, notes_of}
 use Rattle.tile_merge.specs.Feeds.{Course}
 use Rattle.tile_merge.specs.Interleaves.{Interleaves}
 use Rattle.tile_merge.specs.Opened.{AllThree, OpenState, IsOpened}
-use Rattle.tile_merge.specs.Stream.{with_newline}
-use Rattle.tile_merge.specs.Texts.{Outcome}
-use Rattle.tile_merge.specs.TileState.{TileState}
+use Rattle.tile_stream.specs.Stream.{with_newline}
+use Rattle.tile_stream.specs.Texts.{Outcome}
+use Rattle.tile_stream.specs.TileState.{TileState}
 use Rattle.byte_streams.specs.declared.places.MergeFault.{MergeFault}
 
 -- ---- in the thread of a tile ----

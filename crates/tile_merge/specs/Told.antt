@@ -2,8 +2,8 @@
 use Rattle.std.specs.Prelude.{◌+◌, ℕ, Bool, true, false, List, [], ◌∷◌, Option, Some, None, if◌then◌else◌}
 use Rattle.byte_streams.specs.declared.fault.Fault.{Fault}
 use Rattle.byte_streams.specs.declared.fault.Fault.TheVariants.{Memory}
-use Rattle.tile_merge.specs.Texts.{Outcome}
-use Rattle.tile_merge.specs.Tile.{FaultyLine}
+use Rattle.tile_stream.specs.Texts.{Outcome}
+use Rattle.tile_stream.specs.Tile.{FaultyLine}
 use Rattle.byte_streams.specs.declared.places.MergeFault.{MergeFault}
 
 abbrev pub is_memory : Fault → Bool

@@ -4,12 +4,10 @@ ghost use Rattle.byte_streams.specs.Failures.{after_call};
 ghost use Rattle.city_feature.specs.Choice.{IsChosen};
 ghost use Rattle.tile_handoff.specs.Queues.{queue_of, empty_queue};
 ghost use Rattle.tile_merge.specs.Feeds.{fresh_feed, MayTake, SomeCourse, TakesNone, TakesTurn, HasRoom, IsAhead, most_ahead, most_lines};
-ghost use Rattle.tile_merge.specs.Stream.{with_newline};
-ghost use Rattle.tile_merge.specs.TileState.{most_to_come, most_texts};
+ghost use Rattle.tile_stream.specs.Stream.{with_newline};
+ghost use Rattle.tile_stream.specs.TileState.{most_to_come, most_texts};
 
-use crate::filter::pass_on;
 use crate::merging::ends::end_note;
-use crate::tile_reader::{Passed, TileReader};
 use byte_streams::{Fault, Line, Sink, Source};
 use city_feature::Choice;
 use city_grid::Shift;
@@ -17,6 +15,7 @@ use std::alloc::Global;
 use std::marker::Model;
 use std::mem;
 use tile_handoff::{End, Queues, Took};
+use tile_stream::{Passed, TileReader, pass_on};
 
 /// A tile that is merged in turn: its reader, and a queue of the texts that were read ahead.
 #[derive(Debug, Drop)]
@@ -36,7 +35,7 @@ impl<R> Model for Feed<R> {
     ghost use Rattle.tile_handoff.specs.Notes.{has_end};
     ghost use Rattle.tile_handoff.specs.Queues.{queue_of};
     ghost use Rattle.tile_merge.specs.Feeds.{FeedState};
-    ghost use Rattle.tile_merge.specs.TileState.{most_to_come, most_texts};
+    ghost use Rattle.tile_stream.specs.TileState.{most_to_come, most_texts};
 
     ghost Value = { FeedState R };
 

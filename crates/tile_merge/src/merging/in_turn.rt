@@ -1,15 +1,14 @@
 ghost use Rattle.std.specs.Prelude.{◌≡◌, ◌⊎◌, ◌≤◌, ◌<◌, ◌+◌, ◌^◌, ℕ, All, Err, length, filter_map, IfOk, IfErr, OnOk, OnErr};
 ghost use Rattle.byte_streams.specs.Failures.{after_call};
 ghost use Rattle.city_feature.specs.Choice.{IsChosen};
-ghost use Rattle.tile_merge.specs.Filtered.{failures_after_merge, failures_after_refusal};
+ghost use Rattle.tile_stream.specs.Filtered.{failures_after_merge, failures_after_refusal};
 ghost use Rattle.tile_merge.specs.Interleaves.{Interleaves};
 ghost use Rattle.tile_merge.specs.Merged.{MergedAll, IsOutputFault, IsRefusedEarly, IsRefusedMerge};
 ghost use Rattle.tile_merge.specs.Opened.{AllThree};
 ghost use Rattle.tile_merge.specs.Turns.{AreTurns};
-ghost use Rattle.tile_merge.specs.TileState.{most_to_come, most_texts};
+ghost use Rattle.tile_stream.specs.TileState.{most_to_come, most_texts};
 ghost use Rattle.tile_merge.specs.Rounds.{AreReady, IsFeedOf, MayTakeAll, SomeCourses, WroteRound, WroteTurns, WroteTurnsFront};
 
-use crate::filter::write_line;
 use crate::merging::feed::Feed;
 use crate::merging::report::{Report, report_of};
 use crate::merging::tiles::{JoinedTiles, OpenTile, join_tiles, tile_count};
@@ -18,6 +17,7 @@ use city_feature::{Base, Choice};
 use city_grid::Shift;
 use std::alloc::{AllocError, Global};
 use tile_handoff::{End, MAX_CAPACITY, Queues};
+use tile_stream::write_line;
 
 /// Tiles that are ready to be merged in turn, and the line of their header.
 #[derive(Debug, Drop)]

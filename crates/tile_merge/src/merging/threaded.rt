@@ -4,13 +4,13 @@ ghost use Rattle.city_feature.specs.Choice.{IsChosen};
 ghost use Rattle.city_feature.specs.declared.base.Base.{Base};
 ghost use Rattle.city_feature.specs.declared.choices.Choice.{Choice};
 ghost use Rattle.tile_merge.specs.Feeds.{Course};
-ghost use Rattle.tile_merge.specs.Filtered.{failures_after_merge, failures_after_refusal};
+ghost use Rattle.tile_stream.specs.Filtered.{failures_after_merge, failures_after_refusal};
 ghost use Rattle.tile_merge.specs.Interleaves.{Interleaves};
 ghost use Rattle.tile_merge.specs.Merged.{MergedAll, IsOutputFault, IsRefusedEarly, IsRefusedMerge};
 ghost use Rattle.tile_merge.specs.Opened.{AllThree};
 ghost use Rattle.tile_merge.specs.Threaded.{HasNoThread, IsRefusedThreaded, WroteInterleaved};
 ghost use Rattle.tile_merge.specs.Threads.{are_all_ended, AreFresh, AreStarted, HaveGiven, IsRunOf, IsUnstarted, fresh_run, fed_of};
-ghost use Rattle.tile_merge.specs.TileState.{most_to_come, most_texts};
+ghost use Rattle.tile_stream.specs.TileState.{most_to_come, most_texts};
 
 mod cancelling;
 mod feeder;

@@ -2,18 +2,18 @@ ghost use Rattle.std.specs.Prelude.{◌≡◌, ◌≤◌, ◌<◌, ◌-◌, ◌�
 ghost use Rattle.city_feature.specs.Header.{HeaderValue};
 ghost use Rattle.city_feature.specs.Joined.{IsJoined};
 ghost use Rattle.city_feature.specs.Values.{header_value};
-ghost use Rattle.tile_merge.specs.Head.{HasNoHead, SomeTile};
+ghost use Rattle.tile_stream.specs.Head.{HasNoHead, SomeTile};
 ghost use Rattle.tile_merge.specs.Merged.{IsFirstHeadless, IsFirstUnfit, IsOfNoTile};
 ghost use Rattle.tile_merge.specs.Opened.{AllThree, IsOpened};
-ghost use Rattle.tile_merge.specs.Stream.{with_newline};
-ghost use Rattle.tile_merge.specs.Tile.{stream_limits};
-ghost use Rattle.tile_merge.specs.Unread.{IsOfTile};
+ghost use Rattle.tile_stream.specs.Stream.{with_newline};
+ghost use Rattle.tile_stream.specs.Tile.{stream_limits};
+ghost use Rattle.tile_stream.specs.Unread.{IsOfTile};
 
-use crate::tile_reader::{Head, TileReader};
 use byte_streams::{Fault, Line, LineFault, MergeFault, Source};
 use city_feature::{Base, Header, HeaderFault, Joined, Shifts, join_headers};
 use std::alloc::Global;
 use std::marker::Model;
+use tile_stream::{Head, TileReader};
 
 /// How many tiles are merged at most.
 const MAX_TILES: usize = 64;

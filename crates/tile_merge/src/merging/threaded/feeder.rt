@@ -3,12 +3,11 @@ ghost use Rattle.rtrb.specs.Ring.{received, SameConsumer};
 ghost use Rattle.tile_handoff.specs.Ends.{notes_put, notes_carried, IsSameSender, EndedIn};
 ghost use Rattle.tile_handoff.specs.declared.note.Note.{Note};
 ghost use Rattle.tile_merge.specs.Threads.{IsFed};
-ghost use Rattle.tile_merge.specs.TileState.{most_to_come, most_texts};
+ghost use Rattle.tile_stream.specs.TileState.{most_to_come, most_texts};
 
 use crate::merging::ends::end_note;
 use crate::merging::threaded::cancelling::Cancellation;
 use crate::merging::threaded::waiting::{Bell, Patience};
-use crate::tile_reader::{Passed, TileReader};
 use byte_streams::{Line, Source};
 use city_feature::Choice;
 use city_grid::Shift;
@@ -18,6 +17,7 @@ use std::snapshot::Snapshot;
 use std::sync::Wait;
 use std::thread::Promise;
 use tile_handoff::{Closed, End, Sender};
+use tile_stream::{Passed, TileReader};
 
 /// What the thread of a tile is given: the tile, its shift, and what is chosen of it.
 #[derive(Drop)]

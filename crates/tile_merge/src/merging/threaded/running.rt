@@ -3,7 +3,7 @@ ghost use Rattle.rtrb.specs.Ring.{sent, received, IsPair};
 ghost use Rattle.tile_handoff.specs.Ends.{ArePair, notes_put, notes_taken};
 ghost use Rattle.tile_merge.specs.Feeds.{Course};
 ghost use Rattle.tile_merge.specs.Threads.{fresh_run, is_ended, HasGiven};
-ghost use Rattle.tile_merge.specs.TileState.{most_to_come, most_texts};
+ghost use Rattle.tile_stream.specs.TileState.{most_to_come, most_texts};
 
 use crate::merging::threaded::cancelling::{Canceller, cancel_ends};
 use crate::merging::threaded::feeder::{FedTile, Feeds, Finished, Links};

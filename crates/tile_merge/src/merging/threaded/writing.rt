@@ -2,12 +2,12 @@ ghost use Rattle.std.specs.Prelude.{◌≡◌, ◌≤◌, ◌<◌, ◌++◌, ℕ
 ghost use Rattle.byte_streams.specs.Failures.{after_call};
 ghost use Rattle.tile_merge.specs.Threads.{AreFresh, are_all_ended, GoesOn, GoesOnWriting, LinesSoFar, WroteUnless, feds_of};
 
-use crate::filter::write_line;
 use crate::merging::threaded::running::RunningTile;
 use crate::merging::threaded::waiting::{Bell, Patience};
 use byte_streams::{Fault, Line, Sink, Source};
 use crossbeam_utils::sync::Key;
 use std::sync::Wait;
+use tile_stream::write_line;
 
 /// Writes the line of the header, and then the lines of the tiles as they come, until the end note of
 /// each was taken. A write that fails ends the writing, and not the taking: the threads are asked to

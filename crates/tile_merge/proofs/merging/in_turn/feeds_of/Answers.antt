@@ -6,9 +6,10 @@ use Rattle.tile_handoff.specs.Queues.{QueuesState}
 use Rattle.tile_merge.specs.Feeds.{fresh_feed}
 use Rattle.tile_merge.specs.Opened.{OpenState}
 use Rattle.tile_merge.specs.Rounds.{IsFeedOf}
-use Rattle.tile_merge.specs.TileState.{most_to_come, most_texts}
+use Rattle.tile_stream.specs.TileState.{most_to_come, most_texts}
 use Rattle.tile_merge.proofs.Feeds.{feed_more, feeds_all, all_at}
-use Rattle.tile_merge.proofs.Opening.{all_three_long, goes_on, is_longer}
+use Rattle.tile_stream.proofs.GoneThrough.{goes_on, is_longer}
+use Rattle.tile_merge.proofs.Opening.{all_three_long}
 use Rattle.tile_merge.proofs.merging.in_turn.feeds_of.Goals as goal
 
 pub bounds-shifts-len : goal.bounds-shifts-len

@@ -3,7 +3,7 @@ use Rattle.std.specs.Io.KnownBytes.{Appends}
 use Rattle.std.proofs.KnownBytes.{Appends-nil}
 use Rattle.city_feature.specs.Choice.{IsChosen}
 use Rattle.tile_merge.specs.Feeds.{FeedState, TakesTurn}
-use Rattle.tile_merge.specs.Stream.{with_newline}
+use Rattle.tile_stream.specs.Stream.{with_newline}
 use Rattle.tile_merge.proofs.Turning.{round_start, round_kept, round_end, turn_some, turn_taken, turn_unwritten, turn_failed, any_true, any_false}
 use Rattle.tile_merge.proofs.merging.in_turn.write_round.Goals as goal
 

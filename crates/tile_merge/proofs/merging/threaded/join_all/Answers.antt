@@ -1,5 +1,5 @@
 use Rattle.std.proofs.Common.{[], ◌∷◌, ◌∙◌, sym, append_assoc}
-use Rattle.tile_merge.proofs.Opening.{goes_on}
+use Rattle.tile_stream.proofs.GoneThrough.{goes_on}
 use Rattle.tile_merge.proofs.Threaded.{given_more}
 use Rattle.tile_merge.proofs.merging.threaded.join_all.Goals as goal
 

@@ -1,5 +1,5 @@
-use Rattle.tile_merge.specs.Tile.{TileLines, stream_limits}
-use Rattle.tile_merge.specs.Unread.{Leaves, IsOfTile}
+use Rattle.tile_stream.specs.Tile.{TileLines, stream_limits}
+use Rattle.tile_stream.specs.Unread.{Leaves, IsOfTile}
 use Rattle.tile_merge.proofs.Opening.{head_given}
 use Rattle.tile_merge.proofs.merging.tiles.open_tile.Goals as goal
 

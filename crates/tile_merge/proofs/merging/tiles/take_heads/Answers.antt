@@ -1,7 +1,8 @@
 use Rattle.std.proofs.Common.{◌∷◌, [], map, sym, ◌∙◌, append_assoc, arith, inl}
 use Rattle.city_feature.specs.Values.{header_value}
 use Rattle.tile_merge.specs.Opened.{IsOpened}
-use Rattle.tile_merge.proofs.Opening.{all_three_long, goes_on, is_longer, opened_push, first_headless}
+use Rattle.tile_stream.proofs.GoneThrough.{goes_on, is_longer}
+use Rattle.tile_merge.proofs.Opening.{all_three_long, opened_push, first_headless}
 use Rattle.tile_merge.proofs.merging.tiles.take_heads.Goals as goal
 
 pub overflow_cast-len : goal.overflow_cast-len

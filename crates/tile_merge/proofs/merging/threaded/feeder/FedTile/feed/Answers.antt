@@ -2,9 +2,9 @@ use Rattle.std.proofs.Common.{◌≡◌, ◌≤◌, ◌+◌, Some, None, length,
 use Rattle.rtrb.specs.Ring.{received}
 use Rattle.city_feature.specs.Choice.{IsChosen}
 use Rattle.tile_handoff.specs.Ends.{notes_put, notes_carried}
-use Rattle.tile_merge.specs.Coming.{MayComeTo}
+use Rattle.tile_stream.specs.Coming.{MayComeTo}
 use Rattle.tile_merge.specs.Threads.{Fed, FedSoFar}
-use Rattle.tile_merge.specs.TileState.{most_to_come, most_texts}
+use Rattle.tile_stream.specs.TileState.{most_to_come, most_texts}
 use Rattle.tile_merge.proofs.Feeder.{fed_start, fed_text, fed_nothing, fed_whole, fed_front}
 use Rattle.tile_merge.proofs.merging.threaded.feeder.FedTile.feed.Goals as goal
 use Rattle.tile_merge.proofs.merging.threaded.feeder.FedTile.feed.Goals.{then-is_chosen, else-is_chosen}

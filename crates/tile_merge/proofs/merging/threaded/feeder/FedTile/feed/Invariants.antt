@@ -2,9 +2,9 @@ use Rattle.std.proofs.Common.{◌≡◌, ◌≤◌, ◌+◌}
 use Rattle.rtrb.specs.Ring.{received, SameConsumer}
 use Rattle.city_feature.specs.Choice.{IsChosen}
 use Rattle.tile_handoff.specs.Ends.{notes_put, IsSameSender}
-use Rattle.tile_merge.specs.Coming.{MayComeTo}
+use Rattle.tile_stream.specs.Coming.{MayComeTo}
 use Rattle.tile_merge.specs.Threads.{FedSoFar}
-use Rattle.tile_merge.specs.TileState.{most_to_come, most_texts}
+use Rattle.tile_stream.specs.TileState.{most_to_come, most_texts}
 use Rattle.tile_merge.proofs.merging.threaded.feeder.FedTile.feed.Given as goal
 
 abbrev pub invariant-lines : goal.invariant-lines

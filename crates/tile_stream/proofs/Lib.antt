@@ -1,0 +1,10 @@
+pub mod Coming
+pub mod Comings
+pub mod Filtering
+pub mod FirstParts
+pub mod GoneThrough
+pub mod Heads
+pub mod HeldFirst
+pub mod HeldTexts
+pub mod Leaving
+pub mod Steps

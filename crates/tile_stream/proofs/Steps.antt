@@ -1,0 +1,111 @@
+-- One text more is taken and its line written.
+use Rattle.std.proofs.Common.{◌≡◌, ◌≢◌, ◌+◌, ◌++◌, ℕ, List, [], ◌∷◌, Option, Some, None, length, take, flat_map, refl, sym, ap, subst, ◌∙◌, arith, append_assoc, append-nil, ⊎_elim, true, false, nat_le, take_all}
+use Rattle.std.proofs.lemmas.Bool.{cases_Bool}
+use Rattle.std.proofs.lemmas.Bool.Decides.{nat_tests}
+use Rattle.std.proofs.Math.Seq.{take-append-add, take-append_seam}
+use Rattle.std.proofs.lemmas.List.{take-append-le}
+use Rattle.std.specs.Io.KnownBytes.{Appends, Keeps}
+use Rattle.std.proofs.KnownBytes.{Appends-nil, Appends-trans}
+use Rattle.std.proofs.lemmas.Grind.{common_steps, flat_map-append}
+use Rattle.byte_streams.specs.declared.fault.Fault.{Fault}
+use Rattle.byte_streams.specs.declared.fault.Fault.TheVariants.{Write}
+use Rattle.tile_stream.specs.Coming.{GivesText, SomethingComes, ComesBack}
+use Rattle.tile_stream.specs.Filtered.{failures_after_write}
+use Rattle.tile_stream.specs.Progress.{SoFar, WroteTexts, StoppedAfter, WroteFront, IsRefusedAfter}
+use Rattle.tile_stream.specs.Stream.{with_newline}
+use Rattle.tile_stream.specs.Texts.{Outcome}
+use Rattle.tile_stream.specs.Tile.{FaultyLine}
+
+-- the first bytes of a list are the first bytes of a longer one
+pub first_of_longer : (count : ℕ) (front back : List ℕ) → (n : ℕ) × (take n (front ++ back) ≡ take count front)
+first_of_longer count front back = ⊎_elim
+    (λ (within : nat_le count (length front) ≡ true). (count, take-append-le count front back (grind (arith, nat_tests, within))))
+    (λ (past : nat_le count (length front) ≡ false). (length front, take-append_seam front back ∙ sym (take_all count front (grind (arith, nat_tests, past)))))
+    (cases_Bool (nat_le count (length front)))
+
+-- known bytes that grew and then stayed
+pub Appends-kept : (old mid new : Option (List ℕ)) (bytes : List ℕ) → Appends old mid bytes → Keeps mid new → Appends old new bytes
+Appends-kept None mid new bytes grew stayed = tt
+Appends-kept (Some x) None new bytes grew stayed = absurd grew
+Appends-kept (Some x) (Some y) None bytes grew stayed = absurd stayed
+Appends-kept (Some x) (Some y) (Some z) bytes grew stayed = stayed ∙ grew
+
+module _ (before : List (List ℕ) → Outcome → Type 0) (old : Option (List ℕ)) where
+  pub at_start : SoFar before before 0 old old
+  at_start = record {
+    texts = [];
+    back = λ others outcome comes. comes;
+    counted = refl;
+    written = Appends-nil old;
+  }
+
+  module _ (now : List (List ℕ) → Outcome → Type 0) (count : ℕ) (new : Option (List ℕ)) (so_far : SoFar before now count old new) where
+    comes_last : (outcome : Outcome) → now [] outcome → before so_far.texts outcome
+    comes_last outcome comes = subst (λ texts. before texts outcome) (append-nil so_far.texts) (so_far.back [] outcome comes)
+
+    pub at_end : now [] None → WroteTexts before count old new
+    at_end over = (so_far.texts, comes_last None over, so_far.counted, so_far.written)
+
+    pub at_fault : (at : FaultyLine) → now [] (Some at) → StoppedAfter before at old new
+    at_fault at refused = (so_far.texts, comes_last (Some at) refused, so_far.written)
+
+    -- a line that came to nothing was taken
+    pub at_skipped : (after : List (List ℕ) → Outcome → Type 0) → ComesBack now after → (newer : Option (List ℕ)) → Keeps new newer → SoFar before after count old newer
+    at_skipped after skipped newer kept = record {
+      texts = so_far.texts;
+      back = λ others outcome comes. so_far.back others outcome (skipped others outcome comes);
+      counted = so_far.counted;
+      written = Appends-kept old new newer _ so_far.written kept;
+    }
+
+    -- what was written could not be passed on
+    pub at_failed_flush : SomethingComes now → (newer : Option (List ℕ)) → Keeps new newer → WroteFront before old newer
+    at_failed_flush some newer kept =
+        let more = some.0 in
+        let written = flat_map with_newline so_far.texts in
+        let all : take (length written) (flat_map with_newline (so_far.texts ++ more)) ≡ written =
+        ap (take (length written)) (flat_map-append with_newline so_far.texts more) ∙ take-append_seam written (flat_map with_newline more) in (
+          so_far.texts ++ more,
+          some.1.0,
+          length written,
+          so_far.back more some.1.0 some.1.1,
+          subst (Appends old newer) (sym all) (Appends-kept old new newer _ so_far.written kept),
+        )
+
+    module _ (after : List (List ℕ) → Outcome → Type 0) (text line : List ℕ) (is_line : line ≡ with_newline text) (gives : GivesText now after text) where
+      pub at_text : (newer : Option (List ℕ)) → Appends new newer line → SoFar before after (count + 1) old newer
+      at_text newer appends =
+          let written = flat_map with_newline so_far.texts in
+          let all : flat_map with_newline (so_far.texts ++ text ∷ []) ≡ written ++ line =
+          flat_map-append with_newline so_far.texts (text ∷ []) ∙ ap (λ l. written ++ l) (append-nil (with_newline text) ∙ sym is_line) in
+          record {
+            texts = so_far.texts ++ text ∷ [];
+            back = λ others outcome comes. subst (λ texts. before texts outcome) (sym (append_assoc so_far.texts (text ∷ []) others)) (so_far.back (text ∷ others) outcome (gives others outcome comes));
+            counted = grind (arith, common_steps, so_far.counted);
+            written = subst (Appends old newer) (sym all) (Appends-trans old new newer _ _ so_far.written appends);
+          }
+
+      pub at_failed_write : SomethingComes after → (newer : Option (List ℕ)) (taken : ℕ) → Appends new newer (take taken line) → WroteFront before old newer
+      at_failed_write some newer taken appends =
+          let more = some.0 in
+          let outcome = some.1.0 in
+          let written = flat_map with_newline so_far.texts in
+          let first = first_of_longer taken (with_newline text) (flat_map with_newline more) in
+          let part : take (length written + first.0) (flat_map with_newline (so_far.texts ++ text ∷ more)) ≡ written ++ take taken line =
+          ap (take (length written + first.0)) (flat_map-append with_newline so_far.texts (text ∷ more)) ∙ take-append-add written (flat_map with_newline (text ∷ more)) first.0 ∙ ap (λ l. written ++ l) (first.1 ∙ ap (take taken) (sym is_line)) in (
+            so_far.texts ++ text ∷ more,
+            outcome,
+            length written + first.0,
+            so_far.back (text ∷ more) outcome (gives more outcome some.1.1),
+            subst (Appends old newer) (sym part) (Appends-trans old new newer _ _ so_far.written appends),
+          )
+
+-- a fault that is no failed write belongs to a line
+module _ (comes : List (List ℕ) → Outcome → Type 0) (number : ℕ) (old new : Option (List ℕ)) where
+  pub of_line : (fault : Fault) → fault ≢ Write → StoppedAfter comes (record { number = number; fault = fault }) old new → IsRefusedAfter comes fault 1 number old new
+  of_line Write not stopped = absurd (not refl)
+  of_line other not stopped = (refl, stopped)
+
+pub same_count : (fault : Fault) (count : ℕ) → fault ≢ Write → failures_after_write fault count ≡ count
+same_count Write count not = absurd (not refl)
+same_count other count not = refl

@@ -1,0 +1,13 @@
+pub mod Ahead
+pub mod Coming
+pub mod Filtered
+pub mod Head
+pub mod Held
+pub mod Progress
+pub mod Stream
+pub mod Taking
+pub mod TapeLines
+pub mod Texts
+pub mod Tile
+pub mod TileState
+pub mod Unread

@@ -1,0 +1,124 @@
+-- The lines of a tile: the parts between newlines, numbered from 1, blank ones left out, up to the first fault.
+use Rattle.std.specs.Prelude.{◌+◌, ◌-◌, ◌^◌, ◌==◌, ◌&&◌, ◌||◌, ℕ, Bool, not, List, [], ◌∷◌, Option, Some, None, length, filter, filter_map, take_while, option_map, is_none, nat_le, nat_lt, if◌then◌else◌}
+use Rattle.std.specs.List.{slice_split, list_all}
+use Rattle.city_json.specs.Bytes.{space, tab, newline, carriage_return}
+use Rattle.byte_streams.specs.declared.fault.Fault.{Fault}
+use Rattle.byte_streams.specs.declared.fault.Fault.TheVariants.{LineTooLong, TileTooLong, Read}
+use Rattle.tile_stream.specs.declared.limits.Limits.{Limits}
+
+-- what a reader gave: its bytes up to its first end or its first Err, and whether an Err came
+pub record Tile : Type 0 where
+  pub bytes : List ℕ
+  pub fails : Bool
+
+abbrev pub tile_of : List ℕ → Bool → Tile
+tile_of bytes fails = record { bytes = bytes; fails = fails }
+
+-- what stands between two newlines: its number from 1, the byte at which it begins from 0, and its bytes
+pub record Part : Type 0 where
+  pub number : ℕ
+  pub start : ℕ
+  pub bytes : List ℕ
+
+abbrev pub part_of : ℕ → ℕ → List ℕ → Part
+part_of number start bytes = record { number = number; start = start; bytes = bytes }
+
+abbrev pub is_newline : ℕ → Bool
+is_newline b = b == newline
+
+-- each part begins after the newline that ends the one before it
+abbrev pub number_parts : ℕ → ℕ → List (List ℕ) → List Part
+number_parts number start [] = []
+number_parts number start (bytes ∷ others) =
+    record { number = number; start = start; bytes = bytes } ∷ number_parts (number + 1) (start + length bytes + 1) others
+
+-- the most bytes that a line and a tile may have
+abbrev pub limits_of : ℕ → ℕ → Limits
+limits_of line tile = record { line = line; tile = tile }
+
+-- the limits of the streams that the program reads
+abbrev pub stream_limits : Limits
+stream_limits = limits_of (2 ^ 28) (2 ^ 40)
+
+-- More bytes than a line may have stand in a row without a newline, all of them within the tile's limit.
+abbrev pub is_long_line : Limits → ℕ → ℕ → Bool
+is_long_line limits start end = nat_lt limits.line (end - start) && nat_le (start + limits.line + 1) limits.tile
+
+-- No newline ends the line within the tile's limit, and the tile goes on after that limit.
+abbrev pub is_past_limit : Limits → ℕ → ℕ → Bool
+is_past_limit limits size end = nat_le limits.tile end && nat_lt limits.tile size
+
+-- The line ends where the reader failed.
+abbrev pub is_broken_off : ℕ → Bool → ℕ → Bool
+is_broken_off size fails end = fails && (end == size)
+
+-- why a line from byte `start` to byte `end` is refused, in a tile of `size` bytes
+abbrev pub fault_between : Limits → ℕ → Bool → ℕ → ℕ → Option Fault
+fault_between limits size fails start end =
+    if is_long_line limits start end then Some LineTooLong
+    else (if is_past_limit limits size end then Some TileTooLong
+    else (if is_broken_off size fails end then Some Read
+    else None))
+
+abbrev pub fault_at : Limits → ℕ → Bool → Part → Option Fault
+fault_at limits size fails part = fault_between limits size fails part.start (part.start + length part.bytes)
+
+-- A blank line has only spaces, tabs and carriage returns, or nothing. The carriage return of CR LF belongs to the line.
+abbrev pub is_blank : List ℕ → Bool
+is_blank line = list_all (λ b. (b == space) || (b == tab) || (b == carriage_return)) line
+
+-- the number of a line, and why it is refused
+pub record FaultyLine : Type 0 where
+  pub number : ℕ
+  pub fault : Fault
+
+abbrev pub faulty_line : Limits → ℕ → Bool → Part → Option FaultyLine
+faulty_line limits size fails part = option_map (λ fault. record { number = part.number; fault = fault }) (fault_at limits size fails part)
+
+abbrev pub first_of : {X : Type 0} → List X → Option X
+first_of [] = None
+first_of (x ∷ xs) = Some x
+
+-- the number of the last of these parts, or where there is none of the part before them
+abbrev pub last_number : ℕ → List Part → ℕ
+last_number before [] = before
+last_number before (part ∷ others) = last_number part.number others
+
+-- What a tile gives: the lines before the first part at fault, blank ones left out, and that fault, if
+-- there is one; and the number of the part at which it ends, the one at fault or else its last.
+pub record TileLines : Type 0 where
+  pub lines : List Part
+  pub fault : Option FaultyLine
+  pub last : ℕ
+
+-- the part at fault, or else the last of these
+abbrev pub end_number : Option FaultyLine → List Part → ℕ
+end_number None some_parts = last_number 0 some_parts
+end_number (Some at) some_parts = at.number
+
+-- what these parts give, in a tile of `size` bytes
+abbrev pub lines_of_parts : Limits → ℕ → Bool → List Part → TileLines
+lines_of_parts limits size fails some_parts = record {
+  lines = filter (λ part. not (is_blank part.bytes)) (take_while (λ part. is_none (fault_at limits size fails part)) some_parts);
+  fault = first_of (filter_map (faulty_line limits size fails) some_parts);
+  last = end_number (first_of (filter_map (faulty_line limits size fails) some_parts)) some_parts;
+}
+
+-- what a tile gives from byte `start` on, where the line of this number begins and these bytes follow
+abbrev pub lines_from : Limits → ℕ → ℕ → List ℕ → Bool → TileLines
+lines_from limits number start bytes fails = lines_of_parts limits (start + length bytes) fails (number_parts number start (slice_split is_newline bytes))
+
+abbrev pub tile_lines : Limits → Tile → TileLines
+tile_lines limits tile = lines_from limits 1 0 tile.bytes tile.fails
+
+-- a line, and then what else is given
+abbrev pub line_before : Part → TileLines → TileLines
+line_before part after = record { lines = part ∷ after.lines; fault = after.fault; last = after.last }
+
+-- nothing is to come after the part of this number
+abbrev pub nothing_left : ℕ → TileLines
+nothing_left number = record { lines = []; fault = None; last = number }
+
+-- only a fault is to come
+abbrev pub only_fault : ℕ → Fault → TileLines
+only_fault number fault = record { lines = []; fault = Some (record { number = number; fault = fault }); last = number }

@@ -1,0 +1,208 @@
+ghost use Rattle.std.specs.Prelude.{◌≡◌, ◌≤◌, ◌<◌, ◌+◌, ◌^◌, ◌↔◌, false, Some, None, IfOk, IfErr, IfSome, IfNone};
+ghost use Rattle.tile_stream.specs.Ahead.{MayCome};
+ghost use Rattle.tile_stream.specs.Tile.{TileLines, only_fault, limits_of, stream_limits};
+ghost use Rattle.tile_stream.specs.Unread.{Leaves, IsOfTile, GivesPart, GivesLine, MayBeOver, StandsAt, IsRefused, IsLineFault, IsAgain, BeginsFrom, EndsFrom, is_refused, most_left, has_failed, failed_reads_between};
+
+mod part;
+mod read_ahead;
+mod state;
+mod taking;
+
+use crate::limits::{Limits, STREAM_LIMITS};
+use crate::lines::part::NextPart;
+use crate::lines::read_ahead::ReadAhead;
+use crate::lines::state::State;
+use crate::lines::taking::{is_blank, take_part};
+use byte_streams::{Fault, Line, LineFault, Source};
+use std::alloc::Global;
+use std::marker::Model;
+
+/// A line that is not blank, and its number in its tile, counted from 1.
+#[derive(Debug, Drop)]
+pub struct NumberedLine {
+    pub number: u64,
+    pub bytes: Line,
+}
+
+/// The lines of a tile, taken from its reader while it is read. Of the tile it holds one piece of
+/// 64 KiB and the line that it is at.
+#[derive(Debug, Drop)]
+pub struct Lines<R> {
+    alloc: Global,
+    ahead: ReadAhead<R>,
+    limits: Limits,
+    start: u64,
+    number: u64,
+    state: State,
+}
+
+impl<R> Model for Lines<R> {
+    ghost use Rattle.std.specs.Prelude.{◌≤◌, ◌<◌, ◌+◌, ◌^◌};
+    ghost use Rattle.tile_stream.specs.Unread.{Unread, ended_by, IsKeptFrom};
+
+    ghost Value = { Unread R };
+
+    ghost view = { λ l. record {
+      ahead = l.ahead;
+      limits = l.limits;
+      number = l.number;
+      start = l.start;
+      ended = ended_by l.state;
+    } };
+
+    ghost invariant = { λ l. (l.limits.tile ≤ 2 ^ 40) × (l.start ≤ l.limits.tile)
+        × (0 < l.number) × (l.number ≤ l.start + 1) × IsKeptFrom l.number l.state };
+}
+
+impl<R: Source> Lines<R> {
+    /// The lines of what the reader gives, of at most 2^28 bytes each in a tile of at most 2^40.
+    pub fn new(alloc: Global, reader: R) -> Lines<R>
+        ensures tile { (left : TileLines) → Leaves R.gives result left
+            ↔ IsOfTile (R.gives reader) stream_limits left }
+        ensures number { result.number ≡ 1 }
+        ensures most { most_left result ≤ 2 ^ 40 + 1 }
+        ensures is_open { result.ended ≡ None }
+        ensures not_failed { has_failed result ≡ false }
+        ensures failures { R.failures result.ahead.reader ≡ R.failures reader }
+    {
+        Lines::with_limits(alloc, reader, STREAM_LIMITS.line, STREAM_LIMITS.tile)
+    }
+
+    /// The lines of what the reader gives, of at most `line` bytes each in a tile of at most
+    /// `tile`.
+    pub fn with_limits(alloc: Global, reader: R, line: u64, tile: u64) -> Lines<R>
+        requires { tile ≤ 2 ^ 40 }
+        ensures tile { (left : TileLines) → Leaves R.gives result left
+            ↔ IsOfTile (R.gives reader) (limits_of line tile) left }
+        ensures number { result.number ≡ 1 }
+        ensures most { most_left result ≤ tile + 1 }
+        ensures is_open { result.ended ≡ None }
+        ensures not_failed { has_failed result ≡ false }
+        ensures failures { R.failures result.ahead.reader ≡ R.failures reader }
+    {
+        Lines {
+            alloc,
+            ahead: ReadAhead::new(alloc, reader),
+            limits: Limits { line, tile },
+            start: 0,
+            number: 1,
+            state: State::Open,
+        }
+    }
+
+    /// The next line that is not blank, or none after the last. It reads on only where no newline
+    /// that ends the line stands among the bytes that it holds.
+    ///
+    /// # Errors
+    ///
+    /// `LineTooLong`, `TileTooLong` or `Read` of the line at which the limit was passed or the read
+    /// failed, and `Memory` of the line that did not find room. The same error comes again then.
+    pub fn next(&mut self) -> Result<Option<NumberedLine>, LineFault>
+        ensures line { IfOk result (λ next. IfSome next (λ line.
+            GivesLine (Leaves R.gives self.old) (Leaves R.gives self.new) line.number line.bytes)) }
+        ensures over { IfOk result (λ next. IfNone next (MayBeOver (Leaves R.gives self.old))) }
+        ensures stays_over { IfOk result (λ next. IfNone next
+            (MayBeOver (λ left. self.new.ended ≡ Some left))) }
+        ensures refused { IfErr result (λ e. IsRefused e.fault e.line (Leaves R.gives self.old)) }
+        ensures kind { IfErr result (λ e. IsLineFault e.fault) }
+        ensures stays { IfErr result (λ e. self.new.ended ≡ Some (only_fault e.line e.fault)) }
+        ensures again { IsAgain self.old.ended result }
+        ensures first { IfOk result (λ next. IfSome next (λ line. self.old.number ≤ line.number)) }
+        ensures later { IfOk result (λ next. IfSome next (λ line. line.number < self.new.number)) }
+        ensures at { IfErr result (λ e. self.old.number ≤ e.line) }
+        ensures stands { IfErr result (λ e. e.fault ≡ Fault.Memory → is_refused self.old ≡ false
+            → StandsAt e.line self.new.limits (Leaves R.gives self.old)
+            (MayCome R.gives self.new.ahead)) }
+        ensures counted { IfErr result (λ e. 0 < e.line) }
+        ensures given_counted { IfOk result (λ next. IfSome next (λ line. 0 < line.number)) }
+        ensures fewer { IfOk result (λ next. IfSome next (λ line.
+            most_left self.new < most_left self.old)) }
+        ensures most { most_left self.new ≤ 2 ^ 40 + 1 }
+        ensures some { (left : TileLines) × Leaves R.gives self.new left
+            × BeginsFrom self.new.number left.lines left.fault }
+        ensures ended { EndsFrom self.new.number self.new.ended }
+        ensures had_not_failed { IfOk result (λ next. has_failed self.old ≡ false) }
+        ensures not_failed { IfOk result (λ next. has_failed self.new ≡ false) }
+        ensures failures { R.failures self.new.ahead.reader ≡ failed_reads_between
+            (has_failed self.old) (has_failed self.new) (R.failures self.old.ahead.reader) }
+    {
+        'parts: loop {
+            match self.next_part() {
+                Ok(Some(line)) => {
+                    if !is_blank(line.bytes.items()) {
+                        return Ok(Some(line));
+                    }
+                }
+                Ok(None) => return Ok(None),
+                Err(fault) => return Err(fault),
+            }
+        }
+    }
+
+    /// Whether the newline of the next line was read already.
+    pub fn holds_line(&self) -> bool {
+        self.ahead.holds_newline()
+    }
+
+    /// The next part, blank or not; a last one that is blank is left out.
+    fn next_part(&mut self) -> Result<Option<NumberedLine>, LineFault>
+        ensures part { IfOk result (λ next. IfSome next (λ line.
+            GivesPart (Leaves R.gives self.old) (Leaves R.gives self.new) line.number line.bytes)) }
+        ensures over { IfOk result (λ next. IfNone next (MayBeOver (Leaves R.gives self.old))) }
+        ensures stays_over { IfOk result (λ next. IfNone next
+            (MayBeOver (λ left. self.new.ended ≡ Some left))) }
+        ensures refused { IfErr result (λ e. IsRefused e.fault e.line (Leaves R.gives self.old)) }
+        ensures kind { IfErr result (λ e. IsLineFault e.fault) }
+        ensures stays { IfErr result (λ e. self.new.ended ≡ Some (only_fault e.line e.fault)) }
+        ensures again { IsAgain self.old.ended result }
+        ensures was_open { IfOk result (λ next. IfSome next (λ line. self.old.ended ≡ None)) }
+        ensures first { IfOk result (λ next. IfSome next (λ line. self.old.number ≤ line.number)) }
+        ensures later { IfOk result (λ next. IfSome next (λ line. line.number < self.new.number)) }
+        ensures at { IfErr result (λ e. self.old.number ≤ e.line) }
+        ensures stands { IfErr result (λ e. e.fault ≡ Fault.Memory → is_refused self.old ≡ false
+            → StandsAt e.line self.new.limits (Leaves R.gives self.old)
+            (MayCome R.gives self.new.ahead)) }
+        ensures goes_on { IfOk result (λ next. IfSome next (λ line. is_refused self.new ≡ false)) }
+        ensures counted { IfErr result (λ e. 0 < e.line) }
+        ensures given_counted { IfOk result (λ next. IfSome next (λ line. 0 < line.number)) }
+        ensures fewer { IfOk result (λ next. IfSome next (λ line.
+            most_left self.new < most_left self.old)) }
+        ensures most { most_left self.new ≤ 2 ^ 40 + 1 }
+        ensures ended { EndsFrom self.new.number self.new.ended }
+        ensures had_not_failed { IfOk result (λ next. has_failed self.old ≡ false) }
+        ensures not_failed { IfOk result (λ next. has_failed self.new ≡ false) }
+        ensures failures { R.failures self.new.ahead.reader ≡ failed_reads_between
+            (has_failed self.old) (has_failed self.new) (R.failures self.old.ahead.reader) }
+    {
+        match self.state {
+            State::Open => {}
+            State::Over(_) => return Ok(None),
+            State::Refused(fault) => return Err(fault),
+        }
+        let number = self.number;
+        match take_part(self.alloc, &mut self.ahead, self.limits, self.start) {
+            Ok(NextPart::Ended(bytes)) => {
+                self.start += bytes.items().len() as u64 + 1;
+                self.number += 1;
+                Ok(Some(NumberedLine { number, bytes }))
+            }
+            Ok(NextPart::Last(bytes)) => {
+                self.state = State::Over(number);
+                if is_blank(bytes.items()) {
+                    return Ok(None);
+                }
+                self.start += bytes.items().len() as u64;
+                self.number += 1;
+                Ok(Some(NumberedLine { number, bytes }))
+            }
+            Err(fault) => {
+                let at = LineFault {
+                    line: number,
+                    fault,
+                };
+                self.state = State::Refused(at);
+                Err(at)
+            }
+        }
+    }
+}

@@ -1,0 +1,108 @@
+ghost use Rattle.std.specs.Prelude.{◌≡◌, ◌≤◌, true, false, [], length, drop, IfOk, IfErr};
+ghost use Rattle.byte_streams.specs.Source.{GivesFirst};
+ghost use Rattle.tile_stream.specs.Taking.{IsFillFault, failed_reads_after_call};
+
+use byte_streams::{Fault, Source};
+use memchr::memrchr;
+use std::alloc::Global;
+use std::marker::Model;
+
+/// How many bytes are asked of a reader at once.
+const PIECE: usize = 64 * 1024;
+
+/// A reader, and the bytes of its last read that were not taken yet.
+#[derive(Debug, Drop)]
+pub struct ReadAhead<R> {
+    reader: R,
+    piece: Vec<u8>,
+    at: usize,
+    filled: usize,
+    // behind the last newline of the piece
+    lines: usize,
+}
+
+impl<R> Model for ReadAhead<R> {
+    ghost use Rattle.std.specs.Prelude.{◌≤◌, slice_range, vec_len};
+    ghost use Rattle.tile_stream.specs.Ahead.{Ahead};
+
+    ghost Value = { Ahead R };
+
+    ghost view = { λ a. record {
+      reader = a.reader;
+      held = slice_range a.piece.items a.at a.filled;
+    } };
+
+    ghost invariant = { λ a. (a.at ≤ a.filled) × (a.filled ≤ vec_len a.piece) };
+}
+
+impl<R: Source> ReadAhead<R> {
+    /// Nothing is read yet, and no memory taken.
+    pub fn new(alloc: Global, reader: R) -> ReadAhead<R>
+        ensures { result ≡ record { reader = reader; held = [] } }
+    {
+        ReadAhead {
+            reader,
+            piece: Vec::new(alloc),
+            at: 0,
+            filled: 0,
+            lines: 0,
+        }
+    }
+
+    /// The bytes that were read and not taken yet.
+    pub fn held(&self) -> &[u8]
+        ensures { result.now ≡ self.now.held }
+    {
+        &self.piece[self.at..self.filled]
+    }
+
+    /// Whether a newline is among the bytes that are held.
+    pub fn holds_newline(&self) -> bool {
+        self.at < self.lines
+    }
+
+    /// Takes the first of the bytes that are held.
+    pub fn skip(&mut self, count: usize)
+        requires { count ≤ length self.old.held }
+        ensures { self.new ≡ record self.old { held = drop count self.old.held } }
+    {
+        self.at += count;
+    }
+
+    /// One read, where no bytes are held. Returns how many bytes came, which is 0 at the end.
+    ///
+    /// # Errors
+    ///
+    /// `Read` where the read failed, and `Memory` where there was no memory to read into.
+    pub fn fill(&mut self) -> Result<usize, Fault>
+        requires { self.old.held ≡ [] }
+        ensures more { IfOk result (λ count. GivesFirst (R.gives self.old.reader)
+            (R.gives self.new.reader) self.new.held) }
+        ensures count { IfOk result (λ count. count ≡ length self.new.held) }
+        ensures end { IfOk result (λ count. count ≡ 0 → R.gives self.old.reader [] false) }
+        ensures failed { IfErr result (λ fault. fault ≡ Fault.Read
+            → R.gives self.old.reader [] true) }
+        ensures kind { IfErr result IsFillFault }
+        ensures kept { IfErr result (λ fault. fault ≡ Fault.Memory → self.new ≡ self.old) }
+        ensures failures { R.failures self.new.reader
+            ≡ failed_reads_after_call result (R.failures self.old.reader) }
+    {
+        if self.piece.is_empty() {
+            self.piece.resize(PIECE, 0)?;
+        }
+        self.at = 0;
+        self.filled = 0;
+        self.lines = 0;
+        self.filled = self.reader.read(&mut self.piece)?;
+        self.lines = lines_end(&self.piece[..self.filled]);
+        Ok(self.filled)
+    }
+}
+
+/// The place behind the last newline, or 0 where there is none.
+fn lines_end(bytes: &[u8]) -> usize {
+    match memrchr(b'\n', bytes) {
+        Some(at) => at + 1,
+        None => 0,
+    }
+}

@@ -1,0 +1,300 @@
+ghost use Rattle.std.specs.Prelude.{◌≡◌, ◌≢◌, ◌≤◌, ◌<◌, ◌↔◌, ℕ, List, [], true, false, Some, None, IfOk, IfErr, IfSome, IfNone, OnOk, OnErr};
+ghost use Rattle.city_feature.specs.Choice.{IsChosen};
+ghost use Rattle.city_feature.specs.Values.{header_value};
+ghost use Rattle.tile_stream.specs.Coming.{MayComeTo, MayLeave, GivesText, ComesBack, SomethingComes};
+ghost use Rattle.tile_stream.specs.Head.{HasNoHead, SomeTile, GivesHead, RanOutAt};
+ghost use Rattle.tile_stream.specs.Held.{held_value};
+ghost use Rattle.tile_stream.specs.Stream.{with_newline};
+ghost use Rattle.tile_stream.specs.Tile.{TileLines, stream_limits};
+ghost use Rattle.tile_stream.specs.TileState.{IsPassed, most_to_come, most_texts};
+ghost use Rattle.tile_stream.specs.Unread.{Leaves, IsOfTile, has_failed, is_read, is_refused, failed_reads_between};
+
+mod feature_lines;
+mod head;
+mod held;
+
+use crate::line_end::emptied;
+use crate::lines::Lines;
+pub use crate::tile_reader::feature_lines::Passed;
+use crate::tile_reader::feature_lines::{pass_line, take_feature};
+pub use crate::tile_reader::head::Head;
+use crate::tile_reader::head::{FirstLine, read_first_line};
+use crate::tile_reader::held::{Held, lines_of};
+use byte_streams::{Fault, Line, LineFault, Source};
+use city_feature::Choice;
+use city_grid::Shift;
+use std::alloc::Global;
+use std::collections::VecDeque;
+use std::marker::Model;
+use std::mem;
+
+/// A tile that is being read: first its header is taken, then the texts of its features, one after
+/// another. Where its first line is a document, the features that are cut from it come first.
+#[derive(Debug, Drop)]
+pub struct TileReader<R> {
+    lines: Lines<R>,
+    held: Held,
+    ready: VecDeque<Line>,
+}
+
+impl<R> Model for TileReader<R> {
+    ghost use Rattle.std.specs.Prelude.{◌≡◌, [], true};
+    ghost use Rattle.std.specs.Coded.{codes};
+    ghost use Rattle.city_feature.specs.contracts.features.Feature as feature_type;
+    ghost use Rattle.tile_stream.specs.TileState.{TileState, AreLines};
+    ghost use Rattle.tile_stream.specs.Unread.{EndsFrom, has_failed};
+
+    ghost Value = { TileState R };
+
+    ghost coded = { Prim.hlevel (codes, feature_type.the_row.coded) };
+
+    ghost view = { λ tile. record {
+      ready = tile.ready.items;
+      held = record { line = tile.held.line; features = tile.held.features.items };
+      lines = tile.lines;
+    } };
+
+    ghost invariant = { λ tile. AreLines tile.ready.items
+        × EndsFrom tile.lines.number tile.lines.ended
+        × (has_failed tile.lines ≡ true → (tile.ready.items ≡ []) × (tile.held.features.items ≡ [])) };
+}
+
+impl<R: Source> TileReader<R> {
+    /// The tile that the reader gives, of lines of at most 2^28 bytes and of at most 2^40 bytes.
+    pub fn new(alloc: Global, reader: R) -> TileReader<R>
+        ensures tile { (left : TileLines) → Leaves R.gives result.lines left
+            ↔ IsOfTile (R.gives reader) stream_limits left }
+        ensures not_failed { has_failed result.lines ≡ false }
+        ensures failures { R.failures result.lines.ahead.reader ≡ R.failures reader }
+    {
+        TileReader {
+            lines: Lines::new(alloc, reader),
+            held: Held {
+                line: 0,
+                features: Vec::new(alloc),
+            },
+            ready: VecDeque::new(alloc),
+        }
+    }
+
+    /// Takes the head of the tile, of which nothing was taken yet: the header that the first line
+    /// spells, or that of the document that it is, whose features come first then.
+    ///
+    /// # Errors
+    ///
+    /// [`Fault::NoHeader`] at line 0 where there is no line; else that of the line, of its text, of
+    /// the value as a header, or of the document's [`cut`](city_cut::cut). [`Fault::Memory`] at the
+    /// line that did not find room.
+    pub fn take_head(&mut self, alloc: Global) -> Result<Head, LineFault>
+        ensures head { IfOk result (λ head. GivesHead (Leaves R.gives self.old.lines)
+            (Leaves R.gives self.new.lines) (header_value head.header) (held_value self.new.held)) }
+        ensures line { IfOk result (λ head. head.line ≡ self.new.held.line) }
+        ensures counted { IfOk result (λ head. 0 < head.line) }
+        ensures none_ready { OnOk result (self.new.ready ≡ []) }
+        ensures later { IfOk result (λ head. head.line < self.new.lines.number) }
+        ensures refused { IfErr result (λ e. SomeTile (Leaves R.gives self.old.lines) (λ tile.
+            HasNoHead tile (record { number = e.line; fault = e.fault }))) }
+        ensures not_written { IfErr result (λ e. e.fault ≢ Fault.Write) }
+
+        // Out of memory is told at the line at which reading stands, or at the one that was taken.
+        ensures memory { IfErr result (λ e. e.fault ≡ Fault.Memory
+            → is_refused self.old.lines ≡ false
+            → RanOutAt R.gives e.line self.old.lines self.new.lines) }
+
+        ensures some { (left : TileLines) × MayLeave R.gives self.new.lines left }
+        ensures most { OnOk result (most_to_come self.new ≤ most_texts) }
+        ensures had_not_failed { OnOk result (has_failed self.old.lines ≡ false) }
+        ensures not_failed { OnOk result (has_failed self.new.lines ≡ false) }
+        ensures failed { IfErr result (λ e. has_failed self.new.lines ≡ is_read e.fault) }
+        ensures failures { R.failures self.new.lines.ahead.reader ≡ failed_reads_between
+            (has_failed self.old.lines) (has_failed self.new.lines)
+            (R.failures self.old.lines.ahead.reader) }
+    {
+        self.held.features = Vec::new(alloc);
+        self.ready = VecDeque::new(alloc);
+        let line = match self.lines.next() {
+            Ok(Some(line)) => line,
+            Ok(None) => {
+                return Err(LineFault {
+                    line: 0,
+                    fault: Fault::NoHeader,
+                });
+            }
+            Err(at) => return Err(at),
+        };
+        let number = line.number;
+        match read_first_line(alloc, line.bytes.items()) {
+            Ok(FirstLine { header, features }) => {
+                self.held = Held {
+                    line: number,
+                    features,
+                };
+                Ok(Head {
+                    header,
+                    line: number,
+                })
+            }
+            Err(fault) => Err(LineFault {
+                line: number,
+                fault,
+            }),
+        }
+    }
+
+    /// Takes the line of the next feature that is chosen when it is moved by the shift: its compact
+    /// text, so moved, and a newline. None after the last. `spare` is a buffer to reuse.
+    ///
+    /// # Errors
+    ///
+    /// The first line at fault, or [`Fault::Memory`] at the line that did not find room. Then
+    /// nothing more is to be taken of the tile. The features of the first line are all moved before
+    /// one of them is given; where one cannot be, that line is at fault and gives none.
+    pub fn take_text(
+        &mut self,
+        alloc: Global,
+        shift: Shift,
+        choice: &Choice,
+        spare: Line,
+    ) -> Result<Option<Line>, LineFault>
+        ensures text { IfOk result (λ taken. IfSome taken (λ line. (given : List ℕ)
+            × (line ≡ with_newline given)
+            × GivesText (MayComeTo R.gives (IsChosen choice.now) shift self.old)
+            (MayComeTo R.gives (IsChosen choice.now) shift self.new) given)) }
+        ensures over { IfOk result (λ taken. IfNone taken
+            (MayComeTo R.gives (IsChosen choice.now) shift self.old [] None)) }
+        ensures refused { IfErr result (λ e. MayComeTo R.gives (IsChosen choice.now) shift
+            self.old [] (Some (record { number = e.line; fault = e.fault }))) }
+        ensures not_written { IfErr result (λ e. e.fault ≢ Fault.Write) }
+        ensures some { SomethingComes (MayComeTo R.gives (IsChosen choice.now) shift self.new) }
+        ensures fewer { IfOk result (λ taken. IfSome taken (λ line.
+            most_to_come self.new < most_to_come self.old)) }
+        ensures had_not_failed { OnOk result (has_failed self.old.lines ≡ false) }
+        ensures not_failed { OnOk result (has_failed self.new.lines ≡ false) }
+        ensures failed { IfErr result (λ e. has_failed self.new.lines ≡ is_read e.fault) }
+        ensures failures { R.failures self.new.lines.ahead.reader ≡ failed_reads_between
+            (has_failed self.old.lines) (has_failed self.new.lines)
+            (R.failures self.old.lines.ahead.reader) }
+    {
+        match self.take_ready(alloc, shift, choice)? {
+            Some(line) => Ok(Some(line)),
+            None => take_feature(alloc, &mut self.lines, shift, choice, emptied(spare)),
+        }
+    }
+
+    /// Takes the line of the next feature of the first line that is chosen, or else the next line,
+    /// which may come to nothing. None after the last. `spare` is a buffer to reuse, and
+    /// comes back empty with a line that comes to nothing.
+    ///
+    /// # Errors
+    ///
+    /// Those of [`TileReader::take_text`].
+    pub fn pass(
+        &mut self,
+        alloc: Global,
+        shift: Shift,
+        choice: &Choice,
+        spare: Line,
+    ) -> Result<Option<Passed>, LineFault>
+        ensures text { IfOk result (λ taken. IfSome taken (λ passed. passed.is_chosen ≡ true
+            → (given : List ℕ) × (passed.line ≡ with_newline given)
+            × GivesText (MayComeTo R.gives (IsChosen choice.now) shift self.old)
+            (MayComeTo R.gives (IsChosen choice.now) shift self.new) given)) }
+        ensures skipped { IfOk result (λ taken. IfSome taken (λ passed. passed.is_chosen ≡ false
+            → (passed.line ≡ [])
+            × ComesBack (MayComeTo R.gives (IsChosen choice.now) shift self.old)
+            (MayComeTo R.gives (IsChosen choice.now) shift self.new))) }
+        ensures over { IfOk result (λ taken. IfNone taken
+            (MayComeTo R.gives (IsChosen choice.now) shift self.old [] None)) }
+        ensures refused { IfErr result (λ e. MayComeTo R.gives (IsChosen choice.now) shift
+            self.old [] (Some (record { number = e.line; fault = e.fault }))) }
+        ensures not_written { IfErr result (λ e. e.fault ≢ Fault.Write) }
+        ensures some { SomethingComes (MayComeTo R.gives (IsChosen choice.now) shift self.new) }
+        ensures fewer { IfOk result (λ taken. IfSome taken (λ passed.
+            most_to_come self.new < most_to_come self.old)) }
+        ensures had_not_failed { OnOk result (has_failed self.old.lines ≡ false) }
+        ensures not_failed { OnOk result (has_failed self.new.lines ≡ false) }
+        ensures failed { IfErr result (λ e. has_failed self.new.lines ≡ is_read e.fault) }
+        ensures failures { R.failures self.new.lines.ahead.reader ≡ failed_reads_between
+            (has_failed self.old.lines) (has_failed self.new.lines)
+            (R.failures self.old.lines.ahead.reader) }
+    {
+        let ready = self.take_ready(alloc, shift, choice)?;
+        match ready {
+            Some(line) => Ok(Some(Passed {
+                is_chosen: true,
+                line,
+            })),
+            None => pass_line(alloc, &mut self.lines, shift, choice, emptied(spare)),
+        }
+    }
+
+    /// Whether the next line was read already, so that taking it does not wait for the reader. It
+    /// may be false where the tile is over, and of a feature of the first line.
+    pub fn holds_line(&self) -> bool {
+        !self.ready.is_empty() || self.lines.holds_line()
+    }
+
+    /// Takes the line of the next of the features that the first line holds. None after the last.
+    fn take_ready(
+        &mut self,
+        alloc: Global,
+        shift: Shift,
+        choice: &Choice,
+    ) -> Result<Option<Line>, LineFault>
+        ensures text { IfOk result (λ taken. IfSome taken (λ line. (given : List ℕ)
+            × (line ≡ with_newline given)
+            × GivesText (MayComeTo R.gives (IsChosen choice.now) shift self.old)
+            (MayComeTo R.gives (IsChosen choice.now) shift self.new) given)) }
+        ensures over { IfOk result (λ taken. IfNone taken (IsPassed self.new
+            × ComesBack (MayComeTo R.gives (IsChosen choice.now) shift self.old)
+            (MayComeTo R.gives (IsChosen choice.now) shift self.new))) }
+        ensures refused { IfErr result (λ e. MayComeTo R.gives (IsChosen choice.now) shift
+            self.old [] (Some (record { number = e.line; fault = e.fault }))) }
+        ensures kind { IfErr result (λ e. (e.fault ≢ Fault.Write) × (is_read e.fault ≡ false)) }
+        ensures some { SomethingComes (MayComeTo R.gives (IsChosen choice.now) shift self.new) }
+        ensures fewer { IfOk result (λ taken. IfSome taken (λ line.
+            most_to_come self.new < most_to_come self.old)) }
+        ensures no_more { most_to_come self.new ≤ most_to_come self.old }
+        ensures lines { self.new.lines ≡ self.old.lines }
+        ensures had_not_failed { IfOk result (λ taken. IfSome taken (λ line.
+            has_failed self.old.lines ≡ false)) }
+        ensures not_failed { OnErr result (has_failed self.old.lines ≡ false) }
+    {
+        self.make_ready(alloc, shift, choice)?;
+        Ok(self.ready.pop_front())
+    }
+
+    /// Makes the lines of all features that the first line holds, unless this was done.
+    fn make_ready(&mut self, alloc: Global, shift: Shift, choice: &Choice) -> Result<(), LineFault>
+        ensures back { OnOk result (ComesBack
+            (MayComeTo R.gives (IsChosen choice.now) shift self.old)
+            (MayComeTo R.gives (IsChosen choice.now) shift self.new)) }
+        ensures refused { IfErr result (λ e. MayComeTo R.gives (IsChosen choice.now) shift
+            self.old [] (Some (record { number = e.line; fault = e.fault }))) }
+        ensures kind { IfErr result (λ e. (e.fault ≢ Fault.Write) × (is_read e.fault ≡ false)) }
+        ensures some { OnErr result
+            (SomethingComes (MayComeTo R.gives (IsChosen choice.now) shift self.new)) }
+        ensures none_held { OnOk result (self.new.ready ≡ [] → self.new.held.features ≡ []) }
+        ensures no_more { most_to_come self.new ≤ most_to_come self.old }
+        ensures lines { self.new.lines ≡ self.old.lines }
+        ensures not_failed { OnErr result (has_failed self.old.lines ≡ false) }
+    {
+        if !self.ready.is_empty() {
+            return Ok(());
+        }
+        if self.held.features.is_empty() {
+            return Ok(());
+        }
+        let features = mem::replace(&mut self.held.features, Vec::new(alloc));
+        match lines_of(alloc, features, shift, choice) {
+            Ok(lines) => {
+                self.ready = lines;
+                Ok(())
+            }
+            Err(fault) => Err(LineFault {
+                line: self.held.line,
+                fault,
+            }),
+        }
+    }
+}
