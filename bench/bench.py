@@ -17,14 +17,15 @@ Nine parts, each of which can be left out:
                 three small ones and of 64, and its peak memory, also where a slow reader takes the output
   waiting       processor time while a tile gives nothing and while the output is read slowly; how soon a merge
                 ends once its output is gone, and how soon a feature of a live tile arrives
-  hostile       time against size for shapes of text that are hard on a reader
+  hostile       time against size for shapes of text that are hard on a reader; time to join headers whose extensions
+                have names that are hard on a map, beside names with nothing in common
   documents     MB/s and peak memory of `citymerge cat` on a document, beside `citymerge filter` of its stream;
                 time against size for documents that are hard on it
 
 Status 0: all is right. 1: an output is wrong, the peak memory grows with the stream, a stream takes more
 instructions than is wanted, a merge is too slow beside the filter, one that waits takes processor time or ends
-late, or the time for a hostile shape does not grow about as its size. 2: the program is not there. A tool that is
-not there is named, and its part is left out.
+late, the time for a hostile shape does not grow about as its size, or headers join slower for the names of their
+extensions. 2: the program is not there. A tool that is not there is named, and its part is left out.
 """
 
 import argparse

@@ -2,6 +2,7 @@
 
 import os
 
+from joins import joins
 from running import Run
 from shapes import HOSTILE
 
@@ -71,3 +72,4 @@ def hostile(bench):
     bench.say("Does time grow as size? (processor seconds, the best of %d)" % bench.options.tries)
     for shape in HOSTILE:
         measure(bench, shape)
+    joins(bench)

@@ -124,6 +124,15 @@ def colliding(at):
     return FRONT + "".join([two[(at >> place) & 1] for place, two in enumerate(EITHER)])
 
 
+# Shorter names of one hash. Under that hash the first 16 letters of a name of 48 leave a number that is itself written
+# with these eight letters, and a block that begins with it is multiplied by 0, whatever its other eight letters are.
+ZERO_AFTER = 'of_one_hash_296eG$EoGp5v'
+
+
+def of_one_hash(at):
+    return ZERO_AFTER + "%08d" % at + "_is_of_one_hash_"
+
+
 def object_of(count):
     """An object of so many members."""
     return ("{" + ",".join(['"name_%d":%d' % (at, at) for at in range(count)]) + "}").encode("ascii")
@@ -171,4 +180,15 @@ HOSTILE = (
     Shape("vertices, the last with a fraction", 1_000_000, lambda n: vertices(n, b",[0.5,0,0]]"), NOT_WHOLE),
     Shape("city objects of one feature", 200_000, city_objects),
     Shape("blank lines", 5_000_000, lambda n: iter((HEADER, b" \n" * n))),
+)
+
+# Names of extensions that are hard on a map of them.
+EXTENSION_NAMES = (
+    ("of one hash", of_one_hash),
+    ("of one hash, 272 letters", lambda at: colliding(at % (1 << len(EITHER)))),
+    ("of one length", lambda at: "%016d" % at),
+    ("of one length, falling", lambda at: "%016d" % (9_999_999_999_999_999 - at)),
+    ("of two letters", letters_apart),
+    ("of one front", lambda at: "of_one_front_" * 3 + "%08d" % at),
+    ("of one long front", alike_for_long),
 )

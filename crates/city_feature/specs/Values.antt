@@ -1,6 +1,9 @@
 -- What headers and features of the code are to a contract.
-use Rattle.std.specs.Prelude.{ℕ, List, map}
+use Rattle.std.specs.Prelude.{ℕ, List, Option, map}
+use Rattle.std.specs.BTreeMap.{BTreeMap, get_by}
 use Rattle.std.specs.Borrow.{Bor}
+use Rattle.std.specs.Cmp.Lexicographic.{slice_cmp}
+use Rattle.std.specs.Ordering.{nat_cmp}
 use Rattle.city_json.specs.Tree.{Tree, tree, MemberTrees, member_trees}
 use Rattle.city_json.specs.declared.json.Json.{Json}
 use Rattle.city_grid.specs.Axes.{Triple}
@@ -28,3 +31,7 @@ lent pair = (pair.0.now, tree pair.1.now)
 
 abbrev pub lent_members : List (Bor (List ℕ) × Bor Json) → MemberTrees
 lent_members pairs = member_trees (map lent pairs)
+
+-- the value that a search tree of borrowed names has for a name
+abbrev pub value_by_order : List ℕ → BTreeMap (Bor (List ℕ)) (Bor Json) → Option (Bor Json)
+value_by_order name values = get_by (λ key. slice_cmp nat_cmp name key.now) values

@@ -83,7 +83,7 @@ fn line_of(
     origin: &Origin<'_>,
 ) -> Result<Line, Fault>
     ensures ok { IfOk result (λ line. line ≡ compact (joined_value (tree first.now.json)
-        (lent_members extensions.now.known.entries) (texts_of origin.now.translation))) }
+        (lent_members extensions.now) (texts_of origin.now.translation))) }
     ensures fault { IfErr result (λ fault. fault ≡ Fault.Memory) }
 {
     joined_line(alloc, first, extensions.copy(alloc)?, &origin.translation)

@@ -23,4 +23,6 @@ mod joining;
 #[cfg(test)]
 mod lines;
 #[cfg(test)]
+mod many_extensions;
+#[cfg(test)]
 mod origins;

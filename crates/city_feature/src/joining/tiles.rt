@@ -73,13 +73,13 @@ fn shift_of_tile<'a>(
 ) -> Result<Shift, Fault>
     requires { base.now.scale ≡ first.now.grid.scale }
     ensures ok { IfOk result (Agrees (header_value first.now) base.now
-        (lent_members extensions.old.known.entries) (header_value header.now)) }
-    ensures known { OnOk result (lent_members extensions.new.known.entries
-        ≡ union (lent_members extensions.old.known.entries)
+        (lent_members extensions.old) (header_value header.now)) }
+    ensures known { OnOk result (lent_members extensions.new
+        ≡ union (lent_members extensions.old)
         (extensions_of (header_value header.now))) }
     ensures refusal { IfErr result (λ fault. (fault ≡ Fault.Memory)
         ⊎ RefusesTile fault (header_value first.now) base.now
-        (lent_members extensions.old.known.entries) (header_value header.now)) }
+        (lent_members extensions.old) (header_value header.now)) }
 {
     if header.transform().scale() != first.transform().scale() {
         return Err(Fault::ScaleDiffers);
@@ -106,14 +106,14 @@ pub(crate) fn shifts_of_tiles<'a>(
     requires scale { base.now.scale ≡ first.now.grid.scale }
     requires few { length headers.now < 2 ^ 32 }
     ensures ok { IfOk result (AllAgree (header_value first.now) base.now
-        (lent_members extensions.old.known.entries) (map header_value headers.now)) }
-    ensures known { OnOk result (lent_members extensions.new.known.entries
-        ≡ all_extensions (lent_members extensions.old.known.entries)
+        (lent_members extensions.old) (map header_value headers.now)) }
+    ensures known { OnOk result (lent_members extensions.new
+        ≡ all_extensions (lent_members extensions.old)
         (map header_value headers.now)) }
     ensures refusal { IfErr result (λ refused.
         ((refused.tile ≡ 0) × (refused.fault ≡ Fault.Memory))
         ⊎ IsFirstMisfit (header_value first.now) base.now
-        (lent_members extensions.old.known.entries) 1 (map header_value headers.now)
+        (lent_members extensions.old) 1 (map header_value headers.now)
         refused.tile refused.fault) }
 {
     let Ok(mut shifts) = Vec::with_capacity(alloc, headers.len()) else {

@@ -9,8 +9,8 @@ use Rattle.city_feature.proofs.joining.tiles.shifts_of_tiles.Given as goal
 abbrev pub invariant-loop-header : goal.invariant-loop-header
 invariant-loop-header l =
     let first = header_value l.first in
-    let now = lent_members l.extensions.known.entries in
-    let old = lent_members l.fn.extensions.known.entries in
+    let now = lent_members l.extensions in
+    let old = lent_members l.fn.extensions in
     let rest = map header_value (drop l.header-index l.headers) in
     let all = map header_value l.headers in
     record {
