@@ -58,7 +58,7 @@ compile-test:
 	@tools/need.sh rt python3
 	@python3 tools/must_not_compile.py
 
-# Wrong runs are kept in build/torture and build/growths.
+# Wrong runs of the program are kept in build/torture.
 torture: build
 	@tools/need.sh python3 cc
 	@tools/growths.sh

@@ -32,5 +32,6 @@ tools/install_test.sh || exit 1
 python3 tools/many_tiles_test.py build/citymerge || exit 1
 python3 tools/commands_test.py build/citymerge || exit 1
 python3 tools/torture/torture.py --short build/citymerge || exit 1
+tools/growths.sh --built || exit 1
 tools/dist_test.sh || exit 1
 tail -n 1 "$log"

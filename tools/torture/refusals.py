@@ -21,7 +21,7 @@ from values import compact
 HERE = os.path.dirname(os.path.abspath(__file__))
 KINDS = ("memory", "read", "write", "say", "open", "thread", "map")
 SOURCES = 128
-PAGE = struct.Struct("%dQ" % (len(KINDS) + 1 + 3 * SOURCES))
+PAGE = struct.Struct("%dQ" % (len(KINDS) + 2 + 3 * SOURCES))
 
 # The ways in which a call of each kind is tried.
 WAYS = {
@@ -81,13 +81,15 @@ class Refusing:
 
 
 class Counts:
-    """How often each kind of call was made, how many were refused, and of each file that was read how far it came."""
+    """How often each kind of call was made, how many were refused, how often a test said that there is no memory from here
+    on, and of each file that was read how far it came.
+    """
 
     def __init__(self, page):
         numbers = PAGE.unpack(page)
         self.calls = dict(zip(KINDS, numbers))
-        self.refused = numbers[len(KINDS)]
-        rows = numbers[len(KINDS) + 1:]
+        self.refused, self.taken = numbers[len(KINDS):len(KINDS) + 2]
+        rows = numbers[len(KINDS) + 2:]
         self.broken = {rows[at]: rows[at + 1] for at in range(0, len(rows), 3) if rows[at + 2]}
 
 

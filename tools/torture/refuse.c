@@ -4,6 +4,9 @@
  * below, REFUSE_FROM the number of the call, from 1 on, and REFUSE_REST, where it is set, says that the calls after it
  * are refused, too. REFUSE_WAY is `fail`, `short` (one byte goes through), `none` (no byte does) or `interrupt` (the
  * call is to be asked again; of the rest it is then every second one).
+ *
+ * A growth of one of two odd sizes is not counted and never granted: by it a test says that each growth is to be
+ * refused from here on, or none.
  */
 #define _GNU_SOURCE
 #include <dlfcn.h>
@@ -24,6 +27,10 @@
 enum kind { MEMORY, READ, WRITE, SAY, OPEN, THREAD, MAP, KINDS };
 enum way { FAIL, SHORT, NONE, INTERRUPT, WAYS };
 
+/* In bytes, as in crates/growth_tests/src/memory.rt. */
+#define TAKE 7777777
+#define GIVE 7777779
+
 static const char *const kind_names[KINDS] = {"memory", "read", "write", "say", "open", "thread", "map"};
 static const char *const way_names[WAYS] = {"fail", "short", "none", "interrupt"};
 
@@ -35,7 +42,8 @@ struct source {
 #define SOURCES 128
 
 struct page {
-    uint64_t calls[KINDS], refused;
+    /* `taken` is how often a test said that there is no memory from here on. */
+    uint64_t calls[KINDS], refused, taken;
     struct source sources[SOURCES];
 };
 
@@ -43,6 +51,7 @@ static struct page *page;
 static int chosen_kind, chosen_way;
 static uint64_t first;
 static bool are_rest_refused;
+static size_t last_said;
 static int (*start_thread)(pthread_t *, const pthread_attr_t *, void *(*)(void *), void *);
 
 extern void *__libc_malloc(size_t);
@@ -81,23 +90,36 @@ static bool is_due(enum kind kind) {
     return is_due;
 }
 
+/* Whether a growth of this size is refused. */
+static bool is_refused(size_t size) {
+    if (page && (size == TAKE || size == GIVE)) {
+        if (size == TAKE) __atomic_add_fetch(&page->taken, 1, __ATOMIC_RELAXED);
+        __atomic_store_n(&last_said, size, __ATOMIC_SEQ_CST);
+        return true;
+    }
+    size_t said = __atomic_load_n(&last_said, __ATOMIC_SEQ_CST);
+    if (said != TAKE) return said != GIVE && is_due(MEMORY);
+    __atomic_add_fetch(&page->refused, 1, __ATOMIC_RELAXED);
+    return true;
+}
+
 static void *no_memory(void) {
     errno = ENOMEM;
     return NULL;
 }
 
-void *malloc(size_t size) { return is_due(MEMORY) ? no_memory() : __libc_malloc(size); }
+void *malloc(size_t size) { return is_refused(size) ? no_memory() : __libc_malloc(size); }
 
-void *calloc(size_t count, size_t size) { return is_due(MEMORY) ? no_memory() : __libc_calloc(count, size); }
+void *calloc(size_t count, size_t size) { return is_refused(0) ? no_memory() : __libc_calloc(count, size); }
 
-void *realloc(void *old, size_t size) { return is_due(MEMORY) ? no_memory() : __libc_realloc(old, size); }
+void *realloc(void *old, size_t size) { return is_refused(size) ? no_memory() : __libc_realloc(old, size); }
 
 void *aligned_alloc(size_t alignment, size_t size) {
-    return is_due(MEMORY) ? no_memory() : __libc_memalign(alignment, size);
+    return is_refused(size) ? no_memory() : __libc_memalign(alignment, size);
 }
 
 int posix_memalign(void **to, size_t alignment, size_t size) {
-    void *made = is_due(MEMORY) ? NULL : __libc_memalign(alignment, size);
+    void *made = is_refused(size) ? NULL : __libc_memalign(alignment, size);
     if (!made) return ENOMEM;
     *to = made;
     return 0;

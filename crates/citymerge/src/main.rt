@@ -4,6 +4,8 @@
 mod answering;
 mod cat;
 mod fault_line;
+#[cfg(test)]
+mod growths;
 mod output;
 mod report;
 mod run;

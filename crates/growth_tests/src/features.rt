@@ -1,14 +1,20 @@
 //! Vertices, headers, features, choices, and documents that are cut.
 
-use byte_streams::{Fault, Line};
-use city_cut::cut_lines;
-use city_feature::{
-    Base, Choice, Header, HeaderFault, area, feature, feature_line, header, join_headers, line,
-    selects, set_member, shifted, types,
+use crate::memory::{Call, answered, wanted};
+use crate::texts::{
+    A, BUILDING, CHILDLESS, CLASHING, DOCUMENT, DUTCH, EXTENDED, EXTENDED_BOTH, EXTENDED_TWICE,
+    FAR_HEADER, HEADER, OFF_GRID, ORPHANED, OTHER_DUTCH, SCALED, UNBOUNDED,
 };
-use city_grid::{Shift, Vertex, vertex_json, write_vertex};
+use byte_streams::{Fault, Line};
+use city_cut::{cut, cut_lines};
+use city_feature::{
+    Base, Choice, Header, HeaderFault, Joined, area, feature, feature_line, header, join_headers,
+    line, selects, set_member, shifted, types,
+};
+use city_grid::{Shift, Vertex, append_vertex, vertex_json, write_vertex};
 use city_json::{Json, print, read};
 use std::alloc::Global;
+use std::io::Eprint;
 use std::process::Abort;
 use std::test::Fail;
 
@@ -19,16 +25,29 @@ fn printed(alloc: Global, value: &Json) -> Result<Line, Fault> {
     Ok(line)
 }
 
-fn expect_vertex(rt: &(impl Abort + AllocGlobal)) -> Result<(), Fault> {
-    let Some(vertex) = Vertex::new(9_007_199_254_740_991, 0, -17) else {
-        return Err(Fault::VertexRange);
-    };
-    let wanted = b"[9007199254740991,0,-17]".as_slice();
-    let built = vertex_json(rt.alloc(), &vertex)?;
-    assert_eq!(rt; printed(rt.alloc(), &built)?.items(), wanted);
-    let mut value = read(rt.alloc(), b"null")?;
-    write_vertex(rt.alloc(), &vertex, &mut value)?;
-    assert_eq!(rt; printed(rt.alloc(), &value)?.items(), wanted);
+/// Vertices and their texts.
+fn vertices() -> [(Option<Vertex>, &'static str); 2] {
+    [
+        (Vertex::new(0, 0, 0), "[0,0,0]"),
+        (
+            Vertex::new(9_007_199_254_740_991, 0, -17),
+            "[9007199254740991,0,-17]",
+        ),
+    ]
+}
+
+fn expect_vertex(rt: &(impl Abort + AllocGlobal + Eprint)) -> Result<(), Fault> {
+    for (vertex, text) in vertices() {
+        let Some(vertex) = vertex else {
+            panic!(rt; "no vertex {text}");
+        };
+        let built = answered(rt, Call("vertex_json"), vertex_json(rt.alloc(), &vertex))?;
+        assert_eq!(rt; printed(rt.alloc(), &built)?.items(), text.as_bytes());
+        let mut value = read(rt.alloc(), b"null")?;
+        let written = write_vertex(rt.alloc(), &vertex, &mut value);
+        answered(rt, Call("write_vertex"), written)?;
+        assert_eq!(rt; printed(rt.alloc(), &value)?.items(), text.as_bytes());
+    }
     Ok(())
 }
 
@@ -37,9 +56,34 @@ fn a_vertex_is_written(rt: HostRuntime) -> Result<(), Fail> {
     with_memory!(expect_vertex(&rt))
 }
 
-fn expect_member(rt: &(impl Abort + AllocGlobal)) -> Result<(), Fault> {
+/// A line to which a vertex is appended is as before where memory is wanted.
+fn expect_appended(rt: &(impl Abort + AllocGlobal + Eprint)) -> Result<(), Fault> {
+    for (vertex, text) in vertices() {
+        let Some(vertex) = vertex else {
+            panic!(rt; "no vertex {text}");
+        };
+        let mut line = Line::new(rt.alloc());
+        line.append(b"[")?;
+        if append_vertex(b',', &vertex, &mut line).is_err() {
+            wanted(rt, Call("append_vertex"));
+            assert_eq!(rt; line.items(), b"[".as_slice());
+            append_vertex(b',', &vertex, &mut line)?;
+        }
+        assert_eq!(rt; line.items().strip_prefix(b"[,"), Some(text.as_bytes()));
+    }
+    Ok(())
+}
+
+#[test]
+fn a_vertex_is_appended(rt: HostRuntime) -> Result<(), Fail> {
+    with_memory!(expect_appended(&rt))
+}
+
+fn expect_member(rt: &(impl Abort + AllocGlobal + Eprint)) -> Result<(), Fault> {
     let mut value = read(rt.alloc(), br#"{"a":1}"#)?;
-    set_member(rt.alloc(), &mut value, "b", read(rt.alloc(), b"[1.50]")?)?;
+    let given = read(rt.alloc(), b"[1.50]")?;
+    let set = set_member(rt.alloc(), &mut value, "b", given);
+    answered(rt, Call("set_member"), set)?;
     let wanted = br#"{"a":1,"b":[1.50]}"#;
     assert_eq!(rt; printed(rt.alloc(), &value)?.items(), wanted.as_slice());
     Ok(())
@@ -50,52 +94,102 @@ fn a_member_is_set(rt: HostRuntime) -> Result<(), Fail> {
     with_memory!(expect_member(&rt))
 }
 
-const FIRST: &[u8] =
-    br#"{"type":"CityJSON","version":"2.0","transform":{"scale":[0.001,0.001,0.001],"translate":[0,0,0]},"extensions":{"A":{"version":"1"}},"metadata":{"geographicalExtent":[0,0,0,1,1,1],"title":"t"}}"#;
-
-const SECOND: &[u8] =
-    br#"{"type":"CityJSON","version":"2.0","transform":{"scale":[0.001,0.001,0.001],"translate":[1.5,-2,0]},"extensions":{"B":{"version":"2"}}}"#;
-
-const JOINED: &[u8] =
-    br#"{"type":"CityJSON","version":"2.0","transform":{"scale":[0.001,0.001,0.001],"translate":[0,-2,0]},"extensions":{"A":{"version":"1"},"B":{"version":"2"}},"metadata":{"title":"t"}}"#;
-
-fn both_headers(alloc: Global) -> Result<Vec<Header>, Fault> {
-    let first = header(read(alloc, FIRST)?)?;
-    let second = header(read(alloc, SECOND)?)?;
-    Ok(vec![in alloc; first, second]?)
+/// Two headers joined, or why they are not: for the second of them, or for want of memory, which is of no tile.
+fn join(
+    rt: &(impl Abort + AllocGlobal + Eprint),
+    first: &str,
+    second: &str,
+    base: Base,
+) -> Result<Joined, Fault> {
+    let alloc = rt.alloc();
+    let first = header(read(alloc, first.as_bytes())?)?;
+    let second = header(read(alloc, second.as_bytes())?)?;
+    let headers: Vec<Header> = vec![in alloc; first, second]?;
+    assert!(rt; !headers.is_empty() && headers.len() <= 2);
+    match join_headers(alloc, &headers, base) {
+        Ok(joined) => Ok(joined),
+        Err(HeaderFault { tile, fault }) => {
+            if tile == 0 {
+                assert_eq!(rt; fault, Fault::Memory);
+                wanted(rt, Call("join_headers"));
+            } else {
+                assert_eq!(rt; tile, 2);
+                assert!(rt; fault != Fault::Memory);
+            }
+            Err(fault)
+        }
+    }
 }
 
-/// Where memory is wanted it is so of no tile.
-fn expect_joined(rt: &(impl Abort + AllocGlobal)) -> Result<(), Fault> {
-    let headers = both_headers(rt.alloc())?;
-    if headers.is_empty() || headers.len() > 2 {
-        return Err(Fault::NoHeader);
-    }
-    match join_headers(rt.alloc(), &headers, Base::Least) {
-        Ok(joined) => {
-            assert_eq!(rt; joined.line.items(), JOINED);
-            let [first, second] = joined.shifts.items() else {
-                panic!(rt; "{joined:?}");
-            };
-            assert_eq!(rt; Some(*first), Shift::new(0, 2000, 0));
-            assert_eq!(rt; Some(*second), Shift::new(1500, 0, 0));
+/// What two headers are joined to, and the shift of the second in x.
+fn expect_joined(
+    rt: &(impl Abort + AllocGlobal + Eprint),
+    first: &str,
+    second: &str,
+    base: Base,
+    line: &str,
+    x: i64,
+) -> Result<(), Fault> {
+    let joined = join(rt, first, second, base)?;
+    assert_eq!(rt; joined.line.items(), line.as_bytes());
+    let [_, shift] = joined.shifts.items() else {
+        panic!(rt; "{joined:?}");
+    };
+    assert_eq!(rt; Some(*shift), Shift::new(x, 0, 0));
+    Ok(())
+}
+
+fn expect_unjoined(
+    rt: &(impl Abort + AllocGlobal + Eprint),
+    first: &str,
+    second: &str,
+    wanted: Fault,
+) -> Result<(), Fault> {
+    match join(rt, first, second, Base::First) {
+        Ok(joined) => panic!(rt; "{joined:?}"),
+        Err(Fault::Memory) => Err(Fault::Memory),
+        Err(fault) => {
+            assert_eq!(rt; fault, wanted);
             Ok(())
         }
-        Err(refused) => {
-            let wanted = HeaderFault {
-                tile: 0,
-                fault: Fault::Memory,
-            };
-            assert_eq!(rt; refused, wanted);
-            Err(refused.fault)
-        }
     }
+}
+
+fn expect_headers(rt: &(impl Abort + AllocGlobal + Eprint)) -> Result<(), Fault> {
+    expect_joined(rt, HEADER, FAR_HEADER, Base::First, HEADER, 1500)?;
+    expect_joined(rt, FAR_HEADER, FAR_HEADER, Base::Least, FAR_HEADER, 0)?;
+    expect_joined(rt, HEADER, SCALED, Base::First, HEADER, 0)?;
+    expect_joined(rt, SCALED, HEADER, Base::First, SCALED, 0)?;
+    expect_joined(rt, EXTENDED, EXTENDED_TWICE, Base::First, EXTENDED_BOTH, 0)?;
+    expect_joined(rt, TITLED, BELOW, Base::Least, TITLED_AND_BELOW, 1500)
 }
 
 #[test]
 fn headers_are_joined(rt: HostRuntime) -> Result<(), Fail> {
-    with_memory!(expect_joined(&rt))
+    with_memory!(expect_headers(&rt))
 }
+
+fn expect_other_headers(rt: &(impl Abort + AllocGlobal + Eprint)) -> Result<(), Fault> {
+    expect_unjoined(rt, HEADER, OFF_GRID, Fault::OffGrid)?;
+    expect_unjoined(rt, DUTCH, OTHER_DUTCH, Fault::CrsDiffers)?;
+    expect_unjoined(rt, DUTCH, HEADER, Fault::CrsDiffers)?;
+    expect_unjoined(rt, HEADER, DUTCH, Fault::CrsDiffers)?;
+    expect_unjoined(rt, EXTENDED, CLASHING, Fault::ExtensionClash)
+}
+
+#[test]
+fn other_headers_are_refused(rt: HostRuntime) -> Result<(), Fail> {
+    with_memory!(expect_other_headers(&rt))
+}
+
+const TITLED: &str =
+    r#"{"type":"CityJSON","version":"2.0","transform":{"scale":[0.001,0.001,0.001],"translate":[0,0,0]},"extensions":{"A":{"version":"1"}},"metadata":{"geographicalExtent":[0,0,0,1,1,1],"title":"t"}}"#;
+
+const BELOW: &str =
+    r#"{"type":"CityJSON","version":"2.0","transform":{"scale":[0.001,0.001,0.001],"translate":[1.5,-2,0]},"extensions":{"B":{"version":"2"}}}"#;
+
+const TITLED_AND_BELOW: &str =
+    r#"{"type":"CityJSON","version":"2.0","transform":{"scale":[0.001,0.001,0.001],"translate":[0,-2,0]},"extensions":{"A":{"version":"1"},"B":{"version":"2"}},"metadata":{"title":"t"}}"#;
 
 /// A line as people write it, and what it comes to where it is moved by 10, 20 and 30.
 const SPACED: &[u8] =
@@ -108,18 +202,109 @@ fn shift() -> Result<Shift, Fault> {
     Shift::new(10, 20, 30).ok_or(Fault::ShiftRange)
 }
 
-fn expect_feature(rt: &(impl Abort + AllocGlobal)) -> Result<(), Fault> {
+fn expect_feature(rt: &(impl Abort + AllocGlobal + Eprint)) -> Result<(), Fault> {
     let alloc = rt.alloc();
-    let taken = feature(alloc, read(alloc, SPACED)?)?;
+    let taken = answered(rt, Call("feature"), feature(alloc, read(alloc, SPACED)?))?;
     assert_eq!(rt; taken.vertices().len(), 5);
     let moved = shifted(alloc, taken, shift()?)?;
-    assert_eq!(rt; line(alloc, &moved)?.items(), MOVED);
+    let text = answered(rt, Call("line"), line(alloc, &moved))?;
+    assert_eq!(rt; text.items(), MOVED);
     Ok(())
 }
 
 #[test]
 fn a_feature_is_moved_and_written(rt: HostRuntime) -> Result<(), Fail> {
     with_memory!(expect_feature(&rt))
+}
+
+/// What a feature's line comes to after so many steps in x, or why it is refused.
+fn expect_shifted(
+    rt: &(impl Abort + AllocGlobal + Eprint),
+    text: &str,
+    x: i64,
+    moves: Result<&str, Fault>,
+) -> Result<(), Fault> {
+    let alloc = rt.alloc();
+    let shift = Shift::new(x, 0, 0).ok_or(Fault::ShiftRange)?;
+    let value = read(alloc, text.as_bytes())?;
+    let answer = match answered(rt, Call("feature"), feature(alloc, value)) {
+        Ok(taken) => shifted(alloc, taken, shift),
+        Err(fault) => Err(fault),
+    };
+    match (answer, moves) {
+        (Ok(moved), Ok(text)) => {
+            assert_eq!(rt; line(alloc, &moved)?.items(), text.as_bytes());
+            Ok(())
+        }
+        (Err(Fault::Memory), _) => Err(Fault::Memory),
+        (Err(fault), Err(other)) => {
+            assert_eq!(rt; fault, other);
+            Ok(())
+        }
+        (Ok(_), Err(fault)) => panic!(rt; "no {fault:?} in {text}"),
+        (Err(fault), Ok(_)) => panic!(rt; "{fault:?} in {text}"),
+    }
+}
+
+fn expect_features(rt: &(impl Abort + AllocGlobal + Eprint)) -> Result<(), Fault> {
+    for (text, x, moves) in [
+        (
+            r#"{"type":"CityJSONFeature","id":"b","CityObjects":{},"vertices":[[10,20,30]]}"#,
+            1500i64,
+            Ok(r#"{"type":"CityJSONFeature","id":"b","CityObjects":{},"vertices":[[1510,20,30]]}"#),
+        ),
+        (
+            r#"{"type":"CityJSONFeature","id":"b","CityObjects":{},"vertices":[[9007199254740991,0,0]]}"#,
+            1,
+            Err(Fault::VertexRange),
+        ),
+        (
+            r#"{"type":"CityJSONFeature","id":"b","CityObjects":{},"vertices":[[9007199254740991,0,0]]}"#,
+            -1,
+            Ok(
+                r#"{"type":"CityJSONFeature","id":"b","CityObjects":{},"vertices":[[9007199254740990,0,0]]}"#,
+            ),
+        ),
+        (
+            r#"{"type":"CityJSONFeature","id":"b","CityObjects":{},"vertices":[[-0,0,0]]}"#,
+            0,
+            Ok(r#"{"type":"CityJSONFeature","id":"b","CityObjects":{},"vertices":[[0,0,0]]}"#),
+        ),
+        (
+            r#"{"type":"CityJSONFeature","id":"b","CityObjects":{},"vertices":[[1.0,0,0]]}"#,
+            0,
+            Err(Fault::VertexNotInteger),
+        ),
+        (
+            r#"{"type":"CityJSONFeature","id":"b","CityObjects":{},"vertices":[[1e2,0,0]]}"#,
+            0,
+            Err(Fault::VertexNotInteger),
+        ),
+        (
+            r#"{"type":"CityJSONFeature","id":"b","CityObjects":{},"vertices":[[1,2]]}"#,
+            0,
+            Err(Fault::VertexShape),
+        ),
+        (
+            r#"{"type":"CityJSONFeature","id":"b","CityObjects":{},"vertices":[["1",2,3]]}"#,
+            0,
+            Err(Fault::VertexShape),
+        ),
+        (
+            r#"{"type":"CityJSONFeature","id":"b","CityObjects":{},"vertices":[[9007199254740992,0,0]]}"#,
+            0,
+            Err(Fault::VertexRange),
+        ),
+        (HEADER, 0, Err(Fault::NotAFeature)),
+    ] {
+        expect_shifted(rt, text, x, moves)?;
+    }
+    Ok(())
+}
+
+#[test]
+fn features_are_moved_or_refused(rt: HostRuntime) -> Result<(), Fail> {
+    with_memory!(expect_features(&rt))
 }
 
 /// A choice of roads and bridges, by a copy of it.
@@ -131,12 +316,13 @@ fn choice_of(alloc: Global) -> Result<Choice, Fault> {
     Choice::new(names, area("0,0,20,30"), false).copy(alloc)
 }
 
-/// What is asked of a line stands behind other bytes, which alone stand there where memory is wanted.
-fn expect_line(rt: &(impl Abort + AllocGlobal), bytes: &[u8]) -> Result<(), Fault> {
+/// What is asked of a line stands after other bytes, which alone stand there where memory is wanted.
+fn expect_line(rt: &(impl Abort + AllocGlobal + Eprint), bytes: &[u8]) -> Result<(), Fault> {
     let alloc = rt.alloc();
     let choice = choice_of(alloc)?;
     let mut text = Line::from_vec(b"front ".to_vec(alloc)?);
-    let answer = match feature_line(alloc, bytes, shift()?, &choice, &mut text) {
+    let first = feature_line(alloc, bytes, shift()?, &choice, &mut text);
+    let answer = match answered(rt, Call("feature_line"), first) {
         Err(fault) => {
             assert_eq!(rt; fault, Fault::Memory);
             assert_eq!(rt; text.items(), b"front ".as_slice());
@@ -158,11 +344,12 @@ fn a_line_is_chosen_and_moved(rt: HostRuntime) -> Result<(), Fail> {
 const FAULTY: &[u8] =
     br#"{ "type": "CityJSONFeature", "id": "a", "CityObjects": {"a": {"type": "Road"}}, "vertices": [[1, 2, 3], [-4, -5, -6], [7, 8, 9], [1.0, 0, 0]] }"#;
 
-fn expect_fault(rt: &(impl Abort + AllocGlobal)) -> Result<(), Fault> {
+fn expect_fault(rt: &(impl Abort + AllocGlobal + Eprint)) -> Result<(), Fault> {
     let alloc = rt.alloc();
     let choice = choice_of(alloc)?;
     let mut text = Line::from_vec(b"front ".to_vec(alloc)?);
     let answer = feature_line(alloc, FAULTY, shift()?, &choice, &mut text);
+    let answer = answered(rt, Call("feature_line"), answer);
     assert_eq!(rt; text.items(), b"front ".as_slice());
     if answer == Err(Fault::Memory) {
         return Err(Fault::Memory);
@@ -176,19 +363,40 @@ fn a_line_is_refused(rt: HostRuntime) -> Result<(), Fail> {
     with_memory!(expect_fault(&rt))
 }
 
-fn expect_choice(rt: &(impl Abort + AllocGlobal)) -> Result<(), Fault> {
+/// How many names stand between the commas, none where one is empty.
+fn expect_types(rt: &(impl Abort + AllocGlobal + Eprint)) -> Result<(), Fault> {
+    for (text, count) in [
+        ("Building", Some(1usize)),
+        ("Building,Bridge", Some(2)),
+        ("A type whose name is longer than a short text,B", Some(2)),
+        ("A,,B", None),
+    ] {
+        match answered(rt, Call("types"), types(rt.alloc(), text))? {
+            Some(names) => assert_eq!(rt; Some(names.items().len()), count, "{text}"),
+            None => assert_eq!(rt; None, count, "{text}"),
+        }
+    }
+    Ok(())
+}
+
+#[test]
+fn types_are_read(rt: HostRuntime) -> Result<(), Fail> {
+    with_memory!(expect_types(&rt))
+}
+
+/// A copy of a choice selects what the choice does.
+fn expect_choice(rt: &(impl Abort + AllocGlobal + Eprint)) -> Result<(), Fault> {
     let alloc = rt.alloc();
-    let choice = choice_of(alloc)?;
     let road = feature(alloc, read(alloc, MOVED)?)?;
-    assert!(rt; selects(&choice, &road));
-    let copy = choice.copy(alloc)?;
-    drop(choice);
-    assert!(rt; selects(&copy, &road));
-    let other = MOVED.strip_suffix(b"]]}").ok_or(Fault::Syntax)?;
-    let mut text = other.to_vec(alloc)?;
-    text.extend_from_slice(b"]],\"x\":1}")?;
-    let other = feature(alloc, read(alloc, &text)?)?;
-    assert!(rt; selects(&copy, &other));
+    let building = feature(alloc, read(alloc, A.as_bytes())?)?;
+    for exclude in [false, true] {
+        let names = types(alloc, "Road,A type whose name is longer than a short text")?;
+        let choice = Choice::new(names, area("10,10,20,20"), exclude);
+        let copy = answered(rt, Call("Choice::copy"), choice.copy(alloc))?;
+        drop(choice);
+        assert_eq!(rt; selects(&copy, &road), !exclude);
+        assert_eq!(rt; selects(&copy, &building), exclude);
+    }
     Ok(())
 }
 
@@ -197,33 +405,55 @@ fn a_choice_is_copied(rt: HostRuntime) -> Result<(), Fail> {
     with_memory!(expect_choice(&rt))
 }
 
-const DOCUMENT: &[u8] =
-    br#"{"type":"CityJSON","version":"2.0","transform":{"scale":[0.001,0.001,0.001],"translate":[0,0,0]},"CityObjects":{"b":{"type":"Building","children":["p1","p2"]},"p1":{"type":"BuildingPart","parents":["b"],"geometry":[{"type":"MultiPoint","lod":"1","boundaries":[3,1]}]},"p2":{"type":"BuildingPart","parents":["b"],"geometry":[{"type":"MultiPoint","lod":"1","boundaries":[1,0]}]},"l":{"type":"LandUse"}},"vertices":[[0,0,0],[1,1,1],[2,2,2],[3,3,3]]}"#;
-
-const CUT_HEADER: &[u8] =
-    br#"{"type":"CityJSON","version":"2.0","transform":{"scale":[0.001,0.001,0.001],"translate":[0,0,0]},"CityObjects":{},"vertices":[]}"#;
-
-const BUILDING: &[u8] =
-    br#"{"type":"CityJSONFeature","id":"b","CityObjects":{"b":{"type":"Building","children":["p1","p2"]},"p1":{"type":"BuildingPart","parents":["b"],"geometry":[{"type":"MultiPoint","lod":"1","boundaries":[0,1]}]},"p2":{"type":"BuildingPart","parents":["b"],"geometry":[{"type":"MultiPoint","lod":"1","boundaries":[1,2]}]}},"vertices":[[3,3,3],[1,1,1],[0,0,0]]}"#;
-
-const LAND: &[u8] =
-    br#"{"type":"CityJSONFeature","id":"l","CityObjects":{"l":{"type":"LandUse"}},"vertices":[]}"#;
-
-fn expect_cut(rt: &(impl Abort + AllocGlobal)) -> Result<(), Fault> {
+fn expect_cut(rt: &(impl Abort + AllocGlobal + Eprint)) -> Result<(), Fault> {
     let alloc = rt.alloc();
-    let cut = cut_lines(alloc, read(alloc, DOCUMENT)?)?;
-    assert_eq!(rt; cut.count, 2);
-    assert_eq!(rt; printed(alloc, cut.header.json())?.items(), CUT_HEADER);
-    let lines = [BUILDING, b"\n", LAND, b"\n"];
-    let mut wanted = Line::new(alloc);
-    for line in lines {
-        wanted.append(line)?;
+    for (text, cuts) in [
+        (DOCUMENT, Ok(())),
+        (CHILDLESS, Err(Fault::ChildMissing)),
+        (ORPHANED, Err(Fault::Orphan)),
+        (UNBOUNDED, Err(Fault::BoundaryIndex)),
+    ] {
+        match answered(rt, Call("cut"), cut(alloc, read(alloc, text.as_bytes())?)) {
+            Ok(found) => {
+                assert_eq!(rt; Ok(()), cuts);
+                assert_eq!(rt;
+                    printed(alloc, found.header.json())?.items(),
+                    HEADER.as_bytes()
+                );
+                let [building] = found.features.items() else {
+                    panic!(rt; "{found:?}");
+                };
+                assert_eq!(rt; line(alloc, building)?.items(), BUILDING.as_bytes());
+            }
+            Err(Fault::Memory) => return Err(Fault::Memory),
+            Err(fault) => assert_eq!(rt; Err(fault), cuts),
+        }
     }
-    assert_eq!(rt; cut.lines.items(), wanted.items());
     Ok(())
 }
 
 #[test]
 fn a_document_is_cut(rt: HostRuntime) -> Result<(), Fail> {
     with_memory!(expect_cut(&rt))
+}
+
+fn expect_cut_lines(rt: &(impl Abort + AllocGlobal + Eprint)) -> Result<(), Fault> {
+    let alloc = rt.alloc();
+    let document = read(alloc, DOCUMENT.as_bytes())?;
+    let found = answered(rt, Call("cut_lines"), cut_lines(alloc, document))?;
+    assert_eq!(rt; found.count, 1);
+    assert_eq!(rt;
+        printed(alloc, found.header.json())?.items(),
+        HEADER.as_bytes()
+    );
+    assert_eq!(rt;
+        found.lines.items().strip_suffix(b"\n"),
+        Some(BUILDING.as_bytes())
+    );
+    Ok(())
+}
+
+#[test]
+fn a_document_is_cut_into_lines(rt: HostRuntime) -> Result<(), Fail> {
+    with_memory!(expect_cut_lines(&rt))
 }

@@ -4,11 +4,15 @@ ghost use Rattle.std.specs.List.{All};
 ghost use Rattle.tile_handoff.specs.History.{tile_of};
 ghost use Rattle.tile_handoff.specs.Row.{SameShape};
 
+use crate::memory::{Call, answered, wanted};
 use byte_streams::{Fault, Line};
 use std::alloc::{AllocError, Global};
+use std::io::Eprint;
 use std::process::Abort;
 use std::test::Fail;
-use tile_handoff::{End, Event, Events, NoClose, NoPut, Reply, Row, Took, ends, run};
+use tile_handoff::{
+    End, Event, Events, Kind, Mark, NoClose, NoPut, Note, Queues, Reply, Row, Took, ends, run,
+};
 
 const END: End = End {
     count: 4,
@@ -22,7 +26,7 @@ fn line(alloc: Global, text: &str) -> Result<Line, AllocError> {
 }
 
 /// A line that finds no memory for its mark comes back, and is put again.
-fn put(rt: &(impl Abort + AllocGlobal), row: &mut Row, text: &str) -> Result<(), Fault>
+fn put(rt: &(impl Abort + AllocGlobal + Eprint), row: &mut Row, text: &str) -> Result<(), Fault>
     requires { 0 < length row.old.left }
     ensures { SameShape row.old row.new }
 {
@@ -30,6 +34,7 @@ fn put(rt: &(impl Abort + AllocGlobal), row: &mut Row, text: &str) -> Result<(),
     match row.put(0, line(rt.alloc(), text)?) {
         Ok(()) => {}
         Err(NoPut::Memory(back)) => {
+            wanted(rt, Call("Row::put"));
             assert_eq!(rt; back.items(), text.as_bytes());
             assert_eq!(rt; row.marks().items().len(), marks);
             assert!(rt; row.put(0, back).is_ok(), "{text}");
@@ -41,7 +46,7 @@ fn put(rt: &(impl Abort + AllocGlobal), row: &mut Row, text: &str) -> Result<(),
 }
 
 /// A note that finds no memory for its mark stays, and is taken again.
-fn take(rt: &impl Abort, row: &mut Row) -> Result<Took, Fault>
+fn take(rt: &(impl Abort + AllocGlobal + Eprint), row: &mut Row) -> Result<Took, Fault>
     requires { 0 < length row.old.left }
     ensures { SameShape row.old row.new }
 {
@@ -49,6 +54,7 @@ fn take(rt: &impl Abort, row: &mut Row) -> Result<Took, Fault>
     let took = match row.take(0) {
         Ok(took) => took,
         Err(fault) => {
+            wanted(rt, Call("Row::take"));
             assert_eq!(rt; fault, Fault::Memory);
             assert_eq!(rt; row.marks().items().len(), marks);
             row.take(0)?
@@ -59,12 +65,13 @@ fn take(rt: &impl Abort, row: &mut Row) -> Result<Took, Fault>
 }
 
 /// A tile whose end finds no memory for its mark stays open, and is closed again.
-fn close(rt: &impl Abort, row: &mut Row)
+fn close(rt: &(impl Abort + AllocGlobal + Eprint), row: &mut Row)
     requires { 0 < length row.old.left }
     ensures { SameShape row.old row.new }
 {
     let marks = row.marks().items().len();
     if let Err(refused) = row.close(0, END) {
+        wanted(rt, Call("Row::close"));
         assert_eq!(rt; refused, NoClose::Memory);
         assert_eq!(rt; row.marks().items().len(), marks);
         assert!(rt; row.close(0, END).is_ok());
@@ -72,7 +79,11 @@ fn close(rt: &impl Abort, row: &mut Row)
     assert_eq!(rt; row.marks().items().len(), marks.saturating_add(1));
 }
 
-fn expect_line(rt: &impl Abort, row: &mut Row, text: &str) -> Result<(), Fault>
+fn expect_line(
+    rt: &(impl Abort + AllocGlobal + Eprint),
+    row: &mut Row,
+    text: &str,
+) -> Result<(), Fault>
     requires { 0 < length row.old.left }
     ensures { SameShape row.old row.new }
 {
@@ -83,7 +94,7 @@ fn expect_line(rt: &impl Abort, row: &mut Row, text: &str) -> Result<(), Fault>
     Ok(())
 }
 
-fn expect_end(rt: &impl Abort, row: &mut Row) -> Result<(), Fault>
+fn expect_end(rt: &(impl Abort + AllocGlobal + Eprint), row: &mut Row) -> Result<(), Fault>
     requires { 0 < length row.old.left }
     ensures { SameShape row.old row.new }
 {
@@ -95,8 +106,8 @@ fn expect_end(rt: &impl Abort, row: &mut Row) -> Result<(), Fault>
 }
 
 /// The marks grow in a put, and in a take.
-fn expect_takes(rt: &(impl Abort + AllocGlobal)) -> Result<(), Fault> {
-    let mut row = Row::new(rt.alloc(), 1, 8)?;
+fn expect_takes(rt: &(impl Abort + AllocGlobal + Eprint)) -> Result<(), Fault> {
+    let mut row = answered(rt, Call("Row::new"), Row::new(rt.alloc(), 1, 8))?;
     put(rt, &mut row, "a")?;
     put(rt, &mut row, "b")?;
     put(rt, &mut row, "c")?;
@@ -118,8 +129,8 @@ fn lines_are_taken_from_a_row(rt: HostRuntime) -> Result<(), Fail> {
 }
 
 /// The marks grow in a close, and in the put of the first line.
-fn expect_close(rt: &(impl Abort + AllocGlobal)) -> Result<(), Fault> {
-    let mut row = Row::new(rt.alloc(), 2, 8)?;
+fn expect_close(rt: &(impl Abort + AllocGlobal + Eprint)) -> Result<(), Fault> {
+    let mut row = answered(rt, Call("Row::new"), Row::new(rt.alloc(), 2, 8))?;
     put(rt, &mut row, "a")?;
     put(rt, &mut row, "b")?;
     put(rt, &mut row, "c")?;
@@ -144,32 +155,59 @@ fn asked(alloc: Global) -> Result<Events, AllocError>
         Event::Put(0, line(alloc, "z")?),
         Event::Take(0),
         Event::Close(0, END),
+        Event::Put(0, line(alloc, "w")?),
         Event::Take(0),
         Event::Take(0),
         Event::Take(0),
+        Event::Close(0, END),
     ]?;
     Ok(Events::from_vec(events))
 }
 
-fn expect_run(rt: &(impl Abort + AllocGlobal)) -> Result<(), Fault> {
-    let answer = run(rt.alloc(), 1, 2, asked(rt.alloc())?)?;
-    let [
-        Reply::Accepted,
-        Reply::Accepted,
-        Reply::Full,
-        Reply::Line(x),
-        Reply::Accepted,
-        Reply::Line(y),
-        Reply::End(end),
-        Reply::Drained,
-    ] = answer.replies.items()
-    else {
-        panic!(rt; "{answer:?}");
-    };
-    assert_eq!(rt; x.items(), b"x".as_slice());
-    assert_eq!(rt; y.items(), b"y".as_slice());
-    assert_eq!(rt; *end, END);
-    assert_eq!(rt; answer.row.marks().items().len(), 6);
+/// The events that leave a mark, each with the number of its note.
+const MARKS: [(Kind, u64); 6] = [
+    (Kind::Put, 0),
+    (Kind::Put, 1),
+    (Kind::Take, 0),
+    (Kind::Close, 2),
+    (Kind::Take, 1),
+    (Kind::Take, 2),
+];
+
+fn expect_marks(rt: &impl Abort, marks: &[Mark]) {
+    assert_eq!(rt; marks.len(), MARKS.len());
+    for (mark, (kind, number)) in marks.iter().zip(MARKS.iter()) {
+        assert_eq!(rt; (mark.tile, mark.number), (0, *number));
+        assert!(rt; mark.kind == *kind, "{mark:?}");
+    }
+}
+
+/// What the events are answered: the text of a line, or what else it is.
+const REPLIES: [&str; 10] = [
+    "accepted", "accepted", "full", "x", "accepted", "closed", "y", "end", "drained", "closed",
+];
+
+fn is_answered(reply: &Reply, wanted: &str) -> bool {
+    match reply {
+        Reply::Accepted => wanted == "accepted",
+        Reply::Closed => wanted == "closed",
+        Reply::Full => wanted == "full",
+        Reply::Line(line) => line.items() == wanted.as_bytes(),
+        Reply::End(end) => wanted == "end" && *end == END,
+        Reply::Empty => wanted == "empty",
+        Reply::Drained => wanted == "drained",
+    }
+}
+
+fn expect_run(rt: &(impl Abort + AllocGlobal + Eprint)) -> Result<(), Fault> {
+    let events = asked(rt.alloc())?;
+    let answer = answered(rt, Call("run"), run(rt.alloc(), 1, 2, events))?;
+    let replies = answer.replies.items();
+    assert_eq!(rt; replies.len(), REPLIES.len());
+    for (reply, wanted) in replies.iter().zip(REPLIES.iter()) {
+        assert!(rt; is_answered(reply, wanted), "{wanted}");
+    }
+    expect_marks(rt, answer.row.marks().items());
     Ok(())
 }
 
@@ -178,13 +216,74 @@ fn a_run_is_answered(rt: HostRuntime) -> Result<(), Fail> {
     with_memory!(expect_run(&rt))
 }
 
-fn expect_ends(rt: &(impl Abort + AllocGlobal)) -> Result<(), Fault> {
-    let (mut sender, mut receiver) = ends(rt.alloc(), 2)?;
-    assert!(rt; sender.try_put(line(rt.alloc(), "x")?).is_ok());
-    assert!(rt; sender.try_end(END).is_ok());
-    assert!(rt; receiver.try_take().is_some());
-    assert!(rt; receiver.try_take().is_some());
+/// Whether a note is the line of this text.
+fn is_line(note: &Option<Note>, text: &str) -> bool {
+    match note {
+        Some(Note::Line(line)) => line.items() == text.as_bytes(),
+        _ => false,
+    }
+}
+
+fn is_end(note: &Option<Note>) -> bool {
+    match note {
+        Some(Note::End(end)) => *end == END,
+        _ => false,
+    }
+}
+
+/// Whether what was taken is the line of this text.
+fn is_text(took: &Took, text: &str) -> bool {
+    match took {
+        Took::Line(line) => line.items() == text.as_bytes(),
+        _ => false,
+    }
+}
+
+fn is_last(took: &Took) -> bool {
+    match took {
+        Took::End(end) => *end == END,
+        _ => false,
+    }
+}
+
+fn expect_queues(rt: &(impl Abort + AllocGlobal + Eprint)) -> Result<(), Fault> {
+    let x = line(rt.alloc(), "x")?;
+    let mut queues = answered(rt, Call("Queues::new"), Queues::new(rt.alloc(), 1, 2))?;
+    assert!(rt; queues.put(0, x).is_ok());
+    assert!(rt; queues.close(0, END).is_ok());
+    assert!(rt; is_text(&queues.take(0), "x"));
+    assert!(rt; is_last(&queues.take(0)));
+    assert!(rt; matches!(queues.take(0), Took::Drained));
+    Ok(())
+}
+
+#[test]
+fn queues_have_their_room(rt: HostRuntime) -> Result<(), Fail> {
+    with_memory!(expect_queues(&rt))
+}
+
+/// One place: what does not fit comes back, and stays out.
+fn expect_ends(rt: &(impl Abort + AllocGlobal + Eprint)) -> Result<(), Fault> {
+    let (x, y) = (line(rt.alloc(), "x")?, line(rt.alloc(), "y")?);
+    let (mut sender, mut receiver) = answered(rt, Call("ends"), ends(rt.alloc(), 1))?;
+    assert!(rt; sender.try_put(x).is_ok());
+    let back = match sender.try_put(y) {
+        Ok(()) => panic!(rt; "put beside x"),
+        Err(back) => back,
+    };
+    assert_eq!(rt; back.items(), b"y".as_slice());
+    let (sender, end) = match sender.try_end(END) {
+        Ok(_) => panic!(rt; "ended beside x"),
+        Err(back) => back,
+    };
+    assert!(rt; is_line(&receiver.try_take(), "x"));
+    let closed = match sender.try_end(end) {
+        Ok(closed) => closed,
+        Err(_) => panic!(rt; "not ended"),
+    };
+    assert!(rt; is_end(&receiver.try_take()));
     assert!(rt; receiver.try_take().is_none());
+    assert_eq!(rt; receiver.confirm(closed)?.left, 0);
     Ok(())
 }
 

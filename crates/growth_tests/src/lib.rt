@@ -1,8 +1,12 @@
-//! Tests of the public calls that may want memory. `tools/growths.sh` runs them once for each growth that they make,
-//! and refuses it that one. Each test ends well in each such run: what a call answers is right and whole, or it is
-//! want of memory, and then what the call was given is as its contract says. A run refuses one growth at most, so
-//! that what wanted memory is run again, and is then right and whole; so it is at once where nothing is refused.
-//! There is no code but these tests.
+//! Tests of the public calls where memory is refused. `tools/growths.sh` runs each of them once for each growth that it
+//! makes, and refuses it that one; and again, and refuses it that one and all that come after, until the test says that a
+//! call answered want of memory. Each test ends well in each such run: what a call answers is right and whole, or it is
+//! want of memory, and then what the call was given is as its contract says. What wanted memory is run again, and is then
+//! right and whole; so it is at once where nothing is refused. Each call that answers want of memory is named by the test,
+//! and has to answer so in some run.
+//!
+//! The tests of `without_memory` are run once, with every growth of their calls refused: these take no memory, and answer
+//! as with ample memory. There is no code but these tests.
 #![tactic(auto)]
 
 /// What wanted memory, run again.
@@ -21,6 +25,18 @@ mod features;
 #[cfg(test)]
 mod handoff;
 #[cfg(test)]
+mod memory;
+#[cfg(test)]
+mod merges;
+#[cfg(test)]
 mod streams;
 #[cfg(test)]
+mod texts;
+#[cfg(test)]
+mod tiles;
+#[cfg(test)]
 mod values;
+#[cfg(test)]
+mod without_memory;
+#[cfg(test)]
+mod words;

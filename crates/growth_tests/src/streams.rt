@@ -1,313 +1,490 @@
-//! Streams that are read, filtered, merged and made of documents.
+//! Streams that are read, filtered and made of documents.
+ghost use Rattle.std.specs.Prelude.{◌≤◌};
 
-use byte_streams::{Bin, Fault, Line, MergeFault, Tape};
-use city_feature::{Base, Choice};
-use document_stream::cat_document;
-use std::alloc::{AllocError, Global};
+use crate::memory::{Call, answered, is_gone, wanted};
+use crate::texts::{
+    A, A1, A2, B1, BLANKS, BLANKS_CUT, BUILDING, CHILDLESS, DOCUMENT, EMPTY_A, EMPTY_B, FIRST,
+    FIRST_FEATURE, HEADER, ORPHANED, POINTS, UNBOUNDED, X, Y,
+};
+use crate::tiles::{NONE, Tile, after_line, expect_given_up, lines_of, tape_of};
+use byte_streams::{Bin, Fault, Line, LineFault, MergeFault, Tape};
+use city_feature::{Choice, types};
+use city_grid::Shift;
+use city_json::print;
+use document_stream::{cat_document, cat_source};
+use std::alloc::Global;
+use std::io::Eprint;
 use std::process::Abort;
-use std::sync::Wait;
 use std::test::Fail;
-use std::thread::Threads;
-use tile_merge::{Report, merge, merge_in_turn};
-use tile_stream::{Lines, filter_stream};
+use tile_stream::{Lines, TileReader, end_line, filter_stream, filter_tile};
 
-const HEADER: &str =
-    r#"{"type":"CityJSON","version":"2.0","transform":{"scale":[0.001,0.001,0.001],"translate":[0,0,0]},"CityObjects":{},"vertices":[]}"#;
-
-const FAR_HEADER: &str =
-    r#"{"type":"CityJSON","version":"2.0","transform":{"scale":[0.001,0.001,0.001],"translate":[1.5,0,0]},"CityObjects":{},"vertices":[]}"#;
-
-const A1: &str =
-    r#"{"type":"CityJSONFeature","id":"a1","CityObjects":{"a1":{"type":"Building"}},"vertices":[[1,2,3]]}"#;
-
-const A2: &str =
-    r#"{"type":"CityJSONFeature","id":"a2","CityObjects":{"a2":{"type":"Building"}},"vertices":[]}"#;
-
-const B1: &str =
-    r#"{"type":"CityJSONFeature","id":"b1","CityObjects":{"b1":{"type":"Road"}},"vertices":[[10,20,30]]}"#;
-
-const FAR_B1: &str =
-    r#"{"type":"CityJSONFeature","id":"b1","CityObjects":{"b1":{"type":"Road"}},"vertices":[[1510,20,30]]}"#;
-
-const DOCUMENT: &str =
-    r#"{"type":"CityJSON","version":"2.0","transform":{"scale":[0.001,0.001,0.001],"translate":[0,0,0]},"CityObjects":{"x":{"type":"Building","geometry":[{"type":"MultiPoint","lod":"1","boundaries":[0]}]},"y":{"type":"Road","geometry":[{"type":"MultiPoint","lod":"1","boundaries":[1]}]}},"vertices":[[10,0,0],[20,0,0]]}"#;
-
-const X: &str =
-    r#"{"type":"CityJSONFeature","id":"x","CityObjects":{"x":{"type":"Building","geometry":[{"type":"MultiPoint","lod":"1","boundaries":[0]}]}},"vertices":[[10,0,0]]}"#;
-
-const Y: &str =
-    r#"{"type":"CityJSONFeature","id":"y","CityObjects":{"y":{"type":"Road","geometry":[{"type":"MultiPoint","lod":"1","boundaries":[0]}]}},"vertices":[[20,0,0]]}"#;
-
-/// A reader of these texts, each followed by a newline.
-fn tape(alloc: Global, texts: &[&str]) -> Result<Tape, AllocError> {
-    let mut stream = Line::new(alloc);
-    for text in texts {
-        stream.append(text.as_bytes())?;
-        stream.append(b"\n")?;
-    }
-    Ok(Tape::new(stream, 50, false))
+fn every_feature() -> Choice {
+    Choice::new(None, None, false)
 }
 
-/// What stands after a line.
-fn after_line<'a>(written: &'a [u8], line: &str) -> Option<&'a [u8]> {
-    let Some(left) = written.strip_prefix(line.as_bytes()) else {
-        return None;
-    };
-    left.strip_prefix(b"\n")
-}
-
-/// How many of these lines were written, the first ones and each of them whole; none where something else was.
-fn lines_in(written: &[u8], lines: &[&str]) -> Option<u64> {
-    let mut left = written;
-    let mut count = 0u64;
-    for line in lines {
-        if left.is_empty() {
-            return Some(count);
-        }
-        let Some(after) = after_line(left, line) else {
-            return None;
-        };
-        left = after;
-        count = count.saturating_add(1);
-    }
-    if left.is_empty() { Some(count) } else { None }
-}
-
-/// Whether the first lines of each list stand here, each line whole, in whatever turn.
-fn are_mixed(written: &[u8], first: &[&str], second: &[&str]) -> bool {
-    let (mut left, mut first, mut second) = (written, first, second);
-    for _ in 0..first.len().saturating_add(second.len()) {
-        if let [line, others @ ..] = first {
-            if let Some(after) = after_line(left, line) {
-                left = after;
-                first = others;
-                continue;
-            }
-        }
-        if let [line, others @ ..] = second {
-            if let Some(after) = after_line(left, line) {
-                left = after;
-                second = others;
-            }
-        }
-    }
-    left.is_empty()
-}
-
-/// Lines in order, each with its number; memory is wanted of the line that was to come.
-fn expect_lines(rt: &(impl Abort + AllocGlobal)) -> Result<(), Fault> {
-    let texts = [HEADER, A1, "", A2];
-    let mut lines = Lines::new(rt.alloc(), tape(rt.alloc(), &texts)?);
-    for (number, text) in [(1u64, HEADER), (2, A1), (4, A2)] {
+/// Lines in order, each with its number, and then the end or a fault; memory is wanted of the line that was to come, or
+/// of a part before it that is blank. A refused line is refused again.
+fn expect_lines(
+    rt: &(impl Abort + AllocGlobal + Eprint),
+    mut lines: Lines<Tape>,
+    texts: &[(u64, &str)],
+    end: Option<LineFault>,
+) -> Result<(), Fault> {
+    for (number, text) in texts {
         match lines.next() {
             Ok(Some(line)) => {
-                assert_eq!(rt; line.number, number);
+                assert_eq!(rt; line.number, *number);
                 assert_eq!(rt; line.bytes.items(), text.as_bytes());
             }
             Ok(None) => panic!(rt; "no line {number}"),
             Err(refused) => {
-                assert_eq!(rt; refused.fault, Fault::Memory);
-                assert!(rt; 0 < refused.line && refused.line <= number, "{refused:?}");
-                let again = lines.next();
-                assert!(rt; matches!(again, Err(told) if told == refused), "{number}");
-                return Err(refused.fault);
+                assert!(rt; 0 < refused.line && refused.line <= *number, "{refused:?}");
+                return expect_again(rt, lines, refused);
             }
         }
     }
-    let last = lines.next();
-    assert!(rt; matches!(last, Ok(None)));
-    Ok(())
+    match lines.next() {
+        Ok(last) => {
+            assert!(rt; last.is_none());
+            assert_eq!(rt; None, end);
+            Ok(())
+        }
+        Err(refused) => {
+            if refused.fault == Fault::Memory {
+                return expect_again(rt, lines, refused);
+            }
+            assert_eq!(rt; Some(refused), end);
+            let again = lines.next();
+            assert!(rt;
+                matches!(again, Err(told) if told == refused),
+                "{refused:?}"
+            );
+            Ok(())
+        }
+    }
+}
+
+/// Want of memory is told again, where there is memory, too.
+fn expect_again(
+    rt: &(impl Abort + AllocGlobal + Eprint),
+    mut lines: Lines<Tape>,
+    refused: LineFault,
+) -> Result<(), Fault> {
+    assert_eq!(rt; refused.fault, Fault::Memory);
+    wanted(rt, Call("Lines::next"));
+    let again = lines.next();
+    assert!(rt;
+        matches!(again, Err(told) if told == refused),
+        "{refused:?}"
+    );
+    Err(refused.fault)
+}
+
+fn expect_whole_lines(rt: &(impl Abort + AllocGlobal + Eprint)) -> Result<(), Fault> {
+    let input = format!(in rt.alloc(); "{HEADER}\n{A1}\n\n{A2}\n")?;
+    let lines = Lines::new(rt.alloc(), tape_of(rt.alloc(), &input)?);
+    expect_lines(rt, lines, &[(1, HEADER), (2, A1), (4, A2)], None)
 }
 
 #[test]
 fn lines_are_read(rt: HostRuntime) -> Result<(), Fail> {
-    with_memory!(expect_lines(&rt))
+    with_memory!(expect_whole_lines(&rt))
 }
 
-/// Want of memory of the one tile, at a line where reading stood: of the first lines, so many at most, those before
-/// it are written.
-fn expect_memory(rt: &impl Abort, refused: MergeFault, written: Option<u64>, lines: u64) -> Fault {
-    assert_eq!(rt; refused.fault, Fault::Memory);
-    assert_eq!(rt; refused.tile, 1);
-    let Some(written) = written else {
-        panic!(rt; "other lines before {refused:?}");
+/// Lines of at most four bytes, and tiles of at most ten.
+fn expect_short_lines(rt: &(impl Abort + AllocGlobal + Eprint)) -> Result<(), Fault> {
+    let too_long = LineFault {
+        line: 2,
+        fault: Fault::LineTooLong,
     };
-    assert!(rt; refused.line <= lines.saturating_add(1), "{refused:?}");
-    assert!(rt;
-        written == 0 || written < refused.line,
-        "{written} before {refused:?}"
-    );
-    refused.fault
-}
-
-fn expect_filter(rt: &(impl Abort + AllocGlobal)) -> Result<(), Fault> {
-    let alloc = rt.alloc();
-    let texts = [HEADER, A1, B1, A2];
-    let reader = tape(alloc, &texts)?;
-    let mut output = Bin::new(alloc, 4096, 100, false)?;
-    let answer = filter_stream(alloc, reader, &Choice::new(None, None, false), &mut output);
-    let written = lines_in(output.bytes(), &texts);
-    match answer {
-        Ok(count) => {
-            assert_eq!(rt; count, 3);
-            assert_eq!(rt; written, Some(4));
-            Ok(())
-        }
-        Err(refused) => Err(expect_memory(rt, refused, written, 4)),
-    }
+    let tile_too_long = LineFault {
+        line: 3,
+        fault: Fault::TileTooLong,
+    };
+    let lines = Lines::with_limits(rt.alloc(), tape_of(rt.alloc(), "ab\nabcde\n")?, 4, 10);
+    expect_lines(rt, lines, &[(1, "ab")], Some(too_long))?;
+    let lines = Lines::with_limits(rt.alloc(), tape_of(rt.alloc(), "ab\nabcd\nabc")?, 4, 10);
+    expect_lines(rt, lines, &[(1, "ab"), (2, "abcd")], Some(tile_too_long))?;
+    let lines = Lines::with_limits(rt.alloc(), tape_of(rt.alloc(), "ab\nabcd\nab")?, 4, 10);
+    expect_lines(rt, lines, &[(1, "ab"), (2, "abcd"), (3, "ab")], None)
 }
 
 #[test]
-fn a_stream_is_filtered(rt: HostRuntime) -> Result<(), Fail> {
-    with_memory!(expect_filter(&rt))
+fn lines_within_limits_are_read(rt: HostRuntime) -> Result<(), Fail> {
+    with_memory!(expect_short_lines(&rt))
+}
+
+/// What a filter answers of a tile, and wrote: the header, and the texts of all features or of those before a line.
+fn expect_answer(
+    rt: &(impl Abort + AllocGlobal + Eprint),
+    call: Call,
+    (answer, written): (Result<u64, MergeFault>, &[u8]),
+    tile: Tile<'_>,
+    comes: Result<u64, MergeFault>,
+) -> Result<(), Fault> {
+    let is_gone = is_gone(rt.alloc());
+    let tiles = [tile, NONE, NONE];
+    let counts = match after_line(written, HEADER) {
+        Some(left) => lines_of(left, &tiles),
+        None => None,
+    };
+    assert!(rt; counts.is_some() || written.is_empty());
+    if let Err(
+        MergeFault {
+            fault: Fault::Memory,
+            ..
+        },
+    ) = answer
+    {
+        wanted(rt, call);
+    }
+    match answer {
+        Err(refused) if refused.fault == Fault::Memory => {
+            expect_given_up(rt, refused, counts, &tiles, is_gone);
+            assert_eq!(rt; refused.tile, 1);
+            Err(Fault::Memory)
+        }
+        _ => {
+            assert_eq!(rt; answer, comes);
+            let whole = match comes {
+                Err(refused) if refused.fault == Fault::NoHeader => None,
+                _ => Some([tile.texts.len(), 0, 0]),
+            };
+            assert_eq!(rt; counts, whole);
+            Ok(())
+        }
+    }
+}
+
+fn at_line(line: u64, fault: Fault) -> Result<u64, MergeFault> {
+    Err(MergeFault {
+        tile: 1,
+        line,
+        fault,
+    })
+}
+
+/// A stream, what is written of it and what is answered.
+fn expect_filter(
+    rt: &(impl Abort + AllocGlobal + Eprint),
+    input: &str,
+    (header, texts): (u64, &[(u64, &str)]),
+    comes: Result<u64, MergeFault>,
+) -> Result<(), Fault> {
+    let alloc = rt.alloc();
+    let tile = Tile {
+        input: &[],
+        header,
+        texts,
+    };
+    let mut output = Bin::new(alloc, 4096, 100, false)?;
+    let reader = tape_of(alloc, input)?;
+    let answer = filter_stream(alloc, reader, &every_feature(), &mut output);
+    expect_answer(
+        rt,
+        Call("filter_stream"),
+        (answer, output.bytes()),
+        tile,
+        comes,
+    )?;
+    let mut output = Bin::new(alloc, 4096, 100, false)?;
+    let mut reader = TileReader::new(alloc, tape_of(alloc, input)?);
+    let answer = filter_tile(alloc, &mut reader, &every_feature(), &mut output);
+    expect_answer(
+        rt,
+        Call("filter_tile"),
+        (answer, output.bytes()),
+        tile,
+        comes,
+    )
+}
+
+/// Memory may be wanted at each part of such a stream, of which there is one, or three.
+fn expect_no_header(rt: &(impl Abort + AllocGlobal + Eprint)) -> Result<(), Fault> {
+    for (input, parts) in [("", 1u64), ("\n \t\r\n", 3)] {
+        expect_filter(rt, input, (parts, &[]), at_line(0, Fault::NoHeader))?;
+    }
+    Ok(())
+}
+
+#[test]
+fn a_stream_of_blank_lines_is_refused(rt: HostRuntime) -> Result<(), Fail> {
+    with_memory!(expect_no_header(&rt))
+}
+
+/// A header and a feature with these vertices, the feature as it is written, or why it is refused.
+fn expect_vertices(
+    rt: &(impl Abort + AllocGlobal + Eprint),
+    vertices: &str,
+    comes: Result<&str, Fault>,
+) -> Result<(), Fault> {
+    let input = format!(in rt.alloc();
+        "{HEADER}\n{{\"type\":\"CityJSONFeature\",\"id\":\"a\",\"CityObjects\":{{}},\"vertices\":{vertices}}}\n"
+    )?;
+    match comes {
+        Ok(written) => {
+            let text = format!(in rt.alloc();
+                "{{\"type\":\"CityJSONFeature\",\"id\":\"a\",\"CityObjects\":{{}},\"vertices\":{written}}}"
+            )?;
+            expect_filter(rt, &input, (1, &[(2, text.as_str())]), Ok(1))
+        }
+        Err(fault) => expect_filter(rt, &input, (1, &[]), at_line(2, fault)),
+    }
+}
+
+fn expect_all_vertices(rt: &(impl Abort + AllocGlobal + Eprint)) -> Result<(), Fault> {
+    for (vertices, comes) in [
+        ("[[1.0,0,0]]", Err(Fault::VertexNotInteger)),
+        ("[[1e2,0,0]]", Err(Fault::VertexNotInteger)),
+        ("[[-0,0,0]]", Ok("[[0,0,0]]")),
+        ("[[1,2]]", Err(Fault::VertexShape)),
+        ("[[\"1\",2,3]]", Err(Fault::VertexShape)),
+        ("[[9007199254740992,0,0]]", Err(Fault::VertexRange)),
+    ] {
+        expect_vertices(rt, vertices, comes)?;
+    }
+    Ok(())
+}
+
+#[test]
+fn vertices_are_written_or_refused(rt: HostRuntime) -> Result<(), Fail> {
+    with_memory!(expect_all_vertices(&rt))
+}
+
+fn expect_blanks(rt: &(impl Abort + AllocGlobal + Eprint)) -> Result<(), Fault> {
+    let texts = [(4u64, EMPTY_A), (5, EMPTY_B)];
+    let fault = at_line(5, Fault::Syntax);
+    expect_filter(rt, BLANKS_CUT, (2, &texts[..1]), fault)?;
+    expect_filter(rt, BLANKS, (2, texts.as_slice()), Ok(2))
+}
+
+#[test]
+fn blank_lines_are_left_out(rt: HostRuntime) -> Result<(), Fail> {
+    with_memory!(expect_blanks(&rt))
+}
+
+fn expect_first(rt: &(impl Abort + AllocGlobal + Eprint)) -> Result<(), Fault> {
+    expect_filter(rt, FIRST, (1, &[(2, FIRST_FEATURE)]), Ok(1))
+}
+
+#[test]
+fn a_stream_is_written_compactly(rt: HostRuntime) -> Result<(), Fail> {
+    with_memory!(expect_first(&rt))
+}
+
+/// Features that are chosen, and one that is not.
+fn expect_chosen(rt: &(impl Abort + AllocGlobal + Eprint)) -> Result<(), Fault> {
+    let alloc = rt.alloc();
+    let input = format!(in alloc; "{POINTS}\n{A1}\n{B1}\n")?;
+    let choice = Choice::new(types(alloc, "Building")?, None, false);
+    let mut output = Bin::new(alloc, 4096, 100, false)?;
+    let answer = filter_stream(alloc, tape_of(alloc, &input)?, &choice, &mut output);
+    let tile = Tile {
+        input: &[],
+        header: 1,
+        texts: &[(1, X), (2, A1), (3, B1)],
+    };
+    expect_answer(
+        rt,
+        Call("filter_stream"),
+        (answer, output.bytes()),
+        tile,
+        Ok(3),
+    )
+}
+
+#[test]
+fn chosen_features_are_written(rt: HostRuntime) -> Result<(), Fail> {
+    with_memory!(expect_chosen(&rt))
 }
 
 /// A document whose features all come of line 1.
-fn expect_cut(rt: &(impl Abort + AllocGlobal)) -> Result<(), Fault> {
-    let alloc = rt.alloc();
-    let reader = tape(alloc, &[DOCUMENT, A1])?;
-    let mut output = Bin::new(alloc, 4096, 100, false)?;
-    let answer = filter_stream(alloc, reader, &Choice::new(None, None, false), &mut output);
-    let written = lines_in(output.bytes(), &[HEADER, X, Y, A1]);
-    match answer {
-        Ok(count) => {
-            assert_eq!(rt; count, 3);
-            assert_eq!(rt; written, Some(4));
+fn expect_document(rt: &(impl Abort + AllocGlobal + Eprint)) -> Result<(), Fault> {
+    let input = format!(in rt.alloc(); "{POINTS}\n{A1}\n")?;
+    let texts = [(1u64, X), (1, Y), (2, A1)];
+    expect_filter(rt, &input, (1, texts.as_slice()), Ok(3))
+}
+
+#[test]
+fn a_document_on_the_first_line_is_cut(rt: HostRuntime) -> Result<(), Fail> {
+    with_memory!(expect_document(&rt))
+}
+
+/// The head of a tile, or want of memory at its line.
+fn expect_head(
+    rt: &(impl Abort + AllocGlobal + Eprint),
+    tile: &mut TileReader<Tape>,
+) -> Result<(), Fault> {
+    match tile.take_head(rt.alloc()) {
+        Ok(head) => {
+            let mut text = Line::new(rt.alloc());
+            print(head.header.json(), &mut text)?;
+            assert_eq!(rt; text.items(), HEADER.as_bytes());
+            assert_eq!(rt; head.line, 1);
             Ok(())
         }
         Err(refused) => {
-            assert_eq!(rt; refused.fault, Fault::Memory);
-            assert_eq!(rt; refused.tile, 1);
-            assert!(rt; refused.line <= 3, "{refused:?}");
-            assert!(rt; written.is_some(), "{refused:?}");
+            wanted(rt, Call("TileReader::take_head"));
+            assert_eq!(rt; (refused.line, refused.fault), (1, Fault::Memory));
             Err(refused.fault)
         }
     }
 }
 
-#[test]
-fn a_document_is_filtered(rt: HostRuntime) -> Result<(), Fail> {
-    with_memory!(expect_cut(&rt))
+const WRITTEN: [(u64, &str); 3] = [(1, X), (2, A1), (3, B1)];
+
+/// A tile is taken text by text; memory is wanted of the line of the text that was to come.
+fn expect_taken(rt: &(impl Abort + AllocGlobal + Eprint)) -> Result<(), Fault> {
+    let alloc = rt.alloc();
+    let input = format!(in alloc; "{POINTS}\n{A1}\n{B1}\n")?;
+    let choice = Choice::new(types(alloc, "Building")?, None, false);
+    let mut tile = TileReader::new(alloc, tape_of(alloc, &input)?);
+    expect_head(rt, &mut tile)?;
+    let mut spare = Line::new(alloc);
+    for (number, text) in WRITTEN {
+        match tile.take_text(alloc, Shift::zero(), &choice, spare) {
+            Ok(Some(line)) => {
+                assert_eq!(rt; after_line(line.items(), text), Some([].as_slice()));
+                spare = line;
+            }
+            Ok(None) => panic!(rt; "no {text}"),
+            Err(refused) => {
+                wanted(rt, Call("TileReader::take_text"));
+                assert_eq!(rt; (refused.line, refused.fault), (number, Fault::Memory));
+                return Err(refused.fault);
+            }
+        }
+    }
+    match tile.take_text(alloc, Shift::zero(), &choice, spare) {
+        Ok(last) => assert!(rt; last.is_none()),
+        Err(refused) => {
+            wanted(rt, Call("TileReader::take_text"));
+            assert_eq!(rt; refused.fault, Fault::Memory);
+            return Err(refused.fault);
+        }
+    }
+    Ok(())
 }
 
-fn expect_cat(rt: &(impl Abort + AllocGlobal)) -> Result<(), Fault> {
+#[test]
+fn a_tile_is_taken_text_by_text(rt: HostRuntime) -> Result<(), Fail> {
+    with_memory!(expect_taken(&rt))
+}
+
+/// The same of all its features, chosen or not.
+fn expect_passed(rt: &(impl Abort + AllocGlobal + Eprint)) -> Result<(), Fault> {
     let alloc = rt.alloc();
-    let reader = tape(alloc, &[DOCUMENT])?;
-    let mut output = Bin::new(alloc, 4096, 100, false)?;
-    let answer = cat_document(alloc, reader, &mut output);
-    let written = lines_in(output.bytes(), &[HEADER, X, Y]);
+    let input = format!(in alloc; "{HEADER}\n{A1}\n{A2}\n{B1}\n")?;
+    let choice = Choice::new(types(alloc, "Building")?, None, true);
+    let every = every_feature();
+    let mut tile = TileReader::new(alloc, tape_of(alloc, &input)?);
+    expect_head(rt, &mut tile)?;
+    let mut spare = Line::new(alloc);
+    for (number, text, choice) in [(2u64, "", &choice), (3, A2, &every), (4, "", &choice)] {
+        match tile.pass(alloc, Shift::zero(), choice, spare) {
+            Ok(Some(passed)) => {
+                assert_eq!(rt; passed.is_chosen, !text.is_empty());
+                let line = passed.line.items().strip_suffix(b"\n").unwrap_or(b"");
+                assert_eq!(rt; line, text.as_bytes());
+                spare = passed.line;
+            }
+            Ok(None) => panic!(rt; "no line {number}"),
+            Err(refused) => {
+                wanted(rt, Call("TileReader::pass"));
+                assert_eq!(rt; (refused.line, refused.fault), (number, Fault::Memory));
+                return Err(refused.fault);
+            }
+        }
+    }
+    Ok(())
+}
+
+#[test]
+fn a_tile_is_passed_line_by_line(rt: HostRuntime) -> Result<(), Fail> {
+    with_memory!(expect_passed(&rt))
+}
+
+fn expect_ended(rt: &(impl Abort + AllocGlobal + Eprint)) -> Result<(), Fault> {
+    let text = Line::from_vec(A.as_bytes().to_vec(rt.alloc())?);
+    match end_line(text, 7) {
+        Ok(line) => assert_eq!(rt; after_line(line.items(), A), Some([].as_slice())),
+        Err(refused) => {
+            wanted(rt, Call("end_line"));
+            assert_eq!(rt; (refused.line, refused.fault), (7, Fault::Memory));
+            return Err(refused.fault);
+        }
+    }
+    Ok(())
+}
+
+#[test]
+fn a_line_is_ended(rt: HostRuntime) -> Result<(), Fail> {
+    with_memory!(expect_ended(&rt))
+}
+
+/// A document, and what it becomes; a refused one leaves nothing written.
+fn expect_cat(
+    rt: &(impl Abort + AllocGlobal + Eprint),
+    call: Call,
+    (answer, written): (Result<u64, MergeFault>, &[u8]),
+    comes: Result<u64, Fault>,
+) -> Result<(), Fault> {
     match answer {
         Ok(count) => {
-            assert_eq!(rt; count, 2);
-            assert_eq!(rt; written, Some(3));
+            assert_eq!(rt; Ok(count), comes);
+            let left = after_line(written, HEADER).unwrap_or(b"");
+            assert_eq!(rt; after_line(left, BUILDING), Some([].as_slice()));
             Ok(())
         }
         Err(refused) => {
             assert_eq!(rt; (refused.tile, refused.line), (1, 0));
-            assert_eq!(rt; written, Some(0));
-            Err(refused.fault)
+            assert!(rt; written.is_empty(), "{refused:?}");
+            if refused.fault == Fault::Memory {
+                wanted(rt, call);
+                return Err(refused.fault);
+            }
+            assert_eq!(rt; Err(refused.fault), comes);
+            Ok(())
         }
     }
+}
+
+fn documents() -> [(&'static str, Result<u64, Fault>); 4] {
+    [
+        (DOCUMENT, Ok(1)),
+        (CHILDLESS, Err(Fault::ChildMissing)),
+        (ORPHANED, Err(Fault::Orphan)),
+        (UNBOUNDED, Err(Fault::BoundaryIndex)),
+    ]
+}
+
+fn expect_documents(rt: &(impl Abort + AllocGlobal + Eprint)) -> Result<(), Fault> {
+    let alloc = rt.alloc();
+    for (text, comes) in documents() {
+        let mut output = Bin::new(alloc, 4096, 100, false)?;
+        let answer = cat_document(alloc, tape_of(alloc, text)?, &mut output);
+        expect_cat(rt, Call("cat_document"), (answer, output.bytes()), comes)?;
+    }
+    Ok(())
 }
 
 #[test]
 fn a_document_becomes_a_stream(rt: HostRuntime) -> Result<(), Fail> {
-    with_memory!(expect_cat(&rt))
+    with_memory!(expect_documents(&rt))
 }
 
-/// Two tiles, of which the second begins with its own header and is moved.
-fn tapes(alloc: Global) -> Result<Vec<Tape>, AllocError> {
-    let first = tape(alloc, &[HEADER, A1, A2])?;
-    let second = tape(alloc, &[FAR_HEADER, B1])?;
-    Ok(vec![in alloc; first, second]?)
-}
-
-/// Want of memory of a tile at one of its lines, or of none.
-fn expect_tile(rt: &impl Abort, refused: MergeFault) {
-    let lines = match refused.tile {
-        0 => 0,
-        1 => 4,
-        2 => 3,
-        _ => panic!(rt; "{refused:?}"),
-    };
-    assert!(rt; refused.line <= lines, "{refused:?}");
-}
-
-/// Nothing was written, or the header and after it lines of each tile in their order.
-fn expect_mixed(rt: &impl Abort, written: &[u8]) {
-    if written.is_empty() {
-        return;
-    }
-    let Some(left) = after_line(written, HEADER) else {
-        panic!(rt; "no header");
-    };
-    assert!(rt; are_mixed(left, &[A1, A2], &[FAR_B1]));
-}
-
-fn expect_counts(rt: &impl Abort, report: &Report) {
-    assert_eq!(rt; report.counts.items(), [2u64, 1].as_slice());
-}
-
-fn expect_turns(rt: &(impl Abort + AllocGlobal)) -> Result<(), Fault> {
+fn expect_sources(rt: &(impl Abort + AllocGlobal + Eprint)) -> Result<(), Fault> {
     let alloc = rt.alloc();
-    let readers = tapes(alloc)?;
-    assert!(rt; !readers.is_empty());
-    let mut output = Bin::new(alloc, 4096, 100, false)?;
-    let every = Choice::new(None, None, false);
-    let answer = merge_in_turn(alloc, readers, &every, Base::First, 2, &mut output);
-    match answer {
-        Ok(report) => {
-            expect_counts(rt, &report);
-            let written = lines_in(output.bytes(), &[HEADER, A1, FAR_B1, A2]);
-            assert_eq!(rt; written, Some(4));
-            Ok(())
-        }
-        Err(refused) => {
-            expect_tile(rt, refused);
-            expect_mixed(rt, output.bytes());
-            Err(refused.fault)
-        }
+    for (text, comes) in documents() {
+        let mut output = Bin::new(alloc, 4096, 100, false)?;
+        let mut source = tape_of(alloc, text)?;
+        let answer = cat_source(alloc, &mut source, &mut output);
+        expect_cat(rt, Call("cat_source"), (answer, output.bytes()), comes)?;
     }
+    Ok(())
 }
 
 #[test]
-fn tiles_are_merged_in_turn(rt: HostRuntime) -> Result<(), Fail> {
-    with_memory!(expect_turns(&rt))
-}
-
-/// The same with a thread for each tile, which may find no memory to start in.
-fn expect_threads<H>(rt: &H) -> Result<(), Fault>
-where
-    H: Abort + AllocGlobal + Threads + Wait + Copy + Send + 'static,
-{
-    let alloc = rt.alloc();
-    let readers = tapes(alloc)?;
-    assert!(rt; !readers.is_empty());
-    let mut output = Bin::new(alloc, 4096, 100, false)?;
-    let every = Choice::new(None, None, false);
-    let answer = merge(rt, alloc, readers, &every, Base::First, 2, &mut output);
-    expect_mixed(rt, output.bytes());
-    match answer {
-        Ok(report) => {
-            expect_counts(rt, &report);
-            let mut whole = 4usize;
-            for line in [HEADER, A1, A2, FAR_B1] {
-                whole = whole.saturating_add(line.len());
-            }
-            assert_eq!(rt; output.bytes().len(), whole);
-            Ok(())
-        }
-        Err(refused) => {
-            expect_tile(rt, refused);
-            match refused.fault {
-                Fault::NoThread => Err(Fault::Memory),
-                fault => Err(fault),
-            }
-        }
-    }
-}
-
-#[test]
-fn tiles_are_merged_by_threads(rt: HostRuntime) -> Result<(), Fail> {
-    with_memory!(expect_threads(&rt))
+fn a_lent_document_becomes_a_stream(rt: HostRuntime) -> Result<(), Fail> {
+    with_memory!(expect_sources(&rt))
 }

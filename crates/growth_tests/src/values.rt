@@ -1,10 +1,121 @@
-//! JSON values and texts.
+//! Bytes that are gathered, JSON values and texts.
 
-use byte_streams::{Bin, Fault, Line, write_all};
+use crate::memory::{Call, answered, wanted};
+use byte_streams::{Bin, Fault, Line, Sequence, Stop, Tape, read_all, write_all};
 use city_json::{Json, NumText, Str, compact, compact_parts, print, read};
 use std::alloc::Global;
+use std::io::Eprint;
 use std::process::Abort;
 use std::test::Fail;
+
+/// A line is as before where it cannot grow, and then grows all the same.
+fn expect_line(rt: &(impl Abort + AllocGlobal + Eprint)) -> Result<(), Fault> {
+    let mut line = Line::new(rt.alloc());
+    for text in ["1234567", "89012345", "67890123456789012345678901234567890"] {
+        let before = line.items().len();
+        if line.append(text.as_bytes()).is_err() {
+            wanted(rt, Call("Line::append"));
+            assert_eq!(rt; line.items().len(), before);
+            line.append(text.as_bytes())?;
+        }
+    }
+    let whole = b"12345678901234567890123456789012345678901234567890";
+    assert_eq!(rt; line.items(), whole.as_slice());
+    Ok(())
+}
+
+#[test]
+fn a_line_grows(rt: HostRuntime) -> Result<(), Fail> {
+    with_memory!(expect_line(&rt))
+}
+
+/// A list is as before where it cannot grow, and then grows all the same.
+fn expect_sequence(rt: &(impl Abort + AllocGlobal + Eprint)) -> Result<(), Fault> {
+    let mut list: Sequence<u64> = Sequence::new(rt.alloc());
+    for number in 0..9u64 {
+        let before = list.items().len();
+        if list.push(number).is_err() {
+            wanted(rt, Call("Sequence::push"));
+            assert_eq!(rt; list.items().len(), before);
+            list.push(number)?;
+        }
+    }
+    assert_eq!(rt; list.items(), [0u64, 1, 2, 3, 4, 5, 6, 7, 8].as_slice());
+    Ok(())
+}
+
+#[test]
+fn a_list_grows(rt: HostRuntime) -> Result<(), Fail> {
+    with_memory!(expect_sequence(&rt))
+}
+
+/// All that a reader gives, or its first bytes where memory ran out; what is left is still to be read then.
+fn expect_intake(rt: &(impl Abort + AllocGlobal + Eprint)) -> Result<(), Fault> {
+    let text = "0123456789".repeat(rt.alloc(), 20_000)?;
+    let given = Line::from_vec(text.as_bytes().to_vec(rt.alloc())?);
+    let mut source = Tape::new(given, 30_000, false);
+    let first = read_all(rt.alloc(), &mut source, 1_000_000);
+    let bytes = first.bytes.as_slice();
+    assert!(rt; text.as_bytes().starts_with(bytes));
+    if first.stop == Stop::Memory {
+        wanted(rt, Call("read_all"));
+        let second = read_all(rt.alloc(), &mut source, 1_000_000);
+        let left = text.as_bytes().get(bytes.len()..);
+        assert_eq!(rt; Some(second.bytes.as_slice()), left);
+        return Err(Fault::Memory);
+    }
+    assert_eq!(rt; first.stop, Stop::End);
+    assert_eq!(rt; bytes, text.as_bytes());
+    Ok(())
+}
+
+#[test]
+fn a_reader_is_read_to_its_end(rt: HostRuntime) -> Result<(), Fail> {
+    with_memory!(expect_intake(&rt))
+}
+
+/// What a text is read as: its compact text, or why it is none.
+fn expect_read(
+    rt: &(impl Abort + AllocGlobal + Eprint),
+    text: &[u8],
+    compact: Result<&str, Fault>,
+) -> Result<(), Fault> {
+    match answered(rt, Call("read"), read(rt.alloc(), text)) {
+        Ok(value) => {
+            let mut line = Line::new(rt.alloc());
+            print(&value, &mut line)?;
+            assert_eq!(rt; Ok(line.items()), compact.map(str::as_bytes));
+            Ok(())
+        }
+        Err(Fault::Memory) => Err(Fault::Memory),
+        Err(fault) => {
+            assert_eq!(rt; Err(fault), compact);
+            Ok(())
+        }
+    }
+}
+
+/// The first row has an escape for an e with an accent, for a slash and for a smiling face.
+fn expect_texts(rt: &(impl Abort + AllocGlobal + Eprint)) -> Result<(), Fault> {
+    expect_read(
+        rt,
+        br#"{"k":"caf\u00e9 \/ \ud83d\ude00","n":1.50e+3}"#,
+        Ok("{\"k\":\"caf\u{e9} / \u{1f600}\",\"n\":1.50e+3}"),
+    )?;
+    let nested = "[".repeat(rt.alloc(), 128)?;
+    let mut deepest = nested.clone()?;
+    deepest.push_str("]".repeat(rt.alloc(), 128)?.as_str())?;
+    expect_read(rt, deepest.as_bytes(), Ok(deepest.as_str()))?;
+    expect_read(rt, nested.as_bytes(), Err(Fault::Syntax))?;
+    expect_read(rt, br#""\ud800""#, Err(Fault::Syntax))?;
+    expect_read(rt, br#"{"a":1,"a":2"#, Err(Fault::Syntax))?;
+    expect_read(rt, br#"{"a":1,"\u0061":2}"#, Err(Fault::DuplicateName))
+}
+
+#[test]
+fn texts_are_read_or_refused(rt: HostRuntime) -> Result<(), Fail> {
+    with_memory!(expect_texts(&rt))
+}
 
 const TEXT: &[u8] =
     b" { \"type\" : \"CityJSONFeature\", \"\\u0061\\n\": [1.50e+3, -0, null, true, {}], \"b\": {\"a\": [[0, 1], [2]]}} ";
@@ -13,10 +124,10 @@ const COMPACT: &[u8] =
     b"{\"type\":\"CityJSONFeature\",\"a\\n\":[1.50e+3,-0,null,true,{}],\"b\":{\"a\":[[0,1],[2]]}}";
 
 /// A value is printed after other bytes, which alone stand there where memory is wanted.
-fn expect_print(rt: &(impl Abort + AllocGlobal)) -> Result<(), Fault> {
+fn expect_print(rt: &(impl Abort + AllocGlobal + Eprint)) -> Result<(), Fault> {
     let value = read(rt.alloc(), TEXT)?;
     let mut line = Line::from_vec(b"7 ".to_vec(rt.alloc())?);
-    if let Err(fault) = print(&value, &mut line) {
+    if let Err(fault) = answered(rt, Call("print"), print(&value, &mut line)) {
         assert_eq!(rt; fault, Fault::Memory);
         assert_eq!(rt; line.items(), b"7 ".as_slice());
         print(&value, &mut line)?;
@@ -31,16 +142,13 @@ fn a_value_is_printed(rt: HostRuntime) -> Result<(), Fail> {
 }
 
 /// Lists of growing length are read and printed.
-fn expect_lists(rt: &(impl Abort + AllocGlobal)) -> Result<(), Fault> {
+fn expect_lists(rt: &(impl Abort + AllocGlobal + Eprint)) -> Result<(), Fault> {
     for text in [
         "[0,1,2,3,4,5,6,7,8,9,10,11,12,13,14,15,16,17,18,19,20,21,22,23,24,25,26,27,28,29,30,31,32]",
         "{\"a\":1,\"b\":2,\"c\":3,\"d\":4,\"e\":5,\"f\":6,\"g\":7,\"h\":8,\"i\":9,\"j\":0,\"k\":1,\"l\":2,\"m\":3,\"n\":4,\"o\":5,\"p\":6,\"q\":7}",
         "[[[[[[[[[[[[[[[[[[\"\\n\"]]]]]]]]]]]]]]]]]]",
     ] {
-        let value = read(rt.alloc(), text.as_bytes())?;
-        let mut line = Line::new(rt.alloc());
-        print(&value, &mut line)?;
-        assert_eq!(rt; line.items(), text.as_bytes());
+        expect_read(rt, text.as_bytes(), Ok(text))?;
     }
     Ok(())
 }
@@ -50,9 +158,9 @@ fn lists_and_objects_are_read(rt: HostRuntime) -> Result<(), Fail> {
     with_memory!(expect_lists(&rt))
 }
 
-fn expect_copy(rt: &(impl Abort + AllocGlobal)) -> Result<(), Fault> {
+fn expect_copy(rt: &(impl Abort + AllocGlobal + Eprint)) -> Result<(), Fault> {
     let value = read(rt.alloc(), TEXT)?;
-    let copy = value.copy(rt.alloc())?;
+    let copy = answered(rt, Call("Json::copy"), value.copy(rt.alloc()))?;
     drop(value);
     let mut line = Line::new(rt.alloc());
     print(&copy, &mut line)?;
@@ -65,26 +173,46 @@ fn a_value_is_copied(rt: HostRuntime) -> Result<(), Fail> {
     with_memory!(expect_copy(&rt))
 }
 
-fn expect_texts(rt: &(impl Abort + AllocGlobal)) -> Result<(), Fault> {
-    let number = NumText::read(rt.alloc(), b"-1.50e+3")?;
-    assert_eq!(rt; number.as_bytes(), b"-1.50e+3".as_slice());
-    let long = "more than the bytes that a short text holds without memory";
-    let text = Str::read(rt.alloc(), long)?;
-    assert_eq!(rt; text.as_str(), long);
-    let digits = b"123456789012345678901234567890.123456789012345678901234567890";
-    let number = NumText::read(rt.alloc(), digits)?;
-    assert_eq!(rt; number.as_bytes(), digits.as_slice());
+fn expect_numbers(rt: &(impl Abort + AllocGlobal + Eprint)) -> Result<(), Fault> {
+    for digits in [
+        "-1.50e+3",
+        "0.0010000000474974513",
+        "123456789012345678901234567890.123456789012345678901234567890",
+    ] {
+        let number = NumText::read(rt.alloc(), digits.as_bytes());
+        let number = answered(rt, Call("NumText::read"), number)?;
+        assert_eq!(rt; number.as_bytes(), digits.as_bytes());
+    }
+    for other in ["1.", "+1", "1234567890123456789012345678901234567890e"] {
+        let refused = NumText::read(rt.alloc(), other.as_bytes());
+        assert!(rt; matches!(refused, Err(Fault::Syntax)), "{other}");
+    }
     Ok(())
 }
 
 #[test]
-fn texts_and_numbers_are_read(rt: HostRuntime) -> Result<(), Fail> {
-    with_memory!(expect_texts(&rt))
+fn numbers_are_read(rt: HostRuntime) -> Result<(), Fail> {
+    with_memory!(expect_numbers(&rt))
 }
 
-fn expect_bin(rt: &(impl Abort + AllocGlobal)) -> Result<(), Fault> {
-    let mut bin = Bin::new(rt.alloc(), 9, 4, false)?;
-    write_all(&mut bin, b"all of it")?;
+fn expect_names(rt: &(impl Abort + AllocGlobal + Eprint)) -> Result<(), Fault> {
+    for name in ["", "type", "https://www.opengis.net/def/crs/EPSG/0/7415"] {
+        let text = answered(rt, Call("Str::read"), Str::read(rt.alloc(), name))?;
+        assert_eq!(rt; text.as_str(), name);
+    }
+    Ok(())
+}
+
+#[test]
+fn names_are_kept(rt: HostRuntime) -> Result<(), Fail> {
+    with_memory!(expect_names(&rt))
+}
+
+/// A writer takes its first bytes and then fails.
+fn expect_bin(rt: &(impl Abort + AllocGlobal + Eprint)) -> Result<(), Fault> {
+    let mut bin = answered(rt, Call("Bin::new"), Bin::new(rt.alloc(), 9, 4, false))?;
+    let all = write_all(&mut bin, b"all of it and more");
+    assert_eq!(rt; all, Err(Fault::Write));
     assert_eq!(rt; bin.bytes(), b"all of it".as_slice());
     Ok(())
 }
@@ -95,12 +223,9 @@ fn a_bin_has_its_room(rt: HostRuntime) -> Result<(), Fail> {
 }
 
 /// Of a text nothing is said where memory is wanted, and only there.
-fn compacted(alloc: Global) -> Result<Line, Fault> {
-    compact(alloc, TEXT, Line::new(alloc)).ok_or(Fault::Memory)
-}
-
-fn expect_compact(rt: &(impl Abort + AllocGlobal)) -> Result<(), Fault> {
-    let line = compacted(rt.alloc())?;
+fn expect_compact(rt: &(impl Abort + AllocGlobal + Eprint)) -> Result<(), Fault> {
+    let line = compact(rt.alloc(), TEXT, Line::new(rt.alloc())).ok_or(Fault::Memory);
+    let line = answered(rt, Call("compact"), line)?;
     assert_eq!(rt; line.items(), COMPACT);
     Ok(())
 }
@@ -110,10 +235,9 @@ fn a_text_is_compacted(rt: HostRuntime) -> Result<(), Fail> {
     with_memory!(expect_compact(&rt))
 }
 
-fn expect_parts(rt: &(impl Abort + AllocGlobal)) -> Result<(), Fault> {
-    let Some(found) = compact_parts(rt.alloc(), TEXT, Line::new(rt.alloc())) else {
-        return Err(Fault::Memory);
-    };
+fn expect_parts(rt: &(impl Abort + AllocGlobal + Eprint)) -> Result<(), Fault> {
+    let found = compact_parts(rt.alloc(), TEXT, Line::new(rt.alloc())).ok_or(Fault::Memory);
+    let found = answered(rt, Call("compact_parts"), found)?;
     assert_eq!(rt; found.line.items(), COMPACT);
     assert_eq!(rt; found.parts.len(), 3);
     let mut at = 1;
