@@ -1,4 +1,4 @@
-//! Merges whose reader fails after each byte, and whose writer fails at each byte.
+//! Merges whose reader fails after each byte, and whose writer fails at each byte, or takes one at a time.
 
 use crate::devices::NOT_WRITTEN;
 use crate::interleaving::{is_mixed, is_mixed_front, merge_with_threads};
@@ -149,6 +149,40 @@ fn a_write_beside_threads_may_fail_at_each_byte(rt: HostRuntime) -> Result<(), F
 #[test]
 fn a_failed_write_beside_threads_is_told_before_a_faulty_line(rt: HostRuntime) -> Result<(), Fail> {
     expect_fronts(&rt, &FAULTY, &[&[A1, A2], &[B1]])
+}
+
+/// Merges these tiles with threads to a writer that takes a byte at a time: the answer, and the features of each.
+fn expect_slow_writer<H>(
+    rt: &H,
+    tiles: &[&[&str]],
+    answer: Result<&[u64], MergeFault>,
+    texts: &[&[&str]],
+) -> Result<(), Fail>
+where
+    H: Abort + AllocGlobal + Threads + Wait + Copy + Send + 'static,
+{
+    let alloc = rt.alloc();
+    for capacity in [1u32, 64] {
+        let readers = readers_of(alloc, tiles, 50, true)?;
+        let mut output = Bin::new(alloc, 4096, 1, false)?;
+        let merged = merge_with_threads(rt, readers, &plain(), capacity, &mut output);
+        assert_eq!(rt; answer_of(&merged), answer);
+        assert!(rt; is_mixed(alloc, output.bytes(), &[HEADER], texts)?);
+    }
+    Ok(())
+}
+
+#[test]
+fn a_writer_beside_threads_may_take_a_byte_at_a_time(rt: HostRuntime) -> Result<(), Fail> {
+    let counts = [3u64, 1, 2];
+    let texts: [&[&str]; 3] = [&[A1, A2, A3], &[B1], &[C1, C2]];
+    expect_slow_writer(&rt, &WHOLE, Ok(counts.as_slice()), &texts)?;
+    let refused = Err(MergeFault {
+        tile: 2,
+        line: 3,
+        fault: Fault::Syntax,
+    });
+    expect_slow_writer(&rt, &FAULTY, refused, &[&[A1, A2], &[B1]])
 }
 
 #[test]
