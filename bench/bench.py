@@ -1,7 +1,7 @@
 #!/usr/bin/env python3
 """How fast `citymerge` is, how much memory it takes, and whether its output is right.
 
-Nine parts, each of which can be left out:
+Eleven parts, each of which can be left out:
   right         the output on small streams, compared with that of a compactor, a selection and sums of its own
   speed         MB/s and peak memory, in turn, of the streams that bench/measured.py lists: building tiles, houses
                 with attributes of all kinds and tiny features, without options, with two types and with a box; many
@@ -17,15 +17,18 @@ Nine parts, each of which can be left out:
                 three small ones and of 64, and its peak memory, also where a slow reader takes the output
   waiting       processor time while a tile gives nothing and while the output is read slowly; how soon a merge
                 ends once its output is gone, and how soon a feature of a live tile arrives
-  hostile       time against size for shapes of text that are hard on a reader; time to join headers whose extensions
+  hostile       time against size for worst-case texts; time to join headers whose extensions
                 have names that are hard on a map, beside names with nothing in common
   documents     MB/s and peak memory of `citymerge cat` on a document, beside `citymerge filter` of its stream;
-                time against size for documents that are hard on it
+                time against size for worst-case documents
+  cuts          instructions for each byte and peak memory of `citymerge cat` on documents that are cut on their
+                text, with textures, with addresses, beside the same documents cut by their value (valgrind)
+  worst         the peak memory of the worst lines and documents, in times of their size, valid and refused ones apart
 
-Status 0: all is right. 1: an output is wrong, the peak memory grows with the stream, a stream takes more
-instructions than is wanted, a merge is too slow beside the filter, one that waits takes processor time or ends
-late, the time for a hostile shape does not grow about as its size, or headers join slower for the names of their
-extensions. 2: the program is not there. A tool that is not there is named, and its part is left out.
+Status 0: all is right. 1: an output is wrong, the peak memory grows with the stream or is above its bound for a
+worst case, a stream or a document takes more instructions than is wanted, a merge is too slow beside the filter, one
+that waits takes processor time or ends late, the time for a hostile shape does not grow about as its size, or headers
+join slower for the names of their extensions. 2: the program is not there. A tool that is not there is named, and its part is left out.
 """
 
 import argparse
@@ -36,6 +39,7 @@ import tempfile
 sys.path.insert(0, os.path.dirname(os.path.abspath(__file__)))
 sys.dont_write_bytecode = True
 
+from cuts import cuts
 from documents import documents
 from growth import hostile
 from instructions import instructions
@@ -46,6 +50,7 @@ from speed import speed
 from table import write_table
 from threads import threads
 from waiting import waiting
+from worst import worst_memory
 
 PARTS = {
     "right": right,
@@ -57,6 +62,8 @@ PARTS = {
     "waiting": waiting,
     "hostile": hostile,
     "documents": documents,
+    "cuts": cuts,
+    "worst": worst_memory,
 }
 # Those whose figures stand in the README.
 TABLE_PARTS = ("speed", "instructions", "threads")

@@ -1,5 +1,5 @@
 """How fast `citymerge cat` is, and how much memory it takes: on a document of building tiles, beside
-`citymerge filter` of the stream that comes of it; and on documents that are hard on a reader, at two sizes."""
+`citymerge filter` of the stream that comes of it; and on worst-case documents, at two sizes."""
 
 import os
 import random
@@ -11,7 +11,7 @@ from streams import attributes
 
 MEGA = 1_000_000
 # What is aimed at, in times of the document: a higher peak is told, and nothing fails.
-MOST_PEAK = 6
+MAX_PEAK = 6
 HEAD = (
     b'{"type":"CityJSON","version":"2.0","transform":{"scale":[0.001,0.001,0.001],'
     b'"translate":[84710.100,446846.000,-5.300]},"CityObjects":{'
@@ -146,8 +146,8 @@ def beside_filter(bench):
             bench.fail("%s: %s" % (words[-1], runs[-1].trouble()))
             return
         multiple = show(bench, "citymerge " + words[-1], os.path.getsize(source), runs)
-        if words is bench.cat and multiple > MOST_PEAK:
-            bench.say("  above the %d times that are aimed at" % MOST_PEAK)
+        if words is bench.cat and multiple > MAX_PEAK:
+            bench.say("  above the %d times that are aimed at" % MAX_PEAK)
     with open(made, "rb") as one, open(again, "rb") as other:
         if one.read() != other.read():
             bench.fail("filter changes what cat writes")

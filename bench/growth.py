@@ -7,7 +7,7 @@ from running import Run
 from shapes import HOSTILE
 
 # Twice the size takes at most this many times as long, where time grows about as size.
-MOST_GROWTH = 3.0
+MAX_GROWTH = 3.0
 # Times below this many seconds say nothing about growth.
 LEAST_SECONDS = 0.1
 # A load on the machine makes single times longer: those that grow too much are taken again, up to so many times.
@@ -45,7 +45,7 @@ def least_times(bench, shape, paths):
             if found is None:
                 return None
             least[at] = min(least[at], found)
-        if growth(*least) <= MOST_GROWTH:
+        if growth(*least) <= MAX_GROWTH:
             break
     return least
 
@@ -64,7 +64,7 @@ def measure(bench, shape):
         "  %-44s %9d: %6.3f s   %9d: %6.3f s   %6.1f MB/s"
         % (shape.name, count // 2, least[0], count, least[1], rate)
     )
-    if growth(*least) > MOST_GROWTH:
+    if growth(*least) > MAX_GROWTH:
         bench.fail("%s: twice the size takes %.1f times as long" % (shape.name, growth(*least)))
 
 

@@ -7,7 +7,7 @@ from running import Run
 from shapes import EXTENSION_NAMES
 
 # Names of the shape take at most this many times as long as as many names of the same lengths with nothing in common.
-MOST_TIMES = 3.0
+MAX_TIMES = 3.0
 # A load on the machine makes single times longer: those that are too far apart are taken again, up to so many times.
 TURNS = 3
 # How many headers are joined, and the bytes of the names in each. Of those of a header half stand in the one before it.
@@ -68,14 +68,14 @@ def measure(bench, shape, name_of, count, size):
         if None in times:
             break
         least = [min(pair) for pair in zip(least, times)]
-        if least[0] <= MOST_TIMES * least[1]:
+        if least[0] <= MAX_TIMES * least[1]:
             break
     for kind in kinds:
         kind.remove()
     if None in times:
         return
     bench.say("  %-72s %6.3f s   names apart: %6.3f s" % (what, *least))
-    if least[0] > MOST_TIMES * least[1]:
+    if least[0] > MAX_TIMES * least[1]:
         bench.fail("%s: %.1f times as long as names apart" % (what, least[0] / max(least[1], 0.001)))
 
 

@@ -8,7 +8,7 @@ from streams import buildings, one_line
 
 MEGA = 1_000_000
 # By so much may the peak for a longer stream be above that for a shorter one: its longest line may be longer.
-MOST_MORE = 1 * MEGA
+MAX_MORE = 1 * MEGA
 LONG_LINE = 64 * MEGA
 
 
@@ -38,6 +38,6 @@ def memory(bench):
             lines = buildings(bench.options.seed, megabytes * MEGA)
             peaks.append(peak(bench, " ".join(("building tiles", *options)), lines, options))
     known = [each for each in peaks if each is not None]
-    if known and max(known) > known[0] + MOST_MORE:
+    if known and max(known) > known[0] + MAX_MORE:
         bench.fail("the peak memory grows with the stream: %s MB" % ", ".join(["%.1f" % (each / MEGA) for each in known]))
     peak(bench, "one building of one long line", one_line(bench.options.seed, LONG_LINE))

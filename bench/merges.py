@@ -17,7 +17,7 @@ TILES = 4
 LEAST_SHARE = 0.9
 # By so much may the peak for longer tiles be above that for shorter ones: the texts that are held of each
 # may be longer.
-MOST_MORE = 2 * MEGA
+MAX_MORE = 2 * MEGA
 FILTER = "filter"
 MERGE = "merge --in-turn"
 MOVING = "tiles far apart"
@@ -116,7 +116,7 @@ def peak(bench, megabytes):
 def memory(bench):
     peaks = [peak(bench, megabytes) for megabytes in (10, 100) + ((1000,) if bench.options.giga else ())]
     known = [each for each in peaks if each is not None]
-    if known and max(known) > known[0] + MOST_MORE:
+    if known and max(known) > known[0] + MAX_MORE:
         shown = ", ".join(["%.1f" % (each / MEGA) for each in known])
         bench.fail("the peak memory grows with the tiles: %s MB" % shown)
 

@@ -1,4 +1,4 @@
-"""Shapes of text that are hard on a reader, each in the size that is asked for."""
+"""Worst-case texts, each in the size that is asked for."""
 
 import typing
 

@@ -8,7 +8,7 @@ import os
 import subprocess
 import time
 
-from merges import MOST_MORE, far, features, race
+from merges import MAX_MORE, far, features, race
 from running import Run, peak_of
 from speed import MEGA
 
@@ -105,7 +105,7 @@ def memory(bench):
         most.append(max(peaks.values()))
         for path in paths:
             os.remove(path)
-    if most[1] > most[0] + MOST_MORE:
+    if most[1] > most[0] + MAX_MORE:
         bench.fail("the peak memory of a merge with threads grows: %.1f and %.1f MB" % tuple(each / MEGA for each in most))
 
 

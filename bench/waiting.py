@@ -15,11 +15,11 @@ SLOW = 4
 SPEED = 64 * 1024
 PIECE = 4 * 1024
 # The most processor time that such a wait may take, in seconds.
-MOST_PROCESSOR = 0.2
+MAX_PROCESSOR = 0.2
 # How soon a feature of a live tile is to arrive, and a merge of a tile without end to end, in seconds.
 SOON = 1
 # The most of the time of the whole merge that one may take whose output is gone after a line.
-MOST_SHARE = 1 / 3
+MAX_SHARE = 1 / 3
 
 
 def ended(child):
@@ -58,7 +58,7 @@ def silent(bench, name, words, is_tile):
     processor = ended(child)
     os.remove(path)
     bench.say("  %-42s %.2f s of processor time in %d s; a feature took %.3f s" % (name, processor, SILENT, slowest))
-    if processor > MOST_PROCESSOR:
+    if processor > MAX_PROCESSOR:
         bench.fail("%s: it takes %.2f s of processor time while it waits" % (name, processor))
     if slowest > SOON:
         bench.fail("%s: a feature arrives after %.1f s" % (name, slowest))
@@ -76,7 +76,7 @@ def slow_reader(bench, paths):
     child.stdout.close()
     ended(child)
     bench.say("  %-42s %.2f s of processor time in %d s" % ("8 tiles, read at 64 kB/s", processor, SLOW))
-    if processor > MOST_PROCESSOR:
+    if processor > MAX_PROCESSOR:
         bench.fail("a slow reader: a merge takes %.2f s of processor time" % processor)
 
 
@@ -100,7 +100,7 @@ def gone(bench, paths):
     whole = min(time_to_end(words, None) for _ in range(bench.options.rounds))
     front = min(time_to_end(words, 1) for _ in range(bench.options.rounds))
     bench.say("  %-42s %.3f s, the whole %.3f s" % ("16 tiles, the output gone after a line", front, whole))
-    if front > whole * MOST_SHARE:
+    if front > whole * MAX_SHARE:
         bench.fail("a merge whose output is gone takes %.2f of the time of the whole" % (front / whole))
 
 

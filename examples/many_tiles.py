@@ -32,7 +32,7 @@ from typing import NamedTuple, Optional
 
 NAME = "citymerge-many"
 VERSION = "0.1.0"
-MOST_IN_A_MERGE = 63  # `citymerge merge` takes 64; the joined header is one of them
+MAX_IN_A_MERGE = 63  # `citymerge merge` takes 64; the joined header is one of them
 LONGEST_LINE = 2**28  # bytes, as `citymerge` takes them
 OFF_THE_GRID = "the translation is off the grid"
 NOT_WRITTEN = "the output could not be written"
@@ -137,8 +137,8 @@ def argument_parser() -> argparse.ArgumentParser:
     own.add_argument("--output", metavar="FILE", help=(
         "Write to this file. It is put in place only when all went well; until then it stays as it was."))
     own.add_argument("--plan", metavar="FOLDER", help="Write a Makefile into this new folder, and merge nothing.")
-    own.add_argument("--group", metavar="N", type=group_size, default=MOST_IN_A_MERGE, help=(
-        f"Merge at most N tiles at a time, from 2 to {MOST_IN_A_MERGE}. Without it {MOST_IN_A_MERGE}."))
+    own.add_argument("--group", metavar="N", type=group_size, default=MAX_IN_A_MERGE, help=(
+        f"Merge at most N tiles at a time, from 2 to {MAX_IN_A_MERGE}. Without it {MAX_IN_A_MERGE}."))
     own.add_argument("-h", "--help", action="help", help="Print help")
     own.add_argument("-V", "--version", action="version", version=f"{NAME} {VERSION}", help="Print version")
     merging = parser.add_argument_group("Options of `citymerge merge`, of which `citymerge help merge` says more")
@@ -161,8 +161,8 @@ def help_formatter(prog: str) -> argparse.HelpFormatter:
 
 
 def group_size(text: str) -> int:
-    if not text.isdecimal() or not 2 <= int(text) <= MOST_IN_A_MERGE:
-        raise argparse.ArgumentTypeError(f"it is a whole number from 2 to {MOST_IN_A_MERGE}")
+    if not text.isdecimal() or not 2 <= int(text) <= MAX_IN_A_MERGE:
+        raise argparse.ArgumentTypeError(f"it is a whole number from 2 to {MAX_IN_A_MERGE}")
     return int(text)
 
 
@@ -292,10 +292,10 @@ class Comparison:
 
     def add_tiles(self, names: Sequence[str], terminal: Terminal) -> None:
         """Adds the headers of these tiles, some at a time, since one may be a whole document."""
-        for start in range(0, len(names), MOST_IN_A_MERGE):
+        for start in range(0, len(names), MAX_IN_A_MERGE):
             terminal.progress(f"headers: {start} of {len(names)} compared")
             heads = []
-            for name in names[start:start + MOST_IN_A_MERGE]:
+            for name in names[start:start + MAX_IN_A_MERGE]:
                 try:
                     heads.append(read_head(name))
                 except OSError as error:
@@ -429,7 +429,7 @@ def tree(names: Sequence[str], most: int) -> list[list[Merge]]:
 
 def check_limits(merges: Sequence[Merge], is_in_turn: bool) -> None:
     """Refuses what would need more open files or threads at once than there may be."""
-    files = max(2 * len(merges) + 2 * MOST_IN_A_MERGE, 4 * MOST_IN_A_MERGE)
+    files = max(2 * len(merges) + 2 * MAX_IN_A_MERGE, 4 * MAX_IN_A_MERGE)
     threads = sum(1 if is_in_turn else 1 + merge.inputs() for merge in merges)
     for what, wanted, most, name in (("open files", files, raised(resource.RLIMIT_NOFILE), "ulimit -n"),
                                      ("threads", threads, free_threads(), "ulimit -u, pids.max")):

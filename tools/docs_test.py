@@ -4,7 +4,7 @@
 docs/DEFINITIONS.md tells each file of specs/ and each name in a public clause, and sets apart exactly the files that
 no public promise needs. The clauses that docs/PROVED.md names are there. docs/FAULTS.md has the table of faults of the
 code. Version and day of the release are the same everywhere. Files and links that are named are there. README.md is
-short.
+short. And the sizes by which tests and the shim of tools/growths.sh speak are the same on either side.
 """
 
 import glob
@@ -20,7 +20,7 @@ from sources import contracts, needed_names, public_names, read
 FAULTS = "crates/byte_streams/specs/Faults.antt"
 CONTRACTS = contracts()
 DOCUMENTS = ["README.md", *sorted(glob.glob("docs/*.md"))]
-MOST_OF_README = 10_000
+MAX_README = 10_000
 
 
 def crate_of(path):
@@ -134,12 +134,30 @@ def links():
 
 def short():
     length = os.path.getsize("README.md")
-    if length > MOST_OF_README:
-        yield "README.md has %d bytes, more than %d" % (length, MOST_OF_README)
+    if length > MAX_README:
+        yield "README.md has %d bytes, more than %d" % (length, MAX_README)
+
+
+def said_sizes(path):
+    """The sizes of growths that say something, `TAKE` and `GIVE`, as they stand in C or in Rattle."""
+    found = re.findall(r"^(?:#define (TAKE|GIVE) |const (TAKE|GIVE): usize = )([\d_]+);?$", read(path), re.MULTILINE)
+    return sorted((in_c or other, int(size)) for in_c, other, size in found)
+
+
+def shim():
+    """No library can hold these sizes: a C file says them, and tests of the program, on which no crate of tests may be
+    built."""
+    shim = "tools/torture/refuse.c"
+    wanted = said_sizes(shim)
+    if [name for name, _ in wanted] != ["GIVE", "TAKE"]:
+        yield shim + " does not say TAKE and GIVE once each"
+    for path in ("crates/growth_tests/src/memory.rt", "crates/citymerge/src/growths/memory.rt"):
+        if said_sizes(path) != wanted:
+            yield "TAKE and GIVE of %s are not those of %s" % (path, shim)
 
 
 def main():
-    tests = (told_definitions, told_files, named_files, named_clauses, fault_table, release, links, short)
+    tests = (told_definitions, told_files, named_files, named_clauses, fault_table, release, links, short, shim)
     wrong = [line for test in tests for line in test()]
     for line in wrong:
         print("FAILED: " + line)

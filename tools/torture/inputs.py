@@ -147,7 +147,7 @@ class World:
         rng = self.rng
         away = [rng.choice((0, 0, 1, -1, 1500, rng.randrange(-10**6, 10**6))) for _ in range(3)]
         if self.odd(0.1):
-            away[rng.randrange(3)] = rng.choice((1, -1)) * (model.MOST_STEPS + rng.choice((-1, 0, 1)))
+            away[rng.randrange(3)] = rng.choice((1, -1)) * (model.MAX_STEPS + rng.choice((-1, 0, 1)))
         drawn = [start + k * step for start, k, step in zip(self.base, away, self.scale)]
         if self.odd(0.1):
             drawn[rng.randrange(3)] += self.scale[0] // 2 or 1
@@ -221,7 +221,7 @@ def spoil_header(rng, drawn):
 def component(rng):
     if rng.random() < 0.9:
         return rng.randrange(-50, 3000)
-    return rng.choice((0, 1, -1)) * (model.MOST_STEPS - rng.choice((0, 0, 1, 1500, 10**6)))
+    return rng.choice((0, 1, -1)) * (model.MAX_STEPS - rng.choice((0, 0, 1, 1500, 10**6)))
 
 
 def vertices(rng):

@@ -13,10 +13,10 @@ from outputs import Own, Stream
 from values import Fault, Number, Refused, compact, read
 
 ROOT = os.path.dirname(os.path.dirname(os.path.dirname(os.path.abspath(__file__))))
-MOST_TILES = 64
-MOST_STEPS = 2**53 - 1
+MAX_TILES = 64
+MAX_STEPS = 2**53 - 1
 # A unit is 10^-24, and a decimal has fewer than 10^36 of them.
-PLACES, MOST_DIGITS = 24, 36
+PLACES, MAX_DIGITS = 24, 36
 
 
 def texts_of_faults():
@@ -72,7 +72,7 @@ def units(number):
     if len(exponent) > 20:
         raise Refused(Fault.DECIMAL)
     power = int(exponent_sign + (exponent or "0")) - len(fraction) + len(digits) - len(kept) + PLACES
-    if power < 0 or len(kept) + power > MOST_DIGITS:
+    if power < 0 or len(kept) + power > MAX_DIGITS:
         raise Refused(Fault.DECIMAL)
     return int(sign + kept) * 10**power
 
@@ -84,7 +84,7 @@ def is_three_numbers(value):
 def steps(number):
     """The steps of a whole number, and more than there may be where it has more."""
     digits = number.lstrip("-0")
-    size = int(digits or "0") if len(digits) <= 16 else MOST_STEPS + 1
+    size = int(digits or "0") if len(digits) <= 16 else MAX_STEPS + 1
     return -size if number.startswith("-") else size
 
 
@@ -97,7 +97,7 @@ def vertex(value):
 
 
 def in_range(triple):
-    if any(abs(component) > MOST_STEPS for component in triple):
+    if any(abs(component) > MAX_STEPS for component in triple):
         raise Refused(Fault.VERTEX_RANGE)
     return triple
 
@@ -429,7 +429,7 @@ def shift_from(base, one):
     if any(difference % scale for difference, scale in zip(differences, one.scale)):
         raise Refused(Fault.OFF_GRID)
     shift = [difference // scale for difference, scale in zip(differences, one.scale)]
-    if any(abs(component) > MOST_STEPS for component in shift):
+    if any(abs(component) > MAX_STEPS for component in shift):
         raise Refused(Fault.SHIFT_RANGE)
     return shift
 
@@ -498,7 +498,7 @@ def filtered(choice, given):
 
 def merged(asked, files):
     """The merge of the files that these words name; `files` has what each gives, by its name."""
-    if len(asked.names) > MOST_TILES:
+    if len(asked.names) > MAX_TILES:
         return Answer(1, fault_line(Fault.TOO_MANY_TILES))
     given = [files.get(name, MISSING) for name in asked.names]
     if MISSING in given:
@@ -569,7 +569,7 @@ def area_of(text):
     if len(numbers) != 4 or not all(re.fullmatch("-?[0-9]+", number) for number in numbers):
         raise BadWords("citymerge: bad --bbox\n")
     area = list(map(steps, numbers))
-    if any(abs(number) > MOST_STEPS for number in area) or area[0] > area[2] or area[1] > area[3]:
+    if any(abs(number) > MAX_STEPS for number in area) or area[0] > area[2] or area[1] > area[3]:
         raise BadWords("citymerge: bad --bbox\n")
     return area
 

@@ -273,19 +273,6 @@ def wrong(room, case, answer, point, ended, counts):
     return output_wrong(answer, ended) if point.kind == "write" else said_wrong(answer, ended)
 
 
-# What is known not to be as it should be, with the reason why it is let pass.
-NO_TILE = "a merge that wants memory for itself, after lines were written, tells it of no tile"
-
-
-def known(case, answer, point, ended):
-    """Why a run that is wrong is let pass, or None."""
-    place = place_said(ended.said)
-    if not place or ended.status != 1 or place[0] != 0 or place[2] != model.TEXTS[Fault.MEMORY]:
-        return None
-    is_known = point.kind == "memory" and case.words[0] == "merge" and is_front(answer, ended.written)
-    return NO_TILE if is_known else None
-
-
 def points(counts):
     """The points of a case of which so many calls were made."""
     for kind in KINDS:

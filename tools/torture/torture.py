@@ -22,7 +22,7 @@ import runs
 # How many cases are drawn, of how many each front is tried, one of how many points, and cases with some points.
 WHOLE, SHORT = (100000, 40, 1, 10000), (10000, 3, 11, 500)
 # A case of which each front is tried has at most so many bytes.
-MOST_FRONTS = 1500
+MAX_FRONTS = 1500
 
 room = None
 
@@ -60,7 +60,7 @@ def fronts_of(seed, count):
     while len(found) < count:
         case = inputs.case(seed, -1 - number)
         number += 1
-        if case.words[0] != "merge" and 300 < len(case.given.data) <= MOST_FRONTS:
+        if case.words[0] != "merge" and 300 < len(case.given.data) <= MAX_FRONTS:
             found.append(case)
     return found
 
@@ -90,10 +90,7 @@ def at_points(options, refusing, name, case, points):
     for point in points:
         ended, made = refusing.run(case, point)
         what = refusals.wrong(room, case, answer, point, ended, made)
-        known = what and refusals.known(case, answer, point, ended)
-        if known:
-            counts[known] += 1
-        elif what:
+        if what:
             kept = room.keep(options.keep, case, what, answer, refusing.variables(point))
             found.append("%s, %r: %s: %s" % (name, point, what, kept))
     return found, counts
@@ -198,9 +195,7 @@ def refusals_part(pool, options, every, count):
 def points_part(pool, name, function, tasks):
     began = time.monotonic()
     wrong, counts = gathered(pool, function, tasks)
-    print("%s: %d points in %.0f s, %d wrong" % (name, counts.pop("points"), time.monotonic() - began, wrong), flush=True)
-    for known, often in counts.items():
-        print("    known, %d times: %s" % (often, known))
+    print("%s: %d points in %.0f s, %d wrong" % (name, counts["points"], time.monotonic() - began, wrong), flush=True)
     return wrong
 
 

@@ -7,7 +7,7 @@ import enum
 import re
 
 # How many arrays and objects may stand within one another.
-MOST_OPEN = 128
+MAX_OPEN = 128
 
 
 class Fault(enum.IntEnum):
@@ -78,7 +78,7 @@ def is_deep(text):
     depth = 0
     for bracket in BRACKETS.findall(ANY_STRING.sub(b"", text)):
         depth += 1 if bracket in b"[{" else -1
-        if depth > MOST_OPEN:
+        if depth > MAX_OPEN:
             return True
     return False
 

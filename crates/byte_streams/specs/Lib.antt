@@ -3,5 +3,6 @@ pub mod Device
 pub mod Failures
 pub mod Faults
 pub mod Intake
+pub mod Limits
 pub mod Source
 pub mod Tape

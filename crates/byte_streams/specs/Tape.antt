@@ -17,4 +17,5 @@ PlaysOut tape bytes fails = (bytes ≡ tape.left) × (fails ≡ tape.fails)
 
 -- What a read into a buffer of this length answers: how many bytes it gives, or the error at the end.
 abbrev pub tape_answer : TapeState → ℕ → Result ℕ Fault
-tape_answer tape room = if (length tape.left == 0) && tape.fails then Err Read else Ok (min (min (length tape.left) room) tape.step)
+tape_answer tape room = if (length tape.left == 0)
+    && tape.fails then Err Read else Ok (min (min (length tape.left) room) tape.step)

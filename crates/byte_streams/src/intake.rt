@@ -4,11 +4,9 @@ ghost use Rattle.byte_streams.specs.Intake.{Stopped, after_stop};
 ghost use Rattle.byte_streams.specs.Source.{GivesFirst};
 
 use crate::fault::Fault;
+use crate::limits::MAX_PIECE_BYTES;
 use crate::source::Source;
 use std::alloc::{AllocError, Global};
-
-/// How many bytes are asked of a source at once.
-const PIECE: u64 = 64 * 1024;
 
 /// Why a reading stopped.
 #[derive(Clone, Copy, Debug, PartialEq, Eq)]
@@ -66,7 +64,7 @@ fn make_room(bytes: &mut Vec<u8>, filled: usize, limit: u64) -> Result<(), Alloc
     if filled < bytes.len() {
         return Ok(());
     }
-    let room = (limit - filled as u64).min(PIECE - 1) as usize + 1;
+    let room = (limit - filled as u64).min(MAX_PIECE_BYTES as u64 - 1) as usize + 1;
     bytes.resize(filled + room, 0)
 }
 

@@ -1,11 +1,12 @@
-//! What all crates stand on: the list of faults and the places that they are told of, bytes that grow, lists, and
-//! readers and writers of bytes with the two loops over them, read all and write all.
+//! What all crates stand on: the limits, the list of faults and the places that they are told of, bytes that grow,
+//! lists, and readers and writers of bytes with the two loops over them, read all and write all.
 #![tactic(auto)]
 
 mod bin;
 mod device;
 mod fault;
 mod intake;
+pub mod limits;
 mod line;
 mod output;
 mod places;
@@ -18,6 +19,7 @@ pub use bin::Bin;
 pub use device::Device;
 pub use fault::Fault;
 pub use intake::{Intake, Stop, read_all};
+pub use limits::limits_are_as_defined;
 pub use line::Line;
 pub use output::write_all;
 pub use places::{LineFault, MergeFault};

@@ -28,13 +28,15 @@ grows_none root marks found = record {
   fewer = omega arith;
 }
 
-pub grows_again : (root : ℕ) (new marks marks' found found' : List ℕ) (k : ℕ) → Grows root new marks marks' found found' → k < length marks → slice_index marks' k ≡ root → Grows root (new ++ k ∷ []) marks marks' found found'
+pub grows_again : (root : ℕ) (new marks marks' found found' : List ℕ) (k : ℕ) → Grows root new marks marks' found found'
+    → k < length marks → slice_index marks' k ≡ root → Grows root (new ++ k ∷ []) marks marks' found found'
 grows_again root new marks marks' found found' k g within is = record {
   long = g.long;
   more = g.more;
   found_is = g.found_is;
   only_new = λ j c. Contains-append_left new (k ∷ []) j (g.only_new j c);
-  all_new = λ j c. elim (Contains-push_cases new k j c) [ inl old ↦ g.all_new j old | inr e ↦ subst (λ n. IsMarked marks' root n) e (omega (arith, g.long), is) ];
+  all_new = λ j c. elim (Contains-push_cases new k j c)
+      [ inl old ↦ g.all_new j old | inr e ↦ subst (λ n. IsMarked marks' root n) e (omega (arith, g.long), is) ];
   kept = g.kept;
   only_found = g.only_found;
   marked = g.marked;
@@ -44,28 +46,41 @@ grows_again root new marks marks' found found' k g within is = record {
 
 -- what stands at j after a write at k
 At : List ℕ → ℕ → ℕ → ℕ → Type 0
-At marks k root j = ((j ≡ k) × (slice_index (slice_set marks k root) j ≡ root)) ⊎ ((j ≢ k) × (slice_index (slice_set marks k root) j ≡ slice_index marks j))
+At marks k root j = ((j ≡ k) × (slice_index (slice_set marks k root) j ≡ root))
+    ⊎ ((j ≢ k) × (slice_index (slice_set marks k root) j ≡ slice_index marks j))
 
 at_set : (marks : List ℕ) (k root j : ℕ) → k < length marks → At marks k root j
 unfolding At
 at_set marks k root j within = by (j == k) refl
   where
-    by : (b : Bool) → (j == k) ≡ b → ((j ≡ k) × (slice_index (slice_set marks k root) j ≡ root)) ⊎ ((j ≢ k) × (slice_index (slice_set marks k root) j ≡ slice_index marks j))
-    by true e = let same = eqb-true j k e in inl (same, subst (λ n. slice_index (slice_set marks k root) n ≡ root) (sym same) (get_or-set_same marks k root 0 within))
+    by : (b : Bool) → (j == k) ≡ b → ((j ≡ k) × (slice_index (slice_set marks k root) j ≡ root))
+        ⊎ ((j ≢ k) × (slice_index (slice_set marks k root) j ≡ slice_index marks j))
+    by true e = let same = eqb-true j k e in inl (
+      same,
+      subst (λ n. slice_index (slice_set marks k root) n ≡ root) (sym same)
+          (get_or-set_same marks k root 0 within),
+    )
     by false e = inr (eqb-false j k e, get_or-set_other marks k j root 0 (eqb-false j k e))
 
-marked_after : (root : ℕ) (marks : List ℕ) (k j : ℕ) → k < length marks → IsMarked marks root j → IsMarked (slice_set marks k root) root j
+marked_after : (root : ℕ) (marks : List ℕ) (k j : ℕ) → k < length marks → IsMarked marks root j
+    → IsMarked (slice_set marks k root) root j
 unfolding At
-marked_after root marks k j within m = (omega (arith, length-set {A = ℕ}), elim (at_set marks k root j within) [ inl here ↦ here.1 | inr there ↦ there.1 ∙ m.1 ])
+marked_after root marks k j within m = (
+  omega (arith, length-set {A = ℕ}),
+  elim (at_set marks k root j within) [ inl here ↦ here.1 | inr there ↦ there.1 ∙ m.1 ],
+)
 
 marked_there : (root : ℕ) (marks : List ℕ) (k : ℕ) → k < length marks → IsMarked (slice_set marks k root) root k
 marked_there root marks k within = (omega (arith, length-set {A = ℕ}), get_or-set_same marks k root 0 within)
 
-marked_before : (root : ℕ) (marks : List ℕ) (k j : ℕ) → k < length marks → IsMarked (slice_set marks k root) root j → (j ≡ k) ⊎ IsMarked marks root j
+marked_before : (root : ℕ) (marks : List ℕ) (k j : ℕ) → k < length marks → IsMarked (slice_set marks k root) root j
+    → (j ≡ k) ⊎ IsMarked marks root j
 unfolding At
-marked_before root marks k j within m = elim (at_set marks k root j within) [ inl here ↦ inl here.0 | inr there ↦ inr (omega (arith, m.0, length-set {A = ℕ}), sym there.1 ∙ m.1) ]
+marked_before root marks k j within m = elim (at_set marks k root j within)
+    [ inl here ↦ inl here.0 | inr there ↦ inr (omega (arith, m.0, length-set {A = ℕ}), sym there.1 ∙ m.1) ]
 
-one_fewer : (root : ℕ) (marks : List ℕ) (k : ℕ) → k < length marks → slice_index marks k ≢ root → unmarked root (slice_set marks k root) + 1 ≡ unmarked root marks
+one_fewer : (root : ℕ) (marks : List ℕ) (k : ℕ) → k < length marks → slice_index marks k ≢ root
+    → unmarked root (slice_set marks k root) + 1 ≡ unmarked root marks
 one_fewer root marks k within isnt = by (slice_index marks k == root) refl
   where
     one : ℕ → ℕ
@@ -74,23 +89,42 @@ one_fewer root marks k within isnt = by (slice_index marks k == root) refl
     own : (root == root) ≡ true
     own = eq-eqb root root refl
 
-    by : (b : Bool) → (slice_index marks k == root) ≡ b → unmarked root (slice_set marks k root) + 1 ≡ unmarked root marks
+    by : (b : Bool) → (slice_index marks k == root) ≡ b
+        → unmarked root (slice_set marks k root) + 1 ≡ unmarked root marks
     by true e = absurd (isnt (eqb-true _ _ e))
-    by false e = let total = sum_by-set (λ mark. if mark == root then 0 else 1) marks k root 0 within in omega (arith, rw (e, own) at total)
+    by false e = let total = sum_by-set (λ mark. if mark == root then 0 else 1) marks k root 0 within in
+        omega (arith, rw (e, own) at total)
 
-pub grows_first : (root : ℕ) (new marks marks' found found' : List ℕ) (k : ℕ) → Grows root new marks marks' found found' → k < length marks → slice_index marks' k ≢ root → Grows root (new ++ k ∷ []) marks (slice_set marks' k root) found (found' ++ k ∷ [])
+pub grows_first : (root : ℕ) (new marks marks' found found' : List ℕ) (k : ℕ) → Grows root new marks marks' found found'
+    → k < length marks → slice_index marks' k ≢ root
+    → Grows root (new ++ k ∷ []) marks (slice_set marks' k root) found (found' ++ k ∷ [])
 unfolding At
 grows_first root new marks marks' found found' k g within isnt = record {
   long = length-set marks' k root ∙ g.long;
   more = g.more ++ k ∷ [];
   found_is = ap (λ f. f ++ k ∷ []) g.found_is ∙ append_assoc found g.more (k ∷ []);
-  only_new = λ j c. elim (Contains-push_cases g.more k j c) [ inl old ↦ Contains-append_left new (k ∷ []) j (g.only_new j old) | inr e ↦ subst (λ n. Contains (new ++ k ∷ []) n) e (Contains-push new k) ];
-  all_new = λ j c. elim (Contains-push_cases new k j c) [ inl old ↦ marked_after root marks' k j within' (g.all_new j old) | inr e ↦ subst (λ n. IsMarked (slice_set marks' k root) root n) e (marked_there root marks' k within') ];
+  only_new = λ j c. elim (Contains-push_cases g.more k j c) [
+    | inl old ↦ Contains-append_left new (k ∷ []) j (g.only_new j old)
+    | inr e ↦ subst (λ n. Contains (new ++ k ∷ []) n) e (Contains-push new k)
+  ];
+  all_new = λ j c. elim (Contains-push_cases new k j c) [
+    | inl old ↦ marked_after root marks' k j within' (g.all_new j old)
+    | inr e ↦ subst (λ n. IsMarked (slice_set marks' k root) root n) e (marked_there root marks' k within')
+  ];
   kept = λ j m. marked_after root marks' k j within' (g.kept j m);
-  only_found = λ j m. elim (marked_before root marks' k j within' m) [ inl e ↦ inr (subst (λ n. Contains (g.more ++ k ∷ []) n) (sym e) (Contains-push g.more k)) | inr before ↦ elim (g.only_found j before) [ inl old ↦ inl old | inr new' ↦ inr (Contains-append_left g.more (k ∷ []) j new') ] ];
-  marked = λ j c. elim (Contains-push_cases g.more k j c) [ inl old ↦ marked_after root marks' k j within' (g.marked j old) | inr e ↦ subst (λ n. IsMarked (slice_set marks' k root) root n) e (marked_there root marks' k within') ];
-  others = λ j inside other. elim (at_set marks' k root j within') [ inl here ↦ absurd (other here.1) | inr there ↦ there.1 ∙ g.others j inside (λ e. other (there.1 ∙ e)) ];
-  fewer = let once = one_fewer root marks' k within' isnt in let e = length-append g.more (k ∷ []) in omega (arith, once, e, g.fewer);
+  only_found = λ j m. elim (marked_before root marks' k j within' m) [
+    | inl e ↦ inr (subst (λ n. Contains (g.more ++ k ∷ []) n) (sym e) (Contains-push g.more k))
+    | inr before ↦ elim (g.only_found j before)
+        [ inl old ↦ inl old | inr new' ↦ inr (Contains-append_left g.more (k ∷ []) j new') ]
+  ];
+  marked = λ j c. elim (Contains-push_cases g.more k j c) [
+    | inl old ↦ marked_after root marks' k j within' (g.marked j old)
+    | inr e ↦ subst (λ n. IsMarked (slice_set marks' k root) root n) e (marked_there root marks' k within')
+  ];
+  others = λ j inside other. elim (at_set marks' k root j within')
+      [ inl here ↦ absurd (other here.1) | inr there ↦ there.1 ∙ g.others j inside (λ e. other (there.1 ∙ e)) ];
+  fewer = let once = one_fewer root marks' k within' isnt in let e = length-append g.more (k ∷ []) in
+      omega (arith, once, e, g.fewer);
 }
   where
     within' : k < length marks'
@@ -102,14 +136,17 @@ pub grows_more : (root : ℕ) (new marks marks' marks'' found found' found'' : L
     → i < length new
     → get_or new i 0 < length marks
     → (slice_index marks' (get_or new i 0) ≡ root → (marks'' ≡ marks') × (found'' ≡ found'))
-    → (slice_index marks' (get_or new i 0) ≢ root → (marks'' ≡ slice_set marks' (get_or new i 0) root) × (found'' ≡ found' ++ get_or new i 0 ∷ []))
+    → (slice_index marks' (get_or new i 0) ≢ root → (marks'' ≡ slice_set marks' (get_or new i 0) root)
+    × (found'' ≡ found' ++ get_or new i 0 ∷ []))
     → Grows root (take (i + 1) new) marks marks'' found found''
-grows_more root new marks marks' marks'' found found' found'' i g within inside again first = rw (take_more new i 0 within) (by (slice_index marks' (get_or new i 0) == root) refl)
+grows_more root new marks marks' marks'' found found' found'' i g within inside again first =
+    rw (take_more new i 0 within) (by (slice_index marks' (get_or new i 0) == root) refl)
   where
     k : ℕ
     k = get_or new i 0
 
-    by : (b : Bool) → (slice_index marks' (get_or new i 0) == root) ≡ b → Grows root (take i new ++ get_or new i 0 ∷ []) marks marks'' found found''
+    by : (b : Bool) → (slice_index marks' (get_or new i 0) == root) ≡ b
+        → Grows root (take i new ++ get_or new i 0 ∷ []) marks marks'' found found''
     by true e =
         let is = eqb-true _ _ e in
         let same = again is in
@@ -117,17 +154,21 @@ grows_more root new marks marks' marks'' found found' found'' i g within inside 
     by false e =
         let isnt : slice_index marks' (get_or new i 0) ≢ root = eqb-false _ _ e in
         let changed = first isnt in
-        rw (changed.0, changed.1) (grows_first root (take i new) marks marks' found found' (get_or new i 0) g inside isnt)
+        rw (changed.0, changed.1) (grows_first root (take i new) marks marks' found found' (get_or new i 0) g inside
+        isnt)
 
 -- ---- a search
 some_same : {A : Type 0} (x y : A) → Some x ≡ Some y → y ≡ x
 some_same x y e = cc
 
-pub searches_none : (graph : List (Vec ℕ Global)) (root : ℕ) (marks marks' found : List ℕ) → Grows root (root ∷ []) marks marks' [] found → All (λ mark. mark ≢ root) marks → Searches graph root marks marks' found 0
+pub searches_none : (graph : List (Vec ℕ Global)) (root : ℕ) (marks marks' found : List ℕ)
+    → Grows root (root ∷ []) marks marks' [] found → All (λ mark. mark ≢ root) marks
+    → Searches graph root marks marks' found 0
 searches_none graph root marks marks' found g fresh = record {
   long = g.long;
   within = omega arith;
-  begins = rw is (elim (g.only_found root (g.all_new root (0, omega arith, refl))) [ inl old ↦ absurd (unmarked_before root old) | inr new ↦ new ]);
+  begins = rw is (elim (g.only_found root (g.all_new root (0, omega arith, refl)))
+      [ inl old ↦ absurd (unmarked_before root old) | inr new ↦ new ]);
   sound = λ k c. subst (λ n. Reached (After graph) root n) (one_only k (g.only_new k (rw is at c))) itself;
   marked = λ k c. g.marked k (rw is at c);
   only = λ k m. rw is (elim (g.only_found k m) [ inl old ↦ absurd (unmarked_before k old) | inr new ↦ new ]);
@@ -144,15 +185,26 @@ searches_none graph root marks marks' found g fresh = record {
     one_only : (k : ℕ) → Contains (root ∷ []) k → root ≡ k
     one_only k c = elim (Contains-push_cases [] root k c) [ inl never ↦ absurd (nothing k never) | inr e ↦ e ]
 
-pub searches_on : (graph : List (Vec ℕ Global)) (root : ℕ) (marks marks' marks'' found found' : List ℕ) (at : ℕ) (row : Vec ℕ Global) → Searches graph root marks marks' found at → at < length found → slice_get graph (slice_index found at) ≡ Some row → Grows root row.items marks' marks'' found found' → Searches graph root marks marks'' found' (at + 1)
+pub searches_on : (graph : List (Vec ℕ Global)) (root : ℕ) (marks marks' marks'' found found' : List ℕ) (at : ℕ)
+    (row : Vec ℕ Global) → Searches graph root marks marks' found at → at < length found
+    → slice_get graph (slice_index found at) ≡ Some row → Grows root row.items marks' marks'' found found'
+    → Searches graph root marks marks'' found' (at + 1)
 searches_on graph root marks marks' marks'' found found' at row s within is g = record {
   long = g.long ∙ s.long;
   within = let e = length-append found g.more in omega (arith, e, ap length g.found_is);
   begins = onwards root s.begins;
-  sound = λ k c. elim (Contains-append_cases found g.more k (rw (g.found_is) at c)) [ inl old ↦ s.sound k old | inr new ↦ onward (slice_index found at) k (s.sound _ here) (row, is, g.only_new k new) ];
-  marked = λ k c. elim (Contains-append_cases found g.more k (rw (g.found_is) at c)) [ inl old ↦ g.kept k (s.marked k old) | inr new ↦ g.marked k new ];
-  only = λ k m. rw g.found_is (elim (g.only_found k m) [ inl old ↦ Contains-append_left found g.more k (s.only k old) | inr new ↦ Contains-append_right found g.more k new ]);
-  others = λ k inside other. g.others k (omega (arith, s.long)) other ∙ s.others k inside (λ e. other (g.others k (omega (arith, s.long)) other ∙ e));
+  sound = λ k c. elim (Contains-append_cases found g.more k (rw (g.found_is) at c)) [
+    | inl old ↦ s.sound k old
+    | inr new ↦ onward (slice_index found at) k (s.sound _ here) (row, is, g.only_new k new)
+  ];
+  marked = λ k c. elim (Contains-append_cases found g.more k (rw (g.found_is) at c))
+      [ inl old ↦ g.kept k (s.marked k old) | inr new ↦ g.marked k new ];
+  only = λ k m. rw g.found_is (elim (g.only_found k m) [
+    | inl old ↦ Contains-append_left found g.more k (s.only k old)
+    | inr new ↦ Contains-append_right found g.more k new
+  ]);
+  others = λ k inside other. g.others k (omega (arith, s.long)) other
+      ∙ s.others k inside (λ e. other (g.others k (omega (arith, s.long)) other ∙ e));
   closed = λ i below b after. by_place i b (i == at) refl below after;
 }
   where
@@ -165,35 +217,51 @@ searches_on graph root marks marks' marks'' found found' at row s within is g = 
     stays : (i : ℕ) → i < length found → slice_index found' i ≡ slice_index found i
     stays i inside = rw g.found_is (get_or_append_left found g.more 0 i inside)
 
-    by_place : (i b : ℕ) (t : Bool) → (i == at) ≡ t → i < at + 1 → After graph (slice_index found' i) b → Contains found' b
+    by_place : (i b : ℕ) (t : Bool) → (i == at) ≡ t → i < at + 1 → After graph (slice_index found' i) b
+        → Contains found' b
     by_place i b true e below after =
         let same = eqb-true i at e in
-        let a : After graph (slice_index found at) b = subst (λ n. After graph n b) (stays i (omega arith) ∙ ap (λ n. slice_index found n) same) after in
-        rw g.found_is (elim (g.only_found b (g.all_new b (subst (λ (r : Vec ℕ Global). Contains r.items b) (some_same row a.0 (sym is ∙ a.1)) a.2))) [ inl old ↦ Contains-append_left found g.more b (s.only b old) | inr new ↦ Contains-append_right found g.more b new ])
+        let a : After graph (slice_index found at) b =
+        subst (λ n. After graph n b) (stays i (omega arith) ∙ ap (λ n. slice_index found n) same) after in
+        rw g.found_is (elim (g.only_found b (g.all_new b
+        (subst (λ (r : Vec ℕ Global). Contains r.items b) (some_same row a.0 (sym is ∙ a.1)) a.2))) [
+          | inl old ↦ Contains-append_left found g.more b (s.only b old)
+          | inr new ↦ Contains-append_right found g.more b new
+        ])
     by_place i b false e below after =
         let apart = eqb-false i at e in
-        onwards b (s.closed i (omega (arith, apart)) b (subst (λ n. After graph n b) (stays i (omega (arith, apart))) after))
+        onwards b (s.closed i (omega (arith, apart)) b
+        (subst (λ n. After graph n b) (stays i (omega (arith, apart))) after))
 
-pub searches_end : (graph : List (Vec ℕ Global)) (root : ℕ) (marks marks' found : List ℕ) (at k : ℕ) → Searches graph root marks marks' found at → length found ≤ at → Reached (After graph) root k → Contains found k
+pub searches_end : (graph : List (Vec ℕ Global)) (root : ℕ) (marks marks' found : List ℕ) (at k : ℕ)
+    → Searches graph root marks marks' found at → length found ≤ at → Reached (After graph) root k → Contains found k
 searches_end graph root marks marks' found at k s done itself = s.begins
 searches_end graph root marks marks' found at k s done (onward a b r after) =
     let there = searches_end graph root marks marks' found at a s done r in
-    s.closed there.0 (omega (arith, there.1)) b (subst (λ n. After graph n b) (sym there.2 ∙ get_or_default found there.0 a 0 there.1) after)
+    s.closed there.0 (omega (arith, there.1)) b
+    (subst (λ n. After graph n b) (sym there.2 ∙ get_or_default found there.0 a 0 there.1) after)
 
 -- what is found stands in the table
-pub found_within : (graph : List (Vec ℕ Global)) (root : ℕ) (marks marks' found : List ℕ) (at x : ℕ) → Searches graph root marks marks' found at → at < length found → x ≡ get_or found at x → x < length marks
-found_within graph root marks marks' found at x s within is = let m = s.marked x (at, within, sym is) in omega (arith, m.0, s.long)
+pub found_within : (graph : List (Vec ℕ Global)) (root : ℕ) (marks marks' found : List ℕ) (at x : ℕ)
+    → Searches graph root marks marks' found at → at < length found → x ≡ get_or found at x → x < length marks
+found_within graph root marks marks' found at x s within is = let m = s.marked x (at, within, sym is) in
+    omega (arith, m.0, s.long)
 
-pub rows_within : (graph : List (Vec ℕ Global)) (n x : ℕ) (row : Vec ℕ Global) → InRange graph n → slice_get graph x ≡ Some row → All (λ b. b < n) row.items
-rows_within graph n x row all is = rw (get_or_from_slice_get graph x row row is) at (all x row (slice_get_within graph x row is))
+pub rows_within : (graph : List (Vec ℕ Global)) (n x : ℕ) (row : Vec ℕ Global) → InRange graph n
+    → slice_get graph x ≡ Some row → All (λ b. b < n) row.items
+rows_within graph n x row all is = rw (get_or_from_slice_get graph x row row is) at
+    (all x row (slice_get_within graph x row is))
 
-pub searches_step : (graph : List (Vec ℕ Global)) (root : ℕ) (marks marks' marks'' found found' items : List ℕ) (at x : ℕ) (row : Vec ℕ Global)
+pub searches_step : (graph : List (Vec ℕ Global)) (root : ℕ) (marks marks' marks'' found found' items : List ℕ)
+    (at x : ℕ) (row : Vec ℕ Global)
     → Searches graph root marks marks' found at → at < length found → length marks ≡ length graph
     → x ≡ get_or found at x → row ≡ get_or graph x row → items ≡ row.items
     → Grows root items marks' marks'' found found'
     → Searches graph root marks marks'' found' (at + 1)
 searches_step graph root marks marks' marks'' found found' items at x row s within long is there same g =
-    searches_on graph root marks marks' marks'' found found' at row s within (subst (λ n. slice_get graph n ≡ Some row) (is ∙ get_or_default found at x 0 within) got) (subst (λ new. Grows root new marks' marks'' found found') same g)
+    searches_on graph root marks marks' marks'' found found' at row s within
+    (subst (λ n. slice_get graph n ≡ Some row) (is ∙ get_or_default found at x 0 within) got)
+    (subst (λ new. Grows root new marks' marks'' found found') same g)
   where
     below : x < length graph
     below = let b = found_within graph root marks marks' found at x s within is in omega (arith, b, long)

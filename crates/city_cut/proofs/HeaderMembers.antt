@@ -10,25 +10,38 @@ use Rattle.city_feature.specs.Shapes.{IsArray, IsObject, WhereThere}
 use Rattle.city_cut.specs.Cut.{header_tree, without_appearance}
 use Rattle.city_cut.proofs.MemberChanges.{kept, left, own}
 
-without : (n : List ℕ) (templates : Option Tree) (document : Tree) → bytes_eq (codes "appearance") n ≡ false → member_of n (without_appearance templates document) ≡ member_of n document
+without : (n : List ℕ) (templates : Option Tree) (document : Tree) → bytes_eq (codes "appearance") n ≡ false
+    → member_of n (without_appearance templates document) ≡ member_of n document
 without n None document apart = left (codes "appearance") n document apart
 without n (Some templates) document apart = refl
 
 -- a member of another name stays
-pub other_member : (n : List ℕ) (document : Tree) → bytes_eq (codes "CityObjects") n ≡ false → bytes_eq (codes "vertices") n ≡ false → bytes_eq (codes "appearance") n ≡ false → member_of n (header_tree document) ≡ member_of n document
+pub other_member : (n : List ℕ) (document : Tree) → bytes_eq (codes "CityObjects") n ≡ false
+    → bytes_eq (codes "vertices") n ≡ false → bytes_eq (codes "appearance") n ≡ false
+    → member_of n (header_tree document) ≡ member_of n document
 other_member n document objects vertices appearance =
-    kept (codes "CityObjects") n (λ objects. object no_members) (changed_member (codes "vertices") (λ vertices. array no_items) bare) objects
-    ∙ (kept (codes "vertices") n (λ vertices. array no_items) bare vertices ∙ without n (member_of (codes "geometry-templates") document) document appearance)
+    kept (codes "CityObjects") n (λ objects. object no_members)
+    (changed_member (codes "vertices") (λ vertices. array no_items) bare) objects
+    ∙ (kept (codes "vertices") n (λ vertices. array no_items) bare vertices
+    ∙ without n (member_of (codes "geometry-templates") document) document appearance)
   where
     bare : Tree
     bare = without_appearance (member_of (codes "geometry-templates") document) document
 
-no_objects : (document : Tree) → member_of (codes "CityObjects") (header_tree document) ≡ option_map (λ objects. object no_members) (member_of (codes "CityObjects") (changed_member (codes "vertices") (λ vertices. array no_items) (without_appearance (member_of (codes "geometry-templates") document) document)))
-no_objects document = own (codes "CityObjects") (λ objects. object no_members) (changed_member (codes "vertices") (λ vertices. array no_items) (without_appearance (member_of (codes "geometry-templates") document) document))
+no_objects : (document : Tree) → member_of (codes "CityObjects") (header_tree document)
+    ≡ option_map (λ objects. object no_members)
+    (member_of (codes "CityObjects") (changed_member (codes "vertices") (λ vertices. array no_items)
+    (without_appearance (member_of (codes "geometry-templates") document) document)))
+no_objects document = own (codes "CityObjects") (λ objects. object no_members)
+    (changed_member (codes "vertices") (λ vertices. array no_items)
+    (without_appearance (member_of (codes "geometry-templates") document) document))
 
-no_vertices : (document : Tree) → member_of (codes "vertices") (header_tree document) ≡ option_map (λ vertices. array no_items) (member_of (codes "vertices") (without_appearance (member_of (codes "geometry-templates") document) document))
+no_vertices : (document : Tree) → member_of (codes "vertices") (header_tree document)
+    ≡ option_map (λ vertices. array no_items)
+    (member_of (codes "vertices") (without_appearance (member_of (codes "geometry-templates") document) document))
 no_vertices document =
-    kept (codes "CityObjects") (codes "vertices") (λ objects. object no_members) (changed_member (codes "vertices") (λ vertices. array no_items) bare) refl
+    kept (codes "CityObjects") (codes "vertices") (λ objects. object no_members)
+    (changed_member (codes "vertices") (λ vertices. array no_items) bare) refl
     ∙ own (codes "vertices") (λ vertices. array no_items) bare
   where
     bare : Tree
@@ -43,9 +56,15 @@ emptied_array None = tt
 emptied_array (Some value) = tt
 
 pub header_grid : (document : Tree) (grid : Grid) → HasGrid (header_tree document) grid → HasGrid document grid
-header_grid document grid has = (has.0, sym (other_member (codes "transform") document refl refl refl) ∙ has.1, has.2, has.3)
+header_grid document grid has = (
+  has.0,
+  sym (other_member (codes "transform") document refl refl refl) ∙ has.1,
+  has.2,
+  has.3,
+)
 
-pub is_header : (document : Tree) (grid : Grid) → IsCityJson document → IsVersion2 document → HasGrid document grid → IsHeader (header_tree document) grid
+pub is_header : (document : Tree) (grid : Grid) → IsCityJson document → IsVersion2 document → HasGrid document grid
+    → IsHeader (header_tree document) grid
 is_header document grid city_json version has = (
   (
     other_member (codes "type") document refl refl refl ∙ city_json.0,

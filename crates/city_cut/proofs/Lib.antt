@@ -2,6 +2,7 @@ pub mod Answered
 pub mod Assembly
 pub mod Checking
 pub mod Choosing
+mod CopiedTexts
 pub mod Copies
 pub mod FeatureList
 pub mod FeatureParts
@@ -11,9 +12,23 @@ pub mod Indices
 pub mod Kinship
 pub mod MemberChanges
 pub mod Numbers
+pub mod Pieces
+mod QuickCopies
+mod QuickDocuments
+mod QuickFeatures
+mod QuickHeaders
+mod QuickKin
+mod QuickObjects
+mod QuickPoints
+mod QuickTexts
+pub mod OwnVertices
 pub mod Renumbering
 pub mod SamePoints
 pub mod Seeking
+pub mod SpelledFeatures
+pub mod SpelledLengths
 pub mod Tables
 pub mod Trees
+mod TwoMembers
+pub mod Unspoilt
 pub mod WholeDocument

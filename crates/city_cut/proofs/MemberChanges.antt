@@ -8,51 +8,63 @@ use Rattle.city_feature.specs.Changes.{changed_member, changed_named, with_membe
 apart_by : (other m n : List ℕ) → bytes_eq m n ≡ false → bytes_eq other m ≡ true → bytes_eq other n ≡ false
 apart_by other m n apart e = ap (λ l. bytes_eq l n) ((bytes_eq-Decides other m).0 e) ∙ apart
 
-kept_named : (m n : List ℕ) (f : Tree → Tree) (ms : MemberTrees) → bytes_eq m n ≡ false → first_named n (changed_named m f ms) ≡ first_named n ms
+kept_named : (m n : List ℕ) (f : Tree → Tree) (ms : MemberTrees) → bytes_eq m n ≡ false
+    → first_named n (changed_named m f ms) ≡ first_named n ms
 kept_named m n f no_members apart = refl
 kept_named m n f (member other v os) apart = by (bytes_eq other m) refl (kept_named m n f os apart)
   where
-    by : (b : Bool) → bytes_eq other m ≡ b → first_named n (changed_named m f os) ≡ first_named n os → first_named n (changed_named m f (member other v os)) ≡ first_named n (member other v os)
+    by : (b : Bool) → bytes_eq other m ≡ b → first_named n (changed_named m f os) ≡ first_named n os
+        → first_named n (changed_named m f (member other v os)) ≡ first_named n (member other v os)
     by true e others = rw (e, apart_by other m n apart e) refl
     by false e others = rw e (ap (λ x. if bytes_eq other n then Some v else x) others)
 
-own_named : (m : List ℕ) (f : Tree → Tree) (ms : MemberTrees) → first_named m (changed_named m f ms) ≡ option_map f (first_named m ms)
+own_named : (m : List ℕ) (f : Tree → Tree) (ms : MemberTrees)
+    → first_named m (changed_named m f ms) ≡ option_map f (first_named m ms)
 own_named m f no_members = refl
 own_named m f (member other v os) = by (bytes_eq other m) refl (own_named m f os)
   where
-    by : (b : Bool) → bytes_eq other m ≡ b → first_named m (changed_named m f os) ≡ option_map f (first_named m os) → first_named m (changed_named m f (member other v os)) ≡ option_map f (first_named m (member other v os))
+    by : (b : Bool) → bytes_eq other m ≡ b → first_named m (changed_named m f os) ≡ option_map f (first_named m os)
+        → first_named m (changed_named m f (member other v os)) ≡ option_map f (first_named m (member other v os))
     by true e others = rw (e, e) refl
     by false e others = rw (e, e) others
 
-left_named : (m n : List ℕ) (ms : MemberTrees) → bytes_eq m n ≡ false → first_named n (without_named m ms) ≡ first_named n ms
+left_named : (m n : List ℕ) (ms : MemberTrees) → bytes_eq m n ≡ false
+    → first_named n (without_named m ms) ≡ first_named n ms
 left_named m n no_members apart = refl
 left_named m n (member other v os) apart = by (bytes_eq other m) refl (left_named m n os apart)
   where
-    by : (b : Bool) → bytes_eq other m ≡ b → first_named n (without_named m os) ≡ first_named n os → first_named n (without_named m (member other v os)) ≡ first_named n (member other v os)
+    by : (b : Bool) → bytes_eq other m ≡ b → first_named n (without_named m os) ≡ first_named n os
+        → first_named n (without_named m (member other v os)) ≡ first_named n (member other v os)
     by true e others = rw (e, apart_by other m n apart e) refl
     by false e others = rw e (ap (λ x. if bytes_eq other n then Some v else x) others)
 
-set_named : (m : List ℕ) (value : Tree) (ms : MemberTrees) → is_some (first_named m ms) ≡ true → with_named m value ms ≡ changed_named m (λ old. value) ms
+set_named : (m : List ℕ) (value : Tree) (ms : MemberTrees) → is_some (first_named m ms) ≡ true
+    → with_named m value ms ≡ changed_named m (λ old. value) ms
 set_named m value no_members there = cc
 set_named m value (member other v os) there = by (bytes_eq other m) refl (λ later. set_named m value os later)
   where
-    by : (b : Bool) → bytes_eq other m ≡ b → (is_some (first_named m os) ≡ true → with_named m value os ≡ changed_named m (λ old. value) os) → with_named m value (member other v os) ≡ changed_named m (λ old. value) (member other v os)
+    by : (b : Bool) → bytes_eq other m ≡ b → (is_some (first_named m os) ≡ true
+        → with_named m value os ≡ changed_named m (λ old. value) os)
+        → with_named m value (member other v os) ≡ changed_named m (λ old. value) (member other v os)
     by true e others = rw e refl
     by false e others = rw e (ap (member other v) (others (rw e at there)))
 
-no_named : (m : List ℕ) (f : Tree → Tree) (ms : MemberTrees) → is_some (first_named m ms) ≡ false → changed_named m f ms ≡ ms
+no_named : (m : List ℕ) (f : Tree → Tree) (ms : MemberTrees) → is_some (first_named m ms) ≡ false
+    → changed_named m f ms ≡ ms
 no_named m f no_members none = refl
 no_named m f (member other v os) none = by (bytes_eq other m) refl (λ later. no_named m f os later)
   where
     some_is_none : true ≡ false → ⊥
     some_is_none is = cc
 
-    by : (b : Bool) → bytes_eq other m ≡ b → (is_some (first_named m os) ≡ false → changed_named m f os ≡ os) → changed_named m f (member other v os) ≡ member other v os
+    by : (b : Bool) → bytes_eq other m ≡ b → (is_some (first_named m os) ≡ false → changed_named m f os ≡ os)
+        → changed_named m f (member other v os) ≡ member other v os
     by true e others = absurd (some_is_none (rw e at none))
     by false e others = rw e (ap (member other v) (others (rw e at none)))
 
 -- ---- the same of values
-pub kept : (m n : List ℕ) (f : Tree → Tree) (value : Tree) → bytes_eq m n ≡ false → member_of n (changed_member m f value) ≡ member_of n value
+pub kept : (m n : List ℕ) (f : Tree → Tree) (value : Tree) → bytes_eq m n ≡ false
+    → member_of n (changed_member m f value) ≡ member_of n value
 kept m n f (object ms) apart = kept_named m n f ms apart
 kept m n f null apart = refl
 kept m n f (boolean b) apart = refl
@@ -60,7 +72,8 @@ kept m n f (number text) apart = refl
 kept m n f (string text) apart = refl
 kept m n f (array items) apart = refl
 
-pub own : (m : List ℕ) (f : Tree → Tree) (value : Tree) → member_of m (changed_member m f value) ≡ option_map f (member_of m value)
+pub own : (m : List ℕ) (f : Tree → Tree) (value : Tree)
+    → member_of m (changed_member m f value) ≡ option_map f (member_of m value)
 own m f (object ms) = own_named m f ms
 own m f null = refl
 own m f (boolean b) = refl
@@ -68,7 +81,8 @@ own m f (number text) = refl
 own m f (string text) = refl
 own m f (array items) = refl
 
-pub left : (m n : List ℕ) (value : Tree) → bytes_eq m n ≡ false → member_of n (without_member m value) ≡ member_of n value
+pub left : (m n : List ℕ) (value : Tree) → bytes_eq m n ≡ false
+    → member_of n (without_member m value) ≡ member_of n value
 left m n (object ms) apart = left_named m n ms apart
 left m n null apart = refl
 left m n (boolean b) apart = refl
@@ -76,7 +90,8 @@ left m n (number text) apart = refl
 left m n (string text) apart = refl
 left m n (array items) apart = refl
 
-pub set_is_changed : (m : List ℕ) (new value : Tree) → is_some (member_of m value) ≡ true → with_member m new value ≡ changed_member m (λ old. new) value
+pub set_is_changed : (m : List ℕ) (new value : Tree) → is_some (member_of m value) ≡ true
+    → with_member m new value ≡ changed_member m (λ old. new) value
 set_is_changed m new (object ms) there = ap object (set_named m new ms there)
 set_is_changed m new null there = refl
 set_is_changed m new (boolean b) there = refl
@@ -84,7 +99,8 @@ set_is_changed m new (number text) there = refl
 set_is_changed m new (string text) there = refl
 set_is_changed m new (array items) there = refl
 
-pub none_is_unchanged : (m : List ℕ) (f : Tree → Tree) (value : Tree) → is_some (member_of m value) ≡ false → changed_member m f value ≡ value
+pub none_is_unchanged : (m : List ℕ) (f : Tree → Tree) (value : Tree) → is_some (member_of m value) ≡ false
+    → changed_member m f value ≡ value
 none_is_unchanged m f (object ms) none = ap object (no_named m f ms none)
 none_is_unchanged m f null none = refl
 none_is_unchanged m f (boolean b) none = refl
@@ -93,6 +109,9 @@ none_is_unchanged m f (string text) none = refl
 none_is_unchanged m f (array items) none = refl
 
 -- what setting a member that is there leaves
-pub set_answer : {A B : Type 0} (answer : Result A B) (m : List ℕ) (new given after before : Tree) → is_some (member_of m before) ≡ true → given ≡ new → OnOk answer (after ≡ with_member m given before) → OnOk answer (after ≡ changed_member m (λ old. new) before)
-set_answer (Ok done) m new given after before there same set = set ∙ (ap (λ t. with_member m t before) same ∙ set_is_changed m new before there)
+pub set_answer : {A B : Type 0} (answer : Result A B) (m : List ℕ) (new given after before : Tree)
+    → is_some (member_of m before) ≡ true → given ≡ new → OnOk answer (after ≡ with_member m given before)
+    → OnOk answer (after ≡ changed_member m (λ old. new) before)
+set_answer (Ok done) m new given after before there same set =
+    set ∙ (ap (λ t. with_member m t before) same ∙ set_is_changed m new before there)
 set_answer (Err fault) m new given after before there same set = tt

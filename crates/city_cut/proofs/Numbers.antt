@@ -28,21 +28,28 @@ pushed_label : (f : ℕ → ℕ) (ks : List ℕ) (k : ℕ) → map f (ks ++ k �
 pushed_label f [] k = refl
 pushed_label f (j ∷ ks) k = ap (λ l. f j ∷ l) (pushed_label f ks k)
 
-pub numbered_again : (uses table order : List ℕ) (v : ℕ) → AreNumbered uses table order → HasNumber table order v → AreNumbered (uses ++ v ∷ []) table order
+pub numbered_again : (uses table order : List ℕ) (v : ℕ) → AreNumbered uses table order → HasNumber table order v
+    → AreNumbered (uses ++ v ∷ []) table order
 numbered_again uses table order v all has = record {
   inside = all.inside;
   stands = all.stands;
-  known = λ k c. elim (Contains-push_cases uses v k c) [ inl old ↦ all.known k old | inr e ↦ subst (HasNumber table order) e has ];
-  in_order = rw (pushed_label (λ k. slice_index table k) uses v) (counts_old 0 (slice_index table v) (length order) (map (λ k. slice_index table k) uses) all.in_order has.0);
+  known = λ k c. elim (Contains-push_cases uses v k c)
+      [ inl old ↦ all.known k old | inr e ↦ subst (HasNumber table order) e has ];
+  in_order = rw (pushed_label (λ k. slice_index table k) uses v)
+      (counts_old 0 (slice_index table v) (length order) (map (λ k. slice_index table k) uses) all.in_order has.0);
 }
 
-pub numbered_new : (uses table order : List ℕ) (v : ℕ) → AreNumbered uses table order → v < length table → (HasNumber table order v → ⊥) → AreNumbered (uses ++ v ∷ []) (slice_set table v (length order)) (order ++ v ∷ [])
+pub numbered_new : (uses table order : List ℕ) (v : ℕ) → AreNumbered uses table order → v < length table
+    → (HasNumber table order v → ⊥) → AreNumbered (uses ++ v ∷ []) (slice_set table v (length order)) (order ++ v ∷ [])
 numbered_new uses table order v all within hasnt = record {
   inside = λ i below. inside_at i (i == length order) refl below;
   stands = λ i below. stands_at i (i == length order) refl below;
-  known = λ k c. elim (Contains-push_cases uses v k c) [ inl old ↦ known_old k old | inr e ↦ subst (HasNumber table' order') e known_new ];
+  known = λ k c. elim (Contains-push_cases uses v k c)
+      [ inl old ↦ known_old k old | inr e ↦ subst (HasNumber table' order') e known_new ];
   in_order = rw (pushed_label (λ k. slice_index table' k) uses v, more)
-      (subst (λ ks. CountsUp 0 (ks ++ slice_index table' v ∷ []) (length order + 1)) (same_labels (λ k. slice_index table k) (λ k. slice_index table' k) uses (λ k c. sym (other k (apart k c)))) (counts_new 0 (slice_index table' v) (length order) (map (λ k. slice_index table k) uses) all.in_order here));
+      (subst (λ ks. CountsUp 0 (ks ++ slice_index table' v ∷ []) (length order + 1))
+      (same_labels (λ k. slice_index table k) (λ k. slice_index table' k) uses (λ k c. sym (other k (apart k c))))
+      (counts_new 0 (slice_index table' v) (length order) (map (λ k. slice_index table k) uses) all.in_order here));
 }
   where
     table' : List ℕ
@@ -71,16 +78,19 @@ numbered_new uses table order v all within hasnt = record {
 
     inside_at : (i : ℕ) (b : Bool) → (i == length order) ≡ b → i < length order' → slice_index order' i < length table'
     inside_at i true e below = rw (eqb-true _ _ e, last) (omega (arith, within, length-set {A = ℕ}))
-    inside_at i false e below = let less : i < length order = omega (arith, eqb-false _ _ e, more) in rw (front i less) (omega (arith, all.inside i less, length-set {A = ℕ}))
+    inside_at i false e below = let less : i < length order = omega (arith, eqb-false _ _ e, more) in
+        rw (front i less) (omega (arith, all.inside i less, length-set {A = ℕ}))
 
     named_apart : (i : ℕ) → i < length order → slice_index order i ≢ v
     named_apart i below e =
         let at : slice_index table v ≡ i = subst (λ n. slice_index table n ≡ i) e (all.stands i below) in
         hasnt (omega (arith, at), ap (slice_index order) at ∙ e)
 
-    stands_at : (i : ℕ) (b : Bool) → (i == length order) ≡ b → i < length order' → slice_index table' (slice_index order' i) ≡ i
+    stands_at : (i : ℕ) (b : Bool) → (i == length order) ≡ b → i < length order'
+        → slice_index table' (slice_index order' i) ≡ i
     stands_at i true e below = rw (eqb-true _ _ e, last) here
-    stands_at i false e below = let less : i < length order = omega (arith, eqb-false _ _ e, more) in rw (front i less) (other (slice_index order i) (named_apart i less) ∙ all.stands i less)
+    stands_at i false e below = let less : i < length order = omega (arith, eqb-false _ _ e, more) in
+        rw (front i less) (other (slice_index order i) (named_apart i less) ∙ all.stands i less)
 
     known_old : (k : ℕ) → Contains uses k → HasNumber table' order' k
     known_old k c =

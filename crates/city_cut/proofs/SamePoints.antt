@@ -8,7 +8,8 @@ use Rattle.city_cut.specs.Leaves.{renumbered}
 use Rattle.city_cut.specs.Numbered.{AreNumbered}
 use Rattle.city_cut.specs.Points.{CountsUp, SamePoints}
 
-pub same_points : (points : List Triple) (objects : List (List ℕ × Tree)) (own : List Triple) (own_objects : List (List ℕ × Tree)) (table order : List ℕ)
+pub same_points : (points : List Triple) (objects : List (List ℕ × Tree)) (own : List Triple)
+    (own_objects : List (List ℕ × Tree)) (table order : List ℕ)
     → AreNumbered (uses objects) table order
     → own_objects ≡ relabelled_objects (renumbered (λ k. slice_index table k)) objects
     → length own ≡ length order

@@ -16,13 +16,15 @@ use Rattle.city_cut.proofs.Kinship.{names_long}
 use Rattle.city_cut.proofs.Tables.{names_map}
 use Rattle.city_cut.specs.declared.families.Family.{Family}
 
-pub zip_push : {A B : Type 0} (R : A → B → Type 0) (xs : List A) (ys : List B) (x : A) (y : B) → AllZip R xs ys → R x y → AllZip R (xs ++ x ∷ []) (ys ++ y ∷ [])
+pub zip_push : {A B : Type 0} (R : A → B → Type 0) (xs : List A) (ys : List B) (x : A) (y : B) → AllZip R xs ys → R x y
+    → AllZip R (xs ++ x ∷ []) (ys ++ y ∷ [])
 zip_push R [] [] x y all last = (last, all)
 zip_push R [] (b ∷ bs) x y all last = absurd all
 zip_push R (a ∷ as_) [] x y all last = absurd all
 zip_push R (a ∷ as_) (b ∷ bs) x y all last = (all.0, zip_push R as_ bs x y all.1 last)
 
-pub sought_on : (objects : MemberTrees) (ids : List (List ℕ)) (at : ℕ) (marks : List ℕ) (families : List Family) → HasSought objects ids at marks families → HasSought objects ids (at + 1) marks families
+pub sought_on : (objects : MemberTrees) (ids : List (List ℕ)) (at : ℕ) (marks : List ℕ) (families : List Family)
+    → HasSought objects ids at marks families → HasSought objects ids (at + 1) marks families
 sought_on objects ids at marks families s = record {
   long = s.long;
   fresh = λ i d below. elim (s.fresh i d below) [ inl none ↦ inl none | inr less ↦ inr (omega (arith, less)) ];
@@ -31,7 +33,8 @@ sought_on objects ids at marks families s = record {
   missed = s.missed;
 }
 
-pub sought_more : (objects : MemberTrees) (ids : List (List ℕ)) (at : ℕ) (marks marks' : List ℕ) (families families' : List Family) (family : Family)
+pub sought_more : (objects : MemberTrees) (ids : List (List ℕ)) (at : ℕ) (marks marks' : List ℕ)
+    (families families' : List Family) (family : Family)
     → HasSought objects ids at marks families
     → at < length (names objects)
     → family.root ≡ at
@@ -44,7 +47,8 @@ pub sought_more : (objects : MemberTrees) (ids : List (List ℕ)) (at : ℕ) (ma
 sought_more objects ids at marks marks' families families' family s inside root is long marked others pushed = record {
   long = long ∙ s.long;
   fresh = fresh;
-  begun = rw pushed (zip_push (Begins objects) ids families (name_at objects at) family s.begun (ap (name_at objects) root, subst (λ k. IsFamily objects k family.places.items) (sym root) is));
+  begun = rw pushed (zip_push (Begins objects) ids families (name_at objects at) family s.begun
+      (ap (name_at objects) root, subst (λ k. IsFamily objects k family.places.items) (sym root) is));
   found = λ k below isnt. found k below isnt (slice_index marks' k == at) refl;
   missed = missed;
 }
@@ -55,60 +59,95 @@ sought_more objects ids at marks marks' families families' family s inside root 
         here : get_or marks' i d ≡ slice_index marks' i
         here = get_or_default marks' i d 0 below
 
-        by : (b : Bool) → (slice_index marks' i == at) ≡ b → (get_or marks' i d ≡ length (names objects)) ⊎ (get_or marks' i d < at + 1)
+        by : (b : Bool) → (slice_index marks' i == at) ≡ b → (get_or marks' i d ≡ length (names objects))
+            ⊎ (get_or marks' i d < at + 1)
         by true e = let own = eqb-true _ _ e in inr (omega (arith, here, own))
         by false e =
             let old = others i (omega (arith, below, long)) (eqb-false _ _ e) in
             let first = get_or_default marks i d 0 (omega (arith, below, long)) in
-            elim (s.fresh i d (omega (arith, below, long))) [ inl none ↦ inl (here ∙ (old ∙ (sym first ∙ none))) | inr less ↦ inr (omega (arith, here, old, first, less)) ]
+            elim (s.fresh i d (omega (arith, below, long))) [
+              | inl none ↦ inl (here ∙ (old ∙ (sym first ∙ none)))
+              | inr less ↦ inr (omega (arith, here, old, first, less))
+            ]
 
-    found : (k : ℕ) → k < length (names objects) → slice_index marks' k ≢ length (names objects) → (b : Bool) → (slice_index marks' k == at) ≡ b → (id : List ℕ) × Contains (ids ++ name_at objects at ∷ []) id × IsReached objects id (name_at objects k)
-    found k below isnt true e = (name_at objects at, Contains-push ids (name_at objects at), (marked k (omega (arith, below, s.long))).0 (eqb-true _ _ e))
+    found : (k : ℕ) → k < length (names objects) → slice_index marks' k ≢ length (names objects) → (b : Bool)
+        → (slice_index marks' k == at) ≡ b → (id : List ℕ) × Contains (ids ++ name_at objects at ∷ []) id
+        × IsReached objects id (name_at objects k)
+    found k below isnt true e = (
+      name_at objects at,
+      Contains-push ids (name_at objects at),
+      (marked k (omega (arith, below, s.long))).0 (eqb-true _ _ e),
+    )
     found k below isnt false e =
         let old = others k (omega (arith, below, s.long)) (eqb-false _ _ e) in
         let there = s.found k below (λ none. isnt (old ∙ none)) in
         (there.0, Contains-append_left ids (name_at objects at ∷ []) there.0 there.1, there.2)
 
-    missed : (k : ℕ) → k < length (names objects) → slice_index marks' k ≡ length (names objects) → (id : List ℕ) → Contains (ids ++ name_at objects at ∷ []) id → IsReached objects id (name_at objects k) → ⊥
+    missed : (k : ℕ) → k < length (names objects) → slice_index marks' k ≡ length (names objects) → (id : List ℕ)
+        → Contains (ids ++ name_at objects at ∷ []) id → IsReached objects id (name_at objects k) → ⊥
     missed k below none id there far =
         let apart : slice_index marks' k ≢ at = (λ e. omega (arith, e, none, inside)) in
         let old = others k (omega (arith, below, s.long)) apart in
-        elim (Contains-push_cases ids (name_at objects at) id there) [ inl before ↦ s.missed k below (sym old ∙ none) id before far | inr own ↦ apart ((marked k (omega (arith, below, s.long))).1 (subst (λ i. IsReached objects i (name_at objects k)) (sym own) far)) ]
+        elim (Contains-push_cases ids (name_at objects at) id there) [
+          | inl before ↦ s.missed k below (sym old ∙ none) id before far
+          | inr own ↦ apart ((marked k (omega (arith, below, s.long))).1
+              (subst (λ i. IsReached objects i (name_at objects k)) (sym own) far))
+        ]
 
 -- ---- the objects that begin a feature
 abbrev pub begun_by : List ℕ × Tree → List (List ℕ)
 begun_by pair = if has_parents pair.1 then [] else pair.0 ∷ []
 
-pub roots_push : (pairs : List (List ℕ × Tree)) (pair : List ℕ × Tree) → roots (member_trees (pairs ++ pair ∷ [])) ≡ roots (member_trees pairs) ++ begun_by pair
+pub roots_push : (pairs : List (List ℕ × Tree)) (pair : List ℕ × Tree)
+    → roots (member_trees (pairs ++ pair ∷ [])) ≡ roots (member_trees pairs) ++ begun_by pair
 roots_push [] pair = by (has_parents pair.1) refl
   where
     by : (b : Bool) → has_parents pair.1 ≡ b → (if has_parents pair.1 then [] else pair.0 ∷ []) ≡ begun_by pair
     by b e = refl
 roots_push (first ∷ others) pair = by (has_parents first.1) refl (roots_push others pair)
   where
-    by : (b : Bool) → has_parents first.1 ≡ b → roots (member_trees (others ++ pair ∷ [])) ≡ roots (member_trees others) ++ begun_by pair → roots (member_trees (first ∷ (others ++ pair ∷ []))) ≡ roots (member_trees (first ∷ others)) ++ begun_by pair
+    by : (b : Bool) → has_parents first.1 ≡ b
+        → roots (member_trees (others ++ pair ∷ [])) ≡ roots (member_trees others) ++ begun_by pair
+        → roots (member_trees (first ∷ (others ++ pair ∷ []))) ≡ roots (member_trees (first ∷ others)) ++ begun_by pair
     by true e later = rw e later
     by false e later = rw e (ap (λ l. first.0 ∷ l) later)
 
-pub roots_more : (objects : List Member) (i : ℕ) (m : Member) → i < length objects → m ≡ get_or objects i m → roots (members_tree (take (i + 1) objects)) ≡ roots (members_tree (take i objects)) ++ begun_by (named_tree m)
-roots_more objects i m within at = rw (take_more objects i m within, map-append, ← at) (roots_push (map named_tree (take i objects)) (named_tree m))
+pub roots_more : (objects : List Member) (i : ℕ) (m : Member) → i < length objects → m ≡ get_or objects i m
+    → roots (members_tree (take (i + 1) objects)) ≡ roots (members_tree (take i objects)) ++ begun_by (named_tree m)
+roots_more objects i m within at = rw (take_more objects i m within, map-append, ← at)
+    (roots_push (map named_tree (take i objects)) (named_tree m))
 
-pub name_here : (objects : List Member) (i : ℕ) (m : Member) → i < length objects → m ≡ get_or objects i m → name_at (members_tree objects) i ≡ (named_tree m).0
+pub name_here : (objects : List Member) (i : ℕ) (m : Member) → i < length objects → m ≡ get_or objects i m
+    → name_at (members_tree objects) i ≡ (named_tree m).0
 name_here objects i m within at =
-    rw (names_map objects) (get_or_default (map (λ m. (named_tree m).0) objects) i [] (named_tree m).0 (omega (arith, within, length-map objects (λ m. (named_tree m).0))) ∙ (get_or-map (λ m. (named_tree m).0) objects i m ∙ ap (λ m. (named_tree m).0) (sym at)))
+    rw (names_map objects) (get_or_default (map (λ m. (named_tree m).0) objects) i [] (named_tree m).0
+    (omega (arith, within, length-map objects (λ m. (named_tree m).0)))
+    ∙ (get_or-map (λ m. (named_tree m).0) objects i m ∙ ap (λ m. (named_tree m).0) (sym at)))
 
-pub root_same : (objects : List Member) (i : ℕ) (m : Member) → i < length objects → m ≡ get_or objects i m → has_parents (named_tree m).1 ≡ true → roots (members_tree (take (i + 1) objects)) ≡ roots (members_tree (take i objects))
-root_same objects i m within at has = rw (roots_more objects i m within at, has) (append-nil (roots (members_tree (take i objects))))
+pub root_same : (objects : List Member) (i : ℕ) (m : Member) → i < length objects → m ≡ get_or objects i m
+    → has_parents (named_tree m).1 ≡ true → roots (members_tree (take (i + 1) objects))
+    ≡ roots (members_tree (take i objects))
+root_same objects i m within at has = rw (roots_more objects i m within at, has)
+    (append-nil (roots (members_tree (take i objects))))
 
-pub root_more : (objects : List Member) (i : ℕ) (m : Member) → i < length objects → m ≡ get_or objects i m → has_parents (named_tree m).1 ≡ false → roots (members_tree (take (i + 1) objects)) ≡ roots (members_tree (take i objects)) ++ name_at (members_tree objects) i ∷ []
-root_more objects i m within at has = rw (roots_more objects i m within at, has) (ap (λ n. roots (members_tree (take i objects)) ++ n ∷ []) (sym (name_here objects i m within at)))
+pub root_more : (objects : List Member) (i : ℕ) (m : Member) → i < length objects → m ≡ get_or objects i m
+    → has_parents (named_tree m).1 ≡ false → roots (members_tree (take (i + 1) objects))
+    ≡ roots (members_tree (take i objects)) ++ name_at (members_tree objects) i ∷ []
+root_more objects i m within at has = rw (roots_more objects i m within at, has)
+    (ap (λ n. roots (members_tree (take i objects)) ++ n ∷ []) (sym (name_here objects i m within at)))
 
 -- no mark is the place of the next object
-pub fresh_at : (objects : MemberTrees) (ids : List (List ℕ)) (at : ℕ) (marks : List ℕ) (families : List Family) → HasSought objects ids at marks families → at < length (names objects) → All (λ mark. mark ≢ at) marks
-fresh_at objects ids at marks families s inside = λ i d below e. elim (s.fresh i d below) [ inl none ↦ omega (arith, none, e, inside) | inr less ↦ omega (arith, less, e) ]
+pub fresh_at : (objects : MemberTrees) (ids : List (List ℕ)) (at : ℕ) (marks : List ℕ) (families : List Family)
+    → HasSought objects ids at marks families → at < length (names objects) → All (λ mark. mark ≢ at) marks
+fresh_at objects ids at marks families s inside =
+    λ i d below e. elim (s.fresh i d below) [
+      | inl none ↦ omega (arith, none, e, inside)
+      | inr less ↦ omega (arith, less, e)
+    ]
 
 -- ---- before the first object, and after the last
-pub sought_none : (objects : MemberTrees) (marks : List ℕ) → length marks ≡ length (names objects) → All (λ mark. mark ≡ length (names objects)) marks → HasSought objects [] 0 marks []
+pub sought_none : (objects : MemberTrees) (marks : List ℕ) → length marks ≡ length (names objects)
+    → All (λ mark. mark ≡ length (names objects)) marks → HasSought objects [] 0 marks []
 sought_none objects marks long unmarked = record {
   long = long;
   fresh = λ i d below. inl (unmarked i d below);
@@ -120,15 +159,27 @@ sought_none objects marks long unmarked = record {
 name_of_index : (objects : MemberTrees) (name : List ℕ) (c : Contains (names objects) name) → name_at objects c.0 ≡ name
 name_of_index objects name c = get_or_default (names objects) c.0 [] name c.1 ∙ c.2
 
-pub all_belong : (objects : MemberTrees) (ids : List (List ℕ)) (at : ℕ) (marks : List ℕ) (families : List Family) → HasSought objects ids at marks families → ids ≡ roots objects → ((k : ℕ) → k < length marks → slice_index marks k ≢ length (names objects)) → AllBelong objects
+pub all_belong : (objects : MemberTrees) (ids : List (List ℕ)) (at : ℕ) (marks : List ℕ) (families : List Family)
+    → HasSought objects ids at marks families → ids ≡ roots objects
+    → ((k : ℕ) → k < length marks → slice_index marks k ≢ length (names objects)) → AllBelong objects
 all_belong objects ids at marks families s whole none = λ name c.
-    let there = s.found c.0 c.1 (none c.0 (omega (arith, c.1, s.long))) in
-    (there.0, subst (λ l. Contains l there.0) whole there.1, subst (IsReached objects there.0) (name_of_index objects name c) there.2)
+    let there = s.found c.0 c.1 (none c.0 (omega (arith, c.1, s.long))) in (
+      there.0,
+      subst (λ l. Contains l there.0) whole there.1,
+      subst (IsReached objects there.0) (name_of_index objects name c) there.2,
+    )
 
-pub has_orphan : (objects : MemberTrees) (ids : List (List ℕ)) (at : ℕ) (marks : List ℕ) (families : List Family) (k : ℕ) → HasSought objects ids at marks families → ids ≡ roots objects → k < length marks → slice_index marks k ≡ length (names objects) → HasOrphan objects
+pub has_orphan : (objects : MemberTrees) (ids : List (List ℕ)) (at : ℕ) (marks : List ℕ) (families : List Family)
+    (k : ℕ) → HasSought objects ids at marks families → ids ≡ roots objects → k < length marks
+    → slice_index marks k ≡ length (names objects) → HasOrphan objects
 has_orphan objects ids at marks families k s whole below is = (
   name_at objects k,
-  (k, omega (arith, below, s.long), get_or_default (names objects) k (name_at objects k) [] (omega (arith, below, s.long))),
+  (
+    k,
+    omega (arith, below, s.long),
+    get_or_default (names objects) k (name_at objects k) []
+        (omega (arith, below, s.long)),
+  ),
   λ id c. s.missed k (omega (arith, below, s.long)) is id (subst (λ l. Contains l id) (sym whole) c),
 )
 
@@ -137,25 +188,33 @@ replicated zero x i d below = absurd (omega (arith, below))
 replicated (suc n) x zero d below = refl
 replicated (suc n) x (suc i) d below = replicated n x i d (omega (arith, below))
 
-pub sought_start : (objects : List Member) (n : ℕ) (marks : List ℕ) (families : List Family) → n ≡ length objects → marks ≡ replicate n n → families ≡ [] → HasSought (members_tree objects) [] 0 marks families
+pub sought_start : (objects : List Member) (n : ℕ) (marks : List ℕ) (families : List Family) → n ≡ length objects
+    → marks ≡ replicate n n → families ≡ [] → HasSought (members_tree objects) [] 0 marks families
 sought_start objects n marks families count all none =
     let long : length marks ≡ n = ap length all ∙ length-replicate n n in
-    rw none (sought_none (members_tree objects) marks (omega (arith, long, count, names_long objects)) (λ i d below. ap (λ l. get_or l i d) all ∙ (replicated n n i d (omega (arith, below, long)) ∙ omega (arith, count, names_long objects))))
+    rw none (sought_none (members_tree objects) marks (omega (arith, long, count, names_long objects))
+    (λ i d below. ap (λ l. get_or l i d) all
+    ∙ (replicated n n i d (omega (arith, below, long)) ∙ omega (arith, count, names_long objects))))
 
 -- ---- the test for a mark
-pub any_marked : (n : ℕ) (marks : List ℕ) → list_any (λ mark. nat_eq mark n) marks ≡ true → (k : ℕ) × (k < length marks) × (slice_index marks k ≡ n)
+pub any_marked : (n : ℕ) (marks : List ℕ) → list_any (λ mark. nat_eq mark n) marks ≡ true → (k : ℕ) × (k < length marks)
+    × (slice_index marks k ≡ n)
 any_marked n [] found = cc
 any_marked n (m ∷ ms) found = by (nat_eq m n) refl (λ later. any_marked n ms later)
   where
-    by : (b : Bool) → nat_eq m n ≡ b → (list_any (λ mark. nat_eq mark n) ms ≡ true → (k : ℕ) × (k < length ms) × (slice_index ms k ≡ n)) → (k : ℕ) × (k < length (m ∷ ms)) × (slice_index (m ∷ ms) k ≡ n)
+    by : (b : Bool) → nat_eq m n ≡ b → (list_any (λ mark. nat_eq mark n) ms ≡ true → (k : ℕ) × (k < length ms)
+        × (slice_index ms k ≡ n)) → (k : ℕ) × (k < length (m ∷ ms)) × (slice_index (m ∷ ms) k ≡ n)
     by true e later = (0, omega arith, eqb-true m n e)
     by false e later = let there = later (rw e at found) in (suc there.0, omega (arith, there.1), there.2)
 
-pub none_marked : (n : ℕ) (marks : List ℕ) → list_any (λ mark. nat_eq mark n) marks ≡ false → (k : ℕ) → k < length marks → slice_index marks k ≢ n
+pub none_marked : (n : ℕ) (marks : List ℕ) → list_any (λ mark. nat_eq mark n) marks ≡ false → (k : ℕ) → k < length marks
+    → slice_index marks k ≢ n
 none_marked n [] none k below = absurd (omega (arith, below))
 none_marked n (m ∷ ms) none k below = by (nat_eq m n) refl k below (λ later j inside. none_marked n ms later j inside)
   where
-    by : (b : Bool) → nat_eq m n ≡ b → (k : ℕ) → k < length (m ∷ ms) → (list_any (λ mark. nat_eq mark n) ms ≡ false → (j : ℕ) → j < length ms → slice_index ms j ≢ n) → slice_index (m ∷ ms) k ≢ n
+    by : (b : Bool) → nat_eq m n ≡ b → (k : ℕ) → k < length (m ∷ ms)
+        → (list_any (λ mark. nat_eq mark n) ms ≡ false → (j : ℕ) → j < length ms → slice_index ms j ≢ n)
+        → slice_index (m ∷ ms) k ≢ n
     by true e k below later = absurd (clash (rw e at none))
       where
         clash : true ≡ false → ⊥

@@ -14,14 +14,15 @@ use Rattle.city_grid.specs.Axes.{Triple}
 use Rattle.city_feature.specs.Feature.{AreVertices, FeatureValue, item_count}
 use Rattle.city_cut.specs.Boundaries.{IsBounded}
 use Rattle.city_cut.specs.CityObjects.{AllBelong, HasOrphan, IsReached, LacksChild, objects_of, roots, vertices_of}
-use Rattle.city_cut.specs.Cut.{AreBounded, AreFeatures, HasFeatures, IsCuttable, IsOnGrid, RefusesCut}
+use Rattle.city_cut.specs.Cut.{AreBounded, AreFeatures, HasFeatures, IsCuttable, HasValidVertices, RefusesCut}
 use Rattle.city_cut.specs.Families.{RefusesFamilies}
 use Rattle.city_cut.specs.Items.{members_in, values}
 use Rattle.city_cut.proofs.FeatureList.{all_bounded}
 use Rattle.city_cut.proofs.Kinship.{first_at}
 use Rattle.city_cut.proofs.Renumbering.{distinct_member}
 
-distinct_in : (there : Option Tree) → ((inner : Tree) → there ≡ Some inner → IsDistinct inner) → IsDistinct (object (members_in there))
+distinct_in : (there : Option Tree) → ((inner : Tree) → there ≡ Some inner → IsDistinct inner)
+    → IsDistinct (object (members_in there))
 distinct_in None all = (tt, tt)
 distinct_in (Some (object members)) all = all (object members) refl
 distinct_in (Some null) all = (tt, tt)
@@ -31,7 +32,8 @@ distinct_in (Some (string text)) all = (tt, tt)
 distinct_in (Some (array items)) all = (tt, tt)
 
 pub distinct_objects : (document : Tree) → IsDistinct document → IsDistinct (object (objects_of document))
-distinct_objects document distinct = distinct_in (member_of (codes "CityObjects") document) (λ inner is. distinct_member (codes "CityObjects") document inner distinct is)
+distinct_objects document distinct = distinct_in (member_of (codes "CityObjects") document)
+    (λ inner is. distinct_member (codes "CityObjects") document inner distinct is)
 
 pub counted : (values : List Json) → item_count (items_tree values) ≡ length values
 counted [] = refl
@@ -42,60 +44,100 @@ no_orphan objects belong orphan =
     let there = belong orphan.0 orphan.1 in
     orphan.2 there.0 there.1 there.2
 
-pub families_refused : (document : Tree) (fault : Fault) → IsOnGrid document → RefusesFamilies fault (objects_of document) → RefusesCut fault document
+pub families_refused : (document : Tree) (fault : Fault) → HasValidVertices document
+    → RefusesFamilies fault (objects_of document) → RefusesCut fault document
 families_refused document ChildMissing grid refused = (grid, refused)
 families_refused document Orphan grid refused = (grid, refused.0, refused.1)
 families_refused document Memory grid refused = grid
 families_refused document other grid refused = absurd refused
 
-pub features_refused : (document : Tree) (fault : Fault) → IsOnGrid document → (LacksChild (objects_of document) → ⊥) → AllBelong (objects_of document) → (fault ≡ Memory) ⊎ ((fault ≡ BoundaryIndex) × (AreBounded document → ⊥)) → RefusesCut fault document
+pub features_refused : (document : Tree) (fault : Fault) → HasValidVertices document
+    → (LacksChild (objects_of document) → ⊥) → AllBelong (objects_of document) → (fault ≡ Memory)
+    ⊎ ((fault ≡ BoundaryIndex) × (AreBounded document → ⊥)) → RefusesCut fault document
 features_refused document fault grid lacks belong (inl memory) = subst (λ f. RefusesCut f document) (sym memory) grid
-features_refused document fault grid lacks belong (inr wrong) = subst (λ f. RefusesCut f document) (sym wrong.0) (grid, lacks, no_orphan (objects_of document) belong, wrong.1)
+features_refused document fault grid lacks belong (inr wrong) =
+    subst (λ f. RefusesCut f document) (sym wrong.0) (grid, lacks, no_orphan (objects_of document) belong, wrong.1)
 
-pub cuttable : (document : Tree) → IsDistinct document → IsOnGrid document → (LacksChild (objects_of document) → ⊥) → AllBelong (objects_of document)
-    → ((id name : List ℕ) (value : Tree) → Contains (roots (objects_of document)) id → IsReached (objects_of document) id name → first_named name (objects_of document) ≡ Some value → IsBounded (item_count (vertices_of document)) value)
+pub cuttable : (document : Tree) → IsDistinct document → HasValidVertices document
+    → (LacksChild (objects_of document) → ⊥) → AllBelong (objects_of document)
+    → ((id name : List ℕ) (value : Tree) → Contains (roots (objects_of document)) id
+    → IsReached (objects_of document) id name → first_named name (objects_of document) ≡ Some value
+    → IsBounded (item_count (vertices_of document)) value)
     → IsCuttable document
-cuttable document distinct grid lacks belong bounded =
-    (grid, lacks, no_orphan (objects_of document) belong, all_bounded (item_count (vertices_of document)) (objects_of document) belong bounded named)
+cuttable document distinct grid lacks belong bounded = (
+  grid,
+  lacks,
+  no_orphan (objects_of document) belong,
+  all_bounded (item_count (vertices_of document)) (objects_of document) belong bounded named,
+)
   where
     long : (ms : MemberTrees) → length (values ms) ≡ length (names ms)
     long no_members = refl
     long (member n v os) = let e = long os in omega (arith, e)
 
-    named : (k : ℕ) (name : List ℕ) (value : Tree) → get_or (names (objects_of document)) k name ≡ name → k < length (names (objects_of document)) → get_or (values (objects_of document)) k value ≡ value → first_named name (objects_of document) ≡ Some value
+    named : (k : ℕ) (name : List ℕ) (value : Tree) → get_or (names (objects_of document)) k name ≡ name
+        → k < length (names (objects_of document)) → get_or (values (objects_of document)) k value ≡ value
+        → first_named name (objects_of document) ≡ Some value
     named k name value at below is =
         first_at (objects_of document) k name value (distinct_objects document distinct).0
         (slice_get-get_or (names (objects_of document)) k name below ∙ ap Some at)
-        (slice_get-get_or (values (objects_of document)) k value (omega (arith, below, long (objects_of document))) ∙ ap Some is)
+        (slice_get-get_or (values (objects_of document)) k value (omega (arith, below, long (objects_of document)))
+        ∙ ap Some is)
 
 -- ---- of the objects and vertices that the code has
 abbrev pub Bounds : ℕ → MemberTrees → Type 0
-Bounds count objects = (id name : List ℕ) (value : Tree) → Contains (roots objects) id → IsReached objects id name → first_named name objects ≡ Some value → IsBounded count value
+Bounds count objects = (id name : List ℕ) (value : Tree) → Contains (roots objects) id → IsReached objects id name
+    → first_named name objects ≡ Some value → IsBounded count value
 
-module _ (document : Tree) (objects : List Member) (vertices : List Json) (are_objects : members_tree objects ≡ objects_of document) (are_vertices : items_tree vertices ≡ vertices_of document) where
+module _ (document : Tree) (objects : List Member) (vertices : List Json)
+    (are_objects : members_tree objects ≡ objects_of document)
+    (are_vertices : items_tree vertices ≡ vertices_of document) where
   count : length vertices ≡ item_count (vertices_of document)
   count = sym (counted vertices) ∙ ap item_count are_vertices
 
-  pub has_features_of : (appearance : Option Tree) (features : List FeatureValue) → appearance ≡ member_of (codes "appearance") document → IsOnGrid document → AllBelong (members_tree objects) → ((points : List Triple) → AreVertices (items_tree vertices) points → AreFeatures (members_tree objects) appearance points features) → HasFeatures document features
+  pub has_features_of : (appearance : Option Tree) (features : List FeatureValue)
+      → appearance ≡ member_of (codes "appearance") document → HasValidVertices document
+      → AllBelong (members_tree objects) → ((points : List Triple) → AreVertices (items_tree vertices) points
+      → AreFeatures (members_tree objects) appearance points features) → HasFeatures document features
   has_features_of appearance features is grid belong made =
       let points = grid.1.0 in (
-        (points, grid.1.1, subst (λ a. AreFeatures (objects_of document) a points features) is (subst (λ ms. AreFeatures ms appearance points features) are_objects (made points (subst (λ vs. AreVertices vs points) (sym are_vertices) grid.1.1)))),
+        (
+          points,
+          grid.1.1,
+          subst (λ a. AreFeatures (objects_of document) a points features) is
+              (subst (λ ms. AreFeatures ms appearance points features) are_objects
+              (made points (subst (λ vs. AreVertices vs points) (sym are_vertices) grid.1.1))),
+        ),
         subst AllBelong are_objects belong,
       )
 
-  pub is_cuttable : IsDistinct document → IsOnGrid document → (LacksChild (members_tree objects) → ⊥) → AllBelong (members_tree objects)
-      → ((id name : List ℕ) (value : Tree) → Contains (roots (members_tree objects)) id → IsReached (members_tree objects) id name → first_named name (members_tree objects) ≡ Some value → IsBounded (length vertices) value)
+  pub is_cuttable : IsDistinct document → HasValidVertices document → (LacksChild (members_tree objects) → ⊥)
+      → AllBelong (members_tree objects)
+      → ((id name : List ℕ) (value : Tree) → Contains (roots (members_tree objects)) id
+      → IsReached (members_tree objects) id name → first_named name (members_tree objects) ≡ Some value
+      → IsBounded (length vertices) value)
       → IsCuttable document
   is_cuttable distinct grid lacks belong bounded =
-      cuttable document distinct grid (subst (λ ms. LacksChild ms → ⊥) are_objects lacks) (subst AllBelong are_objects belong)
+      cuttable document distinct grid (subst (λ ms. LacksChild ms → ⊥) are_objects lacks)
+      (subst AllBelong are_objects belong)
       (subst (λ n. Bounds n (objects_of document)) count (subst (Bounds (length vertices)) are_objects bounded))
 
-  pub is_refused : (fault : Fault) → IsOnGrid document → (LacksChild (members_tree objects) → ⊥) → AllBelong (members_tree objects)
-      → ((points : List Triple) → AreVertices (items_tree vertices) points → (fault ≡ Memory) ⊎ ((fault ≡ BoundaryIndex) × (AllByRecursion (IsBounded (length vertices)) (values (members_tree objects)) → ⊥)))
+  pub is_refused : (fault : Fault) → HasValidVertices document → (LacksChild (members_tree objects) → ⊥)
+      → AllBelong (members_tree objects)
+      → ((points : List Triple) → AreVertices (items_tree vertices) points → (fault ≡ Memory)
+      ⊎ ((fault ≡ BoundaryIndex) × (AllByRecursion (IsBounded (length vertices)) (values (members_tree objects))
+      → ⊥)))
       → RefusesCut fault document
   is_refused fault grid lacks belong refused =
-      features_refused document fault grid (subst (λ ms. LacksChild ms → ⊥) are_objects lacks) (subst AllBelong are_objects belong)
+      features_refused document fault grid (subst (λ ms. LacksChild ms → ⊥) are_objects lacks)
+      (subst AllBelong are_objects belong)
       (elim (refused grid.1.0 (subst (λ vs. AreVertices vs grid.1.0) (sym are_vertices) grid.1.1)) [
         | inl memory ↦ inl memory
-        | inr wrong ↦ inr (wrong.0, λ all. wrong.1 (subst (λ n. AllByRecursion (IsBounded n) (values (members_tree objects))) (sym count) (subst (λ ms. AllByRecursion (IsBounded (item_count (vertices_of document))) (values ms)) (sym are_objects) all)))
+        | inr wrong ↦ inr (
+          wrong.0,
+          λ all. wrong.1
+              (subst (λ n. AllByRecursion (IsBounded n) (values (members_tree objects))) (sym count)
+              (subst (λ ms. AllByRecursion (IsBounded (item_count (vertices_of document))) (values ms)) (sym are_objects)
+              all)),
+        )
       ])

@@ -85,8 +85,8 @@ abbrev pub HasFrame : Tree → Type 0
 HasFrame document = IsDocument document × IsVersion2 document × ((grid : Grid) × HasGrid document grid)
 
 -- and its vertices are valid
-abbrev pub IsOnGrid : Tree → Type 0
-IsOnGrid document = HasFrame document × ((points : List Triple) × AreVertices (vertices_of document) points)
+abbrev pub HasValidVertices : Tree → Type 0
+HasValidVertices document = HasFrame document × ((points : List Triple) × AreVertices (vertices_of document) points)
 
 -- each boundary is a nested array of the numbers of vertices
 abbrev pub AreBounded : Tree → Type 0
@@ -95,14 +95,14 @@ AreBounded document = AllByRecursion (IsBounded (item_count (vertices_of documen
 -- nothing of it is refused
 abbrev pub IsCuttable : Tree → Type 0
 IsCuttable document =
-    IsOnGrid document × (¬ LacksChild (objects_of document)) × (¬ HasOrphan (objects_of document)) × AreBounded document
+    HasValidVertices document × (¬ LacksChild (objects_of document)) × (¬ HasOrphan (objects_of document)) × AreBounded document
 
-abbrev pub HasBadTransform : Fault → Tree → Type 0
-HasBadTransform fault document =
+abbrev pub RefusesFrame : Fault → Tree → Type 0
+RefusesFrame fault document =
     IsDocument document × IsVersion2 document × RefusesGrid fault (member_of (codes "transform") document)
 
-abbrev pub HasBadVertex : Fault → Tree → Type 0
-HasBadVertex fault document = HasFrame document × RefusesFirst fault (vertices_of document)
+abbrev pub RefusesVertices : Fault → Tree → Type 0
+RefusesVertices fault document = HasFrame document × RefusesFirst fault (vertices_of document)
 
 -- why a document is not cut: it is no CityJSON object with city objects; or it is one of another version; or its
 -- transform is missing, malformed or outside the profile; or of its vertices the first that is at fault is at this one;
@@ -110,15 +110,15 @@ HasBadVertex fault document = HasFrame document × RefusesFirst fault (vertices_
 abbrev pub RefusesCut : Fault → Tree → Type 0
 RefusesCut NotCityJson document = ¬ IsDocument document
 RefusesCut Version document = IsDocument document × ¬ IsVersion2 document
-RefusesCut NoTransform document = HasBadTransform NoTransform document
-RefusesCut Decimal document = HasBadTransform Decimal document
-RefusesCut ScaleNotPositive document = HasBadTransform ScaleNotPositive document
-RefusesCut VertexShape document = HasBadVertex VertexShape document
-RefusesCut VertexNotInteger document = HasBadVertex VertexNotInteger document
-RefusesCut VertexRange document = HasBadVertex VertexRange document
-RefusesCut ChildMissing document = IsOnGrid document × LacksChild (objects_of document)
-RefusesCut Orphan document = IsOnGrid document × (¬ LacksChild (objects_of document)) × HasOrphan (objects_of document)
+RefusesCut NoTransform document = RefusesFrame NoTransform document
+RefusesCut Decimal document = RefusesFrame Decimal document
+RefusesCut ScaleNotPositive document = RefusesFrame ScaleNotPositive document
+RefusesCut VertexShape document = RefusesVertices VertexShape document
+RefusesCut VertexNotInteger document = RefusesVertices VertexNotInteger document
+RefusesCut VertexRange document = RefusesVertices VertexRange document
+RefusesCut ChildMissing document = HasValidVertices document × LacksChild (objects_of document)
+RefusesCut Orphan document = HasValidVertices document × (¬ LacksChild (objects_of document)) × HasOrphan (objects_of document)
 RefusesCut BoundaryIndex document =
-    IsOnGrid document × (¬ LacksChild (objects_of document)) × (¬ HasOrphan (objects_of document)) × ¬ AreBounded document
-RefusesCut Memory document = IsOnGrid document
+    HasValidVertices document × (¬ LacksChild (objects_of document)) × (¬ HasOrphan (objects_of document)) × ¬ AreBounded document
+RefusesCut Memory document = HasValidVertices document
 RefusesCut other document = ⊥

@@ -10,17 +10,17 @@ IsIndex count text = (k : ℕ) × (k < count) × (text ≡ decimal k)
 
 -- a number of such a text, or a nested array of them
 abbrev mutual
-  pub IsPart : ℕ → Tree → Type 0
-  IsPart count (number text) = IsIndex count text
-  IsPart count (array items) = AreParts count items
-  IsPart count other = ⊥
+  pub IsNested : ℕ → Tree → Type 0
+  IsNested count (number text) = IsIndex count text
+  IsNested count (array items) = AreNested count items
+  IsNested count other = ⊥
 
-  pub AreParts : ℕ → ItemTrees → Type 0
-  AreParts count no_items = Unit {0}
-  AreParts count (item value others) = IsPart count value × AreParts count others
+  pub AreNested : ℕ → ItemTrees → Type 0
+  AreNested count no_items = Unit {0}
+  AreNested count (item value others) = IsNested count value × AreNested count others
 
 abbrev pub IsBoundary : ℕ → Tree → Type 0
-IsBoundary count (array items) = AreParts count items
+IsBoundary count (array items) = AreNested count items
 IsBoundary count other = ⊥
 
 -- the numbers that stand in it, read from left to right

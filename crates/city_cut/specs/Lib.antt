@@ -2,9 +2,15 @@ pub mod Assembled
 pub mod Boundaries
 pub mod Chosen
 pub mod CityObjects
+pub mod Copied
 pub mod Cut
 pub mod Families
+pub mod FeatureText
+pub mod HeaderText
+pub mod HeldTexts
+pub mod Holders
 pub mod Items
+pub mod Kin
 pub mod Leaves
 pub mod Lines
 pub mod Numbered
@@ -14,3 +20,5 @@ pub mod Reach
 pub mod Relabelling
 pub mod Search
 pub mod Table
+pub mod Texts
+pub mod VertexTexts

@@ -1,4 +1,5 @@
-use byte_streams::{Line, Sequence};
+use crate::held::FeatureTexts;
+use byte_streams::Sequence;
 use city_feature::{Feature, Header};
 
 /// The features of a document, in the order of the city objects that begin them.
@@ -13,10 +14,8 @@ pub struct Cut {
 
 /// A document that was cut, its features written out.
 #[derive(Debug, Drop)]
-pub struct CutLines {
+pub struct CutTexts {
     pub header: Header,
-    /// The lines of the features, in their order: the compact text of each, and a newline.
-    pub lines: Line,
-    /// How many features there are.
-    pub count: u64,
+    /// The compact text of each feature, in their order.
+    pub texts: FeatureTexts,
 }

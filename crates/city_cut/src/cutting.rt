@@ -4,25 +4,27 @@ ghost use Rattle.city_json.specs.Tree.{tree};
 ghost use Rattle.city_feature.specs.Feature.{FeatureValue};
 ghost use Rattle.city_feature.specs.Values.{feature_value, header_value};
 ghost use Rattle.city_cut.specs.Cut.{HasFeatures, IsCut, IsCuttable, RefusesCut};
-ghost use Rattle.city_cut.specs.Lines.{lines_of};
+ghost use Rattle.city_cut.specs.HeldTexts.{texts_in};
+ghost use Rattle.city_cut.specs.Lines.{texts_of};
 
-use crate::cuts::{Cut, CutLines};
+use crate::cuts::{Cut, CutTexts};
 use crate::documents::check_document;
 use crate::families::families;
 use crate::features::keep_features;
 use crate::headers::document_header;
-use crate::keeping::Keep;
+use crate::held::FeatureTexts;
+use crate::keeping::{Keep, OpenTexts};
 use crate::values::{items_named, members_named};
 use byte_streams::{Fault, Line, Sequence};
 use city_json::Json;
 use std::alloc::Global;
 
-/// Keeps the features of a document, once nothing of it is refused, and says how many there are.
-fn keep_document<K: Keep>(alloc: Global, document: &Json, kept: &mut K) -> Result<u64, Fault>
+/// Keeps the features of a document, once nothing of it is refused.
+fn keep_document<K: Keep>(alloc: Global, document: &Json, kept: &mut K) -> Result<(), Fault>
     requires distinct { IsDistinct (tree document.now) }
     requires none { K.keeps kept.old [] }
-    ensures ok { IfOk result (λ count. (features : List FeatureValue) × K.keeps kept.new features
-        × (length features ≡ count) × HasFeatures (tree document.now) features) }
+    ensures ok { OnOk result ((features : List FeatureValue) × K.keeps kept.new features
+        × HasFeatures (tree document.now) features) }
     ensures cuttable { OnOk result (IsCuttable (tree document.now)) }
     ensures refusal { IfErr result (λ fault. RefusesCut fault (tree document.now)) }
 {
@@ -32,7 +34,7 @@ fn keep_document<K: Keep>(alloc: Global, document: &Json, kept: &mut K) -> Resul
     let vertices = items_named(document, "vertices");
     let appearance = document.get("appearance");
     keep_features(alloc, objects, vertices, appearance, &families, kept)?;
-    Ok(families.len() as u64)
+    Ok(())
 }
 
 /// Cuts a document into a header and features (CityJSON 2.0, Text sequences and streaming with
@@ -69,20 +71,17 @@ pub fn cut(alloc: Global, document: Json) -> Result<Cut, Fault>
 /// # Errors
 ///
 /// Those of [`cut`].
-pub fn cut_lines(alloc: Global, document: Json) -> Result<CutLines, Fault>
+pub fn cut_texts(alloc: Global, document: Json) -> Result<CutTexts, Fault>
     requires { IsDistinct (tree document) }
     ensures ok { IfOk result (λ cut. (features : List FeatureValue)
         × IsCut (tree document) (header_value cut.header) features
-        × (cut.lines ≡ lines_of features) × (cut.count ≡ length features)) }
+        × (texts_in cut.texts ≡ texts_of features)) }
     ensures cuttable { OnOk result (IsCuttable (tree document)) }
     ensures refusal { IfErr result (λ fault. RefusesCut fault (tree document)) }
 {
-    let mut lines = Line::new(alloc);
-    let count = keep_document(alloc, &document, &mut lines)?;
+    let mut open = OpenTexts::new(alloc);
+    keep_document(alloc, &document, &mut open)?;
     let header = document_header(alloc, document)?;
-    Ok(CutLines {
-        header,
-        lines,
-        count,
-    })
+    let texts = FeatureTexts::new(open.own, open.ends, Line::new(alloc));
+    Ok(CutTexts { header, texts })
 }

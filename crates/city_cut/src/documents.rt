@@ -6,7 +6,7 @@ ghost use Rattle.city_grid.specs.Axes.{Triple};
 ghost use Rattle.city_feature.specs.Feature.{AreVertices, RefusesFirst};
 ghost use Rattle.city_feature.specs.Shapes.{WhereThere};
 ghost use Rattle.city_cut.specs.CityObjects.{AllTexts, AreCityObjects, AreTexts, IsCityObject};
-ghost use Rattle.city_cut.specs.Cut.{HasFrame, IsDocument, IsOnGrid, RefusesCut};
+ghost use Rattle.city_cut.specs.Cut.{HasFrame, IsDocument, HasValidVertices, RefusesCut};
 
 use crate::values::{is_object, is_text, items_named, members_named, value_of};
 use byte_streams::Fault;
@@ -52,7 +52,7 @@ fn is_city_object(value: &Json) -> bool
         && are_texts_where_there(value, "children")
 }
 
-fn are_city_objects(objects: &[Member]) -> bool
+pub(crate) fn are_city_objects(objects: &[Member]) -> bool
     ensures { IsTrue result ↔ AreCityObjects (members_tree objects.now) }
 {
     for member in objects {
@@ -97,7 +97,7 @@ fn check_vertices(items: &[Json]) -> Result<(), Fault>
 
 /// Refuses anything but a CityJSON document with valid vertices. It takes no memory.
 pub(crate) fn check_document(value: &Json) -> Result<(), Fault>
-    ensures ok { OnOk result (IsOnGrid (tree value.now)) }
+    ensures ok { OnOk result (HasValidVertices (tree value.now)) }
     ensures refusal { IfErr result (λ fault. RefusesCut fault (tree value.now)) }
 {
     check_frame(value)?;

@@ -18,7 +18,7 @@ fn has_member(value: &Json, name: &str) -> bool
 }
 
 /// Drops the appearance, unless there are geometry templates, which may refer to it.
-fn drop_appearance(document: &mut Json)
+pub(crate) fn drop_appearance(document: &mut Json)
     ensures { tree document.new
         ≡ without_appearance (member_of (codes "geometry-templates") (tree document.old)) (tree document.old) }
 {

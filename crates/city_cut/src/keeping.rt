@@ -1,12 +1,14 @@
 //! What is kept of the features of a document, while they are made one after another.
-ghost use Rattle.std.specs.Prelude.{◌≡◌, ◌++◌, [], ◌∷◌, List, IfErr, OnOk, map};
+ghost use Rattle.std.specs.Prelude.{◌≡◌, ◌++◌, [], ◌∷◌, List, IfErr, OnOk, length, map};
 ghost use Rattle.city_feature.specs.Feature.{FeatureValue};
 ghost use Rattle.city_feature.specs.Values.{feature_value};
-ghost use Rattle.city_cut.specs.Lines.{lines_of};
+ghost use Rattle.city_cut.specs.HeldTexts.{AreEnds, pieces};
+ghost use Rattle.city_cut.specs.Lines.{texts_of};
 
 use byte_streams::{Fault, Line};
 use city_feature::Feature;
 use city_json::print;
+use std::alloc::Global;
 
 /// Keeps features, in the order in which they come.
 pub(crate) trait Keep {
@@ -30,13 +32,36 @@ impl Keep for Vec<Feature> {
     }
 }
 
-/// Their lines alone.
-impl Keep for Line {
-    ghost keeps = { λ kept features. kept ≡ lines_of features };
+/// The texts of features that are made one after another.
+#[derive(Drop)]
+pub(crate) struct OpenTexts {
+    /// The texts, with nothing between them.
+    pub own: Line,
+    /// Where each of them ends.
+    pub ends: Vec<usize>,
+}
+
+impl OpenTexts {
+    /// No texts.
+    pub fn new(alloc: Global) -> OpenTexts
+        ensures own { result.own ≡ [] }
+        ensures ends { result.ends.items ≡ [] }
+    {
+        OpenTexts {
+            own: Line::new(alloc),
+            ends: Vec::new(alloc),
+        }
+    }
+}
+
+/// Their texts alone.
+impl Keep for OpenTexts {
+    ghost keeps = { λ kept features. AreEnds 0 kept.ends.items (length kept.own)
+        × (pieces kept.own 0 kept.ends.items ≡ texts_of features) };
 
     fn keep(&mut self, feature: Feature) -> Result<(), Fault> {
-        print(feature.json(), self)?;
-        self.append(b"\n")?;
+        print(feature.json(), &mut self.own)?;
+        self.ends.push(self.own.items().len())?;
         Ok(())
     }
 }

@@ -4,7 +4,7 @@ ghost use Rattle.std.specs.Str.Parse.{digits_value};
 ghost use Rattle.std.specs.Fmt.{decimal};
 ghost use Rattle.city_json.specs.Number.{IsNumber};
 ghost use Rattle.city_json.specs.Tree.{tree, items_tree};
-ghost use Rattle.city_cut.specs.Leaves.{IsIndex, IsPart, AreParts, leaves, item_leaves};
+ghost use Rattle.city_cut.specs.Leaves.{IsIndex, IsNested, AreNested, leaves, item_leaves};
 ghost use Rattle.city_cut.specs.Numbered.{AreNumbered};
 
 use crate::numbering::Numbering;
@@ -36,14 +36,14 @@ pub(crate) fn index(text: &[u8], count: usize) -> Option<usize>
 pub(crate) fn number_items(items: &[Json], numbering: &mut Numbering) -> Result<(), Fault>
     ensures long { length numbering.new.table.items ≡ length numbering.old.table.items }
     ensures parts { OnOk result
-        (AreParts (length numbering.old.table.items) (items_tree items.now)) }
+        (AreNested (length numbering.old.table.items) (items_tree items.now)) }
     ensures ok { OnOk result ((uses : List ℕ)
         → AreNumbered uses numbering.old.table.items numbering.old.order.items
         → AreNumbered (uses ++ item_leaves (items_tree items.now)) numbering.new.table.items
         numbering.new.order.items) }
     ensures fault { IfErr result (λ fault. (fault ≡ Fault.Memory)
         ⊎ ((fault ≡ Fault.BoundaryIndex)
-        × ¬ AreParts (length numbering.old.table.items) (items_tree items.now))) }
+        × ¬ AreNested (length numbering.old.table.items) (items_tree items.now))) }
 {
     for item in items {
         number_part(item, numbering)?;
@@ -54,14 +54,14 @@ pub(crate) fn number_items(items: &[Json], numbering: &mut Numbering) -> Result<
 #[cycle(number)]
 fn number_part(value: &Json, numbering: &mut Numbering) -> Result<(), Fault>
     ensures long { length numbering.new.table.items ≡ length numbering.old.table.items }
-    ensures parts { OnOk result (IsPart (length numbering.old.table.items) (tree value.now)) }
+    ensures parts { OnOk result (IsNested (length numbering.old.table.items) (tree value.now)) }
     ensures ok { OnOk result ((uses : List ℕ)
         → AreNumbered uses numbering.old.table.items numbering.old.order.items
         → AreNumbered (uses ++ leaves (tree value.now)) numbering.new.table.items
         numbering.new.order.items) }
     ensures fault { IfErr result (λ fault. (fault ≡ Fault.Memory)
         ⊎ ((fault ≡ Fault.BoundaryIndex)
-        × ¬ IsPart (length numbering.old.table.items) (tree value.now))) }
+        × ¬ IsNested (length numbering.old.table.items) (tree value.now))) }
 {
     match value {
         Json::Num(text) => {

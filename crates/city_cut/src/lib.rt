@@ -11,15 +11,21 @@ mod documents;
 mod families;
 mod features;
 mod headers;
+mod held;
 mod keeping;
+mod laws;
 mod leaves;
 mod numbering;
 mod objects;
+mod quick;
 mod reach;
 mod relabelling;
 #[cfg(test)]
 mod tests;
 mod values;
 
-pub use cuts::{Cut, CutLines, Features};
-pub use cutting::{cut, cut_lines};
+pub use cuts::{Cut, CutTexts, Features};
+pub use cutting::{cut, cut_texts};
+pub use held::FeatureTexts;
+pub use laws::features_are_spelled_by_their_texts;
+pub use quick::{cut_compacted, quick_cut};

@@ -1,5 +1,6 @@
 //! The numbers that a feature gives to the vertices that it names.
 ghost use Rattle.std.specs.Prelude.{◌≡◌, ◌↔◌, ◌<◌, ◌++◌, [], ◌∷◌, ℕ, List, IsTrue, IfErr, OnOk, length};
+ghost use Rattle.city_cut.specs.Copied.{Extends};
 ghost use Rattle.city_cut.specs.Numbered.{AreNumbered, HasNumber};
 
 use byte_streams::Fault;
@@ -22,6 +23,9 @@ impl Numbering {
         ensures ok { OnOk result ((uses : List ℕ)
             → AreNumbered uses self.old.table.items self.old.order.items
             → AreNumbered (uses ++ vertex ∷ []) self.new.table.items self.new.order.items) }
+        ensures kept { OnOk result (Extends self.old.table.items self.old.order.items
+            self.new.table.items self.new.order.items) }
+        ensures has { OnOk result (HasNumber self.new.table.items self.new.order.items vertex) }
         ensures fault { IfErr result (λ fault. fault ≡ Fault.Memory) }
     {
         if self.has(vertex) {

@@ -1,9 +1,10 @@
 //! Documents and what they are cut into, line by line.
+mod answers;
 mod refusals;
 mod shapes;
 
 use crate::cuts::Cut;
-use crate::cutting::{cut, cut_lines};
+use crate::cutting::{cut, cut_texts};
 use byte_streams::{Fault, Line};
 use city_feature::line;
 use city_json::{print, read};
@@ -25,15 +26,15 @@ fn cut_text(alloc: Global, text: &str) -> Result<Cut, Fault> {
     cut(alloc, read(alloc, text.as_bytes())?)
 }
 
-/// Cut as lines, a text comes to the same header, and to the lines that those of its features are, or to the same
+/// Cut as texts, a text comes to the same header, and to the texts that the lines of its features are, or to the same
 /// fault.
-fn expect_same_lines(
+fn expect_same_texts(
     rt: &(impl Abort + AllocGlobal),
     text: &str,
     want: Result<&[Line], Fault>,
 ) -> Result<(), Fail> {
     let alloc = rt.alloc();
-    let cut = cut_lines(alloc, read(alloc, text.as_bytes())?);
+    let cut = cut_texts(alloc, read(alloc, text.as_bytes())?);
     let want = match want {
         Ok(want) => want,
         Err(fault) => {
@@ -46,13 +47,12 @@ fn expect_same_lines(
     let mut header = Line::new(alloc);
     print(cut.header.json(), &mut header)?;
     assert_eq!(rt; header.items(), want[0].items(), "{text}");
-    let mut lines = Line::new(alloc);
-    for line in &want[1..] {
-        lines.append(line.items())?;
-        lines.append(b"\n")?;
+    assert_eq!(rt; cut.texts.len(), want.len() - 1, "{text}");
+    for at in 0..cut.texts.len() {
+        let mut found = Line::new(alloc);
+        cut.texts.append_to(at, &mut found)?;
+        assert_eq!(rt; found.items(), want[at + 1].items(), "{text}");
     }
-    assert_eq!(rt; cut.lines.items(), lines.items(), "{text}");
-    assert_eq!(rt; cut.count, want.len() as u64 - 1, "{text}");
     Ok(())
 }
 
@@ -76,7 +76,7 @@ fn expect_lines(rt: &(impl Abort + AllocGlobal), text: &str, want: &[&str]) -> R
     for (line, want) in lines.iter().zip(want) {
         assert_eq!(rt; line.items(), want.as_bytes(), "{text}");
     }
-    expect_same_lines(rt, text, Ok(&lines))
+    expect_same_texts(rt, text, Ok(&lines))
 }
 
 /// The document of these objects is cut into the header and these features.

@@ -17,16 +17,19 @@ forward (pos k) scale to from above equal ahead = omega (arith, ints)
 forward (negsuc k) (negsuc n) to from above equal ahead = absurd (omega (arith, ints))
 forward (negsuc k) (pos n) to from above equal ahead = absurd (omega (arith, ints, equal))
 
-pub least_is_below : (measure : HeaderValue → ℤ) (text : Texts → List ℕ) (headers : List HeaderValue) (n : ℤ) (written : List ℕ) → IsLeast measure text headers n written → All (λ header. n ≤ℤ measure header) headers
+pub least_is_below : (measure : HeaderValue → ℤ) (text : Texts → List ℕ) (headers : List HeaderValue) (n : ℤ)
+    (written : List ℕ) → IsLeast measure text headers n written → All (λ header. n ≤ℤ measure header) headers
 least_is_below measure text headers n written (least, texts, found, has, n_is, written_is) =
     let Above : HeaderValue → Type 0 = λ header. measure least ≤ℤ measure header in
     let all = All-append Above found.before (least ∷ found.after)
-    (All-weaker (λ header. measure least <ℤ measure header) Above (λ header above. omega (arith, ints)) found.before found.above)
+    (All-weaker (λ header. measure least <ℤ measure header) Above
+    (λ header above. omega (arith, ints)) found.before found.above)
     (All-cons Above least found.after (omega (arith, ints)) found.not_below) in
     subst (λ k. All (λ header. k ≤ℤ measure header) headers) (sym n_is) (subst (All Above) (sym found.headers_are) all)
 
 module _ (grid : Grid) (above_zero : IsAboveZero grid.scale) where
-  forward_shift : (tile : Grid) (k : Triple) → IsShift tile grid k → grid.translate.x ≤ℤ tile.translate.x → grid.translate.y ≤ℤ tile.translate.y → grid.translate.z ≤ℤ tile.translate.z → IsForward k
+  forward_shift : (tile : Grid) (k : Triple) → IsShift tile grid k → grid.translate.x ≤ℤ tile.translate.x
+      → grid.translate.y ≤ℤ tile.translate.y → grid.translate.z ≤ℤ tile.translate.z → IsForward k
   forward_shift tile k shift x y z = (
     forward k.x grid.scale.x tile.translate.x grid.translate.x above_zero.0 shift.x x,
     forward k.y grid.scale.y tile.translate.y grid.translate.y above_zero.1 shift.y y,
@@ -34,7 +37,9 @@ module _ (grid : Grid) (above_zero : IsAboveZero grid.scale) where
   )
 
   forward_shifts : (first : HeaderValue) (known : MemberTrees) (headers : List HeaderValue) (ks : List Triple)
-      → All (λ header. grid.translate.x ≤ℤ header.grid.translate.x) headers → All (λ header. grid.translate.y ≤ℤ header.grid.translate.y) headers → All (λ header. grid.translate.z ≤ℤ header.grid.translate.z) headers
+      → All (λ header. grid.translate.x ≤ℤ header.grid.translate.x) headers
+      → All (λ header. grid.translate.y ≤ℤ header.grid.translate.y) headers
+      → All (λ header. grid.translate.z ≤ℤ header.grid.translate.z) headers
       → AllAgree first grid known headers ks → All IsForward ks
   forward_shifts first known [] [] x y z agree = All-nil IsForward
   forward_shifts first known [] (k ∷ ks) x y z agree = absurd agree
@@ -52,10 +57,15 @@ module _ (grid : Grid) (above_zero : IsAboveZero grid.scale) where
       agree.1)
 
 -- each shift of tiles that agree against the origin of the least translation
-pub shifts_are_forward : (first : HeaderValue) (others : List HeaderValue) (grid : Grid) (texts : Texts) (known : MemberTrees) (ks : List Triple) → IsAboveZero grid.scale → IsOrigin Least first others grid texts → AllAgree first grid known (first ∷ others) ks → All IsForward ks
+pub shifts_are_forward : (first : HeaderValue) (others : List HeaderValue) (grid : Grid) (texts : Texts)
+    (known : MemberTrees) (ks : List Triple) → IsAboveZero grid.scale → IsOrigin Least first others grid texts
+    → AllAgree first grid known (first ∷ others) ks → All IsForward ks
 shifts_are_forward first others grid texts known ks above_zero origin agree =
     forward_shifts grid above_zero first known (first ∷ others) ks
-    (least_is_below (λ header. header.grid.translate.x) (λ each. each.x) (first ∷ others) grid.translate.x texts.x origin.1)
-    (least_is_below (λ header. header.grid.translate.y) (λ each. each.y) (first ∷ others) grid.translate.y texts.y origin.2)
-    (least_is_below (λ header. header.grid.translate.z) (λ each. each.z) (first ∷ others) grid.translate.z texts.z origin.3)
+    (least_is_below (λ header. header.grid.translate.x) (λ each. each.x)
+    (first ∷ others) grid.translate.x texts.x origin.1)
+    (least_is_below (λ header. header.grid.translate.y) (λ each. each.y)
+    (first ∷ others) grid.translate.y texts.y origin.2)
+    (least_is_below (λ header. header.grid.translate.z) (λ each. each.z)
+    (first ∷ others) grid.translate.z texts.z origin.3)
     agree

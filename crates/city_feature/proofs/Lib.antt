@@ -4,3 +4,4 @@ pub mod Forward
 pub mod JoinedTiles
 pub mod LentMembers
 pub mod NamedMembers
+pub mod QuickLines

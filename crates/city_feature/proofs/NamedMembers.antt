@@ -12,42 +12,57 @@ abbrev pub has_name : List ℕ → Member → Bool
 has_name name m = bytes_eq (named_tree m).0 name
 
 module _ (name : List ℕ) (d : Member) where
-  without_first : (ms : List Member) (k : ℕ) → k < length ms → has_name name (get_or ms k d) ≡ true → ((j : ℕ) → j < k → has_name name (get_or ms j d) ≡ false)
+  without_first : (ms : List Member) (k : ℕ) → k < length ms → has_name name (get_or ms k d) ≡ true
+      → ((j : ℕ) → j < k → has_name name (get_or ms j d) ≡ false)
       → members_tree (take k ms ++ drop (suc k) ms) ≡ without_named name (members_tree ms)
   without_first [] k within here before = absurd (omega arith)
   without_first (m ∷ ms) zero within here before =
-      ap (λ t. if t then members_tree ms else member (named_tree m).0 (named_tree m).1 (without_named name (members_tree ms))) (sym here)
+      ap (λ t. if t then members_tree ms else member (named_tree m).0 (named_tree m).1
+      (without_named name (members_tree ms))) (sym here)
   without_first (m ∷ ms) (suc k) within here before =
-      ap (member (named_tree m).0 (named_tree m).1) (without_first ms k (omega arith) here (λ j lt. before (suc j) (omega arith)))
-      ∙ ap (λ t. if t then members_tree ms else member (named_tree m).0 (named_tree m).1 (without_named name (members_tree ms))) (sym (before 0 (omega arith)))
+      ap (member (named_tree m).0 (named_tree m).1)
+      (without_first ms k (omega arith) here (λ j lt. before (suc j) (omega arith)))
+      ∙ ap (λ t. if t then members_tree ms else member (named_tree m).0 (named_tree m).1
+      (without_named name (members_tree ms))) (sym (before 0 (omega arith)))
 
-  changed_first : (change : Tree → Tree) (new : Member) (ms : List Member) (k : ℕ) → k < length ms → has_name name (get_or ms k d) ≡ true → ((j : ℕ) → j < k → has_name name (get_or ms j d) ≡ false)
+  changed_first : (change : Tree → Tree) (new : Member) (ms : List Member) (k : ℕ) → k < length ms
+      → has_name name (get_or ms k d) ≡ true → ((j : ℕ) → j < k → has_name name (get_or ms j d) ≡ false)
       → named_tree new ≡ ((named_tree (get_or ms k d)).0, change (named_tree (get_or ms k d)).1)
       → members_tree (set ms k new) ≡ changed_named name change (members_tree ms)
   changed_first change new [] k within here before new_is = absurd (omega arith)
   changed_first change new (m ∷ ms) zero within here before new_is =
       ap (λ pair. member pair.0 pair.1 (members_tree ms)) new_is
-      ∙ ap (λ t. if t then member (named_tree m).0 (change (named_tree m).1) (members_tree ms) else member (named_tree m).0 (named_tree m).1 (changed_named name change (members_tree ms))) (sym here)
+      ∙ ap (λ t. if t then member (named_tree m).0 (change (named_tree m).1) (members_tree ms) else member
+      (named_tree m).0 (named_tree m).1 (changed_named name change (members_tree ms))) (sym here)
   changed_first change new (m ∷ ms) (suc k) within here before new_is =
-      ap (member (named_tree m).0 (named_tree m).1) (changed_first change new ms k (omega arith) here (λ j lt. before (suc j) (omega arith)) new_is)
-      ∙ ap (λ t. if t then member (named_tree m).0 (change (named_tree m).1) (members_tree ms) else member (named_tree m).0 (named_tree m).1 (changed_named name change (members_tree ms))) (sym (before 0 (omega arith)))
+      ap (member (named_tree m).0 (named_tree m).1)
+      (changed_first change new ms k (omega arith) here (λ j lt. before (suc j) (omega arith)) new_is)
+      ∙ ap (λ t. if t then member (named_tree m).0 (change (named_tree m).1) (members_tree ms) else member
+      (named_tree m).0 (named_tree m).1 (changed_named name change (members_tree ms)))
+      (sym (before 0 (omega arith)))
 
-  with_first : (value : Tree) (ms : List Member) (k : ℕ) → k < length ms → has_name name (get_or ms k d) ≡ true → ((j : ℕ) → j < k → has_name name (get_or ms j d) ≡ false)
+  with_first : (value : Tree) (ms : List Member) (k : ℕ) → k < length ms → has_name name (get_or ms k d) ≡ true
+      → ((j : ℕ) → j < k → has_name name (get_or ms j d) ≡ false)
       → with_named name value (members_tree ms) ≡ changed_named name (λ old. value) (members_tree ms)
   with_first value [] k within here before = absurd (omega arith)
   with_first value (m ∷ ms) zero within here before =
-      ap (λ t. if t then member (named_tree m).0 value (members_tree ms) else member (named_tree m).0 (named_tree m).1 (with_named name value (members_tree ms))) here
-      ∙ ap (λ t. if t then member (named_tree m).0 value (members_tree ms) else member (named_tree m).0 (named_tree m).1 (changed_named name (λ old. value) (members_tree ms))) (sym here)
+      ap (λ t. if t then member (named_tree m).0 value (members_tree ms) else member (named_tree m).0 (named_tree m).1
+      (with_named name value (members_tree ms))) here
+      ∙ ap (λ t. if t then member (named_tree m).0 value (members_tree ms) else member (named_tree m).0 (named_tree m).1
+      (changed_named name (λ old. value) (members_tree ms))) (sym here)
   with_first value (m ∷ ms) (suc k) within here before =
-      ap (λ others. if has_name name m then member (named_tree m).0 value (members_tree ms) else member (named_tree m).0 (named_tree m).1 others) (with_first value ms k (omega arith) here (λ j lt. before (suc j) (omega arith)))
+      ap (λ others. if has_name name m then member (named_tree m).0 value (members_tree ms) else member (named_tree m).0
+      (named_tree m).1 others) (with_first value ms k (omega arith) here (λ j lt. before (suc j) (omega arith)))
 
 pub on_ok : {T E : Type 0} (result : Result T E) {P Q : Type 0} → (P → Q) → OnOk result P → OnOk result Q
 on_ok (Ok value) use_of given = use_of given
 on_ok (Err fault) use_of given = tt
 
 -- a member that was pushed is the last
-pub pushed_member : (ms new : List Member) (m : Member) (pair : List ℕ × Tree) → new ≡ ms ++ m ∷ [] → named_tree m ≡ pair → map named_tree new ≡ map named_tree ms ++ pair ∷ []
-pushed_member ms new m pair new_is m_is = ap (map named_tree) new_is ∙ (map-append named_tree ms (m ∷ []) ∙ ap (λ p. map named_tree ms ++ p ∷ []) m_is)
+pub pushed_member : (ms new : List Member) (m : Member) (pair : List ℕ × Tree) → new ≡ ms ++ m ∷ []
+    → named_tree m ≡ pair → map named_tree new ≡ map named_tree ms ++ pair ∷ []
+pushed_member ms new m pair new_is m_is = ap (map named_tree) new_is
+    ∙ (map-append named_tree ms (m ∷ []) ∙ ap (λ p. map named_tree ms ++ p ∷ []) m_is)
 
 some_is_something : (n : ℕ) → Some n ≡ None → ⊥
 some_is_something n equal = cc
@@ -75,48 +90,65 @@ module _ {X : Type 0} (p : X → Bool) where
     not_later none = sym (found_later (not_here none)) ∙ none
 
 module _ (name : List ℕ) where
-  without_nowhere : (i : ℕ) (ms : List Member) → position_from (has_name name) i ms ≡ None → members_tree ms ≡ without_named name (members_tree ms)
+  without_nowhere : (i : ℕ) (ms : List Member) → position_from (has_name name) i ms ≡ None
+      → members_tree ms ≡ without_named name (members_tree ms)
   without_nowhere i [] none = refl
   without_nowhere i (m ∷ ms) none =
       ap (member (named_tree m).0 (named_tree m).1) (without_nowhere (i + 1) ms (not_later (has_name name) i m ms none))
-      ∙ ap (λ t. if t then members_tree ms else member (named_tree m).0 (named_tree m).1 (without_named name (members_tree ms))) (sym (not_here (has_name name) i m ms none))
+      ∙ ap (λ t. if t then members_tree ms else member (named_tree m).0 (named_tree m).1
+      (without_named name (members_tree ms))) (sym (not_here (has_name name) i m ms none))
 
-  changed_nowhere : (change : Tree → Tree) (i : ℕ) (ms : List Member) → position_from (has_name name) i ms ≡ None → members_tree ms ≡ changed_named name change (members_tree ms)
+  changed_nowhere : (change : Tree → Tree) (i : ℕ) (ms : List Member) → position_from (has_name name) i ms ≡ None
+      → members_tree ms ≡ changed_named name change (members_tree ms)
   changed_nowhere change i [] none = refl
   changed_nowhere change i (m ∷ ms) none =
-      ap (member (named_tree m).0 (named_tree m).1) (changed_nowhere change (i + 1) ms (not_later (has_name name) i m ms none))
-      ∙ ap (λ t. if t then member (named_tree m).0 (change (named_tree m).1) (members_tree ms) else member (named_tree m).0 (named_tree m).1 (changed_named name change (members_tree ms))) (sym (not_here (has_name name) i m ms none))
+      ap (member (named_tree m).0 (named_tree m).1)
+      (changed_nowhere change (i + 1) ms (not_later (has_name name) i m ms none))
+      ∙ ap (λ t. if t then member (named_tree m).0 (change (named_tree m).1) (members_tree ms) else member
+      (named_tree m).0 (named_tree m).1 (changed_named name change (members_tree ms)))
+      (sym (not_here (has_name name) i m ms none))
 
-  with_nowhere : (value : Tree) (i : ℕ) (ms : List Member) → position_from (has_name name) i ms ≡ None → member_trees (map named_tree ms ++ (name, value) ∷ []) ≡ with_named name value (members_tree ms)
+  with_nowhere : (value : Tree) (i : ℕ) (ms : List Member) → position_from (has_name name) i ms ≡ None
+      → member_trees (map named_tree ms ++ (name, value) ∷ []) ≡ with_named name value (members_tree ms)
   with_nowhere value i [] none = refl
   with_nowhere value i (m ∷ ms) none =
-      ap (member (named_tree m).0 (named_tree m).1) (with_nowhere value (i + 1) ms (not_later (has_name name) i m ms none))
-      ∙ ap (λ t. if t then member (named_tree m).0 value (members_tree ms) else member (named_tree m).0 (named_tree m).1 (with_named name value (members_tree ms))) (sym (not_here (has_name name) i m ms none))
+      ap (member (named_tree m).0 (named_tree m).1)
+      (with_nowhere value (i + 1) ms (not_later (has_name name) i m ms none))
+      ∙ ap (λ t. if t then member (named_tree m).0 value (members_tree ms) else member (named_tree m).0 (named_tree m).1
+      (with_named name value (members_tree ms))) (sym (not_here (has_name name) i m ms none))
 
-  pub without_absent : (ms : List Member) → position (has_name name) ms ≡ None → members_tree ms ≡ without_named name (members_tree ms)
+  pub without_absent : (ms : List Member) → position (has_name name) ms ≡ None
+      → members_tree ms ≡ without_named name (members_tree ms)
   without_absent ms none = without_nowhere 0 ms (nowhere_from (has_name name) ms none)
 
-  pub changed_absent : (change : Tree → Tree) (ms : List Member) → position (has_name name) ms ≡ None → members_tree ms ≡ changed_named name change (members_tree ms)
+  pub changed_absent : (change : Tree → Tree) (ms : List Member) → position (has_name name) ms ≡ None
+      → members_tree ms ≡ changed_named name change (members_tree ms)
   changed_absent change ms none = changed_nowhere change 0 ms (nowhere_from (has_name name) ms none)
 
-  pub with_absent : (value : Tree) (ms : List Member) → position (has_name name) ms ≡ None → member_trees (map named_tree ms ++ (name, value) ∷ []) ≡ with_named name value (members_tree ms)
+  pub with_absent : (value : Tree) (ms : List Member) → position (has_name name) ms ≡ None
+      → member_trees (map named_tree ms ++ (name, value) ∷ []) ≡ with_named name value (members_tree ms)
   with_absent value ms none = with_nowhere value 0 ms (nowhere_from (has_name name) ms none)
 
 -- at the place of the first of the name
 module _ (name : List ℕ) where
-  first : (ms : List Member) (d : Member) (k : ℕ) → position (has_name name) ms ≡ Some k → (k < length ms) × (has_name name (get_or ms k d) ≡ true) × ((j : ℕ) → j < k → has_name name (get_or ms j d) ≡ false)
+  first : (ms : List Member) (d : Member) (k : ℕ) → position (has_name name) ms ≡ Some k → (k < length ms)
+      × (has_name name (get_or ms k d) ≡ true) × ((j : ℕ) → j < k → has_name name (get_or ms j d) ≡ false)
   first ms d k found = position-Some (has_name name) ms k d found
 
-  pub without_found : (ms : List Member) (k : ℕ) → position (has_name name) ms ≡ Some k → members_tree (remove ms k) ≡ without_named name (members_tree ms)
+  pub without_found : (ms : List Member) (k : ℕ) → position (has_name name) ms ≡ Some k
+      → members_tree (remove ms k) ≡ without_named name (members_tree ms)
   without_found [] k found = absurd (some_is_something k (sym found))
   without_found (d ∷ ms) k found = let at = first (d ∷ ms) d k found in without_first name d (d ∷ ms) k at.0 at.1 at.2
 
-  pub changed_found : (change : Tree → Tree) (d new : Member) (ms : List Member) (k : ℕ) → position (has_name name) ms ≡ Some k
+  pub changed_found : (change : Tree → Tree) (d new : Member) (ms : List Member) (k : ℕ)
+      → position (has_name name) ms ≡ Some k
       → named_tree new ≡ ((named_tree (get_or ms k d)).0, change (named_tree (get_or ms k d)).1)
       → members_tree (set ms k new) ≡ changed_named name change (members_tree ms)
-  changed_found change d new ms k found new_is = let at = first ms d k found in changed_first name d change new ms k at.0 at.1 at.2 new_is
+  changed_found change d new ms k found new_is = let at = first ms d k found in
+      changed_first name d change new ms k at.0 at.1 at.2 new_is
 
   pub with_found : (value : Tree) (d new : Member) (ms : List Member) (k : ℕ) → position (has_name name) ms ≡ Some k
       → named_tree new ≡ ((named_tree (get_or ms k d)).0, value)
       → members_tree (set ms k new) ≡ with_named name value (members_tree ms)
-  with_found value d new ms k found new_is = let at = first ms d k found in changed_found (λ old. value) d new ms k found new_is ∙ sym (with_first name d value ms k at.0 at.1 at.2)
+  with_found value d new ms k found new_is = let at = first ms d k found in
+      changed_found (λ old. value) d new ms k found new_is ∙ sym (with_first name d value ms k at.0 at.1 at.2)

@@ -2,7 +2,6 @@ pub mod FeatureVertices
 pub mod InPlace
 pub mod MovedLines
 pub mod StillFeature
-pub mod QuickLines
 pub mod TextVertices
 pub mod QuickTypes
 pub mod QuickMoves

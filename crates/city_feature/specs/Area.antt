@@ -3,7 +3,8 @@ use Rattle.std.specs.Prelude.{◌≡◌, ◌≤◌, ◌≤ℤ◌, ◌++◌, ◌�
 use Rattle.std.specs.Str.Parse.{signed_digits_value}
 use Rattle.city_json.specs.Bytes.{comma}
 use Rattle.city_json.specs.Number.{AreDigits, IsMinus}
-use Rattle.city_grid.specs.Axes.{Triple, most_steps}
+use Rattle.city_grid.specs.Axes.{Triple}
+use Rattle.byte_streams.specs.Limits.{max_steps}
 use Rattle.city_feature.specs.declared.choices.area.Area.{Area}
 
 -- a minus sign or none and one or more digits; the number that they write is at most 2^53 - 1 in size
@@ -14,7 +15,7 @@ pub record IsStepsText (text : List ℕ) (steps : ℤ) : Type 0 where
   pub is_minus : IsMinus minus_sign
   pub are_digits : AreDigits digits
   pub writes : steps ≡ signed_digits_value 10 text
-  pub in_range : unsigned_abs steps ≤ most_steps
+  pub in_range : unsigned_abs steps ≤ max_steps
 
 -- four numbers with commas between them: least x, least y, greatest x, greatest y; in an area no
 -- least is above its greatest

@@ -96,7 +96,8 @@ SharesTemplates first header =
     → SharesMember (codes "appearance") first header)
 
 -- the tile fits the first one and the extensions known from the tiles before it, and k leads to it
-pub record Agrees (first : HeaderValue) (grid : Grid) (known : MemberTrees) (header : HeaderValue) (k : Triple) : Type 0 where
+pub record Agrees (first : HeaderValue) (grid : Grid) (known : MemberTrees) (header : HeaderValue)
+    (k : Triple) : Type 0 where
   pub scale : SharesScale first header
   pub system : SharesSystem first header
   pub shift : IsOnGrid grid header k

@@ -84,4 +84,5 @@ IsAsWritten line parts =
     × (ps : List Triple)
     × All IsInRange ps
     × (with_value line part (compact (vertices_tree ps)) ≡ line)
-    × ((members : MemberTrees) → IsLine line parts members → IsFeature (object members) ps × IsPlaceOf (codes "vertices") members line part)
+    × ((members : MemberTrees) → IsLine line parts members → IsFeature (object members) ps
+    × IsPlaceOf (codes "vertices") members line part)

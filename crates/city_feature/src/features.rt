@@ -4,9 +4,9 @@ ghost use Rattle.city_feature.specs.Feature.{IsFeature};
 
 pub(crate) mod lines;
 pub(crate) mod moving;
-mod quick;
+pub(crate) mod quick;
 pub(crate) mod reader;
-mod texts;
+pub(crate) mod texts;
 pub(crate) mod writer;
 
 use city_grid::Vertex;

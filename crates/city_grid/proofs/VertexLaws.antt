@@ -5,12 +5,13 @@ use Rattle.std.specs.Fmt.{signed_decimal}
 use Rattle.city_json.specs.Compact.{compact}
 use Rattle.city_json.specs.Number.{IsNumber}
 use Rattle.city_json.specs.Writable.{IsWritable}
-use Rattle.city_grid.specs.Axes.{Triple, Texts, Each, three, IsInRange, most_steps}
+use Rattle.city_grid.specs.Axes.{Triple, Texts, Each, three, IsInRange}
+use Rattle.byte_streams.specs.Limits.{max_steps}
 use Rattle.city_grid.specs.Vertex.{IsInteger, IsVertex, SpellsVertex, vertex_tree}
 use Rattle.city_grid.proofs.vertices.DecimalIntegers.{decimal_is_number}
 use Rattle.city_grid.proofs.vertices.WrittenVertex.{written_vertex}
 
-is_number : (z : ℤ) → unsigned_abs z ≤ most_steps → IsNumber (signed_decimal z)
+is_number : (z : ℤ) → unsigned_abs z ≤ max_steps → IsNumber (signed_decimal z)
 is_number z few = decimal_is_number z (fits_signed_from_abs w64 z (omega arith))
 
 pub vertex_is_read : (p : Triple) → IsInRange p → IsVertex (vertex_tree p) p

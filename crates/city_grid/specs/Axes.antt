@@ -2,6 +2,7 @@
 use Rattle.std.specs.Prelude.{◌≤◌, ℕ, ℤ, ◌+ℤ◌, List, unsigned_abs}
 use Rattle.std.specs.Borrow.{Bor}
 use Rattle.std.specs.Int.{int_min}
+use Rattle.byte_streams.specs.Limits.{max_steps}
 use Rattle.city_json.specs.Tree.{Tree, number, array, no_items, item}
 use Rattle.city_grid.specs.declared.axes.Axes.{Axes}
 
@@ -36,12 +37,8 @@ sum p q = record { x = p.x +ℤ q.x; y = p.y +ℤ q.y; z = p.z +ℤ q.z }
 abbrev pub least : Triple → Triple → Triple
 least p q = record { x = int_min p.x q.x; y = int_min p.y q.y; z = int_min p.z q.z }
 
--- 2^53 - 1, up to which a number in floating point is exact
-abbrev pub most_steps : ℕ
-most_steps = 9007199254740991
-
 abbrev pub IsInRange : Triple → Type 0
 IsInRange p =
-    (unsigned_abs p.x ≤ most_steps)
-    × (unsigned_abs p.y ≤ most_steps)
-    × (unsigned_abs p.z ≤ most_steps)
+    (unsigned_abs p.x ≤ max_steps)
+    × (unsigned_abs p.y ≤ max_steps)
+    × (unsigned_abs p.z ≤ max_steps)

@@ -7,7 +7,8 @@ use Rattle.byte_streams.specs.declared.fault.Fault.{Fault}
 use Rattle.byte_streams.specs.declared.fault.Fault.TheVariants.{VertexShape, VertexNotInteger, VertexRange}
 use Rattle.city_json.specs.Number.{IsNumber}
 use Rattle.city_json.specs.Tree.{Tree}
-use Rattle.city_grid.specs.Axes.{Triple, Texts, three, Each, IsInRange, most_steps}
+use Rattle.city_grid.specs.Axes.{Triple, Texts, three, Each, IsInRange}
+use Rattle.byte_streams.specs.Limits.{max_steps}
 
 -- a number written with neither a fraction nor an exponent, and what it writes; -0 is 0
 abbrev pub IsInteger : List ℕ → ℤ → Type 0
@@ -36,18 +37,18 @@ vertex_tree p =
 
 -- the number that was read, or another that is too large as well
 abbrev pub IsCapped : ℕ → ℕ → Type 0
-IsCapped value read = (read ≡ value) ⊎ ((most_steps < read) × (most_steps < value))
+IsCapped value read = (read ≡ value) ⊎ ((max_steps < read) × (max_steps < value))
 
 abbrev pub IsSameOrLarge : ℤ → ℤ → Type 0
 IsSameOrLarge z read =
-    (read ≡ z) ⊎ ((most_steps < unsigned_abs read) × (most_steps < unsigned_abs z))
+    (read ≡ z) ⊎ ((max_steps < unsigned_abs read) × (max_steps < unsigned_abs z))
 
 -- a number in range, as it is written, from one place of a text up to another
 abbrev pub IsShortNumber : List ℕ → ℕ → ℕ → Type 0
-IsShortNumber text at end = (n : ℕ) × (slice_range text at end ≡ decimal n) × (n ≤ most_steps)
+IsShortNumber text at end = (n : ℕ) × (slice_range text at end ≡ decimal n) × (n ≤ max_steps)
 
 abbrev pub IsShortInteger : List ℕ → ℕ → ℕ → Type 0
-IsShortInteger text at end = (z : ℤ) × (slice_range text at end ≡ signed_decimal z) × (unsigned_abs z ≤ most_steps)
+IsShortInteger text at end = (z : ℤ) × (slice_range text at end ≡ signed_decimal z) × (unsigned_abs z ≤ max_steps)
 
 -- the text that is written for some vertex in range, from one place of a text up to another
 abbrev pub IsVertexText : List ℕ → ℕ → ℕ → Type 0

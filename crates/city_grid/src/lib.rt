@@ -14,11 +14,12 @@ pub use axes::{Axes, three_numbers};
 pub use decimals::Decimal;
 pub use decimals::reader::decimal;
 pub use shifts::{Shift, shift_of};
-pub use steps::MOST_STEPS;
 pub use transforms::reader::transform;
 pub use transforms::{Transform, least_of};
 pub use vertices::reader::vertex;
 pub use vertices::spelled::spelled_vertex_at;
-pub use vertices::texts::{PlacedVertex, append_vertex, byte_is, vertex_at, vertex_end};
+pub use vertices::texts::{
+    Digits, PlacedVertex, append_vertex, byte_is, number_at, vertex_at, vertex_end,
+};
 pub use vertices::writer::{vertex_json, write_vertex};
 pub use vertices::{Vertex, moved};

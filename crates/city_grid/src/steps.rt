@@ -1,12 +1,11 @@
 ghost use Rattle.std.specs.Prelude.{◌≡◌, ◌≤◌, ◌↔◌, IsTrue, pos, unsigned_abs};
 ghost use Rattle.std.specs.Option.{SomeIff};
-ghost use Rattle.city_grid.specs.Axes.{IsInRange, most_steps, triple};
+ghost use Rattle.city_grid.specs.Axes.{IsInRange, triple};
+ghost use Rattle.byte_streams.specs.Limits.{max_steps};
 
 use crate::axes::Axes;
+use byte_streams::limits::MAX_STEPS;
 use std::marker::Model;
-
-/// The greatest size of a component: 2^53 - 1, up to which a number in floating point is exact.
-pub const MOST_STEPS: u64 = 9_007_199_254_740_991;
 
 /// Whole steps of the grid along each axis, none above 2^53 - 1 in size.
 #[derive(Clone, Copy, Debug, PartialEq, Eq)]
@@ -61,7 +60,7 @@ impl Steps {
 
 /// Whether a component is at most 2^53 - 1 in size.
 fn is_few(steps: i128) -> bool
-    ensures { IsTrue result ↔ (unsigned_abs steps ≤ most_steps) }
+    ensures { IsTrue result ↔ (unsigned_abs steps ≤ max_steps) }
 {
-    steps.unsigned_abs() <= u128::from(MOST_STEPS)
+    steps.unsigned_abs() <= u128::from(MAX_STEPS)
 }

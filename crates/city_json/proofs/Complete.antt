@@ -1,173 +1,35 @@
--- What is spelled so is read by the functions on lists.
-use Rattle.std.proofs.Common.{◌≡◌, ◌++◌, ◌+◌, ◌==◌, ◌∙◌, ◌≤◌, ℕ, zero, suc, true, false, List, [], ◌∷◌, Option, Some, None, length, length-append, refl, ap, sym, arith, codes, append_assoc}
-use Rattle.std.proofs.lemmas.Bool.Decides.{nat_tests}
+-- What is spelled so is read by the functions on lists: strings, items, members and whole values.
+use Rattle.std.proofs.Common.{◌≡◌, ◌++◌, ◌+◌, ◌∙◌, ◌≤◌, ℕ, zero, suc, true, false, List, ◌∷◌, Some, length, length-append, refl, ap, sym, arith, codes, append_assoc, []}
 use Rattle.std.proofs.lemmas.List.{append-nil}
-use Rattle.std.proofs.lemmas.List.Prefix.{front_rest}
 use Rattle.std.proofs.lemmas.Option.{same_Some}
-use Rattle.city_json.specs.Bytes.{comma, colon, open_bracket, open_brace, close_bracket, close_brace, quotation_mark}
-use Rattle.city_json.specs.Fits.{most_depth, depth, items_depth, members_depth}
-use Rattle.city_json.specs.Grammar.{IsWhite, IsBlank, Spaced, SpellsValue, SpellsMoreItems, SpellsMoreMembers, SpellsMember}
-use Rattle.city_json.specs.Number.{IsNumber}
-use Rattle.city_json.specs.NumberAt.{number_at, EndsNumber, continues_number, StartsNumber, starts_number}
-use Rattle.city_json.specs.Reading.{is_white, after_white, after_byte, start_of, word_at, scalar_at, items_at, array_at, member_at, members_at, object_at, value_at, value_from, text_at}
-use Rattle.city_json.specs.ReadString.{string_at}
+use Rattle.city_json.specs.Bytes.{comma, colon, close_bracket, close_brace, quotation_mark}
+use Rattle.city_json.specs.Fits.{depth, items_depth, members_depth}
+use Rattle.byte_streams.specs.Limits.{max_depth}
+use Rattle.city_json.specs.Grammar.{IsBlank, Spaced, SpellsValue, SpellsMoreItems, SpellsMoreMembers, SpellsMember}
+use Rattle.city_json.specs.NumberAt.{EndsNumber}
+use Rattle.city_json.specs.Reading.{after_white, items_at, member_at, members_at, value_at, text_at}
 use Rattle.city_json.specs.Strings.{SpellsString}
 use Rattle.city_json.specs.Tree.{Tree, null, boolean, number, string, array, object, ItemTrees, no_items, item, MemberTrees, no_members, member}
-use Rattle.city_json.specs.declared.reading.Start.{Start}
 use Rattle.city_json.specs.declared.reading.Start.TheVariants as start
-use Rattle.city_json.proofs.NumberLaws as number_laws
-use Rattle.city_json.proofs.Scanning.{IsClear, after_white-blank, starts_with-append}
+use Rattle.city_json.proofs.Scanning.{after_white-blank}
 use Rattle.city_json.proofs.SpelledString.{string_at-complete}
-
--- A value begins with such a byte: no white space, and nothing that closes.
-record StartsValue (c : ℕ) : Type 0 where
-  dark : is_white c ≡ false
-  no_bracket : (c == close_bracket) ≡ false
-  no_brace : (c == close_brace) ≡ false
-
-starts_minus_or_digit : (c : ℕ) → starts_number c ≡ true → StartsValue c × (start_of c ≡ start.Number)
-starts_minus_or_digit c is = (record { dark = grind (arith, nat_tests); no_bracket = grind (arith, nat_tests); no_brace = grind (arith, nat_tests) }, grind (arith, nat_tests))
-
--- the first byte of a text
-record Begins (text : List ℕ) : Type 0 where
-  first : ℕ
-  others : List ℕ
-  is : text ≡ first ∷ others
-  starts : StartsValue first
-
-begins_number : (text : List ℕ) → StartsNumber text → Begins text
-begins_number [] none = absurd none
-begins_number (c ∷ text) is = record { first = c; others = text; is = refl; starts = (starts_minus_or_digit c is).0 }
-
-begins : (value : Tree) (text : List ℕ) → SpellsValue value text → Begins text
-begins null text is = record { first = _; others = _; is = is; starts = record { dark = refl; no_bracket = refl; no_brace = refl } }
-begins (boolean true) text is = record { first = _; others = _; is = is; starts = record { dark = refl; no_bracket = refl; no_brace = refl } }
-begins (boolean false) text is = record { first = _; others = _; is = is; starts = record { dark = refl; no_bracket = refl; no_brace = refl } }
-begins (number n) text is = begins_number text (rw is.0 (number_laws.number_starts n is.1))
-begins (string s) text is = record { first = quotation_mark; others = _; is = is.4; starts = record { dark = refl; no_bracket = refl; no_brace = refl } }
-begins (array items) text is = record { first = open_bracket; others = _; is = is.1; starts = record { dark = refl; no_bracket = refl; no_brace = refl } }
-begins (object all) text is = record { first = open_brace; others = _; is = is.1; starts = record { dark = refl; no_bracket = refl; no_brace = refl } }
-
--- a number ends before white space
-white_ends : (c : ℕ) → IsWhite c → continues_number c ≡ false
-white_ends c white = grind (arith, nat_tests)
-
-ends_blank : (white b : List ℕ) → IsBlank white → EndsNumber b → EndsNumber (white ++ b)
-ends_blank [] b blank ends = ends
-ends_blank (c ∷ white) b blank ends = white_ends c blank.0
-
--- white space before a value is passed over
-skips : (white text b : List ℕ) → IsBlank white → Begins text → after_white (white ++ (text ++ b)) ≡ text ++ b
-skips white text b blank begin =
-    let clear : IsClear (text ++ b) = rw begin.is begin.starts.dark in
-    after_white-blank white (text ++ b) blank clear
-
-no_close : (close : ℕ) (text b : List ℕ) → (begin : Begins text) → (begin.first == close) ≡ false → after_byte close (text ++ b) ≡ None
-no_close close text b begin apart = rw (begin.is, apart) refl
-
--- one step of reading items, and of reading members
-items_at-last : (read : List ℕ → Option (Tree × List ℕ)) (n : ℕ) (b behind rest : List ℕ) (value : Tree) → read b ≡ Some (value, behind) → after_white behind ≡ close_bracket ∷ rest → items_at read (suc n) b ≡ Some (item value no_items, rest)
-unfolding items_at
-items_at-last read n b behind rest value found closes = rw (found, closes) refl
-
-items_at-more : (read : List ℕ → Option (Tree × List ℕ)) (n : ℕ) (b behind after next rest : List ℕ) (value : Tree) (others : ItemTrees) → read b ≡ Some (value, behind) → after_white behind ≡ comma ∷ after → after_white after ≡ next → items_at read n next ≡ Some (others, rest) → items_at read (suc n) b ≡ Some (item value others, rest)
-unfolding items_at
-items_at-more read n b behind after next rest value others found goes begins more = rw (found, goes, begins, more) refl
-
-members_at-last : (read : List ℕ → Option (Tree × List ℕ)) (n : ℕ) (b behind rest : List ℕ) (named : List ℕ × Tree) → member_at read b ≡ Some (named, behind) → after_white behind ≡ close_brace ∷ rest → members_at read (suc n) b ≡ Some (member named.0 named.1 no_members, rest)
-unfolding members_at
-members_at-last read n b behind rest named found closes = rw (found, closes) refl
-
-members_at-more : (read : List ℕ → Option (Tree × List ℕ)) (n : ℕ) (b behind after next rest : List ℕ) (named : List ℕ × Tree) (others : MemberTrees) → member_at read b ≡ Some (named, behind) → after_white behind ≡ comma ∷ after → after_white after ≡ next → members_at read n next ≡ Some (others, rest) → members_at read (suc n) b ≡ Some (member named.0 named.1 others, rest)
-unfolding members_at
-members_at-more read n b behind after next rest named others found goes begins more = rw (found, goes, begins, more) refl
-
--- the pieces of a member, one after the other
-member_at-pieces : (read : List ℕ → Option (Tree × List ℕ)) (b text behind after next rest name : List ℕ) (value : Tree) → b ≡ quotation_mark ∷ text → string_at text ≡ Some (name, behind) → after_white behind ≡ colon ∷ after → after_white after ≡ next → read next ≡ Some (value, rest) → member_at read b ≡ Some ((name, value), rest)
-member_at-pieces read b text behind after next rest name value opens named goes begins found = rw (opens, named, goes, begins, found) refl
-
--- how many there are
-abbrev item_count : ItemTrees → ℕ
-item_count no_items = 0
-item_count (item value others) = suc (item_count others)
-
-abbrev member_count : MemberTrees → ℕ
-member_count no_members = 0
-member_count (member name value others) = suc (member_count others)
-
-few_items : (items : ItemTrees) (b : List ℕ) → SpellsMoreItems items b → item_count items ≤ length b
-few_items no_items b is = omega arith
-few_items (item value others) b is = rw is.2 (simp length-append (omega (arith, few_items others is.1 is.4)))
-
-few_members : (members : MemberTrees) (b : List ℕ) → SpellsMoreMembers members b → member_count members ≤ length b
-few_members no_members b is = omega arith
-few_members (member name value others) b is = rw is.2 (simp length-append (omega (arith, few_members others is.1 is.4)))
-
--- what stands behind an item or a member ends a number
-ends_item : (others : ItemTrees) (b rest : List ℕ) → SpellsMoreItems others b → EndsNumber (b ++ close_bracket ∷ rest)
-ends_item no_items b rest is = rw is refl
-ends_item (item value others) b rest is = rw is.2 refl
-
-ends_member : (others : MemberTrees) (b rest : List ℕ) → SpellsMoreMembers others b → EndsNumber (b ++ close_brace ∷ rest)
-ends_member no_members b rest is = rw is refl
-ends_member (member name value others) b rest is = rw is.2 refl
-
--- a scalar is read at any depth
-scalar_read : (levels : ℕ) (c : ℕ) (b : List ℕ) (kind : Start) → start_of c ≡ kind → (kind ≡ start.List → ⊥) → (kind ≡ start.Map → ⊥) → value_at levels (c ∷ b) ≡ scalar_at kind (c ∷ b)
-unfolding value_at
-scalar_read zero c b kind is list map = rw is refl
-scalar_read (suc levels) c b kind is list map = rw is (scalar kind list map)
-  where
-    scalar : (kind : Start) → (kind ≡ start.List → ⊥) → (kind ≡ start.Map → ⊥) → value_from (value_at levels) kind (c ∷ b) ≡ scalar_at kind (c ∷ b)
-    scalar start.List list map = absurd (list refl)
-    scalar start.Map list map = absurd (map refl)
-    scalar _ list map = refl
-
-array_read : (levels : ℕ) (b : List ℕ) → value_at (suc levels) (open_bracket ∷ b) ≡ array_at (value_at levels) b
-unfolding value_at
-array_read levels b = refl
-
-object_read : (levels : ℕ) (b : List ℕ) → value_at (suc levels) (open_brace ∷ b) ≡ object_at (value_at levels) b
-unfolding value_at
-object_read levels b = refl
-
-word_read : (word rest : List ℕ) (value : Tree) → word_at word value (word ++ rest) ≡ Some (value, rest)
-word_read word rest value = rw (starts_with-append word rest) (ap (λ b. Some (value, b)) (front_rest (word ++ rest) word rest refl))
-
-number_begun : (levels : ℕ) (text rest : List ℕ) → StartsNumber text → number_at (text ++ rest) ≡ Some (text, rest) → value_at levels (text ++ rest) ≡ Some (number text, rest)
-number_begun levels [] rest starts found = absurd starts
-number_begun levels (c ∷ text) rest starts found =
-    scalar_read levels c (text ++ rest) start.Number (starts_minus_or_digit c starts).1 (λ e. cc) (λ e. cc) ∙ rw found refl
-
-number_read : (levels : ℕ) (text rest : List ℕ) → IsNumber text → EndsNumber rest → value_at levels (text ++ rest) ≡ Some (number text, rest)
-number_read levels text rest is ends = number_begun levels text rest (number_laws.number_starts text is) (number_laws.complete text rest is ends)
-
-string_read : (levels : ℕ) (text s rest : List ℕ) → SpellsString text (quotation_mark ∷ s) → value_at levels (quotation_mark ∷ (s ++ rest)) ≡ Some (string text, rest)
-string_read levels text s rest spells = scalar_read levels quotation_mark (s ++ rest) start.Text refl (λ e. cc) (λ e. cc) ∙ rw (string_at-complete text s rest spells) refl
-
-array_empty : (read : List ℕ → Option (Tree × List ℕ)) (b rest : List ℕ) → after_white b ≡ close_bracket ∷ rest → array_at read b ≡ Some (array no_items, rest)
-array_empty read b rest is = rw is refl
-
-array_some : (read : List ℕ → Option (Tree × List ℕ)) (b next rest : List ℕ) (items : ItemTrees) → after_white b ≡ next → after_byte close_bracket next ≡ None → items_at read (length next) next ≡ Some (items, rest) → array_at read b ≡ Some (array items, rest)
-array_some read b next rest items is none found = rw (is, none, found) refl
-
-object_empty : (read : List ℕ → Option (Tree × List ℕ)) (b rest : List ℕ) → after_white b ≡ close_brace ∷ rest → object_at read b ≡ Some (object no_members, rest)
-object_empty read b rest is = rw is refl
-
-object_some : (read : List ℕ → Option (Tree × List ℕ)) (b next rest : List ℕ) (all : MemberTrees) → after_white b ≡ next → after_byte close_brace next ≡ None → members_at read (length next) next ≡ Some (all, rest) → object_at read b ≡ Some (object all, rest)
-object_some read b next rest all is none found = rw (is, none, found) refl
+use Rattle.city_json.proofs.CompleteParts.{Begins, array_empty, array_read, array_some, begins, ends_blank, ends_item, ends_member, few_items, few_members, item_count, items_at-last, items_at-more, member_at-pieces, member_count, members_at-last, members_at-more, no_close, number_read, object_empty, object_read, object_some, scalar_read, skips, string_read, white_ends, word_read}
 
 -- a string begins with its quotation mark
-string_begins : (name s : List ℕ) → SpellsString name s → (tail : List ℕ) × (s ≡ quotation_mark ∷ tail) × SpellsString name (quotation_mark ∷ tail)
+string_begins : (name s : List ℕ) → SpellsString name s → (tail : List ℕ) × (s ≡ quotation_mark ∷ tail)
+    × SpellsString name (quotation_mark ∷ tail)
 string_begins name s is = (is.1 ++ quotation_mark ∷ [], is.4, (is.0, is.1, is.2, is.3, refl))
 
-string_found : (levels : ℕ) (text s rest : List ℕ) → SpellsString text s → value_at levels (s ++ rest) ≡ Some (string text, rest)
-string_found levels text s rest is = let begin = string_begins text s is in rw begin.1 (string_read levels text begin.0 rest begin.2)
+string_found : (levels : ℕ) (text s rest : List ℕ) → SpellsString text s
+    → value_at levels (s ++ rest) ≡ Some (string text, rest)
+string_found levels text s rest is = let begin = string_begins text s is in
+    rw begin.1 (string_read levels text begin.0 rest begin.2)
 
 -- items from the first byte of the first on, with what stands behind it
 abbrev ItemsText : ItemTrees → List ℕ → Type 0
 ItemsText no_items b = ⊥
-ItemsText (item value others) b = (text after more : List ℕ) × (b ≡ text ++ (after ++ more)) × SpellsValue value text × IsBlank after × SpellsMoreItems others more
+ItemsText (item value others) b = (text after more : List ℕ) × (b ≡ text ++ (after ++ more)) × SpellsValue value text
+    × IsBlank after × SpellsMoreItems others more
 
 -- white space, and items
 record ItemsBehind (items : ItemTrees) (b : List ℕ) : Type 0 where
@@ -179,12 +41,18 @@ record ItemsBehind (items : ItemTrees) (b : List ℕ) : Type 0 where
   begin : Begins inner
 
 begins_append : (text b : List ℕ) → Begins text → Begins (text ++ b)
-begins_append text b begin = record { first = begin.first; others = begin.others ++ b; is = ap (λ l. l ++ b) begin.is; starts = begin.starts }
+begins_append text b begin = record {
+  first = begin.first;
+  others = begin.others ++ b;
+  is = ap (λ l. l ++ b) begin.is;
+  starts = begin.starts;
+}
 
 four : (a b c d : List ℕ) → (a ++ (b ++ c)) ++ d ≡ a ++ (b ++ (c ++ d))
 four a b c d = simp append_assoc
 
-items_behind : (value : Tree) (others : ItemTrees) (first more : List ℕ) → Spaced (SpellsValue value) first → SpellsMoreItems others more → ItemsBehind (item value others) (first ++ more)
+items_behind : (value : Tree) (others : ItemTrees) (first more : List ℕ) → Spaced (SpellsValue value) first
+    → SpellsMoreItems others more → ItemsBehind (item value others) (first ++ more)
 items_behind value others first more spaced more_is = record {
   white = spaced.0;
   inner = spaced.1 ++ (spaced.2 ++ more);
@@ -195,15 +63,19 @@ items_behind value others first more spaced more_is = record {
 }
 
 -- white space before items is passed over
-passes_items : (items : ItemTrees) (b c : List ℕ) → (behind : ItemsBehind items b) → after_white (b ++ c) ≡ behind.inner ++ c
-passes_items items b c behind = rw (behind.is, append_assoc) (skips behind.white behind.inner c behind.blank behind.begin)
+passes_items : (items : ItemTrees) (b c : List ℕ) → (behind : ItemsBehind items b)
+    → after_white (b ++ c) ≡ behind.inner ++ c
+passes_items items b c behind =
+    rw (behind.is, append_assoc) (skips behind.white behind.inner c behind.blank behind.begin)
 
 abbrev MemberText : List ℕ → Tree → List ℕ → Type 0
-MemberText name value b = (s before after text : List ℕ) × (b ≡ s ++ (before ++ colon ∷ (after ++ text))) × SpellsString name s × IsBlank before × IsBlank after × SpellsValue value text
+MemberText name value b = (s before after text : List ℕ) × (b ≡ s ++ (before ++ colon ∷ (after ++ text)))
+    × SpellsString name s × IsBlank before × IsBlank after × SpellsValue value text
 
 abbrev MembersText : MemberTrees → List ℕ → Type 0
 MembersText no_members b = ⊥
-MembersText (member name value others) b = (text after more : List ℕ) × (b ≡ text ++ (after ++ more)) × MemberText name value text × IsBlank after × SpellsMoreMembers others more
+MembersText (member name value others) b = (text after more : List ℕ) × (b ≡ text ++ (after ++ more))
+    × MemberText name value text × IsBlank after × SpellsMoreMembers others more
 
 record MembersBehind (members : MemberTrees) (b : List ℕ) : Type 0 where
   white : List ℕ
@@ -214,12 +86,21 @@ record MembersBehind (members : MemberTrees) (b : List ℕ) : Type 0 where
   begin : Begins inner
 
 begins_string : (name s : List ℕ) → SpellsString name s → Begins s
-begins_string name s is = record { first = quotation_mark; others = _; is = is.4; starts = record { dark = refl; no_bracket = refl; no_brace = refl } }
+begins_string name s is = record {
+  first = quotation_mark;
+  others = _;
+  is = is.4;
+  starts =
+      record { dark = refl; no_bracket = refl; no_brace = refl };
+}
 
-member_parts : (a b c d e f more : List ℕ) (mark : ℕ) → ((a ++ (b ++ c)) ++ mark ∷ (d ++ (e ++ f))) ++ more ≡ a ++ ((b ++ (c ++ mark ∷ (d ++ e))) ++ (f ++ more))
+member_parts : (a b c d e f more : List ℕ) (mark : ℕ)
+    → ((a ++ (b ++ c)) ++ mark ∷ (d ++ (e ++ f))) ++ more ≡ a ++ ((b ++ (c ++ mark ∷ (d ++ e))) ++ (f ++ more))
 member_parts a b c d e f more mark = simp append_assoc
 
-members_behind : (name : List ℕ) (value : Tree) (others : MemberTrees) (first more : List ℕ) → SpellsMember name (SpellsValue value) first → SpellsMoreMembers others more → MembersBehind (member name value others) (first ++ more)
+members_behind : (name : List ℕ) (value : Tree) (others : MemberTrees) (first more : List ℕ)
+    → SpellsMember name (SpellsValue value) first → SpellsMoreMembers others more
+    → MembersBehind (member name value others) (first ++ more)
 members_behind name value others first more is more_is =
     let named = is.3 in
     let spaced = is.4 in
@@ -228,20 +109,35 @@ members_behind name value others first more is more_is =
       inner = (named.1 ++ (named.2 ++ colon ∷ (spaced.0 ++ spaced.1))) ++ (spaced.2 ++ more);
       is = rw (is.2, named.3, spaced.3) (member_parts named.0 named.1 named.2 spaced.0 spaced.1 spaced.2 more colon);
       blank = named.4;
-      text = (named.1 ++ (named.2 ++ colon ∷ (spaced.0 ++ spaced.1)), spaced.2, more, refl, (named.1, named.2, spaced.0, spaced.1, refl, named.5, named.6, spaced.4, spaced.5), spaced.6, more_is);
-      begin = begins_append _ (spaced.2 ++ more) (begins_append named.1 (named.2 ++ colon ∷ (spaced.0 ++ spaced.1)) (begins_string name named.1 named.5));
+      text = (
+        named.1 ++ (named.2 ++ colon ∷ (spaced.0 ++ spaced.1)),
+        spaced.2,
+        more,
+        refl,
+        (named.1, named.2, spaced.0, spaced.1, refl, named.5, named.6, spaced.4, spaced.5),
+        spaced.6,
+        more_is,
+      );
+      begin = begins_append _ (spaced.2 ++ more)
+          (begins_append named.1 (named.2 ++ colon ∷ (spaced.0 ++ spaced.1)) (begins_string name named.1 named.5));
     }
 
-passes_members : (all : MemberTrees) (b c : List ℕ) → (behind : MembersBehind all b) → after_white (b ++ c) ≡ behind.inner ++ c
-passes_members all b c behind = rw (behind.is, append_assoc) (skips behind.white behind.inner c behind.blank behind.begin)
+passes_members : (all : MemberTrees) (b c : List ℕ) → (behind : MembersBehind all b)
+    → after_white (b ++ c) ≡ behind.inner ++ c
+passes_members all b c behind =
+    rw (behind.is, append_assoc) (skips behind.white behind.inner c behind.blank behind.begin)
 
 -- A member is read where its value is.
-member_found : (levels : ℕ) (name : List ℕ) (value : Tree) (b rest : List ℕ) → (is : MemberText name value b) → value_at levels (is.3 ++ rest) ≡ Some (value, rest) → member_at (value_at levels) (b ++ rest) ≡ Some ((name, value), rest)
+member_found : (levels : ℕ) (name : List ℕ) (value : Tree) (b rest : List ℕ) → (is : MemberText name value b)
+    → value_at levels (is.3 ++ rest) ≡ Some (value, rest)
+    → member_at (value_at levels) (b ++ rest) ≡ Some ((name, value), rest)
 member_found levels name value b rest is found =
     let begin = string_begins name is.0 is.5 in
     let text = begin.0 ++ (is.1 ++ colon ∷ (is.2 ++ (is.3 ++ rest))) in
-    member_at-pieces (value_at levels) (b ++ rest) (begin.0 ++ (is.1 ++ colon ∷ (is.2 ++ (is.3 ++ rest)))) (is.1 ++ colon ∷ (is.2 ++ (is.3 ++ rest))) (is.2 ++ (is.3 ++ rest)) (is.3 ++ rest) rest name value
-    (ap (λ l. l ++ rest) (is.4 ∙ ap (λ l. l ++ (is.1 ++ colon ∷ (is.2 ++ is.3))) begin.1) ∙ ap (λ l. quotation_mark ∷ l) (member_tail begin.0 is.1 is.2 is.3 rest))
+    member_at-pieces (value_at levels) (b ++ rest) (begin.0 ++ (is.1 ++ colon ∷ (is.2 ++ (is.3 ++ rest))))
+    (is.1 ++ colon ∷ (is.2 ++ (is.3 ++ rest))) (is.2 ++ (is.3 ++ rest)) (is.3 ++ rest) rest name value
+    (ap (λ l. l ++ rest) (is.4 ∙ ap (λ l. l ++ (is.1 ++ colon ∷ (is.2 ++ is.3))) begin.1)
+    ∙ ap (λ l. quotation_mark ∷ l) (member_tail begin.0 is.1 is.2 is.3 rest))
     (string_at-complete name begin.0 (is.1 ++ colon ∷ (is.2 ++ (is.3 ++ rest))) begin.2)
     (after_white-blank is.1 (colon ∷ (is.2 ++ (is.3 ++ rest))) is.6 refl)
     (skips is.2 is.3 rest is.7 (begins value is.3 is.8))
@@ -251,28 +147,52 @@ member_found levels name value b rest is found =
     member_tail a b c d e = simp append_assoc
 
 -- One item and those behind it, where the item is read, and the others are, from their first byte on.
-items_step : (levels n : ℕ) (value : Tree) (others : ItemTrees) (text after more rest : List ℕ) → IsBlank after → SpellsMoreItems others more
-    → value_at levels (text ++ (after ++ (more ++ close_bracket ∷ rest))) ≡ Some (value, after ++ (more ++ close_bracket ∷ rest))
-    → ((inner : List ℕ) → ItemsText others inner → items_at (value_at levels) n (inner ++ close_bracket ∷ rest) ≡ Some (others, rest))
-    → items_at (value_at levels) (suc n) (text ++ (after ++ (more ++ close_bracket ∷ rest))) ≡ Some (item value others, rest)
+items_step : (levels n : ℕ) (value : Tree) (others : ItemTrees) (text after more rest : List ℕ) → IsBlank after
+    → SpellsMoreItems others more
+    → value_at levels (text ++ (after ++ (more ++ close_bracket ∷ rest))) ≡ Some (
+      value,
+      after ++ (more ++ close_bracket ∷ rest),
+    )
+    → ((inner : List ℕ) → ItemsText others inner
+    → items_at (value_at levels) n (inner ++ close_bracket ∷ rest) ≡ Some (others, rest))
+    → items_at (value_at levels) (suc n) (text ++ (after ++ (more ++ close_bracket ∷ rest))) ≡ Some (
+      item value others,
+      rest,
+    )
 items_step levels n value no_items text after more rest blank more_is found further =
-    items_at-last (value_at levels) n _ (after ++ (more ++ close_bracket ∷ rest)) rest value found (rw more_is (after_white-blank after (close_bracket ∷ rest) blank refl))
+    items_at-last (value_at levels) n _ (after ++ (more ++ close_bracket ∷ rest)) rest value found
+    (rw more_is (after_white-blank after (close_bracket ∷ rest) blank refl))
 items_step levels n value (item next others) text after more rest blank more_is found further =
     let behind = items_behind next others more_is.0 more_is.1 more_is.3 more_is.4 in
-    items_at-more (value_at levels) n _ (after ++ (more ++ close_bracket ∷ rest)) ((more_is.0 ++ more_is.1) ++ close_bracket ∷ rest) (behind.inner ++ close_bracket ∷ rest) rest value (item next others) found
+    items_at-more (value_at levels) n _ (after ++ (more ++ close_bracket ∷ rest))
+    ((more_is.0 ++ more_is.1) ++ close_bracket ∷ rest) (behind.inner ++ close_bracket ∷ rest) rest value
+    (item next others) found
     (rw more_is.2 (after_white-blank after (comma ∷ ((more_is.0 ++ more_is.1) ++ close_bracket ∷ rest)) blank refl))
     (passes_items (item next others) (more_is.0 ++ more_is.1) (close_bracket ∷ rest) behind)
     (further behind.inner behind.text)
 
-members_step : (levels n : ℕ) (name : List ℕ) (value : Tree) (others : MemberTrees) (text after more rest : List ℕ) → IsBlank after → SpellsMoreMembers others more
-    → member_at (value_at levels) (text ++ (after ++ (more ++ close_brace ∷ rest))) ≡ Some ((name, value), after ++ (more ++ close_brace ∷ rest))
-    → ((inner : List ℕ) → MembersText others inner → members_at (value_at levels) n (inner ++ close_brace ∷ rest) ≡ Some (others, rest))
-    → members_at (value_at levels) (suc n) (text ++ (after ++ (more ++ close_brace ∷ rest))) ≡ Some (member name value others, rest)
+members_step : (levels n : ℕ) (name : List ℕ) (value : Tree) (others : MemberTrees) (text after more rest : List ℕ)
+    → IsBlank after → SpellsMoreMembers others more
+    → member_at (value_at levels) (text ++ (after ++ (more ++ close_brace ∷ rest))) ≡ Some (
+      (name, value),
+      after ++ (more ++ close_brace ∷ rest),
+    )
+    → ((inner : List ℕ) → MembersText others inner
+    → members_at (value_at levels) n (inner ++ close_brace ∷ rest) ≡ Some (others, rest))
+    → members_at (value_at levels) (suc n) (text ++ (after ++ (more ++ close_brace ∷ rest)))
+    ≡ Some (member name value others, rest)
 members_step levels n name value no_members text after more rest blank more_is found further =
-    members_at-last (value_at levels) n _ (after ++ (more ++ close_brace ∷ rest)) rest (name, value) found (rw more_is (after_white-blank after (close_brace ∷ rest) blank refl))
+    members_at-last (value_at levels) n _ (after ++ (more ++ close_brace ∷ rest)) rest (
+      name,
+      value,
+    ) found (rw more_is (after_white-blank after (close_brace ∷ rest) blank refl))
 members_step levels n name value (member next_name next others) text after more rest blank more_is found further =
     let behind = members_behind next_name next others more_is.0 more_is.1 more_is.3 more_is.4 in
-    members_at-more (value_at levels) n _ (after ++ (more ++ close_brace ∷ rest)) ((more_is.0 ++ more_is.1) ++ close_brace ∷ rest) (behind.inner ++ close_brace ∷ rest) rest (name, value) (member next_name next others) found
+    members_at-more (value_at levels) n _ (after ++ (more ++ close_brace ∷ rest))
+    ((more_is.0 ++ more_is.1) ++ close_brace ∷ rest) (behind.inner ++ close_brace ∷ rest) rest (
+      name,
+      value,
+    ) (member next_name next others) found
     (rw more_is.2 (after_white-blank after (comma ∷ ((more_is.0 ++ more_is.1) ++ close_brace ∷ rest)) blank refl))
     (passes_members (member next_name next others) (more_is.0 ++ more_is.1) (close_brace ∷ rest) behind)
     (further behind.inner behind.text)
@@ -292,51 +212,91 @@ few_in_members (member name value others) b c is =
 
 mutual
   -- What spells a value is read as it, where the depth allows it.
-  pub value_at-complete : (levels : ℕ) (value : Tree) (text rest : List ℕ) → SpellsValue value text → depth value ≤ levels → EndsNumber rest → value_at levels (text ++ rest) ≡ Some (value, rest)
-  value_at-complete levels null text rest is within ends = rw is (scalar_read levels _ _ start.Null refl (λ e. cc) (λ e. cc) ∙ word_read (codes "null") rest null)
-  value_at-complete levels (boolean true) text rest is within ends = rw is (scalar_read levels _ _ start.True refl (λ e. cc) (λ e. cc) ∙ word_read (codes "true") rest (boolean true))
-  value_at-complete levels (boolean false) text rest is within ends = rw is (scalar_read levels _ _ start.False refl (λ e. cc) (λ e. cc) ∙ word_read (codes "false") rest (boolean false))
+  pub value_at-complete : (levels : ℕ) (value : Tree) (text rest : List ℕ) → SpellsValue value text
+      → depth value ≤ levels → EndsNumber rest → value_at levels (text ++ rest) ≡ Some (value, rest)
+  value_at-complete levels null text rest is within ends =
+      rw is (scalar_read levels _ _ start.Null refl (λ e. cc) (λ e. cc) ∙ word_read (codes "null") rest null)
+  value_at-complete levels (boolean true) text rest is within ends =
+      rw is (scalar_read levels _ _ start.True refl (λ e. cc) (λ e. cc) ∙ word_read (codes "true") rest (boolean true))
+  value_at-complete levels (boolean false) text rest is within ends =
+      rw is (scalar_read levels _ _ start.False refl (λ e. cc) (λ e. cc)
+      ∙ word_read (codes "false") rest (boolean false))
   value_at-complete levels (number n) text rest is within ends = rw is.0 (number_read levels n rest is.1 ends)
   value_at-complete levels (string s) text rest is within ends = string_found levels s text rest is
   value_at-complete zero (array items) text rest is within ends = absurd (omega arith)
   value_at-complete zero (object all) text rest is within ends = absurd (omega arith)
   value_at-complete (suc levels) (array no_items) text rest is within ends =
-      rw is.1 (array_read levels ((is.0 ++ close_bracket ∷ []) ++ rest) ∙ array_empty (value_at levels) ((is.0 ++ close_bracket ∷ []) ++ rest) rest (rw append_assoc (after_white-blank is.0 (close_bracket ∷ rest) is.2 refl)))
+      rw is.1 (array_read levels ((is.0 ++ close_bracket ∷ []) ++ rest)
+      ∙ array_empty (value_at levels) ((is.0 ++ close_bracket ∷ []) ++ rest) rest
+      (rw append_assoc (after_white-blank is.0 (close_bracket ∷ rest) is.2 refl)))
   value_at-complete (suc levels) (object no_members) text rest is within ends =
-      rw is.1 (object_read levels ((is.0 ++ close_brace ∷ []) ++ rest) ∙ object_empty (value_at levels) ((is.0 ++ close_brace ∷ []) ++ rest) rest (rw append_assoc (after_white-blank is.0 (close_brace ∷ rest) is.2 refl)))
+      rw is.1 (object_read levels ((is.0 ++ close_brace ∷ []) ++ rest)
+      ∙ object_empty (value_at levels) ((is.0 ++ close_brace ∷ []) ++ rest) rest
+      (rw append_assoc (after_white-blank is.0 (close_brace ∷ rest) is.2 refl)))
   value_at-complete (suc levels) (array (item value others)) text rest is within ends =
       let spelled = is.2 in
       let behind = items_behind value others spelled.0 spelled.1 spelled.3 spelled.4 in
-      let found : items_at (value_at levels) (length (behind.inner ++ close_bracket ∷ rest)) (behind.inner ++ close_bracket ∷ rest) ≡ Some (item value others, rest) =
-      items_at-complete levels (length (behind.inner ++ close_bracket ∷ rest)) (item value others) behind.inner rest behind.text (omega arith) (few_in_items (item value others) behind.inner (close_bracket ∷ rest) behind.text) in
-      rw (is.1, append_assoc, spelled.2) (array_read levels _ ∙ array_some (value_at levels) ((spelled.0 ++ spelled.1) ++ close_bracket ∷ rest) (behind.inner ++ close_bracket ∷ rest) rest (item value others) (passes_items (item value others) (spelled.0 ++ spelled.1) (close_bracket ∷ rest) behind) (no_close close_bracket behind.inner (close_bracket ∷ rest) behind.begin behind.begin.starts.no_bracket) found)
+      let found : items_at (value_at levels) (length (behind.inner ++ close_bracket ∷ rest))
+      (behind.inner ++ close_bracket ∷ rest) ≡ Some (item value others, rest) =
+      items_at-complete levels (length (behind.inner ++ close_bracket ∷ rest))
+      (item value others) behind.inner rest behind.text (omega arith)
+      (few_in_items (item value others) behind.inner (close_bracket ∷ rest) behind.text) in
+      rw (is.1, append_assoc, spelled.2) (array_read levels _
+      ∙ array_some (value_at levels) ((spelled.0 ++ spelled.1) ++ close_bracket ∷ rest)
+      (behind.inner ++ close_bracket ∷ rest) rest (item value others)
+      (passes_items (item value others) (spelled.0 ++ spelled.1) (close_bracket ∷ rest) behind)
+      (no_close close_bracket behind.inner (close_bracket ∷ rest) behind.begin behind.begin.starts.no_bracket)
+      found)
   value_at-complete (suc levels) (object (member name value others)) text rest is within ends =
       let spelled = is.2 in
       let behind = members_behind name value others spelled.0 spelled.1 spelled.3 spelled.4 in
-      let found : members_at (value_at levels) (length (behind.inner ++ close_brace ∷ rest)) (behind.inner ++ close_brace ∷ rest) ≡ Some (member name value others, rest) =
-      members_at-complete levels (length (behind.inner ++ close_brace ∷ rest)) (member name value others) behind.inner rest behind.text (omega arith) (few_in_members (member name value others) behind.inner (close_brace ∷ rest) behind.text) in
-      rw (is.1, append_assoc, spelled.2) (object_read levels _ ∙ object_some (value_at levels) ((spelled.0 ++ spelled.1) ++ close_brace ∷ rest) (behind.inner ++ close_brace ∷ rest) rest (member name value others) (passes_members (member name value others) (spelled.0 ++ spelled.1) (close_brace ∷ rest) behind) (no_close close_brace behind.inner (close_brace ∷ rest) behind.begin behind.begin.starts.no_brace) found)
+      let found : members_at (value_at levels) (length (behind.inner ++ close_brace ∷ rest))
+      (behind.inner ++ close_brace ∷ rest) ≡ Some (member name value others, rest) =
+      members_at-complete levels (length (behind.inner ++ close_brace ∷ rest))
+      (member name value others) behind.inner rest behind.text (omega arith)
+      (few_in_members (member name value others) behind.inner (close_brace ∷ rest) behind.text) in
+      rw (is.1, append_assoc, spelled.2) (object_read levels _
+      ∙ object_some (value_at levels) ((spelled.0 ++ spelled.1) ++ close_brace ∷ rest)
+      (behind.inner ++ close_brace ∷ rest) rest (member name value others)
+      (passes_members (member name value others) (spelled.0 ++ spelled.1) (close_brace ∷ rest) behind)
+      (no_close close_brace behind.inner (close_brace ∷ rest) behind.begin behind.begin.starts.no_brace) found)
 
-  items_at-complete : (levels n : ℕ) (items : ItemTrees) (inner rest : List ℕ) → ItemsText items inner → items_depth items ≤ levels → item_count items ≤ n → items_at (value_at levels) n (inner ++ close_bracket ∷ rest) ≡ Some (items, rest)
+  items_at-complete : (levels n : ℕ) (items : ItemTrees) (inner rest : List ℕ) → ItemsText items inner
+      → items_depth items ≤ levels → item_count items ≤ n
+      → items_at (value_at levels) n (inner ++ close_bracket ∷ rest) ≡ Some (items, rest)
   items_at-complete levels n no_items inner rest is within few = absurd is
   items_at-complete levels zero (item value others) inner rest is within few = absurd (omega arith)
   items_at-complete levels (suc n) (item value others) inner rest is within few =
-      let found : value_at levels (is.0 ++ (is.1 ++ (is.2 ++ close_bracket ∷ rest))) ≡ Some (value, is.1 ++ (is.2 ++ close_bracket ∷ rest)) =
-      value_at-complete levels value is.0 (is.1 ++ (is.2 ++ close_bracket ∷ rest)) is.4 (omega arith) (ends_blank is.1 (is.2 ++ close_bracket ∷ rest) is.5 (ends_item others is.2 rest is.6)) in
-      rw (is.3, four) (items_step levels n value others is.0 is.1 is.2 rest is.5 is.6 found (λ next text. items_at-complete levels n others next rest text (omega arith) (omega arith)))
+      let found : value_at levels (is.0 ++ (is.1 ++ (is.2 ++ close_bracket ∷ rest))) ≡ Some (
+        value,
+        is.1 ++ (is.2 ++ close_bracket ∷ rest),
+      ) =
+      value_at-complete levels value is.0 (is.1 ++ (is.2 ++ close_bracket ∷ rest)) is.4 (omega arith)
+      (ends_blank is.1 (is.2 ++ close_bracket ∷ rest) is.5 (ends_item others is.2 rest is.6)) in
+      rw (is.3, four) (items_step levels n value others is.0 is.1 is.2 rest is.5 is.6 found
+      (λ next text. items_at-complete levels n others next rest text (omega arith) (omega arith)))
 
-  members_at-complete : (levels n : ℕ) (members : MemberTrees) (inner rest : List ℕ) → MembersText members inner → members_depth members ≤ levels → member_count members ≤ n → members_at (value_at levels) n (inner ++ close_brace ∷ rest) ≡ Some (members, rest)
+  members_at-complete : (levels n : ℕ) (members : MemberTrees) (inner rest : List ℕ) → MembersText members inner
+      → members_depth members ≤ levels → member_count members ≤ n
+      → members_at (value_at levels) n (inner ++ close_brace ∷ rest) ≡ Some (members, rest)
   members_at-complete levels n no_members inner rest is within few = absurd is
   members_at-complete levels zero (member name value others) inner rest is within few = absurd (omega arith)
   members_at-complete levels (suc n) (member name value others) inner rest is within few =
       let text = is.4 in
       let behind : List ℕ = is.1 ++ (is.2 ++ close_brace ∷ rest) in
-      let found : value_at levels (text.3 ++ (is.1 ++ (is.2 ++ close_brace ∷ rest))) ≡ Some (value, is.1 ++ (is.2 ++ close_brace ∷ rest)) =
-      value_at-complete levels value text.3 (is.1 ++ (is.2 ++ close_brace ∷ rest)) text.8 (omega arith) (ends_blank is.1 (is.2 ++ close_brace ∷ rest) is.5 (ends_member others is.2 rest is.6)) in
-      rw (is.3, four) (members_step levels n name value others is.0 is.1 is.2 rest is.5 is.6 (member_found levels name value is.0 (is.1 ++ (is.2 ++ close_brace ∷ rest)) is.4 found) (λ next next_is. members_at-complete levels n others next rest next_is (omega arith) (omega arith)))
+      let found : value_at levels (text.3 ++ (is.1 ++ (is.2 ++ close_brace ∷ rest))) ≡ Some (
+        value,
+        is.1 ++ (is.2 ++ close_brace ∷ rest),
+      ) =
+      value_at-complete levels value text.3 (is.1 ++ (is.2 ++ close_brace ∷ rest)) text.8 (omega arith)
+      (ends_blank is.1 (is.2 ++ close_brace ∷ rest) is.5 (ends_member others is.2 rest is.6)) in
+      rw (is.3, four) (members_step levels n name value others is.0 is.1 is.2 rest is.5 is.6
+      (member_found levels name value is.0 (is.1 ++ (is.2 ++ close_brace ∷ rest)) is.4 found)
+      (λ next next_is. members_at-complete levels n others next rest next_is (omega arith) (omega arith)))
 
 -- A text that spells a value of allowed depth is read as it, with white space behind it.
-text_value : (levels : ℕ) (b : List ℕ) (value : Tree) → (is : Spaced (SpellsValue value) b) → depth value ≤ levels → value_at levels (after_white b) ≡ Some (value, is.2)
+text_value : (levels : ℕ) (b : List ℕ) (value : Tree) → (is : Spaced (SpellsValue value) b) → depth value ≤ levels
+    → value_at levels (after_white b) ≡ Some (value, is.2)
 text_value levels b value is within =
     let front : after_white b ≡ is.1 ++ is.2 = rw is.3 (skips is.0 is.1 is.2 is.4 (begins value is.1 is.5)) in
     rw front (value_at-complete levels value is.1 is.2 is.5 within (ends_only is.2 is.6))
@@ -346,8 +306,9 @@ text_value levels b value is within =
     ends_only (c ∷ white) blank = white_ends c blank.0
 
 -- A text that spells a value of allowed depth is read as it.
-pub text_at-complete : (b : List ℕ) (value : Tree) → Spaced (SpellsValue value) b → depth value ≤ most_depth → text_at b ≡ Some value
-text_at-complete b value is within = rw (text_value most_depth b value is within, white_only is.2 is.6) refl
+pub text_at-complete : (b : List ℕ) (value : Tree) → Spaced (SpellsValue value) b → depth value ≤ max_depth
+    → text_at b ≡ Some value
+text_at-complete b value is within = rw (text_value max_depth b value is within, white_only is.2 is.6) refl
   where
     white_only : (white : List ℕ) → IsBlank white → after_white white ≡ []
     white_only white blank = ap after_white (sym (append-nil white)) ∙ after_white-blank white [] blank tt
@@ -359,3 +320,24 @@ one_meaning b v w v_is w_is =
     let first = text_value (depth v + depth w) b v v_is (omega arith) in
     let second = text_value (depth v + depth w) b w w_is (omega arith) in
     ap (λ p. p.0) (same_Some (v, v_is.2) (w, w_is.2) (sym first ∙ second))
+
+-- An array ends by itself, whatever stands after it.
+pub array_complete : (levels : ℕ) (items : ItemTrees) (text rest : List ℕ) → SpellsValue (array items) text
+    → depth (array items) ≤ levels → value_at levels (text ++ rest) ≡ Some (array items, rest)
+array_complete zero items text rest is within = absurd (omega arith)
+array_complete (suc levels) no_items text rest is within =
+    rw is.1 (array_read levels ((is.0 ++ close_bracket ∷ []) ++ rest)
+    ∙ array_empty (value_at levels) ((is.0 ++ close_bracket ∷ []) ++ rest) rest
+    (rw append_assoc (after_white-blank is.0 (close_bracket ∷ rest) is.2 refl)))
+array_complete (suc levels) (item value others) text rest is within =
+    let spelled = is.2 in
+    let behind = items_behind value others spelled.0 spelled.1 spelled.3 spelled.4 in
+    let found : items_at (value_at levels) (length (behind.inner ++ close_bracket ∷ rest))
+    (behind.inner ++ close_bracket ∷ rest) ≡ Some (item value others, rest) =
+    items_at-complete levels (length (behind.inner ++ close_bracket ∷ rest)) (item value others) behind.inner rest
+    behind.text (omega arith) (few_in_items (item value others) behind.inner (close_bracket ∷ rest) behind.text) in
+    rw (is.1, append_assoc, spelled.2) (array_read levels _
+    ∙ array_some (value_at levels) ((spelled.0 ++ spelled.1) ++ close_bracket ∷ rest)
+    (behind.inner ++ close_bracket ∷ rest) rest (item value others)
+    (passes_items (item value others) (spelled.0 ++ spelled.1) (close_bracket ∷ rest) behind)
+    (no_close close_bracket behind.inner (close_bracket ∷ rest) behind.begin behind.begin.starts.no_bracket) found)

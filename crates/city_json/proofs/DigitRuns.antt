@@ -36,12 +36,16 @@ top-lane b = any_of (ltb b 48) (ltb 57 b) ∙ is_between b
 
 -- the mask of a vector
 pub digit_mask : (bytes : List ℕ) → length bytes ≡ 16
-    → mask_l (map (top 7) (zip2 bit_or (zip2 where_below bytes (replicate 16 48)) (zip2 where_below (replicate 16 57) bytes))) % 2 ^ 64 ≡ mask_l (map is_stop bytes)
+    → mask_l (map (top 7) (zip2 bit_or (zip2 where_below bytes (replicate 16 48))
+    (zip2 where_below (replicate 16 57) bytes))) % 2 ^ 64 ≡ mask_l (map is_stop bytes)
 digit_mask bytes long =
-    ap (λ x. mask_l (map (top 7) (zip2 bit_or x (zip2 where_below (replicate 16 57) bytes))) % 2 ^ 64) (zip2_splat where_below bytes 16 48 long)
-    ∙ ap (λ x. mask_l (map (top 7) (zip2 bit_or (map (λ b. where_below b 48) bytes) x)) % 2 ^ 64) (zip2_splat_left where_below 57 16 bytes long)
+    ap (λ x. mask_l (map (top 7) (zip2 bit_or x (zip2 where_below (replicate 16 57) bytes))) % 2 ^ 64)
+    (zip2_splat where_below bytes 16 48 long)
+    ∙ ap (λ x. mask_l (map (top 7) (zip2 bit_or (map (λ b. where_below b 48) bytes) x)) % 2 ^ 64)
+    (zip2_splat_left where_below 57 16 bytes long)
     ∙ ap (λ x. mask_l (map (top 7) x) % 2 ^ 64) (zip2-map bit_or (λ b. where_below b 48) (λ b. where_below 57 b) bytes)
-    ∙ ap (λ x. mask_l x % 2 ^ 64) (map-map (top 7) lane bytes ∙ ap (λ (f : ℕ → Bool). map f bytes) (λ i b. top-lane b i))
+    ∙ ap (λ x. mask_l x % 2 ^ 64) (map-map (top 7) lane bytes
+    ∙ ap (λ (f : ℕ → Bool). map f bytes) (λ i b. top-lane b i))
     ∙ mask_l-mod (map is_stop bytes) 64 (omega (arith, length-map bytes is_stop))
 
 twice : (b : Bool) → not (not b) ≡ b
@@ -52,34 +56,48 @@ all_digits : (bytes : List ℕ) → prefix_len is_ascii_digit bytes ≡ length b
 all_digits [] e = refl
 all_digits (b ∷ bytes) e =
     elim (cases_Bool (is_ascii_digit b)) [
-      | inl plain ↦ (let rest = all_digits bytes (omega (arith, sym (cond-true (is_ascii_digit b) (1 + prefix_len is_ascii_digit bytes) 0 plain) ∙ e)) in
+      | inl plain ↦ (let rest = all_digits bytes
+          (omega (arith, sym (cond-true (is_ascii_digit b) (1 + prefix_len is_ascii_digit bytes) 0 plain) ∙ e)) in
           ap (λ t. cond (not t) 1 0 + 2 * mask_l (map is_stop bytes)) plain ∙ ap (λ m. 0 + 2 * m) rest)
-      | inr stop ↦ (let no = sym (cond-false (is_ascii_digit b) (1 + prefix_len is_ascii_digit bytes) 0 stop) ∙ e in absurd (omega arith))
+      | inr stop ↦ (let no = sym (cond-false (is_ascii_digit b) (1 + prefix_len is_ascii_digit bytes) 0 stop) ∙ e in
+          absurd (omega arith))
     ]
 
 module _ (bytes : List ℕ) (at : ℕ) (room : at + 16 ≤ length bytes) where
-  in_vector : cond (eqb (mask_l (map is_stop (chunk at 16 bytes))) 0) 16 (count_trailing_zeros 64 (mask_l (map is_stop (chunk at 16 bytes)))) ≡ prefix_len is_ascii_digit (chunk at 16 bytes)
+  in_vector : cond (eqb (mask_l (map is_stop (chunk at 16 bytes))) 0) 16
+      (count_trailing_zeros 64 (mask_l (map is_stop (chunk at 16 bytes))))
+      ≡ prefix_len is_ascii_digit (chunk at 16 bytes)
   in_vector =
       first_set_mask_l is_stop (chunk at 16 bytes) 16 (length-chunk at 16 bytes room) (omega arith)
       ∙ ap (λ (p : ℕ → Bool). prefix_len p (chunk at 16 bytes)) (λ i b. twice (is_ascii_digit b) i)
 
-  split : prefix_len is_ascii_digit (drop at bytes) ≡ cond (eqb (prefix_len is_ascii_digit (chunk at 16 bytes)) (length (chunk at 16 bytes))) (length (chunk at 16 bytes) + prefix_len is_ascii_digit (drop (at + 16) bytes)) (prefix_len is_ascii_digit (chunk at 16 bytes))
-  split = ap (prefix_len is_ascii_digit) (chunk-drop at 16 bytes) ∙ prefix_len-append is_ascii_digit (chunk at 16 bytes) (drop (at + 16) bytes)
+  split : prefix_len is_ascii_digit (drop at bytes)
+      ≡ cond (eqb (prefix_len is_ascii_digit (chunk at 16 bytes)) (length (chunk at 16 bytes)))
+      (length (chunk at 16 bytes) + prefix_len is_ascii_digit (drop (at + 16) bytes))
+      (prefix_len is_ascii_digit (chunk at 16 bytes))
+  split = ap (prefix_len is_ascii_digit) (chunk-drop at 16 bytes)
+      ∙ prefix_len-append is_ascii_digit (chunk at 16 bytes) (drop (at + 16) bytes)
 
-  pub digits_go_on : mask_l (map is_stop (chunk at 16 bytes)) ≡ 0 → prefix_len is_ascii_digit (drop at bytes) ≡ 16 + prefix_len is_ascii_digit (drop (at + 16) bytes)
+  pub digits_go_on : mask_l (map is_stop (chunk at 16 bytes)) ≡ 0
+      → prefix_len is_ascii_digit (drop at bytes) ≡ 16 + prefix_len is_ascii_digit (drop (at + 16) bytes)
   digits_go_on none =
       let long = length-chunk at 16 bytes room in
       let whole = sym in_vector ∙ cond-true _ _ _ (eq-eqb _ 0 none) in
-      split ∙ cond-true _ _ _ (eq-eqb _ _ (whole ∙ sym long)) ∙ ap (λ n. n + prefix_len is_ascii_digit (drop (at + 16) bytes)) long
+      split ∙ cond-true _ _ _ (eq-eqb _ _ (whole ∙ sym long))
+      ∙ ap (λ n. n + prefix_len is_ascii_digit (drop (at + 16) bytes)) long
 
-  pub digits_stop : 0 < mask_l (map is_stop (chunk at 16 bytes)) → prefix_len is_ascii_digit (drop at bytes) ≡ count_trailing_zeros 64 (mask_l (map is_stop (chunk at 16 bytes)))
+  pub digits_stop : 0 < mask_l (map is_stop (chunk at 16 bytes))
+      → prefix_len is_ascii_digit (drop at bytes) ≡ count_trailing_zeros 64 (mask_l (map is_stop (chunk at 16 bytes)))
   digits_stop some =
       let mask = mask_l (map is_stop (chunk at 16 bytes)) in
       let set : mask ≡ 0 → ⊥ = λ e. omega arith in
-      split ∙ cond-false _ _ _ (ne_eqb _ _ (λ (e : prefix_len is_ascii_digit (chunk at 16 bytes) ≡ length (chunk at 16 bytes)). set (all_digits (chunk at 16 bytes) e)))
+      split ∙ cond-false _ _ _ (ne_eqb _ _
+      (λ (e : prefix_len is_ascii_digit (chunk at 16 bytes) ≡ length (chunk at 16 bytes)).
+      set (all_digits (chunk at 16 bytes) e)))
       ∙ sym in_vector ∙ cond-false _ _ _ (ne_eqb mask 0 set)
 
-pub digits_within : (bytes : List ℕ) (at : ℕ) → at ≤ length bytes → at + prefix_len is_ascii_digit (drop at bytes) ≤ length bytes
+pub digits_within : (bytes : List ℕ) (at : ℕ) → at ≤ length bytes
+    → at + prefix_len is_ascii_digit (drop at bytes) ≤ length bytes
 digits_within bytes at h = omega (arith, prefix_len-le-length is_ascii_digit (drop at bytes), length-drop at bytes)
 
 -- the digits at the front
@@ -87,7 +105,8 @@ pub past_is : (bytes : List ℕ) → drop (prefix_len is_ascii_digit bytes) byte
 past_is [] = refl
 past_is (c ∷ bytes) = by (is_ascii_digit c) refl (past_is bytes)
   where
-    by : (t : Bool) → is_ascii_digit c ≡ t → drop (prefix_len is_ascii_digit bytes) bytes ≡ past_digits bytes → drop (prefix_len is_ascii_digit (c ∷ bytes)) (c ∷ bytes) ≡ past_digits (c ∷ bytes)
+    by : (t : Bool) → is_ascii_digit c ≡ t → drop (prefix_len is_ascii_digit bytes) bytes ≡ past_digits bytes
+        → drop (prefix_len is_ascii_digit (c ∷ bytes)) (c ∷ bytes) ≡ past_digits (c ∷ bytes)
     by true is rest =
         let next : 1 + prefix_len is_ascii_digit bytes ≡ suc (prefix_len is_ascii_digit bytes) = omega arith in
         rw is (ap (λ k. drop k (c ∷ bytes)) next ∙ rest)

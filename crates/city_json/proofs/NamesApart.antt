@@ -25,11 +25,16 @@ pub none_differ : (members : MemberTrees) → names members ≡ [] → HasDistin
 none_differ no_members is = tt
 none_differ (member n v o) is = cc
 
-pub new_step : (name other : List ℕ) (rest : List (List ℕ)) → (other ≡ name → ⊥) → ((members : MemberTrees) → names members ≡ rest → IsNewName name members) → (members : MemberTrees) → names members ≡ other ∷ rest → IsNewName name members
+pub new_step : (name other : List ℕ) (rest : List (List ℕ)) → (other ≡ name → ⊥)
+    → ((members : MemberTrees) → names members ≡ rest → IsNewName name members) → (members : MemberTrees)
+    → names members ≡ other ∷ rest → IsNewName name members
 new_step name other rest apart new no_members is = cc
 new_step name other rest apart new (member n v o) is = (λ same. apart cc, new o cc)
 
-pub differ_step : (name : List ℕ) (rest : List (List ℕ)) → ((members : MemberTrees) → names members ≡ rest → IsNewName name members) → ((members : MemberTrees) → names members ≡ rest → HasDistinctNames members) → (members : MemberTrees) → names members ≡ name ∷ rest → HasDistinctNames members
+pub differ_step : (name : List ℕ) (rest : List (List ℕ))
+    → ((members : MemberTrees) → names members ≡ rest → IsNewName name members)
+    → ((members : MemberTrees) → names members ≡ rest → HasDistinctNames members) → (members : MemberTrees)
+    → names members ≡ name ∷ rest → HasDistinctNames members
 differ_step name rest new differ no_members is = cc
 differ_step name rest new differ (member n v o) is =
     let same : n ≡ name = cc in
@@ -43,29 +48,42 @@ AreNew bytes name listed = (members : MemberTrees) → names members ≡ map byt
 abbrev pub AreApart : {A : Type 0} → (A → List ℕ) → List A → Type 0
 AreApart bytes listed = (members : MemberTrees) → names members ≡ map bytes listed → HasDistinctNames members
 
-pub new_step_at : {A : Type 0} (bytes : A → List ℕ) (name : List ℕ) (listed : List A) (i : ℕ) (d : A) (W : Type 0) → i < length listed → false ≡ bytes_eq (bytes (get_or listed i d)) name → (AreNew bytes name (drop i listed) → W) → AreNew bytes name (drop (i + 1) listed) → W
+pub new_step_at : {A : Type 0} (bytes : A → List ℕ) (name : List ℕ) (listed : List A) (i : ℕ) (d : A) (W : Type 0)
+    → i < length listed → false ≡ bytes_eq (bytes (get_or listed i d)) name → (AreNew bytes name (drop i listed) → W)
+    → AreNew bytes name (drop (i + 1) listed) → W
 new_step_at bytes name listed i d W inside apart before new = before (λ members is.
-    new_step name (bytes (get_or listed i d)) (map bytes (drop (i + 1) listed)) (λ same. false≢true (apart ∙ (bytes_eq-Decides (bytes (get_or listed i d)) name).1 same)) new members (is ∙ ap (map bytes) (drop_more listed i d inside)))
+    new_step name (bytes (get_or listed i d)) (map bytes (drop (i + 1) listed))
+    (λ same. false≢true (apart ∙ (bytes_eq-Decides (bytes (get_or listed i d)) name).1 same)) new members (is
+    ∙ ap (map bytes) (drop_more listed i d inside)))
 
-pub differ_step_at : {A : Type 0} (bytes : A → List ℕ) (rest : List A) (n : ℕ) (d : A) (W : Type 0) → 1 ≤ length rest → n ≡ length rest - 1 → AreNew bytes (bytes (get_or rest 0 d)) (take n (drop 1 rest)) → (AreApart bytes rest → W) → AreApart bytes (take n (drop 1 rest)) → W
+pub differ_step_at : {A : Type 0} (bytes : A → List ℕ) (rest : List A) (n : ℕ) (d : A) (W : Type 0) → 1 ≤ length rest
+    → n ≡ length rest - 1 → AreNew bytes (bytes (get_or rest 0 d)) (take n (drop 1 rest)) → (AreApart bytes rest → W)
+    → AreApart bytes (take n (drop 1 rest)) → W
 differ_step_at bytes rest n d W some count new before differ = before (λ members is.
     let others : take n (drop 1 rest) ≡ drop 1 rest = ap (λ k. take k (drop 1 rest)) count ∙ take_rest rest 1 in
-    differ_step (bytes (get_or rest 0 d)) (map bytes (take n (drop 1 rest))) new differ members (is ∙ (ap (map bytes) (drop_more rest 0 d (omega arith)) ∙ ap (λ l. bytes (get_or rest 0 d) ∷ map bytes l) (sym others))))
+    differ_step (bytes (get_or rest 0 d)) (map bytes (take n (drop 1 rest))) new differ members (is
+    ∙ (ap (map bytes) (drop_more rest 0 d (omega arith))
+    ∙ ap (λ l. bytes (get_or rest 0 d) ∷ map bytes l) (sym others))))
 
 -- ---- by their prints
 abbrev same_number : ℕ → ℕ → Bool
 same_number = eq_by_cmp nat_cmp
 
-new_by_print : (name : List ℕ) (members : MemberTrees) (print : List ℕ → ℕ) → AllByRecursion (λ y. same_number (print name) y ≡ false) (map print (names members)) → IsNewName name members
+new_by_print : (name : List ℕ) (members : MemberTrees) (print : List ℕ → ℕ)
+    → AllByRecursion (λ y. same_number (print name) y ≡ false) (map print (names members)) → IsNewName name members
 new_by_print name no_members print apart = tt
 new_by_print name (member other value others) print apart =
-    let equal : same_number (print name) (print name) ≡ true = (eq_by_cmp_equiv nat_cmp_total).refl (print name) in
-    (λ same. true≢false (sym equal ∙ (ap (λ n. same_number (print name) (print n)) same ∙ apart.0)), new_by_print name others print apart.1)
+    let equal : same_number (print name) (print name) ≡ true = (eq_by_cmp_equiv nat_cmp_total).refl (print name) in (
+      λ same. true≢false (sym equal ∙ (ap (λ n. same_number (print name) (print n)) same ∙ apart.0)),
+      new_by_print name others print apart.1,
+    )
 
-apart_by_prints : (members : MemberTrees) (print : List ℕ → ℕ) → IsDistinct same_number (map print (names members)) → HasDistinctNames members
+apart_by_prints : (members : MemberTrees) (print : List ℕ → ℕ) → IsDistinct same_number (map print (names members))
+    → HasDistinctNames members
 unfolding IsDistinct
 apart_by_prints no_members print apart = tt
-apart_by_prints (member name value others) print apart = (new_by_print name others print apart.0, apart_by_prints others print apart.1)
+apart_by_prints (member name value others) print apart =
+    (new_by_print name others print apart.0, apart_by_prints others print apart.1)
 
 abbrev pub rises : ℕ → ℕ → Bool
 rises x y = ltb x y
@@ -75,12 +93,17 @@ abbrev pub TellsRise : Bool → List ℕ → Type 0
 TellsRise r listed = IsAllAdjacentAnswer (λ x y b. b ≡ rises x y) listed r
 
 -- what a sort of the prints and a look at the neighbours show
-pub apart_when_rising : (members : MemberTrees) (print : List ℕ → ℕ) (prints sorted : List ℕ) (r : Bool) → map print (names members) ≡ prints → IsPermutation prints sorted → TellsRise r sorted → IsTrue r → HasDistinctNames members
+pub apart_when_rising : (members : MemberTrees) (print : List ℕ → ℕ) (prints sorted : List ℕ) (r : Bool)
+    → map print (names members) ≡ prints → IsPermutation prints sorted → TellsRise r sorted → IsTrue r
+    → HasDistinctNames members
 apart_when_rising members print prints sorted r are moved answer so = by r answer so
   where
     by : (b : Bool) → TellsRise b sorted → IsTrue b → HasDistinctNames members
     by true neighbours _ =
-        let up : IsStrictlySortedBy nat_cmp sorted = sorted_from_strictly_increasing sorted (λ k within. ltb-true _ _ (sym (neighbours k 0 within))) in
-        let apart : IsDistinct same_number prints = IsDistinct-IsPermutation same_number (eq_by_cmp_equiv nat_cmp_total).symm sorted prints (IsPermutation-sym prints sorted moved) (IsDistinct-from_sorted nat_cmp sorted up) in
+        let up : IsStrictlySortedBy nat_cmp sorted =
+        sorted_from_strictly_increasing sorted (λ k within. ltb-true _ _ (sym (neighbours k 0 within))) in
+        let apart : IsDistinct same_number prints =
+        IsDistinct-IsPermutation same_number (eq_by_cmp_equiv nat_cmp_total).symm sorted prints
+        (IsPermutation-sym prints sorted moved) (IsDistinct-from_sorted nat_cmp sorted up) in
         apart_by_prints members print (subst (IsDistinct same_number) (sym are) apart)
     by false found not = absurd (true≢false (sym not))

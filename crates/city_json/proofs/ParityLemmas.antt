@@ -53,7 +53,8 @@ bit_at_up_high n d i low above =
     bit_at_mod (n * 2 ^ d) i low
     ∙ (ap (λ x. bit_at x i) (sym (add-zero (n * 2 ^ d))) ∙ bit_at_cat_high n d 0 i (pow_pos d) above)
 
-pub Reaches-twice : (bits sums reach : ℕ) → Reaches bits sums reach → Reaches bits (bit_xor sums (sums * 2 ^ reach % 2 ^ 64)) (reach * 2)
+pub Reaches-twice : (bits sums reach : ℕ) → Reaches bits sums reach
+    → Reaches bits (bit_xor sums (sums * 2 ^ reach % 2 ^ 64)) (reach * 2)
 Reaches-twice bits sums reach so_far = record {
   each = λ i low.
       rw (bit_at_xor sums (sums * 2 ^ reach % 2 ^ 64) i) (elim (cases_lt i reach) [
@@ -63,13 +64,16 @@ Reaches-twice bits sums reach so_far = record {
         | inr above ↦
             let earlier : i - reach + 1 ≡ i + 1 - reach = omega arith in
             let first : i - reach + 1 - reach ≡ i + 1 - reach * 2 = omega arith in
-            let before : (bit_at sums (i - reach) + ones_below bits (i + 1 - reach * 2)) % 2 ≡ ones_below bits (i + 1 - reach) % 2 =
-            ap (λ k. (bit_at sums (i - reach) + ones_below bits k) % 2) (sym first) ∙ (so_far.each (i - reach) (omega arith) ∙ ap (λ k. ones_below bits k % 2) earlier) in
+            let before : (bit_at sums (i - reach) + ones_below bits (i + 1 - reach * 2)) % 2
+            ≡ ones_below bits (i + 1 - reach) % 2 =
+            ap (λ k. (bit_at sums (i - reach) + ones_below bits k) % 2) (sym first)
+            ∙ (so_far.each (i - reach) (omega arith) ∙ ap (λ k. ones_below bits k % 2) earlier) in
             rw (bit_at_up_high sums reach i low above) (omega (arith, before, so_far.each i low))
       ]);
 }
 
-pub Reaches-all : (bits sums reach : ℕ) → 64 ≤ reach → Reaches bits sums reach → (i : ℕ) → i < 64 → bit_at sums i ≡ ones_below bits (i + 1) % 2
+pub Reaches-all : (bits sums reach : ℕ) → 64 ≤ reach → Reaches bits sums reach → (i : ℕ) → i < 64
+    → bit_at sums i ≡ ones_below bits (i + 1) % 2
 unfolding ones
 Reaches-all bits sums reach far reaches i low =
     let none : i + 1 - reach ≡ 0 = omega arith in

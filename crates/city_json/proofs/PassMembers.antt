@@ -6,13 +6,15 @@ use Rattle.std.proofs.lemmas.List.{drop-append-le, take-append-le, drop_all}
 use Rattle.city_json.specs.Bytes.{comma, colon, open_brace, close_brace}
 use Rattle.city_json.specs.Compact.{quoted, compact, compact_members}
 use Rattle.city_json.specs.Compacting.{Taken, TakenMembers, TakenStart, TakenMember}
-use Rattle.city_json.specs.Fits.{most_depth, Fits, AreDistinctMembers, HasDistinctNames}
+use Rattle.city_json.specs.Fits.{Fits, AreDistinctMembers, HasDistinctNames}
+use Rattle.byte_streams.specs.Limits.{max_depth}
 use Rattle.city_json.specs.Grammar.{Spells}
 use Rattle.city_json.specs.Members.{names}
 use Rattle.city_json.specs.Reading.{after_white}
 use Rattle.city_json.specs.Tree.{Tree, object, MemberTrees, no_members, member}
 use Rattle.city_json.proofs.Scanning.{after_white-splits}
-use Rattle.city_json.proofs.Sound.{Found, FoundMembers, FoundMember, members-last, members-next, member-found}
+use Rattle.city_json.proofs.SoundItems.{Found, FoundMembers, FoundMember, members-last, members-next}
+use Rattle.city_json.proofs.Sound.{member-found}
 use Rattle.city_json.proofs.PassItems.{found_of}
 use Rattle.city_json.proofs.Places.{at_mark}
 
@@ -32,19 +34,27 @@ pub record MembersWhole (levels : ℕ) (b rest before after : List ℕ) (listed 
   pub names_are : names members ≡ listed
   pub whole : HasDistinctNames members → TakenMembers levels b rest before after
 
-pub found_member : {levels : ℕ} {b rest before after : List ℕ} {one two : List (List ℕ)} (taken : TakenMember levels b rest before after one two) → FoundMember levels taken.name taken.value b rest
+pub found_member : {levels : ℕ} {b rest before after : List ℕ} {one two : List (List ℕ)}
+    (taken : TakenMember levels b rest before after one two) → FoundMember levels taken.name taken.value b rest
 found_member taken = record { text = taken.text; splits = taken.splits; spells = taken.spells; within = taken.within }
 
-pub member_shown : (before quoted_name value mid after : List ℕ) → mid ≡ before ++ (quoted_name ++ colon ∷ []) → after ≡ mid ++ value → after ≡ before ++ (quoted_name ++ colon ∷ value)
+pub member_shown : (before quoted_name value mid after : List ℕ) → mid ≡ before ++ (quoted_name ++ colon ∷ [])
+    → after ≡ mid ++ value → after ≡ before ++ (quoted_name ++ colon ∷ value)
 member_shown before quoted_name value mid after is then =
-    let joined : (before ++ (quoted_name ++ colon ∷ [])) ++ value ≡ before ++ (quoted_name ++ colon ∷ value) = simp append_assoc in
+    let joined : (before ++ (quoted_name ++ colon ∷ [])) ++ value ≡ before ++ (quoted_name ++ colon ∷ value) =
+    simp append_assoc in
     then ∙ (ap (λ l. l ++ value) is ∙ joined)
 
 -- a name with its colon, and a value
-unfoldable pub member_taken : (levels : ℕ) (b start rest before mid after : List ℕ) (one two three : List (List ℕ)) → TakenStart b start before mid one two → Taken levels start rest mid after → three ≡ two → TakenMember levels b rest before after one three
+unfoldable pub member_taken : (levels : ℕ) (b start rest before mid after : List ℕ) (one two three : List (List ℕ))
+    → TakenStart b start before mid one two → Taken levels start rest mid after → three ≡ two
+    → TakenMember levels b rest before after one three
 member_taken levels b start rest before mid after one two three named taken same =
-    let found : Found levels taken.value (after_white named.next) rest = subst (λ l. Found levels taken.value l rest) named.starts (found_of taken) in
-    let all = member-found levels named.name taken.value b (named.inner ++ named.left) named.inner named.left named.next rest named.splits refl named.spells named.goes_on found in
+    let found : Found levels taken.value (after_white named.next) rest =
+    subst (λ l. Found levels taken.value l rest) named.starts (found_of taken) in
+    let all = member-found levels named.name taken.value b
+    (named.inner ++ named.left) named.inner named.left named.next rest named.splits refl named.spells named.goes_on
+    found in
     record {
       name = named.name;
       value = taken.value;
@@ -57,17 +67,25 @@ member_taken levels b start rest before mid after one two three named taken same
       names_are = same ∙ named.names_are;
     }
 
-pub last_member : (before quoted_name value mid after : List ℕ) (close : ℕ) → mid ≡ before ++ (quoted_name ++ colon ∷ value) → after ≡ mid ++ close ∷ [] → after ≡ before ++ (((quoted_name ++ colon ∷ value) ++ []) ++ close ∷ [])
+pub last_member : (before quoted_name value mid after : List ℕ) (close : ℕ)
+    → mid ≡ before ++ (quoted_name ++ colon ∷ value) → after ≡ mid ++ close ∷ []
+    → after ≡ before ++ (((quoted_name ++ colon ∷ value) ++ []) ++ close ∷ [])
 last_member before quoted_name value mid after close is then =
-    let joined : (before ++ (quoted_name ++ colon ∷ value)) ++ close ∷ [] ≡ before ++ (((quoted_name ++ colon ∷ value) ++ []) ++ close ∷ []) = simp (append_assoc, append-nil) in
+    let joined : (before ++ (quoted_name ++ colon ∷ value)) ++ close ∷ [] ≡ before
+    ++ (((quoted_name ++ colon ∷ value) ++ []) ++ close ∷ []) = simp (append_assoc, append-nil) in
     then ∙ (ap (λ l. l ++ close ∷ []) is ∙ joined)
 
-pub next_member : (before quoted_name value others mid after : List ℕ) (close : ℕ) → mid ≡ before ++ (quoted_name ++ colon ∷ value) → after ≡ (mid ++ comma ∷ []) ++ (others ++ close ∷ []) → after ≡ before ++ (((quoted_name ++ colon ∷ value) ++ comma ∷ others) ++ close ∷ [])
+pub next_member : (before quoted_name value others mid after : List ℕ) (close : ℕ)
+    → mid ≡ before ++ (quoted_name ++ colon ∷ value) → after ≡ (mid ++ comma ∷ []) ++ (others ++ close ∷ [])
+    → after ≡ before ++ (((quoted_name ++ colon ∷ value) ++ comma ∷ others) ++ close ∷ [])
 next_member before quoted_name value others mid after close is then =
-    let joined : ((before ++ (quoted_name ++ colon ∷ value)) ++ comma ∷ []) ++ (others ++ close ∷ []) ≡ before ++ (((quoted_name ++ colon ∷ value) ++ comma ∷ others) ++ close ∷ []) = simp append_assoc in
+    let joined : ((before ++ (quoted_name ++ colon ∷ value)) ++ comma ∷ []) ++ (others ++ close ∷ []) ≡ before
+    ++ (((quoted_name ++ colon ∷ value) ++ comma ∷ others) ++ close ∷ []) = simp append_assoc in
     then ∙ (ap (λ l. (l ++ comma ∷ []) ++ (others ++ close ∷ [])) is ∙ joined)
 
-unfoldable pub members_stop : (levels : ℕ) (b behind rest before mid at_mark behind_mark : List ℕ) (one two : List (List ℕ)) (taken : TakenMember levels b behind before mid one two) → after_white behind ≡ close_brace ∷ rest → at_mark ≡ mid → behind_mark ≡ at_mark ++ close_brace ∷ []
+unfoldable pub members_stop : (levels : ℕ) (b behind rest before mid at_mark behind_mark : List ℕ)
+    (one two : List (List ℕ)) (taken : TakenMember levels b behind before mid one two)
+    → after_white behind ≡ close_brace ∷ rest → at_mark ≡ mid → behind_mark ≡ at_mark ++ close_brace ∷ []
     → MembersFrom levels b rest before behind_mark (taken.name ∷ [])
 members_stop levels b behind rest before mid at_mark behind_mark one two taken closes is₁ is₂ = record {
   name = taken.name;
@@ -75,26 +93,38 @@ members_stop levels b behind rest before mid at_mark behind_mark one two taken c
   others = no_members;
   found = members-last levels taken.name taken.value b behind rest (found_member taken) closes;
   distinct = (taken.distinct, tt);
-  is_shown = last_member before (quoted taken.name) (compact taken.value) mid behind_mark close_brace taken.is_shown (is₂ ∙ ap (λ l. l ++ close_brace ∷ []) is₁);
+  is_shown = last_member before (quoted taken.name) (compact taken.value) mid behind_mark close_brace taken.is_shown
+      (is₂ ∙ ap (λ l. l ++ close_brace ∷ []) is₁);
   names_are = refl;
 }
 
-unfoldable pub members_step : (levels : ℕ) (b behind next b' rest before mid at_mark behind_mark before' after : List ℕ) (one two : List (List ℕ)) (listed : List (List ℕ)) (taken : TakenMember levels b behind before mid one two) → after_white behind ≡ comma ∷ next → at_mark ≡ mid → behind_mark ≡ at_mark ++ comma ∷ []
-    → b' ≡ after_white next → before' ≡ behind_mark → MembersFrom levels b' rest before' after listed → MembersFrom levels b rest before after (taken.name ∷ listed)
-members_step levels b behind next b' rest before mid at_mark behind_mark before' after one two listed taken goes is₁ is₂ skips is₃ from =
+unfoldable pub members_step : (levels : ℕ) (b behind next b' rest before mid at_mark behind_mark before' after : List ℕ)
+    (one two : List (List ℕ)) (listed : List (List ℕ)) (taken : TakenMember levels b behind before mid one two)
+    → after_white behind ≡ comma ∷ next → at_mark ≡ mid → behind_mark ≡ at_mark ++ comma ∷ []
+    → b' ≡ after_white next → before' ≡ behind_mark → MembersFrom levels b' rest before' after listed
+    → MembersFrom levels b rest before after (taken.name ∷ listed)
+members_step levels b behind next b' rest before mid at_mark behind_mark before' after one two listed taken goes is₁ is₂
+    skips is₃ from =
     let shows : before' ≡ mid ++ comma ∷ [] = is₃ ∙ (is₂ ∙ ap (λ l. l ++ comma ∷ []) is₁) in
-    let further : FoundMembers levels (member from.name from.value from.others) (after_white next) rest = subst (λ l. FoundMembers levels (member from.name from.value from.others) l rest) skips from.found in
+    let further : FoundMembers levels (member from.name from.value from.others) (after_white next) rest =
+    subst (λ l. FoundMembers levels (member from.name from.value from.others) l rest) skips from.found in
     record {
       name = taken.name;
       value = taken.value;
       others = member from.name from.value from.others;
-      found = members-next levels taken.name taken.value (member from.name from.value from.others) b behind next rest (found_member taken) goes further;
+      found = members-next levels taken.name taken.value (member from.name from.value from.others) b behind next rest
+          (found_member taken) goes further;
       distinct = (taken.distinct, from.distinct);
-      is_shown = next_member before (quoted taken.name) (compact taken.value) (compact_members (member from.name from.value from.others)) mid after close_brace taken.is_shown (from.is_shown ∙ ap (λ l. l ++ (compact_members (member from.name from.value from.others) ++ close_brace ∷ [])) shows);
+      is_shown = next_member before (quoted taken.name) (compact taken.value)
+          (compact_members (member from.name from.value from.others)) mid after close_brace taken.is_shown
+          (from.is_shown ∙ ap (λ l. l ++ (compact_members (member from.name from.value from.others) ++ close_brace
+          ∷ [])) shows);
       names_are = ap (λ l. taken.name ∷ l) from.names_are;
     }
 
-unfoldable pub members_start : (levels : ℕ) (b b' rest before before' after : List ℕ) (done listed : List (List ℕ)) → b' ≡ after_white b → before' ≡ before → done ≡ [] → MembersFrom levels b' rest before' after listed → MembersWhole levels b rest before after (done ++ listed)
+unfoldable pub members_start : (levels : ℕ) (b b' rest before before' after : List ℕ) (done listed : List (List ℕ))
+    → b' ≡ after_white b → before' ≡ before → done ≡ [] → MembersFrom levels b' rest before' after listed
+    → MembersWhole levels b rest before after (done ++ listed)
 members_start levels b b' rest before before' after done listed skips is none from =
     let white = after_white-splits b in
     record {
@@ -103,16 +133,19 @@ members_start levels b b' rest before before' after done listed skips is none fr
       whole = λ differ. record {
         members = member from.name from.value from.others;
         inner = white.white ++ from.found.inner;
-        splits = white.splits ∙ (ap (λ l. white.white ++ l) (sym skips ∙ from.found.splits) ∙ sym (append_assoc white.white from.found.inner (close_brace ∷ rest)));
+        splits = white.splits ∙ (ap (λ l. white.white ++ l) (sym skips ∙ from.found.splits)
+            ∙ sym (append_assoc white.white from.found.inner (close_brace ∷ rest)));
         spells = from.found.spells white.white white.blank;
         within = from.found.within;
         names_differ = differ;
         distinct = from.distinct;
-        is_shown = from.is_shown ∙ ap (λ l. l ++ (compact_members (member from.name from.value from.others) ++ close_brace ∷ [])) is;
+        is_shown = from.is_shown ∙ ap (λ l.
+            l ++ (compact_members (member from.name from.value from.others) ++ close_brace ∷ [])) is;
       };
     }
 
-unfoldable pub members_none : (levels : ℕ) (b rest before after : List ℕ) → after_white b ≡ close_brace ∷ rest → after ≡ before ++ close_brace ∷ [] → TakenMembers levels b rest before after
+unfoldable pub members_none : (levels : ℕ) (b rest before after : List ℕ) → after_white b ≡ close_brace ∷ rest
+    → after ≡ before ++ close_brace ∷ [] → TakenMembers levels b rest before after
 members_none levels b rest before after closes is =
     let white = after_white-splits b in
     record {
@@ -126,7 +159,9 @@ members_none levels b rest before after closes is =
       is_shown = is;
     }
 
-unfoldable pub object_taken : (levels : ℕ) (b b' rest before before' after : List ℕ) → (levels ≡ 0 → ⊥) → b ≡ open_brace ∷ b' → before' ≡ before ++ open_brace ∷ [] → TakenMembers (levels - 1) b' rest before' after → Taken levels b rest before after
+unfoldable pub object_taken : (levels : ℕ) (b b' rest before before' after : List ℕ) → (levels ≡ 0 → ⊥)
+    → b ≡ open_brace ∷ b' → before' ≡ before ++ open_brace ∷ [] → TakenMembers (levels - 1) b' rest before' after
+    → Taken levels b rest before after
 object_taken levels b b' rest before before' after some opens is taken = record {
   value = object taken.members;
   text = open_brace ∷ taken.inner ++ close_brace ∷ [];
@@ -134,27 +169,43 @@ object_taken levels b b' rest before before' after some opens is taken = record 
   spells = (taken.inner, refl, taken.spells);
   within = omega (arith, taken.within);
   distinct = (taken.names_differ, taken.distinct);
-  is_shown = taken.is_shown ∙ (ap (λ l. l ++ (compact_members taken.members ++ close_brace ∷ [])) is ∙ append_assoc before (open_brace ∷ []) (compact_members taken.members ++ close_brace ∷ []));
+  is_shown = taken.is_shown ∙ (ap (λ l. l ++ (compact_members taken.members ++ close_brace ∷ [])) is
+      ∙ append_assoc before (open_brace ∷ []) (compact_members taken.members ++ close_brace ∷ []));
 }
 
 -- one name more behind those from `base` on
 -- one name more after those from `base` on
-pub names_more : (base : ℕ) (one two three : List (List ℕ)) (x : List ℕ) (listed : List (List ℕ)) → base ≤ length one → two ≡ one ++ x ∷ [] → three ≡ two → drop base one ++ (x ∷ listed) ≡ drop base three ++ listed
+pub names_more : (base : ℕ) (one two three : List (List ℕ)) (x : List ℕ) (listed : List (List ℕ)) → base ≤ length one
+    → two ≡ one ++ x ∷ [] → three ≡ two → drop base one ++ (x ∷ listed) ≡ drop base three ++ listed
 names_more base one two three x listed fits is same =
-    let all : drop base three ≡ drop base one ++ x ∷ [] = ap (drop base) (same ∙ is) ∙ drop-append-le base one (x ∷ []) fits in
+    let all : drop base three ≡ drop base one ++ x ∷ [] = ap (drop base) (same ∙ is)
+    ∙ drop-append-le base one (x ∷ []) fits in
     sym (ap (λ l. l ++ listed) all ∙ append_assoc (drop base one) (x ∷ []) listed)
 
-pub names_kept : (base : ℕ) (one two three : List (List ℕ)) (x : List ℕ) → base ≤ length one → two ≡ one ++ x ∷ [] → three ≡ two → take base three ≡ take base one
+pub names_kept : (base : ℕ) (one two three : List (List ℕ)) (x : List ℕ) → base ≤ length one → two ≡ one ++ x ∷ []
+    → three ≡ two → take base three ≡ take base one
 names_kept base one two three x fits is same = ap (take base) (same ∙ is) ∙ take-append-le base one (x ∷ []) fits
 
 -- ---- the whole text
-unfoldable pub text_taken : (text line : List ℕ) (at end last : ℕ) (start shown_at shown_end : List ℕ) → IsUtf8 text → start ≡ [] → shown_at ≡ start → drop at text ≡ after_white text → Taken most_depth (drop at text) (drop end text) shown_at shown_end
-    → drop last text ≡ after_white (drop end text) → length text ≤ last → line ≡ shown_end → (value : Tree) × Spells text value × Fits value × (IsDeep text → ⊥) × (line ≡ compact value)
+unfoldable pub text_taken : (text line : List ℕ) (at end last : ℕ) (start shown_at shown_end : List ℕ) → IsUtf8 text
+    → start ≡ [] → shown_at ≡ start → drop at text ≡ after_white text
+    → Taken max_depth (drop at text) (drop end text) shown_at shown_end
+    → drop last text ≡ after_white (drop end text) → length text ≤ last → line ≡ shown_end → (value : Tree)
+    × Spells text value × Fits value × (IsDeep text → ⊥) × (line ≡ compact value)
 text_taken text line at end last start shown_at shown_end utf8 empty is₁ skipped taken skipped₂ over is₂ =
     let before = after_white-splits text in
     let behind = after_white-splits (drop end text) in
     let nothing : after_white (drop end text) ≡ [] = sym skipped₂ ∙ drop_all last text over in
     let splits : text ≡ before.white ++ (taken.text ++ behind.white) =
-    before.splits ∙ ap (λ l. before.white ++ l) (sym skipped ∙ (taken.splits ∙ ap (λ l. taken.text ++ l) (behind.splits ∙ (ap (λ l. behind.white ++ l) nothing ∙ append-nil behind.white)))) in
-    let spells : Spells text taken.value = (utf8, (before.white, taken.text, behind.white, splits, before.blank, taken.spells, behind.blank)) in
-    (taken.value, spells, (taken.within, taken.distinct), (nests_as_value text taken.value spells).1 taken.within, is₂ ∙ (taken.is_shown ∙ ap (λ l. l ++ compact taken.value) (is₁ ∙ empty)))
+    before.splits ∙ ap (λ l. before.white ++ l) (sym skipped
+    ∙ (taken.splits ∙ ap (λ l. taken.text ++ l) (behind.splits
+    ∙ (ap (λ l. behind.white ++ l) nothing ∙ append-nil behind.white)))) in
+    let spells : Spells text taken.value =
+    (utf8, (before.white, taken.text, behind.white, splits, before.blank, taken.spells, behind.blank)) in (
+      taken.value,
+      spells,
+      (taken.within, taken.distinct),
+      (nests_as_value text taken.value spells).1 taken.within,
+      is₂
+          ∙ (taken.is_shown ∙ ap (λ l. l ++ compact taken.value) (is₁ ∙ empty)),
+    )

@@ -27,10 +27,12 @@ scalar_taken levels line text from at end order onward is = record {
   spells = is.spells;
   within = omega (arith, is.flat);
   distinct = is.distinct;
-  is_shown = shown_more line text from at end order (omega arith) ∙ ap (λ l. shown line text from at ++ l) (sym is.compact);
+  is_shown = shown_more line text from at end order (omega arith)
+      ∙ ap (λ l. shown line text from at ++ l) (sym is.compact);
 }
 
-words : (text word : List ℕ) (at end : ℕ) (value : Tree) → slice_range text at end ≡ word → SpellsValue value word → depth value ≡ 0 → IsDistinct value → compact value ≡ word → IsScalarText text at end
+words : (text word : List ℕ) (at end : ℕ) (value : Tree) → slice_range text at end ≡ word → SpellsValue value word
+    → depth value ≡ 0 → IsDistinct value → compact value ≡ word → IsScalarText text at end
 words text word at end value is spells flat distinct compact = record {
   value = value;
   spells = subst (SpellsValue value) (sym is) spells;
@@ -52,7 +54,8 @@ pub if_some : {A : Type 0} (P Q : A → Type 0) (r : Option A) → ((x : A) → 
 if_some P Q None onward p = tt
 if_some P Q (Some x) onward p = onward x p
 
-pub if_some_both : (P R Q : ℕ → Type 0) (r : Option ℕ) → ((x : ℕ) → P x → R x → Q x) → IfSome r P → IfSome r R → IfSome r Q
+pub if_some_both : (P R Q : ℕ → Type 0) (r : Option ℕ) → ((x : ℕ) → P x → R x → Q x) → IfSome r P → IfSome r R
+    → IfSome r Q
 if_some_both P R Q None onward p q = tt
 if_some_both P R Q (Some x) onward p q = onward x p q
 
@@ -60,40 +63,69 @@ if_some_both P R Q (Some x) onward p q = onward x p q
 pub rest_is : (text : List ℕ) (at : ℕ) → take (length text - at) (drop at text) ≡ drop at text
 rest_is text at = take_rest text at
 
-pub word_is : (text word : List ℕ) (at : ℕ) (r : Bool) → r ≡ starts_with nat_eq (take (length text - at) (drop at text)) word → r ≡ true → slice_range text at (at + length word) ≡ word
+pub word_is : (text word : List ℕ) (at : ℕ) (r : Bool)
+    → r ≡ starts_with nat_eq (take (length text - at) (drop at text)) word → r ≡ true
+    → slice_range text at (at + length word) ≡ word
 word_is text word at r starts so =
     let count : (at + length word) - at ≡ length word = omega arith in
-    let front : starts_with nat_eq (drop at text) word ≡ true = ap (λ l. starts_with nat_eq l word) (sym (rest_is text at)) ∙ (sym starts ∙ so) in
-    ap (λ n. take n (drop at text)) count ∙ (ap (take (length word)) (starts_with-splits (drop at text) word front) ∙ take_at word (drop (length word) (drop at text)) (length word) refl)
+    let front : starts_with nat_eq (drop at text) word ≡ true =
+    ap (λ l. starts_with nat_eq l word) (sym (rest_is text at)) ∙ (sym starts ∙ so) in
+    ap (λ n. take n (drop at text)) count
+    ∙ (ap (take (length word)) (starts_with-splits (drop at text) word front)
+    ∙ take_at word (drop (length word) (drop at text)) (length word) refl)
 
 some_length : (text : List ℕ) → IsNumber text → 0 < length text
 some_length [] is = absurd (number_starts [] is)
 some_length (c ∷ text) is = omega arith
 
-pub number_is : (text found rest : List ℕ) (at : ℕ) → Some (found, rest) ≡ number_at (take (length text - at) (drop at text)) → (at < at + length found) × IsScalarText text at (at + length found)
+pub number_is : (text found rest : List ℕ) (at : ℕ)
+    → Some (found, rest) ≡ number_at (take (length text - at) (drop at text)) → (at < at + length found)
+    × IsScalarText text at (at + length found)
 number_is text found rest at read =
     let law = number_laws.sound (drop at text) found rest (ap number_at (sym (rest_is text at)) ∙ sym read) in
     let count : (at + length found) - at ≡ length found = omega arith in
     let some = some_length found law.1 in
-    let is : slice_range text at (at + length found) ≡ found = ap (λ n. take n (drop at text)) count ∙ (ap (take (length found)) law.0 ∙ take_at found rest (length found) refl) in
+    let is : slice_range text at (at + length found) ≡ found = ap (λ n. take n (drop at text)) count
+    ∙ (ap (take (length found)) law.0 ∙ take_at found rest (length found) refl) in
     (omega arith, words text found at (at + length found) (number found) is (refl, law.1) refl tt refl)
 
 -- digits of which the first is no zero, or a zero
 whole_number : (text : List ℕ) → IsWhole text → IsNumber text
-whole_number text is = record { minus_sign = []; whole = text; fraction = []; exponent = []; spelled = sym (append-nil text); is_minus = inl refl; is_whole = is; is_fraction = tt; is_exponent = tt }
+whole_number text is = record {
+  minus_sign = [];
+  whole = text;
+  fraction = [];
+  exponent = [];
+  spelled =
+      sym (append-nil text);
+  is_minus = inl refl;
+  is_whole = is;
+  is_fraction = tt;
+  is_exponent = tt;
+}
 
-whole_is : (text whole : List ℕ) (at end : ℕ) → slice_range text at end ≡ whole → IsWhole whole → IsScalarText text at end
-whole_is text whole at end is wholly = words text whole at end (number whole) is (refl, whole_number whole wholly) refl tt refl
+whole_is : (text whole : List ℕ) (at end : ℕ) → slice_range text at end ≡ whole → IsWhole whole
+    → IsScalarText text at end
+whole_is text whole at end is wholly =
+    words text whole at end (number whole) is (refl, whole_number whole wholly) refl tt refl
 
-pub zero_is : (text : List ℕ) (at : ℕ) → at < length text → get_or text at 0 ≡ digit_zero → IsScalarText text at (at + 1)
-zero_is text at inside is = whole_is text (digit_zero ∷ []) at (at + 1) (slice_one text at digit_zero inside is) (inl (refl, refl))
+pub zero_is : (text : List ℕ) (at : ℕ) → at < length text → get_or text at 0 ≡ digit_zero
+    → IsScalarText text at (at + 1)
+zero_is text at inside is = whole_is text (digit_zero ∷ []) at (at + 1) (slice_one text at digit_zero inside is)
+    (inl (refl, refl))
 
-pub digits_are : (text : List ℕ) (at end : ℕ) → at < length text → (get_or text at 0 ≡ digit_zero → ⊥) → at ≤ end → end ≤ length text → drop end text ≡ past_digits (drop at text) → at < end → IsScalarText text at end
+pub digits_are : (text : List ℕ) (at end : ℕ) → at < length text → (get_or text at 0 ≡ digit_zero → ⊥) → at ≤ end
+    → end ≤ length text → drop end text ≡ past_digits (drop at text) → at < end → IsScalarText text at end
 digits_are text at end inside other order fits passed some =
     let split = digits-split (drop at text) in
-    let both : slice_range text at end ++ drop end text ≡ split.0 ++ drop end text = sym (drop_split text at end order) ∙ (split.1 ∙ ap (λ l. split.0 ++ l) (sym passed)) in
-    let is : slice_range text at end ≡ split.0 = append_cancel_right (slice_range text at end) split.0 (drop end text) both in
-    let first : split.0 ≡ get_or text at 0 ∷ slice_range text (at + 1) end = sym is ∙ (slice_more text at (at + 1) end (omega arith) (omega arith) ∙ ap (λ l. l ++ slice_range text (at + 1) end) (slice_one text at (get_or text at 0) inside refl)) in
+    let both : slice_range text at end ++ drop end text ≡ split.0 ++ drop end text = sym (drop_split text at end order)
+    ∙ (split.1 ∙ ap (λ l. split.0 ++ l) (sym passed)) in
+    let is : slice_range text at end ≡ split.0 =
+    append_cancel_right (slice_range text at end) split.0 (drop end text) both in
+    let first : split.0 ≡ get_or text at 0 ∷ slice_range text (at + 1) end = sym is
+    ∙ (slice_more text at (at + 1) end (omega arith) (omega arith)
+    ∙ ap (λ l. l ++ slice_range text (at + 1) end) (slice_one text at (get_or text at 0) inside refl)) in
     let digits : AllDigits 10 (get_or text at 0 ∷ slice_range text (at + 1) end) = subst (AllDigits 10) first split.2 in
     let range : (48 ≤ get_or text at 0) × (get_or text at 0 ≤ 57) = digit_from_value (get_or text at 0) digits.0 in
-    whole_is text (get_or text at 0 ∷ slice_range text (at + 1) end) at end (is ∙ first) (inr (omega (arith, range.0, other), range.1, digits.1))
+    whole_is text (get_or text at 0 ∷ slice_range text (at + 1) end) at end (is
+    ∙ first) (inr (omega (arith, range.0, other), range.1, digits.1))

@@ -21,8 +21,10 @@ use Rattle.city_json.proofs.SpelledString.{string_at-sound}
 use Rattle.city_json.proofs.PassScalars.{rest_is}
 use Rattle.city_json.proofs.Places.{drop_one, shown_more, slice_more, slice_one}
 
-pub plain_string_is : (text : List ℕ) (at long : ℕ) → IsUtf8 text → 0 < at → get_or text (at - 1) 0 ≡ quotation_mark → at ≤ length text
-    → long ≡ prefix_len is_plain (take (length text - at) (drop at text)) → at + long < length text → get_or text (at + long) 0 ≡ quotation_mark → IsPlainString text at (at + long)
+pub plain_string_is : (text : List ℕ) (at long : ℕ) → IsUtf8 text → 0 < at → get_or text (at - 1) 0 ≡ quotation_mark
+    → at ≤ length text
+    → long ≡ prefix_len is_plain (take (length text - at) (drop at text)) → at + long < length text
+    → get_or text (at + long) 0 ≡ quotation_mark → IsPlainString text at (at + long)
 plain_string_is text at long utf8 some opened fits run within closed =
     let behind = drop at text in
     let run' : long ≡ prefix_len is_plain behind = run ∙ ap (prefix_len is_plain) (rest_is text at) in
@@ -31,54 +33,82 @@ plain_string_is text at long utf8 some opened fits run within closed =
     let count : (at + long) - at ≡ long = omega arith in
     let slice : slice_range text at (at + long) ≡ take long behind = ap (λ n. take n behind) count in
     let place : at + (long + 1) ≡ suc (at + long) = omega arith in
-    let left : take (length behind - (long + 1)) (drop (long + 1) behind) ≡ drop (suc (at + long)) text = take_rest behind (long + 1) ∙ (drop-drop (long + 1) at text ∙ ap (λ n. drop n text) place) in
-    let decodes : decoded behind ≡ Some (take long behind, drop (suc (at + long)) text) = run_closes behind long run' room mark ∙ ap (λ l. Some (take long behind, l)) left in
-    let start : IsCharBoundary text at = subst (IsCharBoundary text) (omega arith) (IsCharBoundary-after_ascii text (at - 1) utf8 (omega arith) (omega (arith, opened))) in
-    let stop : IsCharBoundary text (at + long) = IsCharBoundary-before_ascii text (at + long) within (omega (arith, closed)) in
-    let whole : IsUtf8 (slice_range text at (at + long)) = IsUtf8-between text at (at + long) utf8 (omega arith) start stop in
+    let left : take (length behind - (long + 1)) (drop (long + 1) behind) ≡ drop (suc (at + long)) text =
+    take_rest behind (long + 1) ∙ (drop-drop (long + 1) at text ∙ ap (λ n. drop n text) place) in
+    let decodes : decoded behind ≡ Some (take long behind, drop (suc (at + long)) text) =
+    run_closes behind long run' room mark ∙ ap (λ l. Some (take long behind, l)) left in
+    let start : IsCharBoundary text at =
+    subst (IsCharBoundary text) (omega arith)
+    (IsCharBoundary-after_ascii text (at - 1) utf8 (omega arith) (omega (arith, opened))) in
+    let stop : IsCharBoundary text (at + long) =
+    IsCharBoundary-before_ascii text (at + long) within (omega (arith, closed)) in
+    let whole : IsUtf8 (slice_range text at (at + long)) =
+    IsUtf8-between text at (at + long) utf8 (omega arith) start stop in
     let whole' : IsUtf8 (take long behind) = subst IsUtf8 slice whole in
-    let parts : flat_map written behind ≡ flat_map written (take long behind) ++ flat_map written (drop long behind) = ap (flat_map written) (sym (take-append-drop long behind)) ∙ flat_map-append written (take long behind) (drop long behind) in
-    let as_is : take long behind ++ flat_map written (drop long behind) ≡ flat_map written behind = subst (λ n. take n behind ++ flat_map written (drop n behind) ≡ flat_map written behind) (sym run') (written_run behind) in
+    let parts : flat_map written behind ≡ flat_map written (take long behind) ++ flat_map written (drop long behind) =
+    ap (flat_map written) (sym (take-append-drop long behind))
+    ∙ flat_map-append written (take long behind) (drop long behind) in
+    let as_is : take long behind ++ flat_map written (drop long behind) ≡ flat_map written behind =
+    subst (λ n. take n behind ++ flat_map written (drop n behind) ≡ flat_map written behind) (sym run')
+    (written_run behind) in
     record {
       closed = closed;
-      is_read = string_at-some behind (take long behind) (drop (suc (at + long)) text) decodes ∙ (checked-some (take long behind) (drop (suc (at + long)) text) whole' ∙ ap (λ l. Some (l, drop (suc (at + long)) text)) (sym slice));
-      compact = ap (flat_map written) slice ∙ (sym (append_cancel_right (take long behind) (flat_map written (take long behind)) (flat_map written (drop long behind)) (as_is ∙ parts)) ∙ sym slice);
+      is_read = string_at-some behind (take long behind) (drop (suc (at + long)) text) decodes
+          ∙ (checked-some (take long behind) (drop (suc (at + long)) text) whole'
+          ∙ ap (λ l. Some (l, drop (suc (at + long)) text)) (sym slice));
+      compact = ap (flat_map written) slice
+          ∙ (sym (append_cancel_right (take long behind) (flat_map written (take long behind))
+          (flat_map written (drop long behind)) (as_is ∙ parts)) ∙ sym slice);
     }
 
 -- what the string's characters and its closing mark are in the text
 pub record PlainParts (text : List ℕ) (at close : ℕ) : Type 0 where
   pub spells : SpellsString (slice_range text (at + 1) close) (slice_range text at (close + 1))
   pub is : quoted (slice_range text (at + 1) close) ≡ slice_range text at (close + 1)
-  pub inner_spells : SpellsString (slice_range text (at + 1) close) (quotation_mark ∷ slice_range text (at + 1) (close + 1))
+  pub inner_spells : SpellsString (slice_range text (at + 1) close)
+      (quotation_mark ∷ slice_range text (at + 1) (close + 1))
 
-pub plain_parts : (text : List ℕ) (at close : ℕ) → at < length text → get_or text at 0 ≡ quotation_mark → at + 1 ≤ close → close < length text → IsPlainString text (at + 1) close → PlainParts text at close
+pub plain_parts : (text : List ℕ) (at close : ℕ) → at < length text → get_or text at 0 ≡ quotation_mark → at + 1 ≤ close
+    → close < length text → IsPlainString text (at + 1) close → PlainParts text at close
 plain_parts text at close within opened order fits plainly =
     let content = slice_range text (at + 1) close in
     let law = string_at-sound (drop (at + 1) text) content (drop (suc close) text) plainly.is_read in
     let next : suc close ≡ close + 1 = omega arith in
-    let both : slice_range text (at + 1) (close + 1) ++ drop (close + 1) text ≡ law.0 ++ drop (close + 1) text = sym (drop_split text (at + 1) (close + 1) (omega arith)) ∙ (law.1 ∙ ap (λ n. law.0 ++ drop n text) next) in
-    let consumed : slice_range text (at + 1) (close + 1) ≡ law.0 = append_cancel_right (slice_range text (at + 1) (close + 1)) law.0 (drop (close + 1) text) both in
-    let front : slice_range text at (close + 1) ≡ quotation_mark ∷ slice_range text (at + 1) (close + 1) = slice_more text at (at + 1) (close + 1) (omega arith) (omega arith) ∙ ap (λ l. l ++ slice_range text (at + 1) (close + 1)) (slice_one text at quotation_mark within opened) in
-    let last : slice_range text (at + 1) (close + 1) ≡ content ++ quotation_mark ∷ [] = slice_more text (at + 1) close (close + 1) order (omega arith) ∙ ap (λ l. content ++ l) (slice_one text close quotation_mark fits plainly.closed) in
+    let both : slice_range text (at + 1) (close + 1) ++ drop (close + 1) text ≡ law.0 ++ drop (close + 1) text =
+    sym (drop_split text (at + 1) (close + 1) (omega arith)) ∙ (law.1 ∙ ap (λ n. law.0 ++ drop n text) next) in
+    let consumed : slice_range text (at + 1) (close + 1) ≡ law.0 =
+    append_cancel_right (slice_range text (at + 1) (close + 1)) law.0 (drop (close + 1) text) both in
+    let front : slice_range text at (close + 1) ≡ quotation_mark ∷ slice_range text (at + 1) (close + 1) =
+    slice_more text at (at + 1) (close + 1) (omega arith) (omega arith)
+    ∙ ap (λ l. l ++ slice_range text (at + 1) (close + 1)) (slice_one text at quotation_mark within opened) in
+    let last : slice_range text (at + 1) (close + 1) ≡ content ++ quotation_mark ∷ [] =
+    slice_more text (at + 1) close (close + 1) order (omega arith)
+    ∙ ap (λ l. content ++ l) (slice_one text close quotation_mark fits plainly.closed) in
     record {
       inner_spells = subst (SpellsString content) (sym (ap (λ l. quotation_mark ∷ l) consumed)) law.2;
       spells = subst (SpellsString content) (sym (front ∙ ap (λ l. quotation_mark ∷ l) consumed)) law.2;
-      is = ap (λ l. quotation_mark ∷ (l ++ quotation_mark ∷ [])) plainly.compact ∙ sym (front ∙ ap (λ l. quotation_mark ∷ l) last);
+      is = ap (λ l. quotation_mark ∷ (l ++ quotation_mark ∷ [])) plainly.compact
+          ∙ sym (front ∙ ap (λ l. quotation_mark ∷ l) last);
     }
 
 -- a string without escapes stands in its one spelling
-pub plain_taken : (text line : List ℕ) (from at close : ℕ) → from ≤ at → at < length text → get_or text at 0 ≡ quotation_mark → at + 1 ≤ close → close < length text → IsPlainString text (at + 1) close
-    → TakenString (slice_range text (at + 1) close) (drop at text) (drop (close + 1) text) (shown line text from at) (shown line text from (close + 1))
+pub plain_taken : (text line : List ℕ) (from at close : ℕ) → from ≤ at → at < length text
+    → get_or text at 0 ≡ quotation_mark → at + 1 ≤ close → close < length text → IsPlainString text (at + 1) close
+    → TakenString (slice_range text (at + 1) close) (drop at text) (drop (close + 1) text) (shown line text from at)
+    (shown line text from (close + 1))
 plain_taken text line from at close copied within opened order fits plainly =
     let parts = plain_parts text at close within opened order fits plainly in
     record {
       inner = slice_range text (at + 1) (close + 1);
-      splits = drop_one text at quotation_mark within opened ∙ ap (λ l. quotation_mark ∷ l) (drop_split text (at + 1) (close + 1) (omega arith));
+      splits = drop_one text at quotation_mark within opened
+          ∙ ap (λ l. quotation_mark ∷ l) (drop_split text (at + 1) (close + 1) (omega arith));
       spells = parts.inner_spells;
-      is_shown = shown_more line text from at (close + 1) copied (omega arith) ∙ ap (λ l. shown line text from at ++ l) (sym parts.is);
+      is_shown = shown_more line text from at (close + 1) copied (omega arith)
+          ∙ ap (λ l. shown line text from at ++ l) (sym parts.is);
     }
 
-pub string_taken : (levels : ℕ) (content b rest before after : List ℕ) → TakenString content b rest before after → Taken levels b rest before after
+pub string_taken : (levels : ℕ) (content b rest before after : List ℕ) → TakenString content b rest before after
+    → Taken levels b rest before after
 string_taken levels content b rest before after taken = record {
   value = string content;
   text = quotation_mark ∷ taken.inner;
@@ -90,13 +120,17 @@ string_taken levels content b rest before after taken = record {
 }
 
 -- a name that was put after the names
-pub name_taken : (name b rest before after : List ℕ) (one two : List (List ℕ)) → TakenString name b rest before after → two ≡ one ++ name ∷ [] → TakenName b rest before after one two
+pub name_taken : (name b rest before after : List ℕ) (one two : List (List ℕ)) → TakenString name b rest before after
+    → two ≡ one ++ name ∷ [] → TakenName b rest before after one two
 name_taken name b rest before after one two taken listed = record { name = name; taken = taken; names_are = listed }
 
 -- a name, white space, a colon, and white space
-pub start_taken : (b behind next rest before at_name at_colon after_colon after : List ℕ) (one two three : List (List ℕ)) → TakenName b behind before at_name one two → after_white behind ≡ colon ∷ next → at_colon ≡ at_name → after_colon ≡ at_colon ++ colon ∷ []
+pub start_taken : (b behind next rest before at_name at_colon after_colon after : List ℕ)
+    (one two three : List (List ℕ)) → TakenName b behind before at_name one two → after_white behind ≡ colon ∷ next
+    → at_colon ≡ at_name → after_colon ≡ at_colon ++ colon ∷ []
     → rest ≡ after_white next → after ≡ after_colon → three ≡ two → TakenStart b rest before after one three
-start_taken b behind next rest before at_name at_colon after_colon after one two three named goes is₁ is₂ starts is₃ same =
+start_taken b behind next rest before at_name at_colon after_colon after one two three named goes is₁ is₂ starts is₃
+    same =
     let shows : after ≡ at_name ++ colon ∷ [] = is₃ ∙ (is₂ ∙ ap (λ l. l ++ colon ∷ []) is₁) in
     record {
       name = named.name;
@@ -107,6 +141,7 @@ start_taken b behind next rest before at_name at_colon after_colon after one two
       spells = named.taken.spells;
       goes_on = goes;
       starts = starts;
-      is_shown = shows ∙ (ap (λ l. l ++ colon ∷ []) named.taken.is_shown ∙ append_assoc before (quoted named.name) (colon ∷ []));
+      is_shown = shows ∙ (ap (λ l. l ++ colon ∷ []) named.taken.is_shown
+          ∙ append_assoc before (quoted named.name) (colon ∷ []));
       names_are = same ∙ named.names_are;
     }

@@ -12,7 +12,8 @@ use Rattle.city_json.specs.declared.reading.Mark.TheVariants as mark
 use Rattle.city_json.specs.declared.reading.Start.TheVariants as start
 
 -- what both parts of a step gave
-pub bind_some : {A B : Type 0} (o : Option A) (f : A → Option B) (y : B) → option_and_then f o ≡ Some y → (x : A) × (o ≡ Some x) × (f x ≡ Some y)
+pub bind_some : {A B : Type 0} (o : Option A) (f : A → Option B) (y : B) → option_and_then f o ≡ Some y → (x : A)
+    × (o ≡ Some x) × (f x ≡ Some y)
 bind_some None f y is = cc
 bind_some (Some x) f y is = (x, refl, is)
 
@@ -33,7 +34,12 @@ after_white-splits [] = record { white = []; blank = tt; splits = refl }
 after_white-splits (c ∷ b) = one_more c b (is_white c) refl (after_white-splits b)
   where
     one_more : (c : ℕ) (b : List ℕ) (white : Bool) → is_white c ≡ white → SkipsWhite b → SkipsWhite (c ∷ b)
-    one_more c b true is rest = record { white = c ∷ rest.white; blank = (is_white-IsWhite c is, rest.blank); splits = rw is (ap (λ l. c ∷ l) rest.splits) }
+    one_more c b true is rest = record {
+      white = c ∷ rest.white;
+      blank = (is_white-IsWhite c is, rest.blank);
+      splits =
+          rw is (ap (λ l. c ∷ l) rest.splits);
+    }
     one_more c b false is rest = record { white = []; blank = tt; splits = rw is refl }
 
 -- No white space stands at the front.
@@ -50,7 +56,8 @@ after_white-blank [] b blank clear = after_white-clear b clear
 after_white-blank (c ∷ white) b blank clear = rw (IsWhite-is_white c blank.0) (after_white-blank white b blank.1 clear)
 
 -- which way a test went
-pub chosen : {X : Type 0} (test : Bool) (x y z : X) → cond test x y ≡ z → ((test ≡ true) × (x ≡ z)) ⊎ ((test ≡ false) × (y ≡ z))
+pub chosen : {X : Type 0} (test : Bool) (x y z : X) → cond test x y ≡ z → ((test ≡ true) × (x ≡ z))
+    ⊎ ((test ≡ false) × (y ≡ z))
 chosen true x y z is = inl (refl, is)
 chosen false x y z is = inr (refl, is)
 

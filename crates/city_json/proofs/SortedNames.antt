@@ -31,10 +31,18 @@ differ : (x y : List ℕ) → x ≢ y ↔ same x y ≡ false
 differ x y = by (same x y) refl
   where
     by : (b : Bool) → same x y ≡ b → x ≢ y ↔ same x y ≡ false
-    by true e = (λ apart. absurd (apart ((bytes_eq-Decides x y).0 (sym (is_eq-slice_cmp x y) ∙ e))), λ not. absurd (true≢false (sym e ∙ not)))
-    by false e = (λ apart. e, λ not equal. true≢false (sym ((is_eq-slice_cmp x y) ∙ (bytes_eq-Decides x y).1 equal) ∙ not))
+    by true e = (
+      λ apart. absurd (apart ((bytes_eq-Decides x y).0 (sym (is_eq-slice_cmp x y) ∙ e))),
+      λ not. absurd (true≢false (sym e ∙ not)),
+    )
+    by false e = (
+      λ apart. e,
+      λ not equal. true≢false (sym ((is_eq-slice_cmp x y) ∙ (bytes_eq-Decides x y).1 equal)
+          ∙ not),
+    )
 
-new_is : (name : List ℕ) (members : MemberTrees) → IsNewName name members ↔ AllByRecursion (λ other. same name other ≡ false) (names members)
+new_is : (name : List ℕ) (members : MemberTrees) → IsNewName name members
+    ↔ AllByRecursion (λ other. same name other ≡ false) (names members)
 new_is name no_members = (λ _. tt, λ _. tt)
 new_is name (member other value others) = (
   λ new. ((differ name other).0 new.0, (new_is name others).0 new.1),
@@ -76,25 +84,38 @@ precedes x y = is_lt (name_order x y)
 abbrev pub TellsRise : Bool → List (Bor (List ℕ)) → Type 0
 TellsRise r listed = IsAllAdjacentAnswer (λ x y b. b ≡ precedes x y) listed r
 
-strictly : (sorted : List (Bor (List ℕ))) → AllAdjacentBelow (λ x y. true ≡ precedes x y) sorted (length sorted) → IsStrictlySortedBy by_bytes (texts sorted)
+strictly : (sorted : List (Bor (List ℕ))) → AllAdjacentBelow (λ x y. true ≡ precedes x y) sorted (length sorted)
+    → IsStrictlySortedBy by_bytes (texts sorted)
 unfolding IsStrictlySortedBy
 strictly [] neighbours = tt
 strictly (x ∷ xs) neighbours = sorted_from_all_adjacent nat_list_cmp_total (texts (x ∷ xs)) x.now (λ k within.
-    rw (get_or-map (λ name. name.now) (x ∷ xs) k x, get_or-map (λ name. name.now) (x ∷ xs) (k + 1) x) (less _ (sym (neighbours k x (subst (λ n. k + 1 < n) (length-map (x ∷ xs) (λ name. name.now)) within)))))
+    rw (get_or-map (λ name. name.now) (x ∷ xs) k x, get_or-map (λ name. name.now) (x ∷ xs) (k + 1) x)
+    (less _ (sym (neighbours k x (subst (λ n. k + 1 < n) (length-map (x ∷ xs) (λ name. name.now)) within)))))
 
-falls_nowhere : (sorted : List (Bor (List ℕ))) (k : ℕ) (d : Bor (List ℕ)) → IsSorted name_order sorted → k + 1 < length sorted → IsDistinct same (texts sorted) → precedes (get_or sorted k d) (get_or sorted (k + 1) d) ≡ true
-falls_nowhere sorted k d up within apart = rises (get_or sorted k d).now (get_or sorted (k + 1) d).now (up k d (omega arith) within) differ_there
+falls_nowhere : (sorted : List (Bor (List ℕ))) (k : ℕ) (d : Bor (List ℕ)) → IsSorted name_order sorted
+    → k + 1 < length sorted → IsDistinct same (texts sorted)
+    → precedes (get_or sorted k d) (get_or sorted (k + 1) d) ≡ true
+falls_nowhere sorted k d up within apart =
+    rises (get_or sorted k d).now (get_or sorted (k + 1) d).now (up k d (omega arith) within) differ_there
   where
     differ_there : same (get_or sorted k d).now (get_or sorted (k + 1) d).now ≡ false
-    differ_there = let there = apart_from_distinct same (texts sorted) k (k + 1) d.now apart (omega arith) (subst (λ n. k + 1 < n) (sym (length-map sorted (λ name. name.now))) within) in
-        subst (λ b. b ≡ false) (rw (get_or-map (λ name. name.now) sorted k d, get_or-map (λ name. name.now) sorted (k + 1) d) refl) there
+    differ_there = let there = apart_from_distinct same (texts sorted) k (k + 1) d.now apart (omega arith)
+        (subst (λ n. k + 1 < n) (sym (length-map sorted (λ name. name.now))) within) in
+        subst (λ b. b ≡ false) (rw (
+          get_or-map (λ name. name.now) sorted k d,
+          get_or-map (λ name. name.now) sorted (k + 1) d,
+        ) refl) there
 
-unlike : (sorted : List (Bor (List ℕ))) → IsSorted name_order sorted → (k : ℕ) × (k + 1 < length sorted) × ((d : Bor (List ℕ)) → false ≡ precedes (get_or sorted k d) (get_or sorted (k + 1) d)) → IsDistinct same (texts sorted) → ⊥
+unlike : (sorted : List (Bor (List ℕ))) → IsSorted name_order sorted → (k : ℕ) × (k + 1 < length sorted)
+    × ((d : Bor (List ℕ)) → false ≡ precedes (get_or sorted k d) (get_or sorted (k + 1) d))
+    → IsDistinct same (texts sorted) → ⊥
 unlike [] up found apart = omega (arith, found.1)
 unlike (x ∷ xs) up found apart = true≢false (sym (falls_nowhere (x ∷ xs) found.0 x up found.1 apart) ∙ sym (found.2 x))
 
 -- what a sort and a look at the neighbours show of the names of members
-pub differ_by_neighbours : (members : MemberTrees) (listed sorted : List (Bor (List ℕ))) (r : Bool) → texts listed ≡ names members → IsPermutation listed sorted → IsSorted name_order sorted → TellsRise r sorted → IsTrue r ↔ HasDistinctNames members
+pub differ_by_neighbours : (members : MemberTrees) (listed sorted : List (Bor (List ℕ))) (r : Bool)
+    → texts listed ≡ names members → IsPermutation listed sorted → IsSorted name_order sorted → TellsRise r sorted
+    → IsTrue r ↔ HasDistinctNames members
 differ_by_neighbours members listed sorted r are moved up answer = by r answer
   where
     flips : (x y : List ℕ) → same x y ≡ same y x
@@ -104,11 +125,17 @@ differ_by_neighbours members listed sorted r are moved up answer = by r answer
     among = IsPermutation-map (λ name. name.now) listed sorted moved
 
     back : IsDistinct same (texts sorted) → HasDistinctNames members
-    back apart = (distinct_is members).1 (subst (IsDistinct same) are (IsDistinct-IsPermutation same flips (texts sorted) (texts listed) (IsPermutation-sym (texts listed) (texts sorted) among) apart))
+    back apart = (distinct_is members).1
+        (subst (IsDistinct same) are (IsDistinct-IsPermutation same flips (texts sorted) (texts listed)
+        (IsPermutation-sym (texts listed) (texts sorted) among) apart))
 
     onward : HasDistinctNames members → IsDistinct same (texts sorted)
-    onward all = IsDistinct-IsPermutation same flips (texts listed) (texts sorted) among (subst (IsDistinct same) (sym are) ((distinct_is members).0 all))
+    onward all = IsDistinct-IsPermutation same flips (texts listed) (texts sorted) among
+        (subst (IsDistinct same) (sym are) ((distinct_is members).0 all))
 
     by : (b : Bool) → TellsRise b sorted → IsTrue b ↔ HasDistinctNames members
-    by true neighbours = (λ _. back (IsDistinct-from_sorted by_bytes (texts sorted) (strictly sorted neighbours)), λ _. search rules)
+    by true neighbours = (
+      λ _. back (IsDistinct-from_sorted by_bytes (texts sorted) (strictly sorted neighbours)),
+      λ _. search rules,
+    )
     by false found = (λ not. absurd (true≢false (sym not)), λ all. absurd (unlike sorted up found (onward all)))

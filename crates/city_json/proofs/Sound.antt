@@ -1,16 +1,16 @@
--- What the functions on lists read is spelled so.
-use Rattle.std.proofs.Common.{◌≡◌, ◌++◌, ◌==◌, ◌∙◌, ◌≤◌, ℕ, zero, suc, true, false, List, [], ◌∷◌, Option, Some, None, length, drop, refl, ap, sym, subst, arith, nat_eq, codes, append_assoc}
+-- What the functions on lists read is spelled so: members, words and whole values.
+use Rattle.std.proofs.Common.{◌≡◌, ◌++◌, ◌==◌, ◌∙◌, ◌≤◌, ℕ, zero, suc, true, false, List, ◌∷◌, Option, Some, None, length, drop, refl, ap, sym, subst, arith, nat_eq, codes, append_assoc, []}
 use Rattle.std.proofs.lemmas.List.{append-nil}
-use Rattle.std.proofs.lemmas.Bool.{eqb-true}
 use Rattle.std.proofs.lemmas.Option.{none-some, same_Some, cond_some}
 use Rattle.std.specs.List.{starts_with}
-use Rattle.city_json.specs.Bytes.{comma, colon, open_bracket, open_brace, close_bracket, close_brace, quotation_mark}
+use Rattle.city_json.specs.Bytes.{colon, open_bracket, open_brace, close_bracket, close_brace, quotation_mark}
 use Rattle.city_json.specs.Compacting.{FoundItems}
-use Rattle.city_json.specs.Fits.{most_depth, depth, members_depth}
-use Rattle.city_json.specs.Grammar.{IsBlank, Spaced, SpellsValue, SpellsMoreItems, SpellsMembers, SpellsMoreMembers, SpellsMember}
-use Rattle.city_json.specs.Reading.{after_white, mark_at, after_byte, start_of, word_at, scalar_at, items_at, items_after, array_from, member_at, members_at, members_after, object_from, value_at, value_from, text_at}
+use Rattle.city_json.specs.Fits.{depth}
+use Rattle.byte_streams.specs.Limits.{max_depth}
+use Rattle.city_json.specs.Grammar.{Spaced, SpellsValue}
+use Rattle.city_json.specs.Reading.{after_white, mark_at, after_byte, start_of, word_at, scalar_at, items_at, array_from, member_at, members_at, members_after, object_from, value_at, value_from, text_at}
 use Rattle.city_json.specs.Strings.{SpellsString}
-use Rattle.city_json.specs.Tree.{Tree, null, boolean, number, string, array, object, ItemTrees, no_items, item, MemberTrees, no_members, member}
+use Rattle.city_json.specs.Tree.{Tree, null, boolean, number, string, array, object, no_items, MemberTrees, no_members, member}
 use Rattle.city_json.specs.declared.reading.Mark.{Mark}
 use Rattle.city_json.specs.declared.reading.Mark.TheVariants as mark
 use Rattle.city_json.specs.declared.reading.Start.{Start}
@@ -20,155 +20,42 @@ use Rattle.city_json.specs.ReadString.{string_at}
 use Rattle.city_json.proofs.NumberLaws as number_laws
 use Rattle.city_json.proofs.Scanning.{bind_some, after_white-splits, mark_at-comma, mark_at-close, after_byte-some, starts_with-splits, start_of-list, start_of-map, start_of-text}
 use Rattle.city_json.proofs.SpelledString.{string_at-sound}
-
-abbrev Reader : Type 0
-Reader = List ℕ → Option (Tree × List ℕ)
-
--- The bytes up to the rest spell the value, which is no deeper than this.
-pub record Found (levels : ℕ) (value : Tree) (b rest : List ℕ) : Type 0 where
-  pub text : List ℕ
-  pub splits : b ≡ text ++ rest
-  pub spells : SpellsValue value text
-  pub within : depth value ≤ levels
-
-abbrev IsSound : ℕ → Reader → Type 0
-IsSound levels read = (b rest : List ℕ) (value : Tree) → read b ≡ Some (value, rest) → Found levels value b rest
-
-blank_append : (v w : List ℕ) → IsBlank v → IsBlank w → IsBlank (v ++ w)
-blank_append [] w p q = q
-blank_append (c ∷ v) w p q = (p.0, blank_append v w p.1 q)
-
--- more white space before and behind
-spaced_wider : (P : List ℕ → Type 0) (v w b : List ℕ) → IsBlank v → IsBlank w → Spaced P b → Spaced P (v ++ (b ++ w))
-spaced_wider P v w b p q s = (v ++ s.0, s.1, s.2 ++ w, rw s.3 (simp append_assoc), blank_append v s.0 p s.4, s.5, blank_append s.2 w s.6 q)
-
-member_wider : (name : List ℕ) (P : List ℕ → Type 0) (v w b : List ℕ) → IsBlank v → IsBlank w → SpellsMember name P b → SpellsMember name P (v ++ (b ++ w))
-member_wider name P v w b p q s =
-    let front : Spaced (SpellsString name) (v ++ (s.0 ++ [])) = spaced_wider (SpellsString name) v [] s.0 p tt s.3 in
-    let back : Spaced P ([] ++ (s.1 ++ w)) = spaced_wider P [] w s.1 tt q s.4 in
-    (v ++ (s.0 ++ []), s.1 ++ w, rw (s.2, append-nil) (simp append_assoc), front, back)
-
-pub record FoundMembers (levels : ℕ) (members : MemberTrees) (b rest : List ℕ) : Type 0 where
-  pub inner : List ℕ
-  pub splits : b ≡ inner ++ close_brace ∷ rest
-  pub spells : (w : List ℕ) → IsBlank w → SpellsMembers members (w ++ inner)
-  pub more : (w : List ℕ) → IsBlank w → SpellsMoreMembers members (comma ∷ (w ++ inner))
-  pub within : members_depth members ≤ levels
-
-pub record FoundMember (levels : ℕ) (name : List ℕ) (value : Tree) (b rest : List ℕ) : Type 0 where
-  pub text : List ℕ
-  pub splits : b ≡ text ++ rest
-  pub spells : SpellsMember name (SpellsValue value) text
-  pub within : depth value ≤ levels
-
--- the last item, white space, and the bracket
-pub items-last : (levels : ℕ) (value : Tree) (b behind rest : List ℕ) → Found levels value b behind → after_white behind ≡ close_bracket ∷ rest → FoundItems levels (item value no_items) b rest
-items-last levels value b behind rest found closes =
-    let white = after_white-splits behind in
-    let text = found.text ++ white.white in
-    let spaced : (w : List ℕ) → IsBlank w → Spaced (SpellsValue value) (w ++ (found.text ++ white.white)) = λ w blank. (w, found.text, white.white, refl, blank, found.spells, white.blank) in
-    record {
-      inner = found.text ++ white.white;
-      splits = found.splits ∙ (ap (λ l. found.text ++ l) (white.splits ∙ ap (λ l. white.white ++ l) closes) ∙ simp append_assoc);
-      spells = λ w blank. (w ++ (found.text ++ white.white), [], sym (append-nil (w ++ (found.text ++ white.white))), spaced w blank, refl);
-      more = λ w blank. (w ++ (found.text ++ white.white), [], ap (λ l. comma ∷ l) (sym (append-nil (w ++ (found.text ++ white.white)))), spaced w blank, refl);
-      within = omega (arith, found.within);
-    }
-
--- an item, white space, a comma, white space, and further items
-pub items-next : (levels : ℕ) (value : Tree) (others : ItemTrees) (b behind after rest : List ℕ) → Found levels value b behind → after_white behind ≡ comma ∷ after → FoundItems levels others (after_white after) rest → FoundItems levels (item value others) b rest
-items-next levels value others b behind after rest found goes next =
-    let white = after_white-splits behind in
-    let then = after_white-splits after in
-    let tail : List ℕ = comma ∷ (then.white ++ next.inner) in
-    let spaced : (w : List ℕ) → IsBlank w → Spaced (SpellsValue value) (w ++ (found.text ++ white.white)) = λ w blank. (w, found.text, white.white, refl, blank, found.spells, white.blank) in
-    let further : SpellsMoreItems others (comma ∷ (then.white ++ next.inner)) = next.more then.white then.blank in
-    let joined : (w : List ℕ) → w ++ (found.text ++ (white.white ++ comma ∷ (then.white ++ next.inner))) ≡ (w ++ (found.text ++ white.white)) ++ comma ∷ (then.white ++ next.inner) = λ w. simp append_assoc in
-    record {
-      inner = found.text ++ (white.white ++ comma ∷ (then.white ++ next.inner));
-      splits = found.splits ∙ (ap (λ l. found.text ++ l) (white.splits ∙ ap (λ l. white.white ++ l) (goes ∙ ap (λ l. comma ∷ l) (then.splits ∙ ap (λ l. then.white ++ l) next.splits))) ∙ simp append_assoc);
-      spells = λ w blank. (w ++ (found.text ++ white.white), comma ∷ (then.white ++ next.inner), joined w, spaced w blank, further);
-      more = λ w blank. (w ++ (found.text ++ white.white), comma ∷ (then.white ++ next.inner), ap (λ l. comma ∷ l) (joined w), spaced w blank, further);
-      within = omega (arith, found.within, next.within);
-    }
-
-pub members-last : (levels : ℕ) (name : List ℕ) (value : Tree) (b behind rest : List ℕ) → FoundMember levels name value b behind → after_white behind ≡ close_brace ∷ rest → FoundMembers levels (member name value no_members) b rest
-members-last levels name value b behind rest found closes =
-    let white = after_white-splits behind in
-    let spaced : (w : List ℕ) → IsBlank w → SpellsMember name (SpellsValue value) (w ++ (found.text ++ white.white)) = λ w blank. member_wider name (SpellsValue value) w white.white found.text blank white.blank found.spells in
-    record {
-      inner = found.text ++ white.white;
-      splits = found.splits ∙ (ap (λ l. found.text ++ l) (white.splits ∙ ap (λ l. white.white ++ l) closes) ∙ simp append_assoc);
-      spells = λ w blank. (w ++ (found.text ++ white.white), [], sym (append-nil (w ++ (found.text ++ white.white))), spaced w blank, refl);
-      more = λ w blank. (w ++ (found.text ++ white.white), [], ap (λ l. comma ∷ l) (sym (append-nil (w ++ (found.text ++ white.white)))), spaced w blank, refl);
-      within = omega (arith, found.within);
-    }
-
-pub members-next : (levels : ℕ) (name : List ℕ) (value : Tree) (others : MemberTrees) (b behind after rest : List ℕ) → FoundMember levels name value b behind → after_white behind ≡ comma ∷ after → FoundMembers levels others (after_white after) rest → FoundMembers levels (member name value others) b rest
-members-next levels name value others b behind after rest found goes next =
-    let white = after_white-splits behind in
-    let then = after_white-splits after in
-    let spaced : (w : List ℕ) → IsBlank w → SpellsMember name (SpellsValue value) (w ++ (found.text ++ white.white)) = λ w blank. member_wider name (SpellsValue value) w white.white found.text blank white.blank found.spells in
-    let further : SpellsMoreMembers others (comma ∷ (then.white ++ next.inner)) = next.more then.white then.blank in
-    let joined : (w : List ℕ) → w ++ (found.text ++ (white.white ++ comma ∷ (then.white ++ next.inner))) ≡ (w ++ (found.text ++ white.white)) ++ comma ∷ (then.white ++ next.inner) = λ w. simp append_assoc in
-    record {
-      inner = found.text ++ (white.white ++ comma ∷ (then.white ++ next.inner));
-      splits = found.splits ∙ (ap (λ l. found.text ++ l) (white.splits ∙ ap (λ l. white.white ++ l) (goes ∙ ap (λ l. comma ∷ l) (then.splits ∙ ap (λ l. then.white ++ l) next.splits))) ∙ simp append_assoc);
-      spells = λ w blank. (w ++ (found.text ++ white.white), comma ∷ (then.white ++ next.inner), joined w, spaced w blank, further);
-      more = λ w blank. (w ++ (found.text ++ white.white), comma ∷ (then.white ++ next.inner), ap (λ l. comma ∷ l) (joined w), spaced w blank, further);
-      within = omega (arith, found.within, next.within);
-    }
-
--- the items, by what stands behind the first
-items_after-sound : (levels : ℕ) (more : List ℕ → Option (ItemTrees × List ℕ)) → ((b rest : List ℕ) (items : ItemTrees) → more b ≡ Some (items, rest) → FoundItems levels items b rest)
-    → (value : Tree) (b behind rest : List ℕ) (items : ItemTrees) (found : Mark) (after : List ℕ) → Found levels value b behind → mark_at close_bracket (after_white behind) ≡ (found, after)
-    → items_after more value (found, after) ≡ Some (items, rest) → FoundItems levels items b rest
-items_after-sound levels more is_sound value b behind rest items mark.Comma after first marked read =
-    let step = bind_some (more (after_white after)) (λ others. Some (item value others.0, others.1)) (items, rest) read in
-    let same = same_Some _ _ step.2 in
-    let next : FoundItems levels step.0.0 (after_white after) step.0.1 = is_sound (after_white after) step.0.1 step.0.0 step.1 in
-    let all : FoundItems levels (item value step.0.0) b step.0.1 = items-next levels value step.0.0 b behind after step.0.1 first (mark_at-comma close_bracket (after_white behind) after marked) next in
-    subst (λ (p : ItemTrees × List ℕ). FoundItems levels p.0 b p.1) same all
-items_after-sound levels more is_sound value b behind rest items mark.Close after first marked read =
-    subst (λ (p : ItemTrees × List ℕ). FoundItems levels p.0 b p.1) (same_Some (item value no_items, after) (items, rest) read) (items-last levels value b behind after first (mark_at-close close_bracket (after_white behind) after marked))
-items_after-sound levels more is_sound value b behind rest items mark.Neither after first marked read = absurd (none-some (items, rest) read)
-
-items_at-sound : (levels : ℕ) (read : Reader) → IsSound levels read → (n : ℕ) (b rest : List ℕ) (items : ItemTrees) → items_at read n b ≡ Some (items, rest) → FoundItems levels items b rest
-unfolding items_at
-items_at-sound levels read is_sound zero b rest items is = absurd (none-some (items, rest) is)
-items_at-sound levels read is_sound (suc n) b rest items is =
-    let step = bind_some (read b) (λ first. items_after (items_at read n) first.0 (mark_at close_bracket (after_white first.1))) (items, rest) is in
-    items_after-sound levels (items_at read n) (items_at-sound levels read is_sound n) step.0.0 b step.0.1 rest items
-    (mark_at close_bracket (after_white step.0.1)).0 (mark_at close_bracket (after_white step.0.1)).1 (is_sound b step.0.1 step.0.0 step.1) refl step.2
-
-regroup : (a v w c d : List ℕ) (mark : ℕ) → a ++ (v ++ mark ∷ (w ++ (c ++ d))) ≡ ((a ++ v) ++ mark ∷ (w ++ c)) ++ d
-regroup a v w c d mark = simp append_assoc
-
-no_bytes : (b : List ℕ) → (length b == 0) ≡ true → b ≡ []
-no_bytes [] is = refl
-no_bytes (c ∷ b) is = absurd (omega (arith, eqb-true (length (c ∷ b)) 0 is))
+use Rattle.city_json.proofs.SoundItems.{Found, FoundMember, FoundMembers, IsSound, Reader, items_at-sound, members-last, members-next, no_bytes, regroup}
 
 -- a name, white space, a colon, white space, and a value
-pub member-found : (levels : ℕ) (name : List ℕ) (value : Tree) (b text consumed behind after rest : List ℕ) → b ≡ quotation_mark ∷ text → text ≡ consumed ++ behind → SpellsString name (quotation_mark ∷ consumed)
-    → after_white behind ≡ colon ∷ after → Found levels value (after_white after) rest → FoundMember levels name value b rest
+pub member-found : (levels : ℕ) (name : List ℕ) (value : Tree) (b text consumed behind after rest : List ℕ)
+    → b ≡ quotation_mark ∷ text → text ≡ consumed ++ behind → SpellsString name (quotation_mark ∷ consumed)
+    → after_white behind ≡ colon ∷ after → Found levels value (after_white after) rest
+    → FoundMember levels name value b rest
 member-found levels name value b text consumed behind after rest opens named spells goes found =
     let white = after_white-splits behind in
     let then = after_white-splits after in
     record {
       text = ((quotation_mark ∷ consumed) ++ white.white) ++ colon ∷ (then.white ++ found.text);
-      splits = opens ∙ ap (λ l. quotation_mark ∷ l) (named ∙ (ap (λ l. consumed ++ l) (white.splits ∙ ap (λ l. white.white ++ l) (goes ∙ ap (λ l. colon ∷ l)
-          (then.splits ∙ ap (λ l. then.white ++ l) found.splits))) ∙ regroup consumed white.white then.white found.text rest colon));
+      splits = opens ∙ ap (λ l. quotation_mark ∷ l) (named
+          ∙ (ap (λ l. consumed ++ l) (white.splits ∙ ap (λ l. white.white ++ l) (goes ∙ ap (λ l. colon ∷ l)
+          (then.splits ∙ ap (λ l. then.white ++ l) found.splits)))
+          ∙ regroup consumed white.white then.white found.text rest colon));
       spells = (
         (quotation_mark ∷ consumed) ++ white.white,
         then.white ++ found.text,
         refl,
         ([], quotation_mark ∷ consumed, white.white, refl, tt, spells, white.blank),
-        (then.white, found.text, [], ap (λ l. then.white ++ l) (sym (append-nil found.text)), then.blank, found.spells, tt),
+        (
+          then.white,
+          found.text,
+          [],
+          ap (λ l. then.white ++ l) (sym (append-nil found.text)),
+          then.blank,
+          found.spells,
+          tt,
+        ),
       );
       within = found.within;
     }
 
-member_at-sound : (levels : ℕ) (read : Reader) → IsSound levels read → (b rest : List ℕ) (named : List ℕ × Tree) → member_at read b ≡ Some (named, rest) → FoundMember levels named.0 named.1 b rest
+member_at-sound : (levels : ℕ) (read : Reader) → IsSound levels read → (b rest : List ℕ) (named : List ℕ × Tree)
+    → member_at read b ≡ Some (named, rest) → FoundMember levels named.0 named.1 b rest
 member_at-sound levels read is_sound b rest named is =
     let opens = bind_some (after_byte quotation_mark b) _ (named, rest) is in
     let name = bind_some (string_at opens.0) _ (named, rest) opens.2 in
@@ -176,121 +63,199 @@ member_at-sound levels read is_sound b rest named is =
     let value = bind_some (read (after_white goes.0)) _ (named, rest) goes.2 in
     let text = string_at-sound opens.0 name.0.0 name.0.1 name.1 in
     let all : FoundMember levels name.0.0 value.0.0 b value.0.1 =
-    member-found levels name.0.0 value.0.0 b opens.0 text.0 name.0.1 goes.0 value.0.1 (after_byte-some quotation_mark b opens.0 opens.1) text.1 text.2
-    (after_byte-some colon (after_white name.0.1) goes.0 goes.1) (is_sound (after_white goes.0) value.0.1 value.0.0 value.1) in
-    subst (λ (p : (List ℕ × Tree) × List ℕ). FoundMember levels p.0.0 p.0.1 b p.1) (same_Some ((name.0.0, value.0.0), value.0.1) (named, rest) value.2) all
+    member-found levels name.0.0 value.0.0 b opens.0 text.0 name.0.1 goes.0 value.0.1
+    (after_byte-some quotation_mark b opens.0 opens.1) text.1 text.2
+    (after_byte-some colon (after_white name.0.1) goes.0 goes.1)
+    (is_sound (after_white goes.0) value.0.1 value.0.0 value.1) in
+    subst (λ (p : (List ℕ × Tree) × List ℕ). FoundMember levels p.0.0 p.0.1 b p.1)
+    (same_Some ((name.0.0, value.0.0), value.0.1) (named, rest) value.2) all
 
-members_after-sound : (levels : ℕ) (more : List ℕ → Option (MemberTrees × List ℕ)) → ((b rest : List ℕ) (members : MemberTrees) → more b ≡ Some (members, rest) → FoundMembers levels members b rest)
-    → (named : List ℕ × Tree) (b behind rest : List ℕ) (members : MemberTrees) (found : Mark) (after : List ℕ) → FoundMember levels named.0 named.1 b behind → mark_at close_brace (after_white behind) ≡ (found, after)
+members_after-sound : (levels : ℕ) (more : List ℕ → Option (MemberTrees × List ℕ))
+    → ((b rest : List ℕ) (members : MemberTrees) → more b ≡ Some (members, rest) → FoundMembers levels members b rest)
+    → (named : List ℕ × Tree) (b behind rest : List ℕ) (members : MemberTrees) (found : Mark) (after : List ℕ)
+    → FoundMember levels named.0 named.1 b behind → mark_at close_brace (after_white behind) ≡ (found, after)
     → members_after more named (found, after) ≡ Some (members, rest) → FoundMembers levels members b rest
 members_after-sound levels more is_sound named b behind rest members mark.Comma after first marked read =
-    let step = bind_some (more (after_white after)) (λ others. Some (member named.0 named.1 others.0, others.1)) (members, rest) read in
+    let step = bind_some (more (after_white after)) (λ others. Some (member named.0 named.1 others.0, others.1))
+    (members, rest) read in
     let same = same_Some _ _ step.2 in
-    let next : FoundMembers levels step.0.0 (after_white after) step.0.1 = is_sound (after_white after) step.0.1 step.0.0 step.1 in
-    let all : FoundMembers levels (member named.0 named.1 step.0.0) b step.0.1 = members-next levels named.0 named.1 step.0.0 b behind after step.0.1 first (mark_at-comma close_brace (after_white behind) after marked) next in
+    let next : FoundMembers levels step.0.0 (after_white after) step.0.1 =
+    is_sound (after_white after) step.0.1 step.0.0 step.1 in
+    let all : FoundMembers levels (member named.0 named.1 step.0.0) b step.0.1 =
+    members-next levels named.0 named.1 step.0.0 b behind after step.0.1 first
+    (mark_at-comma close_brace (after_white behind) after marked) next in
     subst (λ (p : MemberTrees × List ℕ). FoundMembers levels p.0 b p.1) same all
 members_after-sound levels more is_sound named b behind rest members mark.Close after first marked read =
-    subst (λ (p : MemberTrees × List ℕ). FoundMembers levels p.0 b p.1) (same_Some (member named.0 named.1 no_members, after) (members, rest) read) (members-last levels named.0 named.1 b behind after first (mark_at-close close_brace (after_white behind) after marked))
-members_after-sound levels more is_sound named b behind rest members mark.Neither after first marked read = absurd (none-some (members, rest) read)
+    subst (λ (p : MemberTrees × List ℕ). FoundMembers levels p.0 b p.1)
+    (same_Some (member named.0 named.1 no_members, after) (members, rest) read)
+    (members-last levels named.0 named.1 b behind after first
+    (mark_at-close close_brace (after_white behind) after marked))
+members_after-sound levels more is_sound named b behind rest members mark.Neither after first marked read =
+    absurd (none-some (members, rest) read)
 
-members_at-sound : (levels : ℕ) (read : Reader) → IsSound levels read → (n : ℕ) (b rest : List ℕ) (members : MemberTrees) → members_at read n b ≡ Some (members, rest) → FoundMembers levels members b rest
+members_at-sound : (levels : ℕ) (read : Reader) → IsSound levels read
+    → (n : ℕ) (b rest : List ℕ) (members : MemberTrees) → members_at read n b ≡ Some (members, rest)
+    → FoundMembers levels members b rest
 unfolding members_at
 members_at-sound levels read is_sound zero b rest members is = absurd (none-some (members, rest) is)
 members_at-sound levels read is_sound (suc n) b rest members is =
-    let step = bind_some (member_at read b) (λ first. members_after (members_at read n) first.0 (mark_at close_brace (after_white first.1))) (members, rest) is in
-    members_after-sound levels (members_at read n) (members_at-sound levels read is_sound n) step.0.0 b step.0.1 rest members
-    (mark_at close_brace (after_white step.0.1)).0 (mark_at close_brace (after_white step.0.1)).1 (member_at-sound levels read is_sound b step.0.1 step.0.0 step.1) refl step.2
+    let step = bind_some (member_at read b)
+    (λ first. members_after (members_at read n) first.0 (mark_at close_brace (after_white first.1))) (
+      members,
+      rest,
+    ) is in
+    members_after-sound levels (members_at read n)
+    (members_at-sound levels read is_sound n) step.0.0 b step.0.1 rest members
+    (mark_at close_brace (after_white step.0.1)).0 (mark_at close_brace (after_white step.0.1)).1
+    (member_at-sound levels read is_sound b step.0.1 step.0.0 step.1) refl step.2
 
 -- a word, and nothing else of it
-word_at-sound : (levels : ℕ) (word : List ℕ) (value found : Tree) (b rest : List ℕ) → SpellsValue value word → depth value ≡ 0 → word_at word value b ≡ Some (found, rest) → Found levels found b rest
+word_at-sound : (levels : ℕ) (word : List ℕ) (value found : Tree) (b rest : List ℕ) → SpellsValue value word
+    → depth value ≡ 0 → word_at word value b ≡ Some (found, rest) → Found levels found b rest
 word_at-sound levels word value found b rest spells flat is =
     let parts = cond_some (starts_with nat_eq b word) (value, drop (length word) b) (found, rest) is in
-    let all : Found levels value b (drop (length word) b) = record { text = word; splits = starts_with-splits b word parts.0; spells = spells; within = omega (arith, flat) } in
+    let all : Found levels value b (drop (length word) b) =
+    record {
+      text = word;
+      splits = starts_with-splits b word parts.0;
+      spells = spells;
+      within =
+          omega (arith, flat);
+    } in
     subst (λ (p : Tree × List ℕ). Found levels p.0 b p.1) parts.1 all
 
-scalar_at-sound : (levels : ℕ) (c : ℕ) (b rest : List ℕ) (value : Tree) (kind : Start) → kind ≡ start_of c → scalar_at kind (c ∷ b) ≡ Some (value, rest) → Found levels value (c ∷ b) rest
-scalar_at-sound levels c b rest value start.Null is read = word_at-sound levels (codes "null") null value (c ∷ b) rest refl refl read
-scalar_at-sound levels c b rest value start.True is read = word_at-sound levels (codes "true") (boolean true) value (c ∷ b) rest refl refl read
-scalar_at-sound levels c b rest value start.False is read = word_at-sound levels (codes "false") (boolean false) value (c ∷ b) rest refl refl read
+scalar_at-sound : (levels : ℕ) (c : ℕ) (b rest : List ℕ) (value : Tree) (kind : Start) → kind ≡ start_of c
+    → scalar_at kind (c ∷ b) ≡ Some (value, rest) → Found levels value (c ∷ b) rest
+scalar_at-sound levels c b rest value start.Null is read =
+    word_at-sound levels (codes "null") null value (c ∷ b) rest refl refl read
+scalar_at-sound levels c b rest value start.True is read =
+    word_at-sound levels (codes "true") (boolean true) value (c ∷ b) rest refl refl read
+scalar_at-sound levels c b rest value start.False is read =
+    word_at-sound levels (codes "false") (boolean false) value (c ∷ b) rest refl refl read
 scalar_at-sound levels c b rest value start.Number is read =
     let step = bind_some (number_at (c ∷ b)) _ (value, rest) read in
     let law = number_laws.sound (c ∷ b) step.0.0 step.0.1 step.1 in
-    let all : Found levels (number step.0.0) (c ∷ b) step.0.1 = record { text = step.0.0; splits = law.0; spells = (refl, law.1); within = omega arith } in
+    let all : Found levels (number step.0.0) (c ∷ b) step.0.1 =
+    record { text = step.0.0; splits = law.0; spells = (refl, law.1); within = omega arith } in
     subst (λ (p : Tree × List ℕ). Found levels p.0 (c ∷ b) p.1) (same_Some _ _ step.2) all
 scalar_at-sound levels c b rest value start.Text is read =
     let step = bind_some (string_at b) _ (value, rest) read in
     let law = string_at-sound b step.0.0 step.0.1 step.1 in
-    let all : Found levels (string step.0.0) (c ∷ b) step.0.1 = record { text = quotation_mark ∷ law.0; splits = rw (start_of-text c (sym is)) (ap (λ l. quotation_mark ∷ l) law.1); spells = law.2; within = omega arith } in
+    let all : Found levels (string step.0.0) (c ∷ b) step.0.1 =
+    record {
+      text = quotation_mark ∷ law.0;
+      splits =
+          rw (start_of-text c (sym is)) (ap (λ l. quotation_mark ∷ l) law.1);
+      spells = law.2;
+      within = omega arith;
+    } in
     subst (λ (p : Tree × List ℕ). Found levels p.0 (c ∷ b) p.1) (same_Some _ _ step.2) all
 scalar_at-sound levels c b rest value start.List is read = absurd (none-some (value, rest) read)
 scalar_at-sound levels c b rest value start.Map is read = absurd (none-some (value, rest) read)
 scalar_at-sound levels c b rest value start.Other is read = absurd (none-some (value, rest) read)
 
-array_from-sound : (levels : ℕ) (read : Reader) → IsSound levels read → (b rest : List ℕ) (value : Tree) (empty : Option (List ℕ)) → after_byte close_bracket (after_white b) ≡ empty → array_from read empty (after_white b) ≡ Some (value, rest) → Found (suc levels) value (open_bracket ∷ b) rest
+array_from-sound : (levels : ℕ) (read : Reader) → IsSound levels read
+    → (b rest : List ℕ) (value : Tree) (empty : Option (List ℕ)) → after_byte close_bracket (after_white b) ≡ empty
+    → array_from read empty (after_white b) ≡ Some (value, rest) → Found (suc levels) value (open_bracket ∷ b) rest
 array_from-sound levels read is_sound b rest value (Some behind) closes is =
     let white = after_white-splits b in
     let all : Found (suc levels) (array no_items) (open_bracket ∷ b) behind = record {
       text = open_bracket ∷ white.white ++ close_bracket ∷ [];
-      splits = ap (λ l. open_bracket ∷ l) (white.splits ∙ (ap (λ l. white.white ++ l) (after_byte-some close_bracket (after_white b) behind closes) ∙ sym (append_assoc white.white (close_bracket ∷ []) behind)));
+      splits = ap (λ l. open_bracket ∷ l) (white.splits
+          ∙ (ap (λ l. white.white ++ l) (after_byte-some close_bracket (after_white b) behind closes)
+          ∙ sym (append_assoc white.white (close_bracket ∷ []) behind)));
       spells = (white.white, refl, white.blank);
       within = omega arith;
     } in
-    subst (λ (p : Tree × List ℕ). Found (suc levels) p.0 (open_bracket ∷ b) p.1) (same_Some (array no_items, behind) (value, rest) is) all
+    subst (λ (p : Tree × List ℕ). Found (suc levels) p.0 (open_bracket ∷ b) p.1)
+    (same_Some (array no_items, behind) (value, rest) is) all
 array_from-sound levels read is_sound b rest value None closes is =
     let white = after_white-splits b in
     let step = bind_some (items_at read (length (after_white b)) (after_white b)) _ (value, rest) is in
-    let found : FoundItems levels step.0.0 (after_white b) step.0.1 = items_at-sound levels read is_sound (length (after_white b)) (after_white b) step.0.1 step.0.0 step.1 in
+    let found : FoundItems levels step.0.0 (after_white b) step.0.1 =
+    items_at-sound levels read is_sound (length (after_white b)) (after_white b) step.0.1 step.0.0 step.1 in
     let all : Found (suc levels) (array step.0.0) (open_bracket ∷ b) step.0.1 = record {
       text = open_bracket ∷ (white.white ++ found.inner) ++ close_bracket ∷ [];
-      splits = ap (λ l. open_bracket ∷ l) (white.splits ∙ (ap (λ l. white.white ++ l) found.splits ∙ simp append_assoc));
+      splits = ap (λ l. open_bracket ∷ l) (white.splits
+          ∙ (ap (λ l. white.white ++ l) found.splits ∙ simp append_assoc));
       spells = (white.white ++ found.inner, refl, found.spells white.white white.blank);
       within = omega (arith, found.within);
     } in
-    subst (λ (p : Tree × List ℕ). Found (suc levels) p.0 (open_bracket ∷ b) p.1) (same_Some (array step.0.0, step.0.1) (value, rest) step.2) all
+    subst (λ (p : Tree × List ℕ). Found (suc levels) p.0 (open_bracket ∷ b) p.1)
+    (same_Some (array step.0.0, step.0.1) (value, rest) step.2) all
 
-object_from-sound : (levels : ℕ) (read : Reader) → IsSound levels read → (b rest : List ℕ) (value : Tree) (empty : Option (List ℕ)) → after_byte close_brace (after_white b) ≡ empty → object_from read empty (after_white b) ≡ Some (value, rest) → Found (suc levels) value (open_brace ∷ b) rest
+object_from-sound : (levels : ℕ) (read : Reader) → IsSound levels read
+    → (b rest : List ℕ) (value : Tree) (empty : Option (List ℕ)) → after_byte close_brace (after_white b) ≡ empty
+    → object_from read empty (after_white b) ≡ Some (value, rest) → Found (suc levels) value (open_brace ∷ b) rest
 object_from-sound levels read is_sound b rest value (Some behind) closes is =
     let white = after_white-splits b in
     let all : Found (suc levels) (object no_members) (open_brace ∷ b) behind = record {
       text = open_brace ∷ white.white ++ close_brace ∷ [];
-      splits = ap (λ l. open_brace ∷ l) (white.splits ∙ (ap (λ l. white.white ++ l) (after_byte-some close_brace (after_white b) behind closes) ∙ sym (append_assoc white.white (close_brace ∷ []) behind)));
+      splits = ap (λ l. open_brace ∷ l) (white.splits
+          ∙ (ap (λ l. white.white ++ l) (after_byte-some close_brace (after_white b) behind closes)
+          ∙ sym (append_assoc white.white (close_brace ∷ []) behind)));
       spells = (white.white, refl, white.blank);
       within = omega arith;
     } in
-    subst (λ (p : Tree × List ℕ). Found (suc levels) p.0 (open_brace ∷ b) p.1) (same_Some (object no_members, behind) (value, rest) is) all
+    subst (λ (p : Tree × List ℕ). Found (suc levels) p.0 (open_brace ∷ b) p.1)
+    (same_Some (object no_members, behind) (value, rest) is) all
 object_from-sound levels read is_sound b rest value None closes is =
     let white = after_white-splits b in
     let step = bind_some (members_at read (length (after_white b)) (after_white b)) _ (value, rest) is in
-    let found : FoundMembers levels step.0.0 (after_white b) step.0.1 = members_at-sound levels read is_sound (length (after_white b)) (after_white b) step.0.1 step.0.0 step.1 in
+    let found : FoundMembers levels step.0.0 (after_white b) step.0.1 =
+    members_at-sound levels read is_sound (length (after_white b)) (after_white b) step.0.1 step.0.0 step.1 in
     let all : Found (suc levels) (object step.0.0) (open_brace ∷ b) step.0.1 = record {
       text = open_brace ∷ (white.white ++ found.inner) ++ close_brace ∷ [];
       splits = ap (λ l. open_brace ∷ l) (white.splits ∙ (ap (λ l. white.white ++ l) found.splits ∙ simp append_assoc));
       spells = (white.white ++ found.inner, refl, found.spells white.white white.blank);
       within = omega (arith, found.within);
     } in
-    subst (λ (p : Tree × List ℕ). Found (suc levels) p.0 (open_brace ∷ b) p.1) (same_Some (object step.0.0, step.0.1) (value, rest) step.2) all
+    subst (λ (p : Tree × List ℕ). Found (suc levels) p.0 (open_brace ∷ b) p.1)
+    (same_Some (object step.0.0, step.0.1) (value, rest) step.2) all
 
-value_from-sound : (levels : ℕ) (read : Reader) → IsSound levels read → (c : ℕ) (b rest : List ℕ) (value : Tree) (kind : Start) → kind ≡ start_of c → value_from read kind (c ∷ b) ≡ Some (value, rest) → Found (suc levels) value (c ∷ b) rest
-value_from-sound levels read is_sound c b rest value start.List is found = rw (start_of-list c (sym is)) (array_from-sound levels read is_sound b rest value (after_byte close_bracket (after_white b)) refl found)
-value_from-sound levels read is_sound c b rest value start.Map is found = rw (start_of-map c (sym is)) (object_from-sound levels read is_sound b rest value (after_byte close_brace (after_white b)) refl found)
-value_from-sound levels read is_sound c b rest value kind is found = scalar_at-sound (suc levels) c b rest value kind is found
+value_from-sound : (levels : ℕ) (read : Reader) → IsSound levels read
+    → (c : ℕ) (b rest : List ℕ) (value : Tree) (kind : Start) → kind ≡ start_of c
+    → value_from read kind (c ∷ b) ≡ Some (value, rest) → Found (suc levels) value (c ∷ b) rest
+value_from-sound levels read is_sound c b rest value start.List is found =
+    rw (start_of-list c (sym is)) (array_from-sound levels read is_sound b rest value
+    (after_byte close_bracket (after_white b)) refl found)
+value_from-sound levels read is_sound c b rest value start.Map is found =
+    rw (start_of-map c (sym is)) (object_from-sound levels read is_sound b rest value
+    (after_byte close_brace (after_white b)) refl found)
+value_from-sound levels read is_sound c b rest value kind is found =
+    scalar_at-sound (suc levels) c b rest value kind is found
 
 value_at-sound : (levels : ℕ) → IsSound levels (value_at levels)
 unfolding value_at
 value_at-sound zero [] rest value is = absurd (none-some (value, rest) is)
 value_at-sound zero (c ∷ b) rest value is = scalar_at-sound zero c b rest value (start_of c) refl is
 value_at-sound (suc levels) [] rest value is = absurd (none-some (value, rest) is)
-value_at-sound (suc levels) (c ∷ b) rest value is = value_from-sound levels (value_at levels) (value_at-sound levels) c b rest value (start_of c) refl is
+value_at-sound (suc levels) (c ∷ b) rest value is =
+    value_from-sound levels (value_at levels) (value_at-sound levels) c b rest value (start_of c) refl is
 
 -- What the whole text gives is spelled by it, and is no deeper than a value may be.
-pub text_at-sound : (b : List ℕ) (value : Tree) → text_at b ≡ Some value → Spaced (SpellsValue value) b × (depth value ≤ most_depth)
+pub text_at-sound : (b : List ℕ) (value : Tree) → text_at b ≡ Some value → Spaced (SpellsValue value) b
+    × (depth value ≤ max_depth)
 text_at-sound b value is =
-    let step = bind_some (value_at most_depth (after_white b)) _ value is in
+    let step = bind_some (value_at max_depth (after_white b)) _ value is in
     let before = after_white-splits b in
-    let found : Found most_depth step.0.0 (after_white b) step.0.1 = value_at-sound most_depth (after_white b) step.0.1 step.0.0 step.1 in
+    let found : Found max_depth step.0.0 (after_white b) step.0.1 =
+    value_at-sound max_depth (after_white b) step.0.1 step.0.0 step.1 in
     let behind = after_white-splits step.0.1 in
     let parts = cond_some (length (after_white step.0.1) == 0) step.0.0 value step.2 in
     let ends : after_white step.0.1 ≡ [] = no_bytes (after_white step.0.1) parts.0 in
-    let all : Spaced (SpellsValue step.0.0) b × (depth step.0.0 ≤ most_depth) =
-    ((before.white, found.text, behind.white, before.splits ∙ ap (λ l. before.white ++ l) (found.splits ∙ ap (λ l. found.text ++ l) (behind.splits ∙ (ap (λ l. behind.white ++ l) ends ∙ append-nil behind.white))), before.blank, found.spells, behind.blank), found.within) in
-    subst (λ (v : Tree). Spaced (SpellsValue v) b × (depth v ≤ most_depth)) parts.1 all
+    let all : Spaced (SpellsValue step.0.0) b × (depth step.0.0 ≤ max_depth) = (
+      (
+        before.white,
+        found.text,
+        behind.white,
+        before.splits
+            ∙ ap (λ l. before.white ++ l) (found.splits
+            ∙ ap (λ l. found.text ++ l) (behind.splits ∙ (ap (λ l. behind.white ++ l) ends ∙ append-nil behind.white))),
+        before.blank,
+        found.spells,
+        behind.blank,
+      ),
+      found.within,
+    ) in
+    subst (λ (v : Tree). Spaced (SpellsValue v) b × (depth v ≤ max_depth)) parts.1 all

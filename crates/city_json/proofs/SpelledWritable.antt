@@ -29,15 +29,20 @@ mutual
 
   members_writable : (members : MemberTrees) (b : List ℕ) → SpellsMembers members b → AreWritableMembers members
   members_writable no_members b s = tt
-  members_writable (member name value others) b s = (IsUtf8-spelled name s.3.3.1 s.3.3.5, value_writable value s.3.4.1 s.3.4.5, more_members_writable others s.1 s.4)
+  members_writable (member name value others) b s =
+      (IsUtf8-spelled name s.3.3.1 s.3.3.5, value_writable value s.3.4.1 s.3.4.5, more_members_writable others s.1 s.4)
 
-  more_members_writable : (members : MemberTrees) (b : List ℕ) → SpellsMoreMembers members b → AreWritableMembers members
+  more_members_writable : (members : MemberTrees) (b : List ℕ) → SpellsMoreMembers members b
+      → AreWritableMembers members
   more_members_writable no_members b s = tt
-  more_members_writable (member name value others) b s = (IsUtf8-spelled name s.3.3.1 s.3.3.5, value_writable value s.3.4.1 s.3.4.5, more_members_writable others s.1 s.4)
+  more_members_writable (member name value others) b s =
+      (IsUtf8-spelled name s.3.3.1 s.3.3.5, value_writable value s.3.4.1 s.3.4.5, more_members_writable others s.1 s.4)
 
 pub spelled_writable : (b : List ℕ) (value : Tree) → Spells b value → IsWritable value
 spelled_writable b value s = value_writable value s.1.1 s.1.5
 
 -- What a text that is a value's compact text was read as is that value.
-pub read_of_compact : (text : List ℕ) (value found : Tree) → IsWritable value → text ≡ compact value → Spells text found → value ≡ found
-read_of_compact text value found writable is spells = one_meaning text value found (subst (λ l. Spells l value) (sym is) (compact-spells value writable)).1 spells.1
+pub read_of_compact : (text : List ℕ) (value found : Tree) → IsWritable value → text ≡ compact value → Spells text found
+    → value ≡ found
+read_of_compact text value found writable is spells =
+    one_meaning text value found (subst (λ l. Spells l value) (sym is) (compact-spells value writable)).1 spells.1

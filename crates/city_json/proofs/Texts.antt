@@ -21,29 +21,34 @@ use Rattle.city_json.proofs.Sound.{text_at-sound}
 
 -- A text that is not deep is read wherever it spells a value.
 text_at-spelled : (text : List ℕ) (value : Tree) → (IsDeep text → ⊥) → Spells text value → text_at text ≡ Some value
-text_at-spelled text value shallow spells = text_at-complete text value spells.1 ((nests_as_value text value spells).0 shallow)
+text_at-spelled text value shallow spells =
+    text_at-complete text value spells.1 ((nests_as_value text value spells).0 shallow)
 
 spells_none : (text : List ℕ) → (IsDeep text → ⊥) → text_at text ≡ None → SpellsNone text
 spells_none text shallow none value spells = none-some value (sym none ∙ text_at-spelled text value shallow spells)
 
-pub text_refused : (fault : Fault) (text : List ℕ) → IsUtf8 text → (IsDeep text → ⊥) → Refuses fault (text_at text) → RefusesText fault text
+pub text_refused : (fault : Fault) (text : List ℕ) → IsUtf8 text → (IsDeep text → ⊥) → Refuses fault (text_at text)
+    → RefusesText fault text
 text_refused Memory text utf8 shallow read = (utf8, shallow)
 text_refused Syntax text utf8 shallow read = ((utf8, shallow), spells_none text shallow read)
 text_refused _ text utf8 shallow read = absurd read
 
-pub text_read : (text : List ℕ) (value : Tree) → IsUtf8 text → text_at text ≡ Some value → IsDistinct value → Spells text value × Fits value
+pub text_read : (text : List ℕ) (value : Tree) → IsUtf8 text → text_at text ≡ Some value → IsDistinct value
+    → Spells text value × Fits value
 text_read text value utf8 read distinct =
     let found = text_at-sound text value read in
     ((utf8, found.0), (found.1, distinct))
 
-pub text_repeats : (text : List ℕ) (value : Tree) → IsUtf8 text → text_at text ≡ Some value → (IsDistinct value → ⊥) → SpellsRepeated text
+pub text_repeats : (text : List ℕ) (value : Tree) → IsUtf8 text → text_at text ≡ Some value → (IsDistinct value → ⊥)
+    → SpellsRepeated text
 text_repeats text value utf8 read repeated = (value, (utf8, (text_at-sound text value read).0), repeated)
 
 -- What follows for the answer of the reader, from what it says of a value and of a refusal.
 abbrev pub IsTaken : List ℕ → Json → Type 0
 IsTaken text value = Spells text (tree value) × Fits (tree value) × (IsDeep text → ⊥)
 
-pub answers_not_utf8 : (text : List ℕ) (answer : Result Json Fault) → IfOk answer (IsTaken text) → IfErr answer (λ fault. RefusesText fault text) → (IsUtf8 text → ⊥) → answer ≡ Err NotUtf8
+pub answers_not_utf8 : (text : List ℕ) (answer : Result Json Fault) → IfOk answer (IsTaken text)
+    → IfErr answer (λ fault. RefusesText fault text) → (IsUtf8 text → ⊥) → answer ≡ Err NotUtf8
 answers_not_utf8 text (Ok value) taken refused bad = absurd (bad taken.0.0)
 answers_not_utf8 text (Err NotUtf8) taken refused bad = refl
 answers_not_utf8 text (Err TooDeep) taken refused bad = absurd (bad refused.0)
@@ -52,7 +57,8 @@ answers_not_utf8 text (Err DuplicateName) taken refused bad = absurd (bad refuse
 answers_not_utf8 text (Err Memory) taken refused bad = absurd (bad refused.0)
 answers_not_utf8 text (Err _) taken refused bad = absurd refused
 
-pub answers_too_deep : (text : List ℕ) (answer : Result Json Fault) → IfOk answer (IsTaken text) → IfErr answer (λ fault. RefusesText fault text) → IsUtf8 text → IsDeep text → answer ≡ Err TooDeep
+pub answers_too_deep : (text : List ℕ) (answer : Result Json Fault) → IfOk answer (IsTaken text)
+    → IfErr answer (λ fault. RefusesText fault text) → IsUtf8 text → IsDeep text → answer ≡ Err TooDeep
 answers_too_deep text (Ok value) taken refused utf8 deep = absurd (taken.2 deep)
 answers_too_deep text (Err NotUtf8) taken refused utf8 deep = absurd (refused utf8)
 answers_too_deep text (Err TooDeep) taken refused utf8 deep = refl
@@ -62,7 +68,9 @@ answers_too_deep text (Err Memory) taken refused utf8 deep = absurd (refused.1 d
 answers_too_deep text (Err _) taken refused utf8 deep = absurd refused
 
 -- What was printed of a value that fits is read again, unless memory is out.
-pub answers_printed : (text : List ℕ) (answer : Result Json Fault) → IfOk answer (IsTaken text) → IfErr answer (λ fault. RefusesText fault text) → (value : Tree) → IsWritable value → Fits value → text ≡ compact value
+pub answers_printed : (text : List ℕ) (answer : Result Json Fault) → IfOk answer (IsTaken text)
+    → IfErr answer (λ fault. RefusesText fault text) → (value : Tree) → IsWritable value → Fits value
+    → text ≡ compact value
     → MatchResult answer (λ again. tree again ≡ value) (λ fault. fault ≡ Memory)
 answers_printed text answer taken refused value writable fits printed = by_answer answer taken refused
   where
@@ -72,11 +80,14 @@ answers_printed text answer taken refused value writable fits printed = by_answe
     shallow : IsDeep text → ⊥
     shallow = (nests_as_value text value spells).1 fits.0
 
-    by_answer : (answer : Result Json Fault) → IfOk answer (IsTaken text) → IfErr answer (λ fault. RefusesText fault text) → MatchResult answer (λ again. tree again ≡ value) (λ fault. fault ≡ Memory)
+    by_answer : (answer : Result Json Fault) → IfOk answer (IsTaken text)
+        → IfErr answer (λ fault. RefusesText fault text)
+        → MatchResult answer (λ again. tree again ≡ value) (λ fault. fault ≡ Memory)
     by_answer (Ok again) taken refused = one_meaning text (tree again) value taken.0.1 spells.1
     by_answer (Err NotUtf8) taken refused = absurd (refused spells.0)
     by_answer (Err TooDeep) taken refused = absurd (shallow refused.1)
     by_answer (Err Syntax) taken refused = absurd (refused.1 value spells)
-    by_answer (Err DuplicateName) taken refused = absurd (refused.1.2 (subst IsDistinct (one_meaning text value refused.1.0 spells.1 refused.1.1.1) fits.1))
+    by_answer (Err DuplicateName) taken refused =
+        absurd (refused.1.2 (subst IsDistinct (one_meaning text value refused.1.0 spells.1 refused.1.1.1) fits.1))
     by_answer (Err Memory) taken refused = refl
     by_answer (Err _) taken refused = absurd refused

@@ -16,7 +16,9 @@ outside_after place [] = []
 outside_after place (b ∷ bytes) = is_outside (place_after place b) ∷ outside_after (place_after place b) bytes
 
 -- So many brackets stand outside strings in the front, and the back then begins in a string or not.
-pub record IsBracketRun (in_string : Bool) (front back : List ℕ) (opened closed : ℕ) (ends_in_string : Bool) : Type 0 where
+pub record IsBracketRun (in_string : Bool) (front back : List ℕ) (opened closed : ℕ)
+    (ends_in_string : Bool) : Type 0 where
   pub opened_is : opened ≡ count_by is_opening (unquoted (place_of in_string) front)
   pub closed_is : closed ≡ count_by is_closing (unquoted (place_of in_string) front)
-  pub goes_on : unquoted (place_of in_string) (front ++ back) ≡ unquoted (place_of in_string) front ++ unquoted (place_of ends_in_string) back
+  pub goes_on : unquoted (place_of in_string) (front ++ back) ≡ unquoted (place_of in_string) front
+      ++ unquoted (place_of ends_in_string) back

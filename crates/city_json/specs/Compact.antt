@@ -15,7 +15,8 @@ written b =
     else (if b == newline then backslash ∷ small_n ∷ []
     else (if b == carriage_return then backslash ∷ small_r ∷ []
     else (if b == tab then backslash ∷ small_t ∷ []
-    else (if nat_lt b space then backslash ∷ small_u ∷ digit_zero ∷ digit_zero ∷ digit_char (b / 16) ∷ digit_char (b % 16) ∷ []
+    else (if nat_lt b space then backslash ∷ small_u ∷ digit_zero ∷ digit_zero ∷ digit_char (b / 16)
+    ∷ digit_char (b % 16) ∷ []
     else b ∷ [])))))))
 
 abbrev pub quoted : List ℕ → List ℕ
@@ -47,4 +48,5 @@ abbrev mutual
 
   pub compact_more_members : MemberTrees → List ℕ
   compact_more_members no_members = []
-  compact_more_members (member name value others) = comma ∷ quoted name ++ colon ∷ compact value ++ compact_more_members others
+  compact_more_members (member name value others) =
+      comma ∷ quoted name ++ colon ∷ compact value ++ compact_more_members others

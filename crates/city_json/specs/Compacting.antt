@@ -60,7 +60,8 @@ pub record TakenEscape (b rest before after : List ℕ) : Type 0 where
   pub is_read : escape_at b ≡ Some (character, rest)
   pub is_shown : after ≡ before ++ flat_map written (encode_utf8 character)
 
--- a string between two places, of which it is known, too, that what stands after its opening mark is read as its content
+-- a string between two places, of which it is known, too, that what stands after its opening mark is read as its
+-- content
 pub record TakenAnew (text : List ℕ) (at end : ℕ) (before after : List ℕ) : Type 0 where
   pub content : List ℕ
   pub is_read : decoded (drop (at + 1) text) ≡ Some (content, drop end text)
@@ -87,7 +88,8 @@ pub record TakenStart (b rest before after : List ℕ) (names_before names_after
   pub names_are : names_after ≡ names_before ++ name ∷ []
 
 -- a member, whose name was put after the names
-pub record TakenMember (levels : ℕ) (b rest before after : List ℕ) (names_before names_after : List (List ℕ)) : Type 0 where
+pub record TakenMember (levels : ℕ) (b rest before after : List ℕ)
+    (names_before names_after : List (List ℕ)) : Type 0 where
   pub name : List ℕ
   pub value : Tree
   pub text : List ℕ
@@ -130,7 +132,8 @@ pub record ItemsFrom (levels : ℕ) (b rest before after : List ℕ) : Type 0 wh
   pub is_shown : after ≡ before ++ (compact_items (item first others) ++ close_bracket ∷ [])
 
 -- a member and its part, which was put after the parts
-pub record TakenPart (levels : ℕ) (b rest before after : List ℕ) (names_before names_after : List (List ℕ)) (parts_before parts_after : List Part) : Type 0 where
+pub record TakenPart (levels : ℕ) (b rest before after : List ℕ) (names_before names_after : List (List ℕ))
+    (parts_before parts_after : List Part) : Type 0 where
   pub taken : TakenMember levels b rest before after names_before names_after
   pub part : Part
   pub is_part : IsPart (length before) part taken.name taken.value

@@ -1,7 +1,7 @@
 -- When a text nests too deeply, told from its bytes alone, whether it is JSON or not.
 use Rattle.std.specs.Prelude.{◌≡◌, ◌++◌, ◌+◌, ◌<◌, ◌==◌, ◌||◌, ℕ, Bool, List, [], ◌∷◌, count_by, if◌then◌else◌}
 use Rattle.city_json.specs.Bytes.{quotation_mark, backslash, open_bracket, close_bracket, open_brace, close_brace}
-use Rattle.city_json.specs.Fits.{most_depth}
+use Rattle.byte_streams.specs.Limits.{max_depth}
 
 -- where a byte stands: outside strings, in one, or in one after a backslash
 pub data Place : Type 0 where
@@ -31,4 +31,4 @@ unquoted escaped (b ∷ bytes) = unquoted (place_after escaped b) bytes
 -- At some place more than 128 brackets are open: those opened so far, less those closed so far.
 abbrev pub IsDeep : List ℕ → Type 0
 IsDeep text = (front back : List ℕ) × (unquoted outside text ≡ front ++ back)
-    × (count_by is_closing front + most_depth < count_by is_opening front)
+    × (count_by is_closing front + max_depth < count_by is_opening front)

@@ -1,9 +1,8 @@
--- What this project accepts of JSON: values of bounded depth whose names are distinct (limits that RFC 8259, sections 4 and 9, leaves to a reader).
+-- What this project accepts of JSON: values of bounded depth whose names are distinct (limits that RFC 8259, sections 4
+-- and 9, leaves to a reader).
 use Rattle.std.specs.Prelude.{◌≢◌, ◌≤◌, ℕ, suc, max, List}
+use Rattle.byte_streams.specs.Limits.{max_depth}
 use Rattle.city_json.specs.Tree.{Tree, null, boolean, number, string, array, object, ItemTrees, no_items, item, MemberTrees, no_members, member}
-
-abbrev pub most_depth : ℕ
-most_depth = 128
 
 -- how deep arrays and objects nest
 abbrev mutual
@@ -53,4 +52,4 @@ abbrev mutual
   AreDistinctMembers (member name value others) = IsDistinct value × AreDistinctMembers others
 
 abbrev pub Fits : Tree → Type 0
-Fits value = (depth value ≤ most_depth) × IsDistinct value
+Fits value = (depth value ≤ max_depth) × IsDistinct value

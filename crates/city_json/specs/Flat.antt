@@ -17,9 +17,12 @@ abbrev pub ItemWasTaken : ℕ → ℕ → List ℕ → List ℕ → List ℕ →
 ItemWasTaken zero total b rest before after = (b ≡ rest) × (before ≡ after)
 ItemWasTaken (suc others) total b rest before after = (next : List ℕ) × (
     ((after_white b ≡ close_bracket ∷ next) × ItemWasTaken others total next rest (before ++ close_bracket ∷ []) after)
-    ⊎ ((after_white b ≡ comma ∷ next) × AreItems (total - suc others) (after_white next) (before ++ comma ∷ []) (λ left mid. ItemWasTaken others total left rest mid after)))
+    ⊎ ((after_white b ≡ comma ∷ next)
+    × AreItems (total - suc others) (after_white next) (before ++ comma ∷ [])
+    (λ left mid. ItemWasTaken others total left rest mid after)))
 
 -- the same where an item of the innermost array is next
 abbrev pub ItemIsNext : ℕ → ℕ → List ℕ → List ℕ → List ℕ → List ℕ → Type 0
 ItemIsNext zero total b rest before after = (b ≡ rest) × (before ≡ after)
-ItemIsNext (suc others) total b rest before after = AreItems (total - suc others) (after_white b) before (λ left mid. ItemWasTaken others total left rest mid after)
+ItemIsNext (suc others) total b rest before after =
+    AreItems (total - suc others) (after_white b) before (λ left mid. ItemWasTaken others total left rest mid after)

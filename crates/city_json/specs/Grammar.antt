@@ -19,7 +19,8 @@ Spaced P b = (before inner after : List ℕ) × (b ≡ before ++ (inner ++ after
 
 -- a member: its name, a colon, and its value, which P says (section 4)
 abbrev pub SpellsMember : List ℕ → (List ℕ → Type 0) → List ℕ → Type 0
-SpellsMember name P b = (before after : List ℕ) × (b ≡ before ++ colon ∷ after) × Spaced (SpellsString name) before × Spaced P after
+SpellsMember name P b = (before after : List ℕ) × (b ≡ before ++ colon ∷ after) × Spaced (SpellsString name) before
+    × Spaced P after
 
 -- a value with no white space around it (sections 3 to 7)
 abbrev mutual
@@ -29,27 +30,33 @@ abbrev mutual
   SpellsValue (boolean false) b = b ≡ codes "false"
   SpellsValue (number text) b = (b ≡ text) × IsNumber text
   SpellsValue (string text) b = SpellsString text b
-  SpellsValue (array items) b = (inner : List ℕ) × (b ≡ open_bracket ∷ inner ++ close_bracket ∷ []) × SpellsItems items inner
-  SpellsValue (object members) b = (inner : List ℕ) × (b ≡ open_brace ∷ inner ++ close_brace ∷ []) × SpellsMembers members inner
+  SpellsValue (array items) b = (inner : List ℕ) × (b ≡ open_bracket ∷ inner ++ close_bracket ∷ [])
+      × SpellsItems items inner
+  SpellsValue (object members) b = (inner : List ℕ) × (b ≡ open_brace ∷ inner ++ close_brace ∷ [])
+      × SpellsMembers members inner
 
   -- what stands between the brackets (section 5)
   pub SpellsItems : ItemTrees → List ℕ → Type 0
   SpellsItems no_items b = IsBlank b
-  SpellsItems (item value others) b = (first rest : List ℕ) × (b ≡ first ++ rest) × Spaced (SpellsValue value) first × SpellsMoreItems others rest
+  SpellsItems (item value others) b = (first rest : List ℕ) × (b ≡ first ++ rest) × Spaced (SpellsValue value) first
+      × SpellsMoreItems others rest
 
   -- a comma before each further item
   pub SpellsMoreItems : ItemTrees → List ℕ → Type 0
   SpellsMoreItems no_items b = b ≡ []
-  SpellsMoreItems (item value others) b = (next rest : List ℕ) × (b ≡ comma ∷ next ++ rest) × Spaced (SpellsValue value) next × SpellsMoreItems others rest
+  SpellsMoreItems (item value others) b = (next rest : List ℕ) × (b ≡ comma ∷ next ++ rest)
+      × Spaced (SpellsValue value) next × SpellsMoreItems others rest
 
   -- what stands between the braces (section 4)
   pub SpellsMembers : MemberTrees → List ℕ → Type 0
   SpellsMembers no_members b = IsBlank b
-  SpellsMembers (member name value others) b = (first rest : List ℕ) × (b ≡ first ++ rest) × SpellsMember name (SpellsValue value) first × SpellsMoreMembers others rest
+  SpellsMembers (member name value others) b = (first rest : List ℕ) × (b ≡ first ++ rest)
+      × SpellsMember name (SpellsValue value) first × SpellsMoreMembers others rest
 
   pub SpellsMoreMembers : MemberTrees → List ℕ → Type 0
   SpellsMoreMembers no_members b = b ≡ []
-  SpellsMoreMembers (member name value others) b = (next rest : List ℕ) × (b ≡ comma ∷ next ++ rest) × SpellsMember name (SpellsValue value) next × SpellsMoreMembers others rest
+  SpellsMoreMembers (member name value others) b = (next rest : List ℕ) × (b ≡ comma ∷ next ++ rest)
+      × SpellsMember name (SpellsValue value) next × SpellsMoreMembers others rest
 
 -- The bytes are UTF-8, and white space, a value and white space (sections 2 and 8.1).
 abbrev pub Spells : List ℕ → Tree → Type 0

@@ -1,6 +1,8 @@
 pub mod BracketRun
 pub mod Bytes
 pub mod Compact
+pub mod CompactEnds
+pub mod CompactMembers
 pub mod Compacting
 pub mod Depth
 pub mod Fits

@@ -9,5 +9,6 @@ short_print_of name = fold (λ print byte. bit_xor (rotate_left w64 print 8) byt
 -- of longer names the first eight bytes and the last eight
 unfoldable pub print_of : List ℕ → ℕ
 print_of name =
-    if nat_le 8 (length name) then bit_xor (rotate_left w64 (from_le_bytes w64 (take 8 name)) 24) (from_le_bytes w64 (drop (length name - 8) name))
+    if nat_le 8 (length name) then bit_xor (rotate_left w64 (from_le_bytes w64 (take 8 name)) 24)
+    (from_le_bytes w64 (drop (length name - 8) name))
     else short_print_of name

@@ -13,7 +13,8 @@ IsMinus text = (text ≡ []) ⊎ (text ≡ minus ∷ [])
 -- `0` alone, or digits of which the first is not `0`
 abbrev pub IsWhole : List ℕ → Type 0
 IsWhole [] = ⊥
-IsWhole (first ∷ digits) = ((first ≡ digit_zero) × (digits ≡ [])) ⊎ ((digit_one ≤ first) × (first ≤ digit_nine) × AllDigits 10 digits)
+IsWhole (first ∷ digits) = ((first ≡ digit_zero) × (digits ≡ []))
+    ⊎ ((digit_one ≤ first) × (first ≤ digit_nine) × AllDigits 10 digits)
 
 abbrev pub IsFraction : List ℕ → Type 0
 IsFraction [] = Unit {0}

@@ -7,14 +7,16 @@ use Rattle.city_json.specs.declared.compacting.parts.Part.{Part}
 
 -- in a text in which `front` bytes stand before the member, it lies there
 abbrev pub IsPart : ℕ → Part → List ℕ → Tree → Type 0
-IsPart front part name value = (part.at ≡ front) × (part.value ≡ front + length (quoted name ++ colon ∷ [])) × (part.end ≡ part.value + length (compact value))
+IsPart front part name value = (part.at ≡ front) × (part.value ≡ front + length (quoted name ++ colon ∷ []))
+    × (part.end ≡ part.value + length (compact value))
 
 -- the same of members with a comma between them
 abbrev pub AreParts : ℕ → List Part → MemberTrees → Type 0
 AreParts front [] no_members = Unit {0}
 AreParts front [] (member name value others) = ⊥
 AreParts front (part ∷ parts) no_members = ⊥
-AreParts front (part ∷ parts) (member name value others) = IsPart front part name value × AreParts (part.end + 1) parts others
+AreParts front (part ∷ parts) (member name value others) = IsPart front part name value
+    × AreParts (part.end + 1) parts others
 
 -- a text in which the value's part of it is another
 abbrev pub with_value : List ℕ → Part → List ℕ → List ℕ

@@ -8,5 +8,6 @@ use Rattle.city_json.specs.ReadString.{decoded, prepend}
 -- the bytes begin with the run, and go on with the end and the rest
 abbrev pub IsPlainRun : List ℕ → List ℕ → End → List ℕ → Type 0
 IsPlainRun bytes run Closing rest = decoded bytes ≡ Some (run, rest)
-IsPlainRun bytes run Escape rest = (decoded bytes ≡ prepend run (decoded (backslash ∷ rest))) × (length rest < length bytes)
+IsPlainRun bytes run Escape rest = (decoded bytes ≡ prepend run (decoded (backslash ∷ rest)))
+    × (length rest < length bytes)
 IsPlainRun bytes run Broken rest = decoded bytes ≡ None

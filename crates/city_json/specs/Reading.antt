@@ -3,7 +3,7 @@
 use Rattle.std.specs.Prelude.{◌==◌, ◌||◌, ◌&&◌, ℕ, zero, suc, Bool, true, false, List, [], ◌∷◌, Option, Some, None, option_and_then, codes, length, drop, nat_eq, nat_le, if◌then◌else◌}
 use Rattle.std.specs.List.{starts_with}
 use Rattle.city_json.specs.Bytes.{space, tab, newline, carriage_return, open_bracket, close_bracket, open_brace, close_brace, comma, colon, quotation_mark, minus, digit_zero, digit_nine, small_n, small_t, small_f}
-use Rattle.city_json.specs.Fits.{most_depth}
+use Rattle.byte_streams.specs.Limits.{max_depth}
 use Rattle.city_json.specs.NumberAt.{number_at}
 use Rattle.city_json.specs.ReadString.{string_at}
 use Rattle.city_json.specs.Tree.{Tree, null, boolean, number, string, array, object, ItemTrees, no_items, item, MemberTrees, no_members, member}
@@ -100,7 +100,8 @@ member_at value bytes = do
   found ← value (after_white after)
   Some ((name.0, found.0), found.1)
 
-abbrev pub members_after : (List ℕ → Option (MemberTrees × List ℕ)) → List ℕ × Tree → Mark × List ℕ → Option (MemberTrees × List ℕ)
+abbrev pub members_after : (List ℕ → Option (MemberTrees × List ℕ)) → List ℕ × Tree → Mark × List ℕ
+    → Option (MemberTrees × List ℕ)
 members_after more named (mark.Comma, bytes) = do
   others ← more (after_white bytes)
   Some (member named.0 named.1 others.0, others.1)
@@ -155,5 +156,5 @@ value_at (suc levels) = by_first (value_from (value_at levels))
 -- the value that all the bytes spell
 abbrev pub text_at : List ℕ → Option Tree
 text_at bytes = do
-  found ← value_at most_depth (after_white bytes)
+  found ← value_at max_depth (after_white bytes)
   if length (after_white found.1) == 0 then Some found.0 else None

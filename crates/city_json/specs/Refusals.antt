@@ -1,4 +1,5 @@
--- Why a text is refused, each refusal with its cause. The order is: not UTF-8, nested too deeply, no JSON text, a repeated name.
+-- Why a text is refused, each refusal with its cause. The order is: not UTF-8, nested too deeply, no JSON text, a
+-- repeated name.
 use Rattle.std.specs.Prelude.{List, ℕ, IsUtf8}
 use Rattle.city_json.specs.Depth.{IsDeep}
 use Rattle.city_json.specs.Fits.{IsDistinct}

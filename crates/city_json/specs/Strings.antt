@@ -42,12 +42,14 @@ IsPairEscape piece c = (first second : List ℕ) × (high low : ℕ)
 
 -- a piece of a string, and the one character that it stands for
 abbrev pub StandsFor : List ℕ → ℕ → Type 0
-StandsFor piece c = (IsUnescaped c × (piece ≡ encode_utf8 c)) ⊎ IsLetterEscape piece c ⊎ IsUnitEscape piece c ⊎ IsPairEscape piece c
+StandsFor piece c = (IsUnescaped c × (piece ≡ encode_utf8 c)) ⊎ IsLetterEscape piece c ⊎ IsUnitEscape piece c
+    ⊎ IsPairEscape piece c
 
 -- pieces that stand for these characters, in order
 abbrev pub SpellsCharacters : List ℕ → List ℕ → Type 0
 SpellsCharacters [] body = body ≡ []
-SpellsCharacters (c ∷ cs) body = (piece rest : List ℕ) × (body ≡ piece ++ rest) × StandsFor piece c × SpellsCharacters cs rest
+SpellsCharacters (c ∷ cs) body = (piece rest : List ℕ) × (body ≡ piece ++ rest) × StandsFor piece c
+    × SpellsCharacters cs rest
 
 -- the string b spells the text, given as its bytes in UTF-8
 abbrev pub SpellsString : List ℕ → List ℕ → Type 0

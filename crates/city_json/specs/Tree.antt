@@ -1,4 +1,5 @@
--- What a JSON value is to a contract: kinds, texts and lists, and nothing of how they lie in memory (RFC 8259, section 3).
+-- What a JSON value is to a contract: kinds, texts and lists, and nothing of how they lie in memory (RFC 8259, section
+-- 3).
 use Rattle.std.specs.Prelude.{ℕ, Bool, List, [], ◌∷◌, map}
 use Rattle.city_json.specs.declared.json.Json.{Json, Json-F, fold-Json}
 use Rattle.city_json.specs.declared.json.Member.{Member, Member-F, fold-Member}

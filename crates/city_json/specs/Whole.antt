@@ -22,7 +22,8 @@ IsLeft at_start items inner = inner ≡ compact_items items
 IsLeft after_comma no_items inner = ⊥
 IsLeft after_comma (item first others) inner = inner ≡ compact_items (item first others)
 IsLeft after_item items inner = inner ≡ compact_more_items items
-IsLeft (in_number zeroed) items inner = (digits : List ℕ) × AllDigits 10 digits × (zeroed ≡ true → digits ≡ []) × (inner ≡ digits ++ compact_more_items items)
+IsLeft (in_number zeroed) items inner = (digits : List ℕ) × AllDigits 10 digits × (zeroed ≡ true → digits ≡ [])
+    × (inner ≡ digits ++ compact_more_items items)
 
 -- the rest of an array, its bracket, and what is left of those around it
 pub record Inside (levels : ℕ) (stage : Stage) (text : List ℕ) (Outer : List ℕ → Type 0) : Type 0 where
@@ -57,7 +58,8 @@ abbrev pub begins_zero : ℕ → ℕ → Bool
 begins_zero p c = (c == digit_zero) && ((p == open_bracket) || (p == comma))
 
 abbrev pub stage_of : ℕ → Bool → Stage
-stage_of p zeroed = cond (p == open_bracket) at_start (cond (p == comma) after_comma (cond (p == close_bracket) after_item (in_number zeroed)))
+stage_of p zeroed = cond (p == open_bracket) at_start
+    (cond (p == comma) after_comma (cond (p == close_bracket) after_item (in_number zeroed)))
 
 abbrev pub up : ℕ → ℕ
 up c = cond (c == open_bracket) 1 0
@@ -68,7 +70,8 @@ down c = cond (c == close_bracket) 1 0
 -- each byte may stand where it stands
 abbrev pub AreFine : ℕ → Bool → List ℕ → Type 0
 AreFine p z [] = Unit {0}
-AreFine p z (c ∷ cs) = (is_place c ≡ true) × (is_wrong p c ≡ false) × ((z && is_ascii_digit c) ≡ false) × AreFine c (begins_zero p c) cs
+AreFine p z (c ∷ cs) = (is_place c ≡ true) × (is_wrong p c ≡ false) × ((z && is_ascii_digit c) ≡ false)
+    × AreFine c (begins_zero p c) cs
 
 -- an array is open in front of each byte, and after each
 abbrev pub StaysOpen : ℕ → List ℕ → Type 0

@@ -1,8 +1,8 @@
 //! The compact text of a text in one pass, with no tree between them.
 //!
 //! The pass goes over the text once, checks it, and writes nothing anew where the text is in its compact spelling
-//! already: it copies. It answers for the common spellings only, and says nothing of any other text and of no fault, so
-//! that it decides no refusal. Whoever calls it goes on with [`crate::read`] and [`crate::print`] where it is silent.
+//! already: it copies. It decides only the common spellings, and no refusal; for any other text its caller goes on with
+//! [`crate::read`] and [`crate::print`].
 ghost use Rattle.std.specs.Prelude.{◌≡◌, IfSome};
 ghost use Rattle.city_json.specs.Compact.{compact};
 ghost use Rattle.city_json.specs.Depth.{IsDeep};
@@ -12,25 +12,30 @@ ghost use Rattle.city_json.specs.Tree.{Tree};
 
 mod digits;
 mod draft;
+mod ends;
 mod flat;
+mod members;
 mod name;
 mod names;
 mod parts;
+mod runs;
 mod scalars;
 mod strings;
 mod values;
 mod whole_arrays;
 
-use crate::reading::depth::MOST_DEPTH;
 use byte_streams::Line;
+use byte_streams::limits::MAX_DEPTH;
 use draft::{begun, copy_to, skip_white};
+pub use ends::{string_end, value_end};
+pub use members::members_of_compact;
 pub use parts::{Compacted, Part, compact_parts};
 use std::alloc::Global;
 use values::value;
 
 /// The compact text of the value that the text spells. What `line` held is dropped; it is taken for its memory.
 ///
-/// None says nothing of the text: [`crate::read`] tells what is the matter with it.
+/// `None`: undecided; [`crate::read`] decides.
 pub fn compact(alloc: Global, text: &[u8], line: Line) -> Option<Line>
     ensures { IfSome result (λ line. (value : Tree)
         × Spells text.now value × Fits value × (¬ IsDeep text.now) × (line ≡ compact value)) }
@@ -40,7 +45,7 @@ pub fn compact(alloc: Global, text: &[u8], line: Line) -> Option<Line>
     }
     let mut draft = begun(alloc, line);
     let at = skip_white(text, 0, &mut draft)?;
-    let end = value(text, at, MOST_DEPTH, &mut draft)?;
+    let end = value(text, at, MAX_DEPTH, &mut draft)?;
     let last = skip_white(text, end, &mut draft)?;
     if last < text.len() {
         return None;

@@ -3,7 +3,8 @@ ghost use Rattle.std.specs.Prelude.{◌≡◌, ◌≢◌, ◌↔◌, ◌≤◌, 
 ghost use Rattle.city_json.specs.Bytes.{newline};
 ghost use Rattle.city_json.specs.Compact.{compact};
 ghost use Rattle.city_json.specs.Depth.{IsDeep};
-ghost use Rattle.city_json.specs.Fits.{depth, most_depth};
+ghost use Rattle.city_json.specs.Fits.{depth};
+ghost use Rattle.byte_streams.specs.Limits.{max_depth};
 ghost use Rattle.city_json.specs.Grammar.{Spells};
 ghost use Rattle.city_json.specs.Parts.{AreParts, IsMemberText, with_value, replaced};
 ghost use Rattle.city_json.specs.Tree.{Tree, MemberTrees, object};
@@ -28,7 +29,7 @@ pub fn compact_text_is_one_line()
 /// A text nests too deeply exactly where the value that it spells does.
 pub fn texts_nest_as_their_values()
     ensures { (text : List ℕ) (value : Tree) → Spells text value
-        → ((¬ IsDeep text) ↔ (depth value ≤ most_depth)) }
+        → ((¬ IsDeep text) ↔ (depth value ≤ max_depth)) }
 {}
 
 /// Different values have different compact texts.

@@ -15,7 +15,9 @@ mod text;
 pub use byte_streams::{
     Bin, Device, Fault, Intake, Line, Sequence, Sink, Source, Stop, Tape, read_all, write_all,
 };
-pub use compacting::{Compacted, Part, compact, compact_parts};
+pub use compacting::{
+    Compacted, Part, compact, compact_parts, members_of_compact, string_end, value_end,
+};
 pub use comparing::same;
 pub use json::{Items, Json, Member, Members};
 pub use laws::{

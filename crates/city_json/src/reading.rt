@@ -25,7 +25,8 @@ pub(crate) mod strings;
 use crate::json::{Items, Json, Member, Members};
 use crate::text::NumText;
 use byte_streams::Fault;
-use depth::{MOST_DEPTH, is_deep};
+use byte_streams::limits::MAX_DEPTH;
+use depth::is_deep;
 use distinct::is_distinct;
 use std::alloc::{AllocError, Global};
 use strings::string;
@@ -134,7 +135,7 @@ fn read_scalar(alloc: Global, start: Start, bytes: &[u8]) -> Result<(Json, &[u8]
 }
 
 /// The most items that are moved to memory of their own: a longer list is cut short where it lies.
-const MOST_MOVED: usize = 64;
+const MAX_MOVED: usize = 64;
 
 /// The items, in no more memory than they need. A block that is cut short leaves a piece that is too small for much,
 /// and so a few items get a new one.
@@ -142,7 +143,7 @@ fn fitted<T: Drop>(alloc: Global, items: Vec<T>) -> Result<Vec<T>, AllocError>
     ensures { IfOk result (λ fitted. fitted.items ≡ items.items) }
 {
     let mut items = items;
-    if items.len() == items.capacity() || items.len() > MOST_MOVED {
+    if items.len() == items.capacity() || items.len() > MAX_MOVED {
         items.shrink_to_fit();
         return Ok(items);
     }
@@ -252,7 +253,7 @@ fn read_member(alloc: Global, levels: usize, bytes: &[u8]) -> Result<(Member, &[
 fn read_text(alloc: Global, bytes: &[u8]) -> Result<Json, Fault>
     ensures { Gives tree result (text_at bytes.now) }
 {
-    let (value, rest) = read_value(alloc, MOST_DEPTH, after_white(bytes))?;
+    let (value, rest) = read_value(alloc, MAX_DEPTH, after_white(bytes))?;
     if after_white(rest).is_empty() {
         Ok(value)
     } else {

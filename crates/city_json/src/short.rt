@@ -8,13 +8,13 @@ use std::mem::size_of;
 
 /// The most bytes that lie in the value itself: with their number and the mark of the form, a value has the size
 /// of a `Vec`.
-const MOST_INLINE: usize = 22;
+const MAX_INLINE: usize = 22;
 
 const _: () = prove!(size_of::<ShortBytes>() == 24);
 
 #[derive(Drop)]
 enum Form {
-    Inline { size: u8, bytes: [u8; MOST_INLINE] },
+    Inline { size: u8, bytes: [u8; MAX_INLINE] },
     Heap(Box<Vec<u8>>),
 }
 
@@ -52,7 +52,7 @@ impl ShortBytes {
         requires { size ≤ length bytes.now }
         ensures { IfOk result (λ copy. copy ≡ take size bytes.now) }
     {
-        if size > MOST_INLINE {
+        if size > MAX_INLINE {
             return ShortBytes::on_heap(alloc, &bytes[..size]);
         }
         let form = Form::Inline {
@@ -83,17 +83,17 @@ impl ShortBytes {
 }
 
 /// The first `size` bytes and then any others: where there are enough, a copy of fixed length is the cheapest.
-fn first_bytes(bytes: &[u8], size: usize) -> [u8; MOST_INLINE]
+fn first_bytes(bytes: &[u8], size: usize) -> [u8; MAX_INLINE]
     requires inline { size ≤ 22 }
     requires there { size ≤ length bytes.now }
     ensures { take size result ≡ take size bytes.now }
 {
-    let mut first = [0; MOST_INLINE];
-    if bytes.len() < MOST_INLINE {
+    let mut first = [0; MAX_INLINE];
+    if bytes.len() < MAX_INLINE {
         first[..size].copy_from_slice(&bytes[..size]);
         return first;
     }
-    first.copy_from_slice(&bytes[..MOST_INLINE]);
+    first.copy_from_slice(&bytes[..MAX_INLINE]);
     first
 }
 

@@ -2,6 +2,7 @@
 -- opening this path may give this reader, `Fails path` that it may fail.
 use Rattle.std.specs.Prelude.{◌≡◌, ◌⊎◌, ◌<◌, ◌≤◌, ◌+◌, ◌++◌, ℕ, List, ◌∷◌, length}
 use Rattle.std.specs.List.{AllZip}
+use Rattle.byte_streams.specs.Limits.{max_tiles}
 use Rattle.byte_streams.specs.declared.fault.Fault.TheVariants.{Memory, Read, TooManyTiles}
 use Rattle.tile_merge.specs.Merged.{IsOfNoTile}
 use Rattle.byte_streams.specs.declared.places.MergeFault.{MergeFault}
@@ -22,6 +23,6 @@ pub record IsNotOpened {R : Type 0} (Gives : List ℕ → R → Type 0) (Fails :
 -- why files are not opened: they are too many; one could not be; or memory ran out
 abbrev pub RefusesFiles : {R : Type 0} → (List ℕ → R → Type 0) → (List ℕ → Type 0) → List (List ℕ) → MergeFault → Type 0
 RefusesFiles Gives Fails paths refusal =
-    (IsOfNoTile refusal × (refusal.fault ≡ TooManyTiles) × (64 < length paths))
-    ⊎ ((length paths ≤ 64) × IsNotOpened Gives Fails paths refusal)
-    ⊎ ((length paths ≤ 64) × IsOfNoTile refusal × (refusal.fault ≡ Memory))
+    (IsOfNoTile refusal × (refusal.fault ≡ TooManyTiles) × (max_tiles < length paths))
+    ⊎ ((length paths ≤ max_tiles) × IsNotOpened Gives Fails paths refusal)
+    ⊎ ((length paths ≤ max_tiles) × IsOfNoTile refusal × (refusal.fault ≡ Memory))

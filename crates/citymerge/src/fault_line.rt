@@ -7,12 +7,12 @@ use std::fmt::{InlineText, Write};
 use std::marker::Model;
 
 /// More bytes than any fault line has.
-const ROOM: usize = 128;
+const MAX_LEN: usize = 128;
 
 /// The line that tells a refusal on standard error, kept with no memory from the heap.
 #[derive(Drop)]
 pub struct FaultLine {
-    text: InlineText<{ ROOM }>,
+    text: InlineText<{ MAX_LEN }>,
 }
 
 impl Model for FaultLine {

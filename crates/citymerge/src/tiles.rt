@@ -1,5 +1,6 @@
 ghost use Rattle.std.specs.Prelude.{◌≡◌, ◌<◌, ◌+◌, ℕ, List, Err, length, ⊤, IfErr, IfNone, IfOk, IfSome};
 ghost use Rattle.std.specs.List.{AllZip};
+ghost use Rattle.byte_streams.specs.Limits.{max_tiles};
 ghost use Rattle.citymerge.specs.Opening.{RefusesFiles};
 
 use byte_streams::{Device, Fault, MergeFault, Source};
@@ -66,7 +67,7 @@ pub fn open_tiles<O: Opener>(
         AllZip (O.may_give opener.now) paths.now readers.items) }
     ensures refused { IfErr result
         (RefusesFiles (O.may_give opener.now) (O.may_fail opener.now) paths.now) }
-    ensures too_many { 64 < length paths.now → result ≡ Err (record {
+    ensures too_many { max_tiles < length paths.now → result ≡ Err (record {
       tile = 0;
       line = 0;
       fault = Fault.TooManyTiles;
@@ -86,7 +87,7 @@ pub fn open_tiles<O: Opener>(
 
 /// The fault of the tile after so many, which could not be opened.
 fn not_opened(before: usize) -> MergeFault
-    requires { before < 64 }
+    requires { before < max_tiles }
     ensures { result ≡ record { tile = before + 1; line = 0; fault = Fault.Read } }
 {
     MergeFault {

@@ -51,14 +51,16 @@ cat_command = built_leaf (inherited (on_top with_leaf_noted (on_top marked_built
 abbrev help_command : Shape
 help_command = built_leaf help_shape
 
-wanted : (help has_command needed argument : Bool) → needed ≡ true → check_kinds help (not has_command && needed) argument ≡ [] → has_command ≡ true
+wanted : (help has_command needed argument : Bool) → needed ≡ true
+    → check_kinds help (not has_command && needed) argument ≡ [] → has_command ≡ true
 wanted help true needed argument needs fine = refl
 wanted help false false argument needs fine = absurd (true≢false (sym needs))
 wanted true false true argument needs fine = absurd (true≢false (sym (ap is_none_of fine)))
 wanted false false true argument needs fine = absurd (true≢false (sym (ap is_none_of fine)))
 
 -- a level of the parse with no fault, of commands one of which is wanted, enters one
-module _ (s : Shape) (names : Names) (h : Held) (words : List Text) (has_command : Bool) (below : Kinds) (fine : level_fault s names h words has_command below ≡ []) where
+module _ (s : Shape) (names : Names) (h : Held) (words : List Text) (has_command : Bool) (below : Kinds)
+    (fine : level_fault s names h words has_command below ≡ []) where
   abbrev end : Held
   end = (walk s.rules names h words).held
 
@@ -76,13 +78,16 @@ module _ (s : Shape) (names : Names) (h : Held) (words : List Text) (has_command
 
   has_entered : s.subcommand_required ≡ true → has_command ≡ true
   has_entered needs =
-      let after_walk : or_else below from_end ≡ [] = second_none (walk_fault s names (walk_from h) words) (or_else below from_end) fine in
+      let after_walk : or_else below from_end ≡ [] =
+      second_none (walk_fault s names (walk_from h) words) (or_else below from_end) fine in
       let at_end : from_end ≡ [] = second_none below from_end after_walk in
       let after_settling : later ≡ [] = second_none (settle_fault s.rules s.args_override_self end) later at_end in
       let checked : last ≡ [] = second_none (defaults_fault (settled s.rules end).rows s.rules) last after_settling in
-      wanted (not has_command && (s.arg_required_else_help && not (list_any (λ r. explicit_source r.source) (finished s.rules end))))
+      wanted (not has_command && (s.arg_required_else_help
+      && not (list_any (λ r. explicit_source r.source) (finished s.rules end))))
       has_command s.subcommand_required
-      (not (s.subcommand_negates_reqs && has_command) && list_any (λ a. a.required && not (is_given a.id (finished s.rules end))) s.rules)
+      (not (s.subcommand_negates_reqs && has_command)
+      && list_any (λ a. a.required && not (is_given a.id (finished s.rules end))) s.rules)
       needs checked
 
 differs : (name : Text) → bytes_eq name (codes "help") ≡ false → bytes_eq (codes "help") name ≡ false
@@ -109,11 +114,13 @@ one_of_them words false false false true other has = absurd (true≢false other)
 one_of_them words false false false false other has = absurd (true≢false (sym has))
 
 entered_named : (stop : Option (Text × List Text)) → is_some (entered all_commands stop) ≡ true
-    → ((p : Text × List Text) → stop ≡ Some p → bytes_eq p.0 (codes "help") ≡ false) → IsNamed (entered all_commands stop)
+    → ((p : Text × List Text) → stop ≡ Some p → bytes_eq p.0 (codes "help") ≡ false)
+    → IsNamed (entered all_commands stop)
 entered_named None has free = absurd (true≢false (sym has))
 entered_named (Some p) has free =
     let other : answers_to p.0 (label_of help_command) ≡ false = ap (λ b. b || false) (differs p.0 (free p refl)) in
-    one_of_them p.1 (answers_to p.0 (label_of merge_command)) (answers_to p.0 (label_of filter_command)) (answers_to p.0 (label_of cat_command)) (answers_to p.0 (label_of help_command)) other has
+    one_of_them p.1 (answers_to p.0 (label_of merge_command)) (answers_to p.0 (label_of filter_command))
+    (answers_to p.0 (label_of cat_command)) (answers_to p.0 (label_of help_command)) other has
 
 names_command : (words : List Text) → fault_of citymerge_app words ≡ [] → IsNamed (subcommand_of citymerge_app words)
 names_command words none =
@@ -124,7 +131,8 @@ names_command words none =
     let has : Bool = is_some (entered all_commands stop) in
     let below : Kinds = entered_fault all_commands stop in
     entered_named stop (has_entered s names nothing_held arguments has below none refl)
-    (λ p met. enters_no_help s names refl arguments (walk_from nothing_held) p (walked_fine s names nothing_held arguments has below none) met)
+    (λ p met. enters_no_help s names refl arguments (walk_from nothing_held) p
+    (walked_fine s names nothing_held arguments has below none) met)
 
 -- ---- the kinds of an error
 
@@ -132,7 +140,8 @@ or_right : (a b : Bool) → b ≡ true → (a || b) ≡ true
 or_right true b e = refl
 or_right false b e = e
 
-any_among : (p : ErrorKind → Bool) (k : ErrorKind) (kinds : Kinds) → p k ≡ true → IsAmong k kinds → list_any p kinds ≡ true
+any_among : (p : ErrorKind → Bool) (k : ErrorKind) (kinds : Kinds) → p k ≡ true → IsAmong k kinds
+    → list_any p kinds ≡ true
 any_among p k [] e h = absurd h
 any_among p k (x ∷ xs) e (inl same) =
     let here : p x ≡ true = ap p (sym same) ∙ e in
@@ -148,12 +157,15 @@ kind_answered kinds named k parsed.Memory has h = tt
 kind_answered kinds named k (parsed.Help text) (inl out) h = absurd (true≢false (sym h ∙ ap is_shown out))
 kind_answered kinds named k (parsed.Help text) (inr among) h = any_among is_shown k kinds h among
 kind_answered kinds named k (parsed.Usage text) (inl out) h = absurd (h.1 out)
-kind_answered kinds named k (parsed.Usage text) (inr among) h = inl (any_among (λ x. not (is_shown x)) k kinds (ap not h.0) among)
+kind_answered kinds named k (parsed.Usage text) (inr among) h =
+    inl (any_among (λ x. not (is_shown x)) k kinds (ap not h.0) among)
 
 -- ---- what a parse of the words gives
 
-module _ (command : Command) (words read : List Text) (same : app_of command ≡ citymerge_app) (given : read ≡ words) where
-  module _ (m : ArgMatches) (has : HasMatchesOf (app_of command) read m) (none : is_simple_and_free (app_of command) ≡ true → fault_of (app_of command) read ≡ []) where
+module _ (command : Command) (words read : List Text) (same : app_of command ≡ citymerge_app)
+    (given : read ≡ words) where
+  module _ (m : ArgMatches) (has : HasMatchesOf (app_of command) read m)
+      (none : is_simple_and_free (app_of command) ≡ true → fault_of (app_of command) read ≡ []) where
     found : subcommand_rows_of m ≡ subcommand_of citymerge_app words
     found = (has (ap is_simple same ∙ simple)).1 ∙ ap₂ subcommand_of same given
 
@@ -164,7 +176,8 @@ module _ (command : Command) (words read : List Text) (same : app_of command ≡
     is_named = subst IsNamed (sym found) (names_command words no_fault)
 
     module _ {E : Type 0} (answer : Result Parsed E) where
-      pub ok_asked : IfOk answer (IsAsked (subcommand_rows_of m)) → IfOk answer (IsAsked (subcommand_of citymerge_app words))
+      pub ok_asked : IfOk answer (IsAsked (subcommand_rows_of m))
+          → IfOk answer (IsAsked (subcommand_of citymerge_app words))
       ok_asked = subst (λ named. IfOk answer (IsAsked named)) found
 
       pub ok_answered : IfOk answer (IsAnswered [] (subcommand_rows_of m))
@@ -178,4 +191,5 @@ module _ (command : Command) (words read : List Text) (same : app_of command ≡
   err_answered named error (Err e) has h = tt
   err_answered named error (Ok answer) has h =
       kind_answered (fault_of citymerge_app words) named (kind_of error) answer
-      (subst (λ kinds. HasKind kinds error) (ap₂ fault_of same given) (has (ap is_simple_and_free same ∙ simple_and_free))) h
+      (subst (λ kinds. HasKind kinds error) (ap₂ fault_of same given)
+      (has (ap is_simple_and_free same ∙ simple_and_free))) h

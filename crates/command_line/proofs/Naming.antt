@@ -51,22 +51,27 @@ module _ (c : List Rule) (word : Text) where
   flag_enters_none waiting h plain = plain_enters_none waiting h
   flag_enters_none waiting h refused = plain_enters_none waiting h
 
-  short_enters_none : (waiting : Waiting) (h : Held) (flags : Option Text) → enters_none (short_or_plain c waiting word flags h).1 ≡ true
+  short_enters_none : (waiting : Waiting) (h : Held) (flags : Option Text)
+      → enters_none (short_or_plain c waiting word flags h).1 ≡ true
   short_enters_none waiting h (Some flags) = flag_enters_none waiting _ _
   short_enters_none waiting h None = plain_enters_none waiting h
 
-  long_enters_none : (waiting : Waiting) (h : Held) (long : Option (Text × Option Text)) → enters_none (long_or_other c waiting word long h).1 ≡ true
+  long_enters_none : (waiting : Waiting) (h : Held) (long : Option (Text × Option Text))
+      → enters_none (long_or_other c waiting word long h).1 ≡ true
   long_enters_none waiting h (Some p) = flag_enters_none waiting _ _
   long_enters_none waiting h None = short_enters_none waiting h (short_of word)
 
-  other_enters_none : (waiting : Waiting) (position : ℕ) (h : Held) → enters_none (subcommand_or_other c None waiting position word h).1 ≡ true
+  other_enters_none : (waiting : Waiting) (position : ℕ) (h : Held)
+      → enters_none (subcommand_or_other c None waiting position word h).1 ≡ true
   other_enters_none waiting position h = go (bytes_eq word (45 ∷ 45 ∷ []))
     where
-      go : (b : Bool) → enters_none (cond b (h, trailing position) (long_or_other c waiting word (long_of word) h)).1 ≡ true
+      go : (b : Bool) → enters_none (cond b (h, trailing position) (long_or_other c waiting word (long_of word) h)).1
+          ≡ true
       go true = refl
       go false = long_enters_none waiting h (long_of word)
 
-  goes_on : (w : Walk) (h : Held) (step : Step) → enters_none step ≡ true → (after_step c word (going w) h step).stopped ≡ None
+  goes_on : (w : Walk) (h : Held) (step : Step) → enters_none step ≡ true
+      → (after_step c word (going w) h step).stopped ≡ None
   goes_on w h (next waiting) e = refl
   goes_on w h (trailing position) e = refl
   goes_on w h (subcommand name) e = absurd (true≢false (sym e))
@@ -93,7 +98,8 @@ module _ (s : Shape) (names : Names) (helps : s.disable_help_subcommand ≡ fals
   IsFree w words p = walk_fault s names w words ≡ []
       → (fold (walked s.rules names) w words).stopped ≡ Some p → is_help p.0 ≡ false
 
-  module _ (w : Walk) (word : Text) (rest : List Text) (p : Text × List Text) (again : (v : Walk) → IsFree (going v) rest p) where
+  module _ (w : Walk) (word : Text) (rest : List Text) (p : Text × List Text) (again : (v : Walk)
+      → IsFree (going v) rest p) where
     abbrev step_at : Bool → Option Text → Held × Step
     step_at trails met = cond trails (w.held, value) (subcommand_or_other s.rules met w.waiting w.position word w.held)
 
@@ -114,16 +120,19 @@ module _ (s : Shape) (names : Names) (helps : s.disable_help_subcommand ≡ fals
         on (walk_at true met) (goes_on s.rules word w w.held value refl) (second_none _ _ fine) stops
     one_more false None fine stops =
         on (walk_at false None)
-        (goes_on s.rules word w (step_at false None).0 (step_at false None).1 (other_enters_none s.rules word w.waiting w.position w.held))
+        (goes_on s.rules word w (step_at false None).0 (step_at false None).1
+        (other_enters_none s.rules word w.waiting w.position w.held))
         (second_none _ _ fine) stops
     one_more false (Some name) fine stops =
         let named : is_help name ≡ false =
         not_help (is_help name) s.disable_help_subcommand helps (first_none _ _ (first_none _ _ fine)) in
-        let same : Some (name, rest) ≡ Some p = ap (λ v. v.stopped) (walk_stopped s.rules names w name [] rest) ∙ stops in
+        let same : Some (name, rest) ≡ Some p = ap (λ v. v.stopped) (walk_stopped s.rules names w name [] rest)
+        ∙ stops in
         sym (ap (λ o. is_help (option_map_or (λ q. q.0) o name)) same) ∙ named
 
   pub enters_no_help : (words : List Text) (w : Walk) (p : Text × List Text) → IsFree (going w) words p
   unfolding walked walk_fault
   enters_no_help [] w p fine stops = absurd (none≢some p stops)
   enters_no_help (word ∷ rest) w p fine stops =
-      one_more w word rest p (λ v. enters_no_help rest v p) w.is_trailing (subcommand_met names w.waiting word) fine stops
+      one_more w word rest p (λ v. enters_no_help rest v p) w.is_trailing
+      (subcommand_met names w.waiting word) fine stops

@@ -25,9 +25,9 @@ AnswersKind kind (parsed.Usage text) = (is_shown kind ≡ false) × (kind ≢ Ou
 AnswersKind kind parsed.Memory = ⊤
 AnswersKind kind _ = ⊥
 
--- the answer takes the words
-abbrev pub IsTaken : Option (Text × List Row) → Parsed → Type 0
-IsTaken named (parsed.Merge args) = IsAsked named (parsed.Merge args)
-IsTaken named (parsed.Filter choice) = IsAsked named (parsed.Filter choice)
-IsTaken named parsed.Cat = IsAsked named parsed.Cat
-IsTaken named _ = ⊥
+-- the answer is what the words ask for, and no help and no mistake
+abbrev pub IsRequest : Option (Text × List Row) → Parsed → Type 0
+IsRequest named (parsed.Merge args) = IsAsked named (parsed.Merge args)
+IsRequest named (parsed.Filter choice) = IsAsked named (parsed.Filter choice)
+IsRequest named parsed.Cat = IsAsked named parsed.Cat
+IsRequest named _ = ⊥

@@ -3,7 +3,7 @@ ghost use Rattle.clap.specs.Words.{kind_of, subcommand_rows_of};
 ghost use Rattle.command_line.specs.Answered.{IsAnswered, RefusesNamed};
 ghost use Rattle.command_line.specs.Asked.{HasTiles, IsAsked};
 ghost use Rattle.command_line.specs.Commands.{faults_of, named_by};
-ghost use Rattle.command_line.specs.Matches.{AnswersKind, IsNamed, IsTaken};
+ghost use Rattle.command_line.specs.Matches.{AnswersKind, IsNamed, IsRequest};
 
 use crate::choosing::choice_given;
 use crate::commands::citymerge_command;
@@ -86,7 +86,7 @@ fn answer_matches(alloc: Global, matches: &ArgMatches<'_>) -> Result<Parsed, All
 /// What the command that the words name is asked.
 fn asked(alloc: Global, matches: &ArgMatches<'_>) -> Result<Parsed, Refusal>
     requires { IsNamed (subcommand_rows_of matches.now) }
-    ensures ok { IfOk result (IsTaken (subcommand_rows_of matches.now)) }
+    ensures ok { IfOk result (IsRequest (subcommand_rows_of matches.now)) }
     ensures tiles { IfOk result HasTiles }
     ensures err { IfErr result (λ refusal. RefusesNamed refusal (subcommand_rows_of matches.now)) }
 {

@@ -1,30 +1,40 @@
 -- From what was read of an input to why it is refused, or what it is cut into.
-use Rattle.std.proofs.Common.{◌≡◌, ◌≤◌, ◌<◌, ◌++◌, ℕ, Bool, false, List, length, Result, Ok, Err, IfOk, IfErr, refl, inl, inr, arith, [], ◌∷◌, ◌&&◌, true, true≢false, ap, sym, ◌∙◌}
-use Rattle.std.proofs.lemmas.List.{length-append}
+use Rattle.std.proofs.Common.{◌≡◌, ◌≤◌, ◌<◌, ◌++◌, ℕ, Bool, false, List, length, Result, Ok, Err, MatchResult, IfOk, IfErr, OnOk, refl, subst, inl, inr, arith, [], ◌∷◌, ◌&&◌, true, true≢false, ap, sym, ◌∙◌}
+use Rattle.std.proofs.lemmas.List.{length-append, length-map}
 use Rattle.city_json.proofs.Scanning.{IsWhite-is_white, is_white-IsWhite}
+use Rattle.city_json.proofs.SpelledWritable.{spelled_writable}
 use Rattle.city_json.specs.Compact.{compact}
-use Rattle.city_json.specs.Grammar.{IsBlank}
+use Rattle.city_json.specs.Depth.{IsDeep}
+use Rattle.city_json.specs.Fits.{Fits}
+use Rattle.city_json.specs.Grammar.{IsBlank, Spells}
+use Rattle.city_json.specs.Parts.{AreParts}
+use Rattle.city_json.specs.Writable.{IsWritable}
+use Rattle.city_json.specs.declared.compacting.parts.Part.{Part}
 use Rattle.city_json.specs.Reading.{is_white}
 use Rattle.city_json.specs.Refusals.{RefusesText}
 use Rattle.byte_streams.specs.Source.{GivesFirst}
-use Rattle.city_json.specs.Tree.{Tree, tree}
+use Rattle.city_json.specs.Tree.{Tree, MemberTrees, object, tree}
 use Rattle.byte_streams.specs.declared.fault.Fault.{Fault}
-use Rattle.byte_streams.specs.declared.fault.Fault.TheVariants.{LineTooLong, Memory, NoHeader, Read}
+use Rattle.byte_streams.specs.declared.fault.Fault.TheVariants.{LineTooLong, Memory, NoHeader, Read, Write}
 use Rattle.city_json.specs.declared.json.Json.{Json}
 use Rattle.city_feature.specs.Feature.{FeatureValue}
 use Rattle.city_feature.specs.Header.{HeaderValue}
 use Rattle.city_cut.specs.Cut.{IsCut, IsCuttable, RefusesCut}
-use Rattle.city_cut.specs.Lines.{lines_of}
-use Rattle.tile_stream.specs.Stream.{with_newline}
+use Rattle.city_cut.specs.HeldTexts.{HeldTexts, texts_in}
+use Rattle.city_cut.specs.Lines.{texts_of}
+use Rattle.city_cut.specs.Texts.{IsCompactOf}
+use Rattle.tile_stream.specs.Stream.{stream}
 use Rattle.document_stream.specs.CutStream.{IsStreamOf, cut_stream}
-use Rattle.document_stream.specs.Input.{IsTextOf, RefusesInput, SomeInput, most_bytes}
-use Rattle.document_stream.specs.Taking.{GivesText, IsRefusedInput, RefusesReading, is_blank}
+use Rattle.byte_streams.specs.Limits.{max_line_bytes}
+use Rattle.document_stream.specs.Input.{IsReadAs, RefusesInput, SomeInput}
+use Rattle.document_stream.specs.Taking.{CutsInto, GivesCut, HasCut, IsRefusedInput, RefusesCutting, RefusesRead, is_blank}
 
 pub blank : (text : List ℕ) → is_blank text ≡ true → IsBlank text
 blank [] all = tt
 blank (b ∷ text) all = go (is_white b) refl (blank text) all
   where
-    go : (white : Bool) → is_white b ≡ white → (is_blank text ≡ true → IsBlank text) → (white && is_blank text) ≡ true → IsBlank (b ∷ text)
+    go : (white : Bool) → is_white b ≡ white → (is_blank text ≡ true → IsBlank text) → (white && is_blank text) ≡ true
+        → IsBlank (b ∷ text)
     go true is rest more = (is_white-IsWhite b is, rest more)
     go false is rest more = absurd (true≢false (sym more))
 
@@ -34,58 +44,161 @@ not_blank (b ∷ text) some all =
     let first : is_white b ≡ true = IsWhite-is_white b all.0 in
     not_blank text (ap (λ c. c && is_blank text) (sym first) ∙ some) all.1
 
--- a text that is not blank is read
-module _ (text : List ℕ) (some : is_blank text ≡ false) where
-  pub value_read : (answer : Result Json Fault) → IfOk answer (λ json. IsTextOf text (tree json)) → IfOk answer (λ json. (¬ IsBlank text) × IsTextOf text (tree json))
-  value_read (Ok json) spelled = (not_blank text some, spelled)
-  value_read (Err fault) spelled = tt
-
-  cause_read : (fault : Fault) → RefusesText fault text → RefusesReading fault text
-  cause_read NoHeader refused = absurd refused
-  cause_read other refused = (not_blank text some, refused)
-
-  pub refusal_read : (answer : Result Json Fault) → IfErr answer (λ fault. RefusesText fault text) → IfErr answer (λ fault. RefusesReading fault text)
-  refusal_read (Ok json) refused = tt
-  refusal_read (Err fault) refused = cause_read fault refused
-
 module _ (gives : List ℕ → Bool → Type 0) where
   -- the input came to its end
-  module _ (bytes : List ℕ) (given : gives bytes false) (within : length bytes ≤ most_bytes) where
-    pub text_given : (answer : Result Json Fault) → IfOk answer (λ json. (¬ IsBlank bytes) × IsTextOf bytes (tree json)) → IfOk answer (λ json. GivesText gives (tree json))
-    text_given (Ok json) text = (bytes, false, given, ((within, refl), text.0, text.1))
-    text_given (Err fault) text = tt
+  module _ (bytes : List ℕ) (given : gives bytes false) (within : length bytes ≤ max_line_bytes) where
+    pub cut_given : (header : HeaderValue) (texts : List (List ℕ)) → HasCut bytes header texts
+        → GivesCut gives header texts
+    cut_given header texts cut = (bytes, false, given, ((within, refl), cut))
 
-    cause_given : (fault : Fault) → RefusesReading fault bytes → IsRefusedInput gives fault
+    pub cuts_given : {X : Type 0} (answer : Result X Fault) (header : X → HeaderValue) (texts : X → List (List ℕ))
+        → IfOk answer (λ cut. HasCut bytes (header cut) (texts cut))
+        → IfOk answer (λ cut. GivesCut gives (header cut) (texts cut))
+    cuts_given (Ok cut) header texts has = cut_given (header cut) (texts cut) has
+    cuts_given (Err fault) header texts has = tt
+
+    cause_given : (fault : Fault) → RefusesCutting fault bytes → IsRefusedInput gives fault
     cause_given Memory refused = tt
     cause_given NoHeader refused = (bytes, false, given, ((within, refl), refused))
-    cause_given LineTooLong refused = absurd refused.1
-    cause_given Read refused = absurd refused.1
-    cause_given other refused = (bytes, false, given, ((within, refl), refused.0, inl refused.1))
+    cause_given LineTooLong refused = absurd refused
+    cause_given Read refused = absurd refused
+    cause_given Write refused = absurd refused
+    cause_given other refused = (bytes, false, given, ((within, refl), refused.0, refused.1))
 
-    pub text_refused : (answer : Result Json Fault) → IfErr answer (λ fault. RefusesReading fault bytes) → IfErr answer (λ fault. IsRefusedInput gives fault)
-    text_refused (Ok json) refused = tt
-    text_refused (Err fault) refused = cause_given fault refused
+    pub cut_refused : {X : Type 0} (answer : Result X Fault) → IfErr answer (λ fault. RefusesCutting fault bytes)
+        → IfErr answer (λ fault. IsRefusedInput gives fault)
+    cut_refused (Ok cut) refused = tt
+    cut_refused (Err fault) refused = cause_given fault refused
 
-  pub too_long : (after : List ℕ → Bool → Type 0) (bytes : List ℕ) → GivesFirst gives after bytes → most_bytes < length bytes → (others : List ℕ) × ((fails : Bool) × after others fails) → SomeInput gives (RefusesInput LineTooLong)
+  pub too_long : (after : List ℕ → Bool → Type 0) (bytes : List ℕ) → GivesFirst gives after bytes
+      → max_line_bytes < length bytes → (others : List ℕ) × ((fails : Bool) × after others fails)
+      → SomeInput gives (RefusesInput LineTooLong)
   too_long after bytes first past some =
       let long = length-append bytes some.0 in
       (bytes ++ some.0, some.1.0, first some.0 some.1.0 some.1.1, omega (arith, past, long))
 
-  -- the input spells this document
-  module _ (document : Tree) (given : GivesText gives document) where
-    pub stream_given : (header : HeaderValue) (line lines : List ℕ) (count : ℕ) → (features : List FeatureValue) × IsCut document header features × (lines ≡ lines_of features) × (count ≡ length features) → IsCuttable document → line ≡ with_newline (compact header.value) → SomeInput gives (λ input. IsStreamOf input count (line ++ lines))
-    stream_given header line lines count is cuttable head =
-        let text = given.3 in
-        (given.0, given.1, given.2, (header, is.0, (text.0, (document, text.2, cuttable, is.1)), is.3, bytes))
-      where
-        bytes : line ++ lines ≡ cut_stream header is.0
-        bytes = rw (head, is.2) refl
+  pub stream_given : (header : HeaderValue) (line : List ℕ) (texts : HeldTexts) → GivesCut gives header (texts_in texts)
+      → line ≡ compact header.value → SomeInput gives
+      (λ input. IsStreamOf input (length texts.own) (stream line (texts_in texts)))
+  stream_given header line texts input head =
+      let text = input.3 in
+      let cut = text.1 in
+      let made = cut.2 in
+      (input.0, input.1, input.2, (header, made.1, (text.0, (cut.0, cut.1, made.0, made.2)), count, whole))
+    where
+      count : length texts.own ≡ length input.3.1.2.1
+      count = sym (length-map texts.own (λ own. own ++ texts.common))
+          ∙ (ap length input.3.1.2.3 ∙ length-map input.3.1.2.1 (λ (f : FeatureValue). compact f.value))
 
-    pub cut_refused : (fault : Fault) → RefusesCut fault document → IsRefusedInput gives fault
-    cut_refused Memory cause = tt
-    cut_refused NoHeader cause = absurd cause
-    cut_refused LineTooLong cause = absurd cause
-    cut_refused Read cause = absurd cause
-    cut_refused other cause =
-        let text = given.3 in
-        (given.0, given.1, given.2, (text.0, text.1, inr (document, text.2, cause)))
+      whole : stream line (texts_in texts) ≡ cut_stream header input.3.1.2.1
+      whole = rw (head, input.3.1.2.3) refl
+
+-- a text that is not blank spells a document that is cut, or it is refused
+module _ (text : List ℕ) where
+  pub text_refused : (fault : Fault) → ¬ IsBlank text → RefusesText fault text → RefusesCutting fault text
+  text_refused Memory some refused = tt
+  text_refused NoHeader some refused = absurd refused
+  text_refused LineTooLong some refused = absurd refused
+  text_refused Read some refused = absurd refused
+  text_refused Write some refused = absurd refused
+  text_refused other some refused = (some, inl refused)
+
+  pub document_refused : (document : Tree) → ¬ IsBlank text → IsReadAs text document → (fault : Fault)
+      → RefusesCut fault document → RefusesCutting fault text
+  document_refused document some spelled Memory cause = tt
+  document_refused document some spelled NoHeader cause = absurd cause
+  document_refused document some spelled LineTooLong cause = absurd cause
+  document_refused document some spelled Read cause = absurd cause
+  document_refused document some spelled Write cause = absurd cause
+  document_refused document some spelled other cause = (some, inr (document, spelled, cause))
+
+  read_refused : (document : Tree) → ¬ IsBlank text → IsReadAs text document → (fault : Fault)
+      → RefusesRead fault document → RefusesCutting fault text
+  read_refused document some spelled fault (inl memory) = subst (λ fault. RefusesCutting fault text) (sym memory) tt
+  read_refused document some spelled fault (inr cause) = document_refused document some spelled fault cause
+
+  pub plain_given : {X : Type 0} (answer : Result X Fault) (document : Tree) (header : X → HeaderValue)
+      (texts : X → List (List ℕ)) → IsReadAs text document
+      → IfOk answer (λ cut. (features : List FeatureValue) × IsCut document (header cut) features
+      × (texts cut ≡ texts_of features)) → OnOk answer (IsCuttable document)
+      → IfOk answer (λ cut. HasCut text (header cut) (texts cut))
+  plain_given (Ok cut) document header texts spelled made cuttable =
+      (document, spelled, (cuttable, made.0, made.1, made.2))
+  plain_given (Err fault) document header texts spelled made cuttable = tt
+
+  pub plain_refused : {X : Type 0} (answer : Result X Fault) (document : Tree) → ¬ IsBlank text → IsReadAs text document
+      → IfErr answer (λ fault. RefusesCut fault document) → IfErr answer (λ fault. RefusesCutting fault text)
+  plain_refused (Ok cut) document some spelled refused = tt
+  plain_refused (Err fault) document some spelled refused = document_refused document some spelled fault refused
+
+  -- its compact text was cut, or refused
+  module _ (line : List ℕ) (parts : List Part)
+      (found : (members : MemberTrees) × Spells text (object members) × Fits (object members) × (¬ IsDeep text)
+      × (line ≡ compact (object members)) × AreParts 1 parts members) where
+    pub compact_of : IsCompactOf line (object found.0)
+    compact_of = record {
+      is = found.4;
+      writable = spelled_writable text (object found.0) found.1;
+      distinct = found.2.1;
+      within = found.2.0;
+    }
+
+    pub compact_given : {X : Type 0} (answer : Result X Fault) (header : X → HeaderValue) (texts : X → List (List ℕ))
+        → IfOk answer (λ cut. (members : MemberTrees) → IsCompactOf line (object members) → AreParts 1 parts members
+        → CutsInto (object members) (header cut) (texts cut))
+        → IfOk answer (λ cut. HasCut text (header cut) (texts cut))
+    compact_given (Ok cut) header texts made =
+        (object found.0, (found.1, found.2, found.3), made found.0 compact_of found.5)
+    compact_given (Err fault) header texts made = tt
+
+    pub compact_refused : {X : Type 0} (answer : Result X Fault) → ¬ IsBlank text
+        → IfErr answer (λ fault. (members : MemberTrees) → IsCompactOf line (object members) → AreParts 1 parts members
+        → RefusesRead fault (object members)) → IfErr answer (λ fault. RefusesCutting fault text)
+    compact_refused (Ok cut) some refused = tt
+    compact_refused (Err fault) some refused =
+        read_refused (object found.0) some (found.1, found.2, found.3) fault (refused found.0 compact_of found.5)
+
+-- a document that is read again from its compact text
+module _ (line : List ℕ) (parts : List Part) where
+  pub again_given : {X : Type 0} (answer : Result X Fault) (found : Tree) (header : X → HeaderValue)
+      (texts : X → List (List ℕ)) → ((members : MemberTrees) → IsCompactOf line (object members)
+      → found ≡ object members) → IfOk answer (λ cut. (features : List FeatureValue) × IsCut found (header cut) features
+      × (texts cut ≡ texts_of features)) → OnOk answer (IsCuttable found)
+      → IfOk answer (λ cut. (members : MemberTrees) → IsCompactOf line (object members) → AreParts 1 parts members
+      → CutsInto (object members) (header cut) (texts cut))
+  again_given (Ok cut) found header texts same made cuttable =
+      λ members of are. subst (λ (t : Tree). CutsInto t (header cut) (texts cut)) (same members of)
+      (cuttable, made.0, made.1, made.2)
+  again_given (Err fault) found header texts same made cuttable = tt
+
+  pub again_refused : {X : Type 0} (answer : Result X Fault) (found : Tree)
+      → ((members : MemberTrees) → IsCompactOf line (object members) → found ≡ object members)
+      → IfErr answer (λ fault. RefusesCut fault found)
+      → IfErr answer (λ fault. (members : MemberTrees) → IsCompactOf line (object members) → AreParts 1 parts members
+      → RefusesRead fault (object members))
+  again_refused (Ok cut) found same refused = tt
+  again_refused (Err fault) found same refused =
+      λ members of are. inr (subst (RefusesCut fault) (same members of) refused)
+
+module _ (text : List ℕ) (answer : Result Json Fault)
+    (printed : (value : Tree) → IsWritable value → Fits value → text ≡ compact value
+    → MatchResult answer (λ again. tree again ≡ value) (λ fault. fault ≡ Memory)) where
+  pub read_value : IfOk answer (λ document. (members : MemberTrees) → IsCompactOf text (object members)
+      → tree document ≡ object members)
+  read_value = each answer (λ members (of : IsCompactOf text (object members)).
+      printed (object members) of.writable (of.within, of.distinct) of.is)
+    where
+      each : (answer : Result Json Fault) → ((members : MemberTrees) → IsCompactOf text (object members)
+          → MatchResult answer (λ again. tree again ≡ object members) (λ fault. fault ≡ Memory))
+          → IfOk answer (λ document. (members : MemberTrees) → IsCompactOf text (object members)
+          → tree document ≡ object members)
+      each (Ok json) same = same
+      each (Err fault) same = tt
+
+  pub read_fault : (members : MemberTrees) → IsCompactOf text (object members) → IfErr answer (λ fault. fault ≡ Memory)
+  read_fault members of = each answer (printed (object members) of.writable (of.within, of.distinct) of.is)
+    where
+      each : (answer : Result Json Fault) → MatchResult answer (λ again. tree again ≡ object members)
+          (λ fault. fault ≡ Memory) → IfErr answer (λ fault. fault ≡ Memory)
+      each (Ok json) same = tt
+      each (Err fault) memory = memory

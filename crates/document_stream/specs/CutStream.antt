@@ -12,14 +12,14 @@ use Rattle.city_cut.specs.Cut.{IsCut, IsCuttable}
 use Rattle.city_cut.specs.Lines.{texts_of}
 use Rattle.tile_stream.specs.Stream.{stream}
 use Rattle.tile_stream.specs.Tile.{Tile}
-use Rattle.document_stream.specs.Input.{IsTextOf, IsWhole, RefusesInput, SomeInput}
+use Rattle.document_stream.specs.Input.{IsReadAs, IsWholeInput, RefusesInput, SomeInput}
 
 -- The input spells a document of which nothing is refused, and this is the header and these are the features that it is
 -- cut into.
 abbrev pub CutsTo : Tile → HeaderValue → List FeatureValue → Type 0
 CutsTo input header features =
-    IsWhole input
-    × ((document : Tree) × IsTextOf input.bytes document × IsCuttable document × IsCut document header features)
+    IsWholeInput input
+    × ((document : Tree) × IsReadAs input.bytes document × IsCuttable document × IsCut document header features)
 
 -- the line of the header, and then those of the features
 abbrev pub cut_stream : HeaderValue → List FeatureValue → List ℕ

@@ -1,5 +1,6 @@
 -- A whole input that is one document, and why it is refused (RFC 8259; CityJSON 2.0).
-use Rattle.std.specs.Prelude.{◌≡◌, ◌≤◌, ◌<◌, ◌^◌, ◌⊎◌, ℕ, Bool, true, false, List, length}
+use Rattle.std.specs.Prelude.{◌≡◌, ◌≤◌, ◌<◌, ◌⊎◌, ℕ, Bool, true, false, List, length}
+use Rattle.byte_streams.specs.Limits.{max_line_bytes}
 use Rattle.city_json.specs.Depth.{IsDeep}
 use Rattle.city_json.specs.Fits.{Fits}
 use Rattle.city_json.specs.Grammar.{IsBlank, Spells}
@@ -10,30 +11,26 @@ use Rattle.byte_streams.specs.declared.fault.Fault.TheVariants.{LineTooLong, NoH
 use Rattle.city_cut.specs.Cut.{RefusesCut}
 use Rattle.tile_stream.specs.Tile.{Tile, tile_of}
 
--- the most bytes that a document may have
-abbrev pub most_bytes : ℕ
-most_bytes = 2 ^ 28
-
 -- the reader may give such an input
 abbrev pub SomeInput : (List ℕ → Bool → Type 0) → (Tile → Type 0) → Type 0
 SomeInput gives P = (bytes : List ℕ) × (fails : Bool) × gives bytes fails × P (tile_of bytes fails)
 
 -- it ends, and is not too long
-abbrev pub IsWhole : Tile → Type 0
-IsWhole input = (length input.bytes ≤ most_bytes) × (input.fails ≡ false)
+abbrev pub IsWholeInput : Tile → Type 0
+IsWholeInput input = (length input.bytes ≤ max_line_bytes) × (input.fails ≡ false)
 
 -- the text spells this value, which fits, and nests no deeper than a value may
-abbrev pub IsTextOf : List ℕ → Tree → Type 0
-IsTextOf text value = Spells text value × Fits value × ¬ IsDeep text
+abbrev pub IsReadAs : List ℕ → Tree → Type 0
+IsReadAs text value = Spells text value × Fits value × ¬ IsDeep text
 
 -- it is no text of a value, or that of one which is not cut
 abbrev pub RefusesDocument : Fault → List ℕ → Type 0
-RefusesDocument fault text = RefusesText fault text ⊎ ((document : Tree) × IsTextOf text document × RefusesCut fault document)
+RefusesDocument fault text = RefusesText fault text ⊎ ((document : Tree) × IsReadAs text document × RefusesCut fault document)
 
 -- Why an input is refused: it is too long; or it cannot be read to its end; or it is blank; or what it spells is no
 -- document that is cut.
 abbrev pub RefusesInput : Fault → Tile → Type 0
-RefusesInput LineTooLong input = most_bytes < length input.bytes
-RefusesInput Read input = (length input.bytes ≤ most_bytes) × (input.fails ≡ true)
-RefusesInput NoHeader input = IsWhole input × IsBlank input.bytes
-RefusesInput fault input = IsWhole input × (¬ IsBlank input.bytes) × RefusesDocument fault input.bytes
+RefusesInput LineTooLong input = max_line_bytes < length input.bytes
+RefusesInput Read input = (length input.bytes ≤ max_line_bytes) × (input.fails ≡ true)
+RefusesInput NoHeader input = IsWholeInput input × IsBlank input.bytes
+RefusesInput fault input = IsWholeInput input × (¬ IsBlank input.bytes) × RefusesDocument fault input.bytes

@@ -10,7 +10,8 @@ use std::alloc::Global;
 
 /// Reads a document to its end, and writes the stream of the features that it is cut into: the header's
 /// line, and one for each feature, in order. Answers how many features were written. The document and then
-/// the whole stream are held in memory, and nothing is written before it was cut.
+/// its compact text and what is written are held in memory, the appearance once, and nothing is written before it was
+/// cut.
 ///
 /// # Errors
 ///
@@ -62,7 +63,7 @@ pub fn cat_source<R: Source, W: Sink>(
         Err(fault) => return Err(MergeFault::of_line(0, fault)),
     };
     match write_stream(&stream, output) {
-        Ok(()) => Ok(stream.count),
+        Ok(()) => Ok(stream.texts.len() as u64),
         Err(_) => Err(MergeFault::of_no_line(Fault::Write)),
     }
 }

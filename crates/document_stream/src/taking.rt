@@ -1,104 +1,140 @@
 //! A document that is read whole, and cut.
-ghost use Rattle.std.specs.Prelude.{◌≡◌, ◌≢◌, ◌++◌, IfOk, IfErr};
+ghost use Rattle.std.specs.Prelude.{◌≡◌, ◌≢◌, IfOk, IfErr, length};
 ghost use Rattle.city_json.specs.Compact.{compact};
 ghost use Rattle.city_json.specs.Fits.{IsDistinct};
 ghost use Rattle.city_json.specs.Grammar.{IsBlank};
-ghost use Rattle.city_json.specs.Tree.{tree};
+ghost use Rattle.city_json.specs.Parts.{AreParts};
+ghost use Rattle.city_json.specs.Tree.{MemberTrees, object, tree};
 ghost use Rattle.city_feature.specs.Values.{header_value};
+ghost use Rattle.city_cut.specs.HeldTexts.{texts_in};
+ghost use Rattle.city_cut.specs.Texts.{IsCompactOf};
 ghost use Rattle.document_stream.specs.CutStream.{IsStreamOf};
-ghost use Rattle.document_stream.specs.Input.{IsTextOf, SomeInput};
-ghost use Rattle.document_stream.specs.Taking.{GivesText, IsRefusedInput, RefusesReading, failed_reads_after_taking, is_blank};
-ghost use Rattle.tile_stream.specs.Stream.{with_newline};
+ghost use Rattle.document_stream.specs.Input.{SomeInput};
+ghost use Rattle.document_stream.specs.Taking.{CutsInto, GivesCut, HasCut, IsRefusedInput, RefusesCutting, RefusesRead, failed_reads_after_taking, is_blank};
+ghost use Rattle.tile_stream.specs.Stream.{stream};
 
+use byte_streams::limits::MAX_LINE_BYTES;
 use byte_streams::{Fault, Line, Source, Stop, read_all};
-use city_cut::cut_lines;
+use city_cut::{CutTexts, FeatureTexts, cut_compacted, cut_texts};
 use city_feature::Header;
-use city_json::{Json, print, read};
+use city_json::{Compacted, Json, compact_parts, print, read};
 use std::alloc::Global;
-
-/// The most bytes that a document may have.
-const MOST_BYTES: u64 = 1 << 28;
 
 /// The stream of a document that was cut.
 #[derive(Drop)]
 pub(crate) struct CutStream {
-    /// The line of the header.
+    /// The compact text of the header.
     pub(crate) header: Line,
-    /// The lines of the features.
-    pub(crate) features: Line,
-    /// How many features there are.
-    pub(crate) count: u64,
+    pub(crate) texts: FeatureTexts,
 }
 
 /// Takes the document that the input is, cuts it, and gives its stream.
 ///
 /// # Errors
 ///
-/// Those of [`take_document`], and then those of [`cut_lines`].
+/// Those of [`take_cut`].
 pub(crate) fn take_stream<R: Source>(alloc: Global, source: &mut R) -> Result<CutStream, Fault>
-    ensures ok { IfOk result (λ stream. SomeInput (R.gives source.old) (λ input.
-        IsStreamOf input stream.count (stream.header ++ stream.features))) }
+    ensures ok { IfOk result (λ cut. SomeInput (R.gives source.old) (λ input.
+        IsStreamOf input (length cut.texts.own) (stream cut.header (texts_in cut.texts)))) }
     ensures refused { IfErr result (λ fault. IsRefusedInput (R.gives source.old) fault) }
     ensures not_written { IfErr result (λ fault. fault ≢ Fault.Write) }
     ensures failures { R.failures source.new
         ≡ failed_reads_after_taking result (R.failures source.old) }
 {
-    let document = take_document(alloc, source)?;
-    let cut = cut_lines(alloc, document)?;
-    let header = header_line(alloc, &cut.header)?;
+    let cut = take_cut(alloc, source)?;
+    let header = header_text(alloc, &cut.header)?;
     Ok(CutStream {
         header,
-        features: cut.lines,
-        count: cut.count,
+        texts: cut.texts,
     })
 }
 
-/// The line of a header: its compact text and a newline. The only fault is [`Fault::Memory`].
-fn header_line(alloc: Global, header: &Header) -> Result<Line, Fault>
-    ensures ok { IfOk result (λ line. line ≡ with_newline (compact (header_value header.now).value)) }
+/// The compact text of a header. The only fault is [`Fault::Memory`].
+fn header_text(alloc: Global, header: &Header) -> Result<Line, Fault>
+    ensures ok { IfOk result (λ text. text ≡ compact (header_value header.now).value) }
     ensures fault { IfErr result (λ fault. fault ≡ Fault.Memory) }
 {
     let mut text = Line::new(alloc);
     print(header.json(), &mut text)?;
-    text.append(b"\n")?;
     Ok(text)
 }
 
-/// Takes the value that the input spells.
+/// Takes the document that the input is, and cuts it.
 ///
 /// # Errors
 ///
-/// In this order: [`Fault::LineTooLong`] or [`Fault::Read`], [`Fault::NoHeader`] where it is blank, and
-/// those of [`read`]. [`Fault::Memory`] may come in place of each.
-fn take_document<R: Source>(alloc: Global, source: &mut R) -> Result<Json, Fault>
-    ensures ok { IfOk result (λ document. GivesText (R.gives source.old) (tree document)) }
+/// In this order: [`Fault::LineTooLong`] or [`Fault::Read`], and those of [`cut_text`]. [`Fault::Memory`] may come in
+/// place of each.
+fn take_cut<R: Source>(alloc: Global, source: &mut R) -> Result<CutTexts, Fault>
+    ensures ok { IfOk result (λ cut. GivesCut (R.gives source.old) (header_value cut.header) (texts_in cut.texts)) }
     ensures refused { IfErr result (λ fault. IsRefusedInput (R.gives source.old) fault) }
     ensures not_written { IfErr result (λ fault. fault ≢ Fault.Write) }
     ensures failures { R.failures source.new
         ≡ failed_reads_after_taking result (R.failures source.old) }
 {
-    let intake = read_all(alloc, source, MOST_BYTES);
+    let intake = read_all(alloc, source, MAX_LINE_BYTES);
     match intake.stop {
-        Stop::End => read_document(alloc, &intake.bytes),
+        Stop::End => cut_text(alloc, intake.bytes),
         Stop::Failure => Err(Fault::Read),
         Stop::Limit => Err(Fault::LineTooLong),
         Stop::Memory => Err(Fault::Memory),
     }
 }
 
-/// The value that a text spells.
+/// Cuts the document that a text spells. The text is dropped as soon as its compact text is there.
 ///
 /// # Errors
 ///
-/// [`Fault::NoHeader`] where the text is blank, and then those of [`read`].
-fn read_document(alloc: Global, text: &[u8]) -> Result<Json, Fault>
-    ensures ok { IfOk result (λ document.
-        (¬ IsBlank text.now) × IsTextOf text.now (tree document)) }
-    ensures refused { IfErr result (λ fault. RefusesReading fault text.now) }
+/// [`Fault::NoHeader`] where the text is blank, then those of [`read`] and [`cut_texts`].
+fn cut_text(alloc: Global, text: Vec<u8>) -> Result<CutTexts, Fault>
+    ensures ok { IfOk result (λ cut. HasCut text.items (header_value cut.header) (texts_in cut.texts)) }
+    ensures refused { IfErr result (λ fault. RefusesCutting fault text.items) }
 {
-    if is_blank(text) {
+    if is_blank(&text) {
         return Err(Fault::NoHeader);
     }
+    let Some(compacted) = compact_parts(alloc, &text, Line::new(alloc)) else {
+        return plain_cut(alloc, &text);
+    };
+    drop(text);
+    cut_compact(alloc, compacted)
+}
+
+/// Cuts the document that a text spells by its value.
+fn plain_cut(alloc: Global, text: &[u8]) -> Result<CutTexts, Fault>
+    requires { ¬ IsBlank text.now }
+    ensures ok { IfOk result (λ cut. HasCut text.now (header_value cut.header) (texts_in cut.texts)) }
+    ensures refused { IfErr result (λ fault. RefusesCutting fault text.now) }
+{
+    let document = read(alloc, text)?;
+    cut_texts(alloc, document)
+}
+
+/// Cuts a document in its compact text: on the text where that answers, and else by its value.
+fn cut_compact(alloc: Global, compacted: Compacted) -> Result<CutTexts, Fault>
+    requires { (members : MemberTrees) × IsCompactOf compacted.line (object members) × AreParts 1 compacted.parts.items members }
+    ensures ok { IfOk result (λ cut. (members : MemberTrees) → IsCompactOf compacted.line (object members)
+        → AreParts 1 compacted.parts.items members
+        → CutsInto (object members) (header_value cut.header) (texts_in cut.texts)) }
+    ensures refused { IfErr result (λ fault. (members : MemberTrees) → IsCompactOf compacted.line (object members)
+        → AreParts 1 compacted.parts.items members → RefusesRead fault (object members)) }
+{
+    if let Some(cut) = cut_compacted(alloc, compacted.line.items(), &compacted.parts) {
+        return Ok(cut);
+    }
+    let document = read_again(alloc, compacted.line.items())?;
+    drop(compacted);
+    cut_texts(alloc, document)
+}
+
+/// The value whose compact text this is. The only fault is [`Fault::Memory`].
+fn read_again(alloc: Global, text: &[u8]) -> Result<Json, Fault>
+    requires { (members : MemberTrees) × IsCompactOf text.now (object members) }
+    ensures value { IfOk result (λ document. (members : MemberTrees) → IsCompactOf text.now (object members)
+        → tree document ≡ object members) }
+    ensures distinct { IfOk result (λ document. IsDistinct (tree document)) }
+    ensures fault { IfErr result (λ fault. fault ≡ Fault.Memory) }
+{
     read(alloc, text)
 }
 

@@ -6,7 +6,7 @@ use crate::texts::{
     FAR_HEADER, HEADER, OFF_GRID, ORPHANED, OTHER_DUTCH, SCALED, UNBOUNDED,
 };
 use byte_streams::{Fault, Line};
-use city_cut::{cut, cut_lines};
+use city_cut::{CutTexts, cut, cut_texts, quick_cut};
 use city_feature::{
     Base, Choice, Header, HeaderFault, Joined, area, feature, feature_line, header, join_headers,
     line, selects, set_member, shifted, types,
@@ -437,23 +437,43 @@ fn a_document_is_cut(rt: HostRuntime) -> Result<(), Fail> {
     with_memory!(expect_cut(&rt))
 }
 
-fn expect_cut_lines(rt: &(impl Abort + AllocGlobal + Eprint)) -> Result<(), Fault> {
+/// The document is cut into its header and the text of its building.
+fn expect_building(rt: &(impl Abort + AllocGlobal), found: &CutTexts) -> Result<(), Fault> {
     let alloc = rt.alloc();
-    let document = read(alloc, DOCUMENT.as_bytes())?;
-    let found = answered(rt, Call("cut_lines"), cut_lines(alloc, document))?;
-    assert_eq!(rt; found.count, 1);
     assert_eq!(rt;
         printed(alloc, found.header.json())?.items(),
         HEADER.as_bytes()
     );
-    assert_eq!(rt;
-        found.lines.items().strip_suffix(b"\n"),
-        Some(BUILDING.as_bytes())
-    );
+    if found.texts.len() != 1 {
+        panic!(rt; "{found:?}");
+    }
+    let mut text = Line::new(alloc);
+    found.texts.append_to(0, &mut text)?;
+    assert_eq!(rt; text.items(), BUILDING.as_bytes());
     Ok(())
 }
 
+fn expect_cut_texts(rt: &(impl Abort + AllocGlobal + Eprint)) -> Result<(), Fault> {
+    let alloc = rt.alloc();
+    let document = read(alloc, DOCUMENT.as_bytes())?;
+    let found = answered(rt, Call("cut_texts"), cut_texts(alloc, document))?;
+    expect_building(rt, &found)
+}
+
 #[test]
-fn a_document_is_cut_into_lines(rt: HostRuntime) -> Result<(), Fail> {
-    with_memory!(expect_cut_lines(&rt))
+fn a_document_is_cut_into_texts(rt: HostRuntime) -> Result<(), Fail> {
+    with_memory!(expect_cut_texts(&rt))
+}
+
+fn expect_quick_cut(rt: &(impl Abort + AllocGlobal + Eprint)) -> Result<(), Fault> {
+    let Some(found) = quick_cut(rt.alloc(), DOCUMENT.as_bytes()) else {
+        wanted(rt, Call("quick_cut"));
+        return Err(Fault::Memory);
+    };
+    expect_building(rt, &found)
+}
+
+#[test]
+fn a_text_of_a_document_is_cut(rt: HostRuntime) -> Result<(), Fail> {
+    with_memory!(expect_quick_cut(&rt))
 }

@@ -16,7 +16,7 @@ use std::alloc::Global;
 use std::io::Eprint;
 use std::process::Abort;
 use std::test::Fail;
-use tile_stream::{Lines, TileReader, end_line, filter_stream, filter_tile};
+use tile_stream::{Lines, TileReader, filter_stream, filter_tile};
 
 fn every_feature() -> Choice {
     Choice::new(None, None, false)
@@ -343,9 +343,9 @@ fn expect_taken(rt: &(impl Abort + AllocGlobal + Eprint)) -> Result<(), Fault> {
     let mut spare = Line::new(alloc);
     for (number, text) in WRITTEN {
         match tile.take_text(alloc, Shift::zero(), &choice, spare) {
-            Ok(Some(line)) => {
-                assert_eq!(rt; after_line(line.items(), text), Some([].as_slice()));
-                spare = line;
+            Ok(Some(taken)) => {
+                assert_eq!(rt; taken.items(), text.as_bytes());
+                spare = taken;
             }
             Ok(None) => panic!(rt; "no {text}"),
             Err(refused) => {
@@ -384,9 +384,8 @@ fn expect_passed(rt: &(impl Abort + AllocGlobal + Eprint)) -> Result<(), Fault> 
         match tile.pass(alloc, Shift::zero(), choice, spare) {
             Ok(Some(passed)) => {
                 assert_eq!(rt; passed.is_chosen, !text.is_empty());
-                let line = passed.line.items().strip_suffix(b"\n").unwrap_or(b"");
-                assert_eq!(rt; line, text.as_bytes());
-                spare = passed.line;
+                assert_eq!(rt; passed.text.items(), text.as_bytes());
+                spare = passed.text;
             }
             Ok(None) => panic!(rt; "no line {number}"),
             Err(refused) => {
@@ -402,24 +401,6 @@ fn expect_passed(rt: &(impl Abort + AllocGlobal + Eprint)) -> Result<(), Fault> 
 #[test]
 fn a_tile_is_passed_line_by_line(rt: HostRuntime) -> Result<(), Fail> {
     with_memory!(expect_passed(&rt))
-}
-
-fn expect_ended(rt: &(impl Abort + AllocGlobal + Eprint)) -> Result<(), Fault> {
-    let text = Line::from_vec(A.as_bytes().to_vec(rt.alloc())?);
-    match end_line(text, 7) {
-        Ok(line) => assert_eq!(rt; after_line(line.items(), A), Some([].as_slice())),
-        Err(refused) => {
-            wanted(rt, Call("end_line"));
-            assert_eq!(rt; (refused.line, refused.fault), (7, Fault::Memory));
-            return Err(refused.fault);
-        }
-    }
-    Ok(())
-}
-
-#[test]
-fn a_line_is_ended(rt: HostRuntime) -> Result<(), Fail> {
-    with_memory!(expect_ended(&rt))
 }
 
 /// A document, and what it becomes; a refused one leaves nothing written.

@@ -95,8 +95,8 @@ pub(crate) fn before(tile: &Tile<'_>, line: u64) -> usize {
 }
 
 /// A call gave up for want of memory, after so many lines of each tile had been written, none where the header was not.
-/// Of a tile that is named, those before the named line were written; of the tiles before it, all; and so of those after
-/// it, unless there was no memory any more. Nothing is written before all headers were read.
+/// Once the header was, a tile is named: of it, those before the named line were written; of the tiles before it, all;
+/// and so of those after it, unless there was no memory any more. Nothing is written before all headers were read.
 pub(crate) fn expect_given_up(
     rt: &impl Abort,
     refused: MergeFault,
@@ -107,6 +107,7 @@ pub(crate) fn expect_given_up(
     assert_eq!(rt; refused.fault, Fault::Memory);
     assert!(rt; refused.tile <= 3, "{refused:?}");
     assert!(rt; refused.tile > 0 || refused.line == 0, "{refused:?}");
+    assert!(rt; refused.tile > 0 || counts.is_none(), "{refused:?}");
     let mut number = 0u32;
     for at in 0..3usize {
         number = number.saturating_add(1);
@@ -127,7 +128,7 @@ pub(crate) fn expect_given_up(
                 "{refused:?}"
             );
             assert_eq!(rt; count, before(tile, refused.line), "{refused:?}");
-        } else if refused.tile > 0 && (number < refused.tile || !is_gone) {
+        } else if number < refused.tile || !is_gone {
             assert_eq!(rt; count, whole, "tile {number} at {refused:?}");
         }
     }

@@ -59,18 +59,3 @@ fn values_are_written_without_white_space(rt: HostRuntime) -> Result<(), Fail> {
     assert_eq!(rt; line.items(), expected.as_slice());
     Ok(())
 }
-
-// Under a run with refused allocations the second arm is reached.
-#[test]
-fn a_refused_growth_leaves_the_line(rt: HostRuntime) -> Result<(), Fail> {
-    let items = vec![in rt.alloc(); Json::Null, Json::Null, Json::Null]?;
-    let mut line = Line::from_vec(b"7 ".to_vec(rt.alloc())?);
-    match print(&Json::List(items), &mut line) {
-        Ok(()) => assert_eq!(rt; line.items(), b"7 [null,null,null]".as_slice()),
-        Err(fault) => {
-            assert_eq!(rt; fault, Fault::Memory);
-            assert_eq!(rt; line.items(), b"7 ".as_slice());
-        }
-    }
-    Ok(())
-}

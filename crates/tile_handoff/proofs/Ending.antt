@@ -6,7 +6,8 @@ use Rattle.tile_handoff.specs.declared.note.Note.{Note}
 use Rattle.tile_handoff.specs.declared.note.Note.TheVariants.{Line as LineNote, End as EndNote}
 
 -- lines, and after them an end note
-pub are_ended-push : (notes : List Note) (end : End) → has_end notes ≡ false → are_ended (notes ++ EndNote end ∷ []) ≡ true
+pub are_ended-push : (notes : List Note) (end : End) → has_end notes ≡ false
+    → are_ended (notes ++ EndNote end ∷ []) ≡ true
 unfolding are_ended
 are_ended-push [] end e = refl
 are_ended-push (LineNote line ∷ []) end e = refl
@@ -14,7 +15,8 @@ are_ended-push (LineNote line ∷ next ∷ notes) end e = are_ended-push (next �
 are_ended-push (EndNote other ∷ notes) end e = absurd cc
 
 -- after the end note there is none
-pub nothing_after_end : (front left : List Note) → are_ended (front ++ left) ≡ true → has_end front ≡ true → length left ≡ 0
+pub nothing_after_end : (front left : List Note) → are_ended (front ++ left) ≡ true → has_end front ≡ true
+    → length left ≡ 0
 unfolding are_ended
 nothing_after_end [] left ended has = absurd cc
 nothing_after_end (LineNote line ∷ []) left ended has = absurd cc

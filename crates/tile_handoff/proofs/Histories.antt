@@ -26,12 +26,15 @@ got-push h entry t = flat_map-append (got_by t) h (entry ∷ []) ∙ ap (λ x. g
 -- what holds at the start and is kept by each event with its reply by counting, holds of each legal history
 pub along :
     (capacity : ℕ) (P : History → Type 0)
-    → ((h : History) (event : Event) (reply : Reply) → reply ≡ reply_to capacity h event → P h → P (h ++ (event, reply) ∷ []))
+    → ((h : History) (event : Event) (reply : Reply) → reply ≡ reply_to capacity h event → P h
+    → P (h ++ (event, reply) ∷ []))
     → (before later : History) → IsLegal capacity (before ++ later) → P before → P (before ++ later)
 along capacity P step before [] legal p = subst P (sym (append-nil before)) p
 along capacity P step before ((event, reply) ∷ later) legal p =
-    let e : (before ++ (event, reply) ∷ []) ++ later ≡ before ++ (event, reply) ∷ later = append_assoc before ((event, reply) ∷ []) later in
-    subst P e (along capacity P step (before ++ (event, reply) ∷ []) later (subst (IsLegal capacity) (sym e) legal) (step before event reply (legal before later event reply refl) p))
+    let e : (before ++ (event, reply) ∷ []) ++ later ≡ before ++ (event, reply) ∷ later =
+    append_assoc before ((event, reply) ∷ []) later in
+    subst P e (along capacity P step (before ++ (event, reply) ∷ []) later (subst (IsLegal capacity) (sym e) legal)
+    (step before event reply (legal before later event reply refl) p))
 
 -- the replies to an accepted put or close, and to a take that gave a note
 accepted_is :
@@ -92,7 +95,10 @@ next_is front [] note e = absurd (none front e)
     none : (front : List Note) → slice_get (front ++ []) (length front) ≡ Some note → ⊥
     none [] e = cc
     none (first ∷ front) e = none front e
-next_is front (first ∷ rest) note e = (rest, ap (λ x. x ∷ rest) (let f = sym (slice_get-append front (first ∷ rest)) ∙ e in cc))
+next_is front (first ∷ rest) note e = (
+  rest,
+  ap (λ x. x ∷ rest) (let f = sym (slice_get-append front (first ∷ rest)) ∙ e in cc),
+)
 
 -- of a tile: what was got is a prefix of what was put, and an end note was put last
 pub record Sound (was_put was_got : List Note) : Type 0 where
@@ -107,7 +113,12 @@ Sound-put :
     → Sound (was_put ++ note ∷ []) (was_got ++ [])
 Sound-put was_put was_got note open_ sound =
     record {
-      prefix = (sound.prefix.0 ++ note ∷ [], ap (λ x. x ++ note ∷ []) sound.prefix.1 ∙ append_assoc was_got sound.prefix.0 (note ∷ []) ∙ ap (λ x. x ++ (sound.prefix.0 ++ note ∷ [])) (sym (append-nil was_got)));
+      prefix = (
+        sound.prefix.0 ++ note ∷ [],
+        ap (λ x. x ++ note ∷ []) sound.prefix.1
+            ∙ append_assoc was_got sound.prefix.0 (note ∷ [])
+            ∙ ap (λ x. x ++ (sound.prefix.0 ++ note ∷ [])) (sym (append-nil was_got)),
+      );
       last = EndsLast-push was_put note open_;
     }
 
@@ -115,9 +126,14 @@ Sound-got :
     (was_put was_got : List Note) (note : Note) → slice_get was_put (length was_got) ≡ Some note
     → Sound was_put was_got → Sound (was_put ++ []) (was_got ++ note ∷ [])
 Sound-got was_put was_got note next sound =
-    let split = next_is was_got sound.prefix.0 note (ap (λ x. slice_get x (length was_got)) (sym sound.prefix.1) ∙ next) in
+    let split = next_is was_got sound.prefix.0 note
+    (ap (λ x. slice_get x (length was_got)) (sym sound.prefix.1) ∙ next) in
     record {
-      prefix = (split.0, append-nil was_put ∙ sound.prefix.1 ∙ ap (λ x. was_got ++ x) split.1 ∙ sym (append_assoc was_got (note ∷ []) split.0));
+      prefix = (
+        split.0,
+        append-nil was_put ∙ sound.prefix.1 ∙ ap (λ x. was_got ++ x) split.1
+            ∙ sym (append_assoc was_got (note ∷ []) split.0),
+      );
       last = rw append-nil sound.last;
     }
 
@@ -140,7 +156,8 @@ Sound-accepted :
     → AllSound h → (t : ℕ) → Sound (put h t ++ cond (eqb t u) (note ∷ []) []) (got h t ++ [])
 Sound-accepted capacity h u note e sound t =
     at_tile t u (note ∷ []) (λ notes. Sound (put h t ++ notes) (got h t ++ []))
-    (λ same. Sound-put (put h t) (got h t) note (ap (λ x. has_end (put h x)) same ∙ (accepted_is (has_end (put h u)) _ e).0) (sound t))
+    (λ same. Sound-put (put h t) (got h t) note
+    (ap (λ x. has_end (put h x)) same ∙ (accepted_is (has_end (put h u)) _ e).0) (sound t))
     (Sound-refused (put h t) (got h t) (sound t))
 
 Sound-given :
@@ -156,8 +173,10 @@ Sound-entry :
     → AllSound h → (t : ℕ) → Sound (put h t ++ put_by t (event, reply)) (got h t ++ got_by t (event, reply))
 Sound-entry capacity h (Put u line) Accepted e sound t = Sound-accepted capacity h u (LineNote line) e sound t
 Sound-entry capacity h (Close u end) Accepted e sound t = Sound-accepted capacity h u (EndNote end) e sound t
-Sound-entry capacity h (Take u) (LineReply line) e sound t = Sound-given h u (LineNote line) (line_is (has_end (got h u)) _ line e) sound t
-Sound-entry capacity h (Take u) (EndReply end) e sound t = Sound-given h u (EndNote end) (end_is (has_end (got h u)) _ end e) sound t
+Sound-entry capacity h (Take u) (LineReply line) e sound t =
+    Sound-given h u (LineNote line) (line_is (has_end (got h u)) _ line e) sound t
+Sound-entry capacity h (Take u) (EndReply end) e sound t =
+    Sound-given h u (EndNote end) (end_is (has_end (got h u)) _ end e) sound t
 Sound-entry capacity h event reply e sound t = Sound-refused (put h t) (got h t) (sound t)
 
 Sound-push :
@@ -165,11 +184,13 @@ Sound-push :
     → AllSound h → AllSound (h ++ (event, reply) ∷ [])
 Sound-push capacity h event reply e sound t =
     subst (λ x. Sound x (got (h ++ (event, reply) ∷ []) t)) (sym (put-push h (event, reply) t))
-    (subst (λ x. Sound (put h t ++ put_by t (event, reply)) x) (sym (got-push h (event, reply) t)) (Sound-entry capacity h event reply e sound t))
+    (subst (λ x. Sound (put h t ++ put_by t (event, reply)) x) (sym (got-push h (event, reply) t))
+    (Sound-entry capacity h event reply e sound t))
 
 -- every tile of a legal history is sound
 pub legal_sound : (capacity : ℕ) (h : History) → IsLegal capacity h → AllSound h
-legal_sound capacity h legal = along capacity AllSound (Sound-push capacity) [] h legal (λ t. record { prefix = ([], refl); last = tt })
+legal_sound capacity h legal = along capacity AllSound (Sound-push capacity) [] h legal
+    (λ t. record { prefix = ([], refl); last = tt })
 
 -- the law of order and close
 pub in_order : (capacity : ℕ) (h : History) → IsLegal capacity h → InOrder h
@@ -179,7 +200,8 @@ has_end-left : (front notes : List Note) → has_end front ≡ true → has_end 
 has_end-left front notes e = list_any-append is_end front notes ∙ ap (λ b. b || has_end notes) e
 
 has_end-right : (front notes : List Note) → has_end notes ≡ true → has_end (front ++ notes) ≡ true
-has_end-right front notes e = list_any-append is_end front notes ∙ ap (λ b. has_end front || b) e ∙ or_true (has_end front)
+has_end-right front notes e = list_any-append is_end front notes ∙ ap (λ b. has_end front || b) e
+    ∙ or_true (has_end front)
   where
     or_true : (b : Bool) → (b || true) ≡ true
     or_true true = refl
@@ -202,22 +224,27 @@ all_got was_put was_got sound e = rest_is sound.prefix.0 sound.prefix.1
   where
     rest_is : (rest : List Note) → was_put ≡ was_got ++ rest → was_got ≡ was_put
     rest_is [] split = sym (split ∙ append-nil was_got)
-    rest_is (note ∷ rest) split = absurd (let open_ = open_front was_got note rest (subst EndsLast split sound.last) in cc)
+    rest_is (note ∷ rest) split = absurd (let open_ = open_front was_got note rest (subst EndsLast split sound.last) in
+        cc)
 
 pub whole_at_end : (capacity : ℕ) (h : History) → IsLegal capacity h → WholeAtEnd h
-whole_at_end capacity h legal t end taken = all_got (put h t) (got h t) (legal_sound capacity h legal t) (end_got h t end taken)
+whole_at_end capacity h legal t end taken =
+    all_got (put h t) (got h t) (legal_sound capacity h legal t) (end_got h t end taken)
 
 pub put_closed :
     (capacity : ℕ) (was_put was_got : List Note) → has_end was_put ≡ true
     → put_reply capacity was_put was_got ≡ Closed
-put_closed capacity was_put was_got e = ap (λ b. cond b Closed (cond (eqb (length was_put) (length was_got + capacity)) Full Accepted)) e
+put_closed capacity was_put was_got e = ap
+    (λ b. cond b Closed (cond (eqb (length was_put) (length was_got + capacity)) Full Accepted)) e
 
 pub closed_reply :
     (capacity : ℕ) (h : History) (t : ℕ) (event : Event) → PutsTo t event → has_end (put h t) ≡ true
     → reply_to capacity h event ≡ Closed
-closed_reply capacity h t (Put u line) same e = put_closed capacity (put h u) (got h u) (ap (λ x. has_end (put h x)) same ∙ e)
+closed_reply capacity h t (Put u line) same e =
+    put_closed capacity (put h u) (got h u) (ap (λ x. has_end (put h x)) same ∙ e)
 closed_reply capacity h t (Take u) same e = absurd same
-closed_reply capacity h t (Close u end) same e = put_closed capacity (put h u) (got h u) (ap (λ x. has_end (put h x)) same ∙ e)
+closed_reply capacity h t (Close u end) same e =
+    put_closed capacity (put h u) (got h u) (ap (λ x. has_end (put h x)) same ∙ e)
 
 end_put :
     (before between : History) (t : ℕ) (end : End)

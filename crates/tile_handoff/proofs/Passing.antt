@@ -17,7 +17,8 @@ notes_of-ended : (lines : List (List ℕ)) (end : End) → has_end (notes_of lin
 notes_of-ended [] end = refl
 notes_of-ended (line ∷ lines) end = notes_of-ended lines end
 
-same_lines : (lines others : List (List ℕ)) (end last : End) → notes_of lines end ≡ notes_of others last → lines ≡ others
+same_lines : (lines others : List (List ℕ)) (end last : End) → notes_of lines end ≡ notes_of others last
+    → lines ≡ others
 same_lines [] [] end last e = refl
 same_lines [] (line ∷ others) end last e = absurd cc
 same_lines (line ∷ lines) [] end last e = absurd cc

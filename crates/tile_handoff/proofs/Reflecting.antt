@@ -41,17 +41,21 @@ pub IsLegal-push :
     → reply ≡ reply_to capacity h event → IsLegal capacity (h ++ (event, reply) ∷ [])
 IsLegal-push capacity h event reply legal counted before after other answer e =
     elim (split_of h before after (event, reply) (other, answer) e) [
-      | inl w ↦ sym (ap (λ x. x.1) w.1) ∙ counted ∙ ap (λ x. reply_to capacity x event) w.0 ∙ ap (λ x. reply_to capacity before x.0) w.1
+      | inl w ↦ sym (ap (λ x. x.1) w.1) ∙ counted ∙ ap (λ x. reply_to capacity x event) w.0
+          ∙ ap (λ x. reply_to capacity before x.0) w.1
       | inr w ↦ legal before w.0 other answer w.1
     ]
 
 marks_from-push :
     (before h : History) (entry : Event × Reply)
     → marks_from before (h ++ entry ∷ []) ≡ marks_from before h ++ mark_after (before ++ h) entry
-marks_from-push before [] entry = append-nil (mark_after before entry) ∙ ap (λ x. mark_after x entry) (sym (append-nil before))
+marks_from-push before [] entry = append-nil (mark_after before entry)
+    ∙ ap (λ x. mark_after x entry) (sym (append-nil before))
 marks_from-push before (first ∷ h) entry =
-    ap (λ x. mark_after before first ++ x) (marks_from-push (before ++ first ∷ []) h entry ∙ ap (λ x. marks_from (before ++ first ∷ []) h ++ mark_after x entry) (append_assoc before (first ∷ []) h))
-    ∙ sym (append_assoc (mark_after before first) (marks_from (before ++ first ∷ []) h) (mark_after (before ++ first ∷ h) entry))
+    ap (λ x. mark_after before first ++ x) (marks_from-push (before ++ first ∷ []) h entry
+    ∙ ap (λ x. marks_from (before ++ first ∷ []) h ++ mark_after x entry) (append_assoc before (first ∷ []) h))
+    ∙ sym (append_assoc (mark_after before first) (marks_from (before ++ first ∷ []) h)
+    (mark_after (before ++ first ∷ h) entry))
 
 marks_of-push : (h : History) (entry : Event × Reply) → marks_of (h ++ entry ∷ []) ≡ marks_of h ++ mark_after h entry
 marks_of-push h entry = marks_from-push [] h entry
@@ -123,26 +127,30 @@ module _ (row : RowState) (h : History) (reflects : Reflects row h) (t : ℕ) wh
 put_when_closed :
     (row : RowState) (h : History) (t : ℕ) → Reflects row h → IsClosed row t
     → Closed ≡ put_reply row.capacity (put h t) (got h t)
-put_when_closed row h t reflects closed = sym (put_closed row.capacity (put h t) (got h t) (sym (closed_is row h reflects t) ∙ closed))
+put_when_closed row h t reflects closed = sym
+    (put_closed row.capacity (put h t) (got h t) (sym (closed_is row h reflects t) ∙ closed))
 
 open_reply :
     (capacity : ℕ) (was_put was_got : List Note) (b : Bool) → has_end was_put ≡ false
     → eqb (length was_put) (length was_got + capacity) ≡ b
     → cond b Full Accepted ≡ put_reply capacity was_put was_got
 open_reply capacity was_put was_got b open_ full =
-    sym (ap (λ x. cond x Closed (cond (eqb (length was_put) (length was_got + capacity)) Full Accepted)) open_ ∙ ap (λ x. cond x Full Accepted) full)
+    sym (ap (λ x. cond x Closed (cond (eqb (length was_put) (length was_got + capacity)) Full Accepted)) open_
+    ∙ ap (λ x. cond x Full Accepted) full)
 
 put_when_full :
     (row : RowState) (h : History) (t : ℕ) → Reflects row h → IsFull row t
     → Full ≡ put_reply row.capacity (put h t) (got h t)
 put_when_full row h t reflects full =
-    open_reply row.capacity (put h t) (got h t) true (sym (closed_is row h reflects t) ∙ full.0) (eq-eqb _ _ (omega (arith, put_length row h reflects t, full.1)))
+    open_reply row.capacity (put h t) (got h t) true (sym (closed_is row h reflects t) ∙ full.0)
+    (eq-eqb _ _ (omega (arith, put_length row h reflects t, full.1)))
 
 put_when_room :
     (row : RowState) (h : History) (t : ℕ) → Reflects row h → HasRoom row t
     → Accepted ≡ put_reply row.capacity (put h t) (got h t)
 put_when_room row h t reflects room =
-    open_reply row.capacity (put h t) (got h t) false (sym (closed_is row h reflects t) ∙ room.0) (ne_eqb _ _ (λ e. omega (arith, put_length row h reflects t, room.1, e)))
+    open_reply row.capacity (put h t) (got h t) false (sym (closed_is row h reflects t) ∙ room.0)
+    (ne_eqb _ _ (λ e. omega (arith, put_length row h reflects t, room.1, e)))
 
 -- the reply to a take of tile t is by the notes left
 take_when_empty :
@@ -151,15 +159,19 @@ take_when_empty :
 take_when_empty row h t reflects empty =
     let all : put h t ≡ got h t ++ [] = reflects.notes t ∙ ap (λ x. got h t ++ x) empty in
     ap (λ b. cond b Drained Empty) (closed_is row h reflects t ∙ ap has_end (all ∙ append-nil (got h t)))
-    ∙ ap (λ x. cond (has_end (got h t)) Drained (reply_with x)) (sym (ap (λ x. slice_get x (length (got h t))) all ∙ slice_get-append (got h t) []))
+    ∙ ap (λ x. cond (has_end (got h t)) Drained (reply_with x))
+    (sym (ap (λ x. slice_get x (length (got h t))) all ∙ slice_get-append (got h t) []))
 
 take_when_left :
     (row : RowState) (h : History) (t : ℕ) (note : Note) (rest : List Note) → IsLegal row.capacity h
     → Reflects row h → left_of row t ≡ note ∷ rest → reply_with (Some note) ≡ take_reply (put h t) (got h t)
 take_when_left row h t note rest legal reflects left =
     let all : put h t ≡ got h t ++ note ∷ rest = reflects.notes t ∙ ap (λ x. got h t ++ x) left in
-    let open_ : has_end (got h t) ≡ false = open_front (got h t) note rest (subst EndsLast all (legal_sound row.capacity h legal t).last) in
-    sym (ap (λ b. cond b Drained (reply_with (slice_get (put h t) (length (got h t))))) open_ ∙ ap (λ x. reply_with (slice_get x (length (got h t)))) all ∙ ap reply_with (slice_get-append (got h t) (note ∷ rest)))
+    let open_ : has_end (got h t) ≡ false = open_front (got h t) note rest
+    (subst EndsLast all (legal_sound row.capacity h legal t).last) in
+    sym (ap (λ b. cond b Drained (reply_with (slice_get (put h t) (length (got h t))))) open_
+    ∙ ap (λ x. reply_with (slice_get x (length (got h t)))) all
+    ∙ ap reply_with (slice_get-append (got h t) (note ∷ rest)))
 
 -- the row reflects the history with an event that puts and gets nothing
 reflects_refusal :
@@ -167,8 +179,11 @@ reflects_refusal :
     → ((t : ℕ) → put_by t entry ≡ []) → ((t : ℕ) → got_by t entry ≡ []) → Reflects row (h ++ entry ∷ [])
 reflects_refusal row h entry reflects no_mark none_put none_got =
     record {
-      marks = reflects.marks ∙ sym (marks_of-push h entry ∙ ap (λ x. marks_of h ++ x) no_mark ∙ append-nil (marks_of h));
-      notes = λ t. put-push h entry t ∙ ap (λ x. put h t ++ x) (none_put t) ∙ append-nil (put h t) ∙ reflects.notes t ∙ ap (λ x. x ++ left_of row t) (sym (got-push h entry t ∙ ap (λ x. got h t ++ x) (none_got t) ∙ append-nil (got h t)));
+      marks = reflects.marks ∙ sym (marks_of-push h entry ∙ ap (λ x. marks_of h ++ x) no_mark
+          ∙ append-nil (marks_of h));
+      notes = λ t. put-push h entry t ∙ ap (λ x. put h t ++ x) (none_put t) ∙ append-nil (put h t) ∙ reflects.notes t
+          ∙ ap (λ x. x ++ left_of row t) (sym (got-push h entry t ∙ ap (λ x. got h t ++ x) (none_got t)
+          ∙ append-nil (got h t)));
     }
 
 -- the row that took a note in reflects the history with the put or close
@@ -180,12 +195,19 @@ reflects_put :
     → Reflects (with_note row u note) (h ++ entry ∷ [])
 reflects_put row h entry u note within reflects mark puts none_got =
     record {
-      marks = ap (λ x. x ++ record { tile = u; kind = kind_of note; number = taken_in row.marks u + length (left_of row u) } ∷ []) reflects.marks
-          ∙ ap (λ n. marks_of h ++ record { tile = u; kind = kind_of note; number = n } ∷ []) (ap (λ n. n + length (left_of row u)) (taken_is row h reflects u) ∙ sym (put_length row h reflects u))
+      marks = ap (λ x. x ++ record {
+        tile = u;
+        kind = kind_of note;
+        number =
+            taken_in row.marks u + length (left_of row u);
+      } ∷ []) reflects.marks
+          ∙ ap (λ n. marks_of h ++ record { tile = u; kind = kind_of note; number = n } ∷ [])
+          (ap (λ n. n + length (left_of row u)) (taken_is row h reflects u) ∙ sym (put_length row h reflects u))
           ∙ sym (marks_of-push h entry ∙ ap (λ x. marks_of h ++ x) mark);
       notes = λ t. put-push h entry t ∙ ap (λ x. put h t ++ x) (puts t)
           ∙ notes_at t
-          ∙ ap (λ x. x ++ left_of (with_note row u note) t) (sym (got-push h entry t ∙ ap (λ x. got h t ++ x) (none_got t) ∙ append-nil (got h t)));
+          ∙ ap (λ x. x ++ left_of (with_note row u note) t)
+          (sym (got-push h entry t ∙ ap (λ x. got h t ++ x) (none_got t) ∙ append-nil (got h t)));
     }
   where
     notes_at : (t : ℕ) → put h t ++ cond (eqb t u) (note ∷ []) [] ≡ got h t ++ left_of (with_note row u note) t
@@ -195,8 +217,11 @@ reflects_put row h entry u note within reflects mark puts none_got =
             (t ≡ u) ⊎ (t ≡ u → ⊥)
             → put h t ++ cond (eqb t u) (note ∷ []) [] ≡ got h t ++ left_of (with_note row u note) t
         by_case (inl same) =
-            ap (λ b. put h t ++ cond b (note ∷ []) []) (eq-eqb t u same) ∙ ap (λ x. x ++ note ∷ []) (reflects.notes t) ∙ append_assoc (got h t) (left_of row t) (note ∷ [])
-            ∙ ap (λ x. got h t ++ x) (ap (λ x. left_of row x ++ note ∷ []) same ∙ sym (ap (left_of (with_note row u note)) same ∙ get_or-set_same row.left u (left_of row u ++ note ∷ []) [] within))
+            ap (λ b. put h t ++ cond b (note ∷ []) []) (eq-eqb t u same) ∙ ap (λ x. x ++ note ∷ []) (reflects.notes t)
+            ∙ append_assoc (got h t) (left_of row t) (note ∷ [])
+            ∙ ap (λ x. got h t ++ x) (ap (λ x. left_of row x ++ note ∷ []) same
+            ∙ sym (ap (left_of (with_note row u note)) same
+            ∙ get_or-set_same row.left u (left_of row u ++ note ∷ []) [] within))
         by_case (inr other) =
             ap (λ b. put h t ++ cond b (note ∷ []) []) (ne_eqb t u other) ∙ append-nil (put h t) ∙ reflects.notes t
             ∙ ap (λ x. got h t ++ x) (sym (get_or-set_other row.left u t (left_of row u ++ note ∷ []) [] other))
@@ -225,9 +250,12 @@ reflects_take row h entry u note rest within reflects left mark none_put gots =
             (t ≡ u) ⊎ (t ≡ u → ⊥)
             → put h t ≡ (got h t ++ cond (eqb t u) (note ∷ []) []) ++ left_of (without_first row u) t
         by_case (inl same) =
-            reflects.notes t ∙ ap (λ x. got h t ++ x) (ap (left_of row) same ∙ left) ∙ sym (append_assoc (got h t) (note ∷ []) rest)
+            reflects.notes t ∙ ap (λ x. got h t ++ x) (ap (left_of row) same ∙ left)
+            ∙ sym (append_assoc (got h t) (note ∷ []) rest)
             ∙ sym (ap (λ b. (got h t ++ cond b (note ∷ []) []) ++ left_of (without_first row u) t) (eq-eqb t u same)
-            ∙ ap (λ x. (got h t ++ note ∷ []) ++ x) (ap (left_of (without_first row u)) same ∙ get_or-set_same row.left u (drop 1 (left_of row u)) [] within ∙ ap (drop 1) left))
+            ∙ ap (λ x. (got h t ++ note ∷ []) ++ x)
+            (ap (left_of (without_first row u)) same ∙ get_or-set_same row.left u (drop 1 (left_of row u)) [] within
+            ∙ ap (drop 1) left))
         by_case (inr other) =
             reflects.notes t
             ∙ sym (ap (λ b. (got h t ++ cond b (note ∷ []) []) ++ left_of (without_first row u) t) (ne_eqb t u other)
@@ -237,10 +265,17 @@ reflects_take row h entry u note rest within reflects left mark none_put gots =
 -- the answers of a row to a put, a close and a take, by its state
 module _ (row : RowState) (t : ℕ) where
   pub put_closed_answer : (line : List ℕ) → IsClosed row t → Answers row (Put t line) Closed row
-  put_closed_answer line closed h legal reflects = (put_when_closed row h t reflects closed, reflects_refusal row h (Put t line, Closed) reflects refl (λ _. refl) (λ _. refl))
+  put_closed_answer line closed h legal reflects = (
+    put_when_closed row h t reflects closed,
+    reflects_refusal row h (Put t line, Closed) reflects refl (λ _. refl) (λ _. refl),
+  )
 
   pub put_full_answer : (line : List ℕ) → IsFull row t → Answers row (Put t line) Full row
-  put_full_answer line full h legal reflects = (put_when_full row h t reflects full, reflects_refusal row h (Put t line, Full) reflects refl (λ _. refl) (λ _. refl))
+  put_full_answer line full h legal reflects = (
+    put_when_full row h t reflects full,
+    reflects_refusal row h (Put t line, Full) reflects refl (λ _. refl)
+        (λ _. refl),
+  )
 
   pub put_memory_answer : (line : List ℕ) → HasRoom row t → WouldChange row (Put t line)
   put_memory_answer line room h legal reflects = subst Changes (put_when_room row h t reflects room) tt
@@ -248,14 +283,24 @@ module _ (row : RowState) (t : ℕ) where
   pub put_accepted_answer :
       (line : List ℕ) (new : RowState) → t < length row.left → HasRoom row t
       → new ≡ with_note row t (LineNote line) → Answers row (Put t line) Accepted new
-  put_accepted_answer line new within room is h legal reflects =
-      (put_when_room row h t reflects room, subst (λ x. Reflects x (h ++ (Put t line, Accepted) ∷ [])) (sym is) (reflects_put row h (Put t line, Accepted) t (LineNote line) within reflects refl (λ _. refl) (λ _. refl)))
+  put_accepted_answer line new within room is h legal reflects = (
+    put_when_room row h t reflects room,
+    subst (λ x. Reflects x (h ++ (Put t line, Accepted) ∷ [])) (sym is)
+        (reflects_put row h (Put t line, Accepted) t (LineNote line) within reflects refl (λ _. refl) (λ _. refl)),
+  )
 
   pub close_closed_answer : (end : End) → IsClosed row t → Answers row (Close t end) Closed row
-  close_closed_answer end closed h legal reflects = (put_when_closed row h t reflects closed, reflects_refusal row h (Close t end, Closed) reflects refl (λ _. refl) (λ _. refl))
+  close_closed_answer end closed h legal reflects = (
+    put_when_closed row h t reflects closed,
+    reflects_refusal row h (Close t end, Closed) reflects refl (λ _. refl) (λ _. refl),
+  )
 
   pub close_full_answer : (end : End) → IsFull row t → Answers row (Close t end) Full row
-  close_full_answer end full h legal reflects = (put_when_full row h t reflects full, reflects_refusal row h (Close t end, Full) reflects refl (λ _. refl) (λ _. refl))
+  close_full_answer end full h legal reflects = (
+    put_when_full row h t reflects full,
+    reflects_refusal row h (Close t end, Full) reflects refl (λ _. refl)
+        (λ _. refl),
+  )
 
   pub close_memory_answer : (end : End) → HasRoom row t → WouldChange row (Close t end)
   close_memory_answer end room h legal reflects = subst Changes (put_when_room row h t reflects room) tt
@@ -263,32 +308,48 @@ module _ (row : RowState) (t : ℕ) where
   pub close_accepted_answer :
       (end : End) (new : RowState) → t < length row.left → HasRoom row t → new ≡ with_note row t (EndNote end)
       → Answers row (Close t end) Accepted new
-  close_accepted_answer end new within room is h legal reflects =
-      (put_when_room row h t reflects room, subst (λ x. Reflects x (h ++ (Close t end, Accepted) ∷ [])) (sym is) (reflects_put row h (Close t end, Accepted) t (EndNote end) within reflects refl (λ _. refl) (λ _. refl)))
+  close_accepted_answer end new within room is h legal reflects = (
+    put_when_room row h t reflects room,
+    subst (λ x. Reflects x (h ++ (Close t end, Accepted) ∷ [])) (sym is)
+        (reflects_put row h (Close t end, Accepted) t (EndNote end) within reflects refl (λ _. refl) (λ _. refl)),
+  )
 
   pub take_drained_answer : left_of row t ≡ [] → closed_in row.marks t ≡ true → Answers row (Take t) Drained row
-  take_drained_answer empty closed h legal reflects =
-      (sym (ap (λ b. cond b Drained Empty) closed) ∙ take_when_empty row h t reflects empty, reflects_refusal row h (Take t, Drained) reflects refl (λ _. refl) (λ _. refl))
+  take_drained_answer empty closed h legal reflects = (
+    sym (ap (λ b. cond b Drained Empty) closed) ∙ take_when_empty row h t reflects empty,
+    reflects_refusal row h (Take t, Drained) reflects refl (λ _. refl) (λ _. refl),
+  )
 
   pub take_empty_answer : left_of row t ≡ [] → closed_in row.marks t ≡ false → Answers row (Take t) Empty row
-  take_empty_answer empty open_ h legal reflects =
-      (sym (ap (λ b. cond b Drained Empty) open_) ∙ take_when_empty row h t reflects empty, reflects_refusal row h (Take t, Empty) reflects refl (λ _. refl) (λ _. refl))
+  take_empty_answer empty open_ h legal reflects = (
+    sym (ap (λ b. cond b Drained Empty) open_) ∙ take_when_empty row h t reflects empty,
+    reflects_refusal row h (Take t, Empty) reflects refl (λ _. refl) (λ _. refl),
+  )
 
   pub take_line_answer :
       (line : List ℕ) (rest : List Note) (new : RowState) → t < length row.left
       → left_of row t ≡ LineNote line ∷ rest → new ≡ without_first row t → Answers row (Take t) (LineReply line) new
-  take_line_answer line rest new within left is h legal reflects =
-      (take_when_left row h t (LineNote line) rest legal reflects left, subst (λ x. Reflects x (h ++ (Take t, LineReply line) ∷ [])) (sym is) (reflects_take row h (Take t, LineReply line) t (LineNote line) rest within reflects left refl (λ _. refl) (λ _. refl)))
+  take_line_answer line rest new within left is h legal reflects = (
+    take_when_left row h t (LineNote line) rest legal reflects left,
+    subst (λ x. Reflects x (h ++ (Take t, LineReply line) ∷ [])) (sym is)
+        (reflects_take row h (Take t, LineReply line) t (LineNote line) rest within reflects left refl (λ _. refl)
+        (λ _. refl)),
+  )
 
   pub take_end_answer :
       (end : End) (rest : List Note) (new : RowState) → t < length row.left → left_of row t ≡ EndNote end ∷ rest
       → new ≡ without_first row t → Answers row (Take t) (EndReply end) new
-  take_end_answer end rest new within left is h legal reflects =
-      (take_when_left row h t (EndNote end) rest legal reflects left, subst (λ x. Reflects x (h ++ (Take t, EndReply end) ∷ [])) (sym is) (reflects_take row h (Take t, EndReply end) t (EndNote end) rest within reflects left refl (λ _. refl) (λ _. refl)))
+  take_end_answer end rest new within left is h legal reflects = (
+    take_when_left row h t (EndNote end) rest legal reflects left,
+    subst (λ x. Reflects x (h ++ (Take t, EndReply end) ∷ [])) (sym is)
+        (reflects_take row h (Take t, EndReply end) t (EndNote end) rest within reflects left refl (λ _. refl)
+        (λ _. refl)),
+  )
 
   -- a take that finds a note left would change the row
   pub take_memory_answer : (note : Note) (rest : List Note) → left_of row t ≡ note ∷ rest → WouldChange row (Take t)
-  take_memory_answer note rest left h legal reflects = subst Changes (take_when_left row h t note rest legal reflects left) (gives_change note)
+  take_memory_answer note rest left h legal reflects =
+      subst Changes (take_when_left row h t note rest legal reflects left) (gives_change note)
     where
       gives_change : (note : Note) → Changes (reply_with (Some note))
       gives_change (LineNote line) = tt
@@ -311,7 +372,8 @@ history_of-push :
 history_of-push [] [] event reply same = refl
 history_of-push [] (other ∷ replies) event reply same = absurd (omega arith)
 history_of-push (other ∷ events) [] event reply same = absurd (omega arith)
-history_of-push (first ∷ events) (answer ∷ replies) event reply same = ap (λ x. (first, answer) ∷ x) (history_of-push events replies event reply (omega arith))
+history_of-push (first ∷ events) (answer ∷ replies) event reply same =
+    ap (λ x. (first, answer) ∷ x) (history_of-push events replies event reply (omega arith))
 
 -- the empty history is legal
 pub legal_empty : (capacity : ℕ) → IsLegal capacity []
@@ -320,14 +382,18 @@ legal_empty capacity (entry ∷ before) after event reply e = cc
 
 -- after one more event the row still reflects a legal history
 pub reflects_push :
-    (capacity : ℕ) (old new : RowState) (events : List Event) (replies more : List Reply) (event : Event) (reply : Reply)
+    (capacity : ℕ) (old new : RowState) (events : List Event) (replies more : List Reply) (event : Event)
+    (reply : Reply)
     → old.capacity ≡ capacity → length replies ≡ length events → more ≡ replies ++ reply ∷ []
     → IsLegal capacity (history_of events replies) → Reflects old (history_of events replies)
     → Answers old event reply new
     → IsLegal capacity (history_of (events ++ event ∷ []) more) × Reflects new (history_of (events ++ event ∷ []) more)
 reflects_push capacity old new events replies more event reply same answered grown legal reflects answers =
     let h : History = history_of events replies in
-    let longer : h ++ (event, reply) ∷ [] ≡ history_of (events ++ event ∷ []) more = sym (ap (history_of (events ++ event ∷ [])) grown ∙ history_of-push events replies event reply answered) in
+    let longer : h ++ (event, reply) ∷ [] ≡ history_of (events ++ event ∷ []) more =
+    sym (ap (history_of (events ++ event ∷ [])) grown ∙ history_of-push events replies event reply answered) in
     let answer = answers h (subst (λ n. IsLegal n h) (sym same) legal) reflects in
-    let counted : reply ≡ reply_to capacity h event = answer.0 ∙ ap (λ n. reply_to n h event) same in
-    (subst (IsLegal capacity) longer (IsLegal-push capacity h event reply legal counted), subst (Reflects new) longer answer.1)
+    let counted : reply ≡ reply_to capacity h event = answer.0 ∙ ap (λ n. reply_to n h event) same in (
+      subst (IsLegal capacity) longer (IsLegal-push capacity h event reply legal counted),
+      subst (Reflects new) longer answer.1,
+    )

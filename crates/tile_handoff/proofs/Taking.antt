@@ -18,8 +18,10 @@ pub takes_answer :
     → Answers old (Take t) (reply_of took) new
 takes_answer old new t (Line line) within takes = take_line_answer old t line (left_of new t) new within takes.0 takes.1
 takes_answer old new t (End end) within takes = take_end_answer old t end (left_of new t) new within takes.0 takes.1
-takes_answer old new t Empty within takes = subst (Answers old (Take t) _) (sym takes.2) (take_empty_answer old t takes.0 takes.1)
-takes_answer old new t Drained within takes = subst (Answers old (Take t) _) (sym takes.2) (take_drained_answer old t takes.0 takes.1)
+takes_answer old new t Empty within takes =
+    subst (Answers old (Take t) _) (sym takes.2) (take_empty_answer old t takes.0 takes.1)
+takes_answer old new t Drained within takes =
+    subst (Answers old (Take t) _) (sym takes.2) (take_drained_answer old t takes.0 takes.1)
 
 -- where a note is left, a take would change the row
 pub some_left_answer : (row : RowState) (t : ℕ) → 0 < length (left_of row t) → WouldChange row (Take t)
@@ -39,7 +41,10 @@ pub fetch_takes :
     → slice_get (left_of row t) 0 ≡ Some note → took ≡ took_of note → new ≡ without_first row t
     → Takes row t took new
 fetch_takes row new t note took within first given is =
-    subst (λ x. Takes row t x new) (sym given) (by_note note (first_is (left_of row t) note first ∙ ap (λ x. note ∷ x) (sym (ap (λ x. left_of x t) is ∙ get_or-set_same row.left t (drop 1 (left_of row t)) [] within))))
+    subst (λ x. Takes row t x new) (sym given)
+    (by_note note (first_is (left_of row t) note first
+    ∙ ap (λ x. note ∷ x) (sym (ap (λ x. left_of x t) is
+    ∙ get_or-set_same row.left t (drop 1 (left_of row t)) [] within))))
   where
     by_note : (note : Note) → left_of row t ≡ note ∷ left_of new t → Takes row t (took_of note) new
     by_note (LineNote line) left = (left, is)

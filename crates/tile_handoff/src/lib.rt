@@ -20,12 +20,13 @@ mod runs;
 #[cfg(test)]
 mod tests;
 
+pub use byte_streams::limits::{MAX_CAPACITY, MAX_TILES};
 pub use event::{Event, Events, Replies, Reply};
 pub use history::{Run, order_and_close};
 pub use mark::{Kind, Mark, Marks};
 pub use note::{End, Note};
 pub use outcome::{NoClose, NoPut, Took};
-pub use queues::{MAX_CAPACITY, MAX_TILES, Queues};
+pub use queues::Queues;
 pub use ring::{Closed, Receiver, Sender, Whole, ends};
 pub use row::Row;
 pub use runs::run;

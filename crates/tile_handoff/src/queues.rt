@@ -7,16 +7,11 @@ ghost use Rattle.tile_handoff.specs.Takes.{took_of};
 
 use crate::note::{End, Note};
 use crate::outcome::{NoClose, NoPut, Took};
+use byte_streams::limits::{MAX_CAPACITY, MAX_TILES};
 use byte_streams::{Fault, Line};
 use circular_buffer::HeapCircularBuffer;
 use std::alloc::{AllocError, Global};
 use std::marker::Model;
-
-/// How many tiles there are at most.
-pub const MAX_TILES: u32 = 64;
-
-/// How many notes a tile's queue holds at most.
-pub const MAX_CAPACITY: u32 = 1024;
 
 // The queue of one tile.
 #[derive(Debug, Drop)]

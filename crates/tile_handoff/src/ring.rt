@@ -6,8 +6,8 @@ mod sender;
 #[cfg(test)]
 mod tests;
 
-use crate::queues::MAX_CAPACITY;
 use byte_streams::Fault;
+use byte_streams::limits::MAX_CAPACITY;
 pub use receiver::{Receiver, Whole};
 use rtrb::RingBuffer;
 pub use sender::{Closed, Sender};

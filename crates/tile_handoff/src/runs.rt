@@ -9,9 +9,9 @@ ghost use Rattle.tile_handoff.specs.Reflects.{Reflects, Answers};
 use crate::event::{Event, Events, Replies, Reply};
 use crate::history::Run;
 use crate::outcome::{NoClose, NoPut, Took};
-use crate::queues::{MAX_CAPACITY, MAX_TILES};
 use crate::row::Row;
 use byte_streams::Fault;
+use byte_streams::limits::{MAX_CAPACITY, MAX_TILES};
 use std::alloc::Global;
 
 /// Asks the events of a new row, one after the other. The replies are those by counting, so that,

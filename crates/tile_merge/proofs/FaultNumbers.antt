@@ -16,7 +16,10 @@ at_place (suc zero) (fault ∷ faults) = Some fault
 at_place (suc (suc n)) (fault ∷ faults) = at_place (suc n) faults
 
 abbrev numbered : ℕ → Option Fault
-numbered n = at_place n (NoHeader ∷ NotUtf8 ∷ Syntax ∷ TooDeep ∷ DuplicateName ∷ NotCityJson ∷ Version ∷ NoTransform ∷ Decimal ∷ ScaleNotPositive ∷ HeaderNotEmpty ∷ ScaleDiffers ∷ CrsDiffers ∷ OffGrid ∷ ShiftRange ∷ ExtensionClash ∷ TemplatesDiffer ∷ NotAFeature ∷ VertexShape ∷ VertexNotInteger ∷ VertexRange ∷ LineTooLong ∷ TileTooLong ∷ Read ∷ Write ∷ Memory ∷ NoThread ∷ Handoff ∷ TooManyTiles ∷ ChildMissing ∷ Orphan ∷ BoundaryIndex ∷ [])
+numbered n = at_place n (NoHeader ∷ NotUtf8 ∷ Syntax ∷ TooDeep ∷ DuplicateName ∷ NotCityJson ∷ Version ∷ NoTransform
+    ∷ Decimal ∷ ScaleNotPositive ∷ HeaderNotEmpty ∷ ScaleDiffers ∷ CrsDiffers ∷ OffGrid ∷ ShiftRange ∷ ExtensionClash
+    ∷ TemplatesDiffer ∷ NotAFeature ∷ VertexShape ∷ VertexNotInteger ∷ VertexRange ∷ LineTooLong ∷ TileTooLong ∷ Read
+    ∷ Write ∷ Memory ∷ NoThread ∷ Handoff ∷ TooManyTiles ∷ ChildMissing ∷ Orphan ∷ BoundaryIndex ∷ [])
 
 told_by : (fault : Fault) → numbered (number_of fault) ≡ Some fault
 told_by NoHeader = refl
@@ -53,11 +56,13 @@ told_by Orphan = refl
 told_by BoundaryIndex = refl
 
 abbrev told_end : End → Ended
-told_end end = ended_so end.count (option_map (λ fault. record { number = end.line; fault = fault }) (numbered end.number))
+told_end end = ended_so end.count (option_map (λ fault. record { line = end.line; fault = fault })
+    (numbered end.number))
 
 tells_itself : (total : ℕ) (outcome : Outcome) → told_end (end_with total outcome) ≡ ended_so total outcome
 tells_itself total None = refl
-tells_itself total (Some at) = ap (λ fault. ended_so total (option_map (λ (f : Fault). record { number = at.number; fault = f }) fault)) (told_by at.fault)
+tells_itself total (Some at) = ap (λ fault.
+    ended_so total (option_map (λ (f : Fault). record { line = at.line; fault = f }) fault)) (told_by at.fault)
 
 pub end_tells : (a b : Ended) → end_of a ≡ end_of b → a ≡ b
 end_tells a b same = sym (tells_itself a.total a.outcome) ∙ ap told_end same ∙ tells_itself b.total b.outcome

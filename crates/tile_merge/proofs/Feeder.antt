@@ -6,10 +6,12 @@ use Rattle.tile_handoff.specs.declared.note.End.{End}
 use Rattle.tile_handoff.specs.declared.note.Note.{Note}
 use Rattle.tile_handoff.specs.declared.note.Note.TheVariants.{Line as LineNote, End as EndNote}
 use Rattle.tile_stream.specs.Coming.{ComesBack, GivesText, SomethingComes}
-use Rattle.tile_merge.specs.EndNotes.{end_of, ended_so, line_note, notes_of}
-use Rattle.tile_stream.specs.Stream.{with_newline}
+use Rattle.tile_merge.specs.EndNotes.{end_of, ended_so, notes_of}
 use Rattle.tile_stream.specs.Texts.{Outcome}
 use Rattle.tile_merge.specs.Threads.{Fed, FedSoFar, IsFed, MayFeed}
+
+abbrev line_note : List ℕ → Note
+line_note text = LineNote text
 
 module _ (before : List (List ℕ) → Outcome → Type 0) (old : List Note) where
   pub fed_start : FedSoFar before before 0 old old
@@ -20,23 +22,28 @@ module _ (before : List (List ℕ) → Outcome → Type 0) (old : List Note) whe
     put = sym (append-nil old);
   }
 
-  module _ (now : List (List ℕ) → Outcome → Type 0) (count : ℕ) (new : List Note) (so_far : FedSoFar before now count old new) where
+  module _ (now : List (List ℕ) → Outcome → Type 0) (count : ℕ) (new : List Note)
+      (so_far : FedSoFar before now count old new) where
     -- one text more was put
-    pub fed_text : (after : List (List ℕ) → Outcome → Type 0) (text line : List ℕ) → line ≡ with_newline text → GivesText now after text
-        → (newer : List Note) → newer ≡ new ++ LineNote line ∷ [] → FedSoFar before after (count + 1) old newer
-    fed_text after text line is_line gives newer put =
+    pub fed_text : (after : List (List ℕ) → Outcome → Type 0) (text : List ℕ) → GivesText now after text
+        → (newer : List Note) → newer ≡ new ++ LineNote text ∷ [] → FedSoFar before after (count + 1) old newer
+    fed_text after text gives newer put =
         let notes = map line_note so_far.texts in
-        let more : map line_note (so_far.texts ++ text ∷ []) ≡ notes ++ LineNote line ∷ [] =
-        map-append line_note so_far.texts (text ∷ []) ∙ ap (λ l. notes ++ LineNote l ∷ []) (sym is_line) in
+        let more : map line_note (so_far.texts ++ text ∷ []) ≡ notes ++ LineNote text ∷ [] =
+        map-append line_note so_far.texts (text ∷ []) in
         record {
           texts = so_far.texts ++ text ∷ [];
-          back = λ others outcome comes. subst (λ texts. before texts outcome) (sym (append_assoc so_far.texts (text ∷ []) others)) (so_far.back (text ∷ others) outcome (gives others outcome comes));
+          back = λ others outcome comes. subst (λ texts. before texts outcome)
+              (sym (append_assoc so_far.texts (text ∷ []) others))
+              (so_far.back (text ∷ others) outcome (gives others outcome comes));
           counted = grind (arith, common_steps, so_far.counted);
-          put = put ∙ ap (λ ns. ns ++ LineNote line ∷ []) so_far.put ∙ append_assoc old notes (LineNote line ∷ []) ∙ ap (λ ns. old ++ ns) (sym more);
+          put = put ∙ ap (λ ns. ns ++ LineNote text ∷ []) so_far.put ∙ append_assoc old notes (LineNote text ∷ [])
+              ∙ ap (λ ns. old ++ ns) (sym more);
         }
 
     -- a line came to nothing
-    pub fed_nothing : (after : List (List ℕ) → Outcome → Type 0) → ComesBack now after → FedSoFar before after count old new
+    pub fed_nothing : (after : List (List ℕ) → Outcome → Type 0) → ComesBack now after
+        → FedSoFar before after count old new
     fed_nothing after comes_back = record {
       texts = so_far.texts;
       back = λ others outcome comes. so_far.back others outcome (comes_back others outcome comes);
@@ -44,12 +51,17 @@ module _ (before : List (List ℕ) → Outcome → Type 0) (old : List Note) whe
       put = so_far.put;
     }
 
-module _ {R : Type 0} (gives : R → List ℕ → Bool → Type 0) (fed : Fed R) (Unasked : Type 0) (old : List Note) (now : List (List ℕ) → Outcome → Type 0) (count : ℕ) (new : List Note) (so_far : FedSoFar (MayFeed gives fed) now count old new) (end : End) (newer : List Note) (put : newer ≡ new ++ EndNote end ∷ []) where
+module _ {R : Type 0} (gives : R → List ℕ → Bool → Type 0) (fed : Fed R) (Unasked : Type 0) (old : List Note)
+    (now : List (List ℕ) → Outcome → Type 0) (count : ℕ) (new : List Note)
+    (so_far : FedSoFar (MayFeed gives fed) now count old new) (end : End) (newer : List Note)
+    (put : newer ≡ new ++ EndNote end ∷ []) where
   put_all : newer ≡ old ++ notes_of so_far.texts end
-  put_all = put ∙ ap (λ ns. ns ++ EndNote end ∷ []) so_far.put ∙ append_assoc old (map line_note so_far.texts) (EndNote end ∷ [])
+  put_all = put ∙ ap (λ ns. ns ++ EndNote end ∷ []) so_far.put
+      ∙ append_assoc old (map line_note so_far.texts) (EndNote end ∷ [])
 
   -- the tile has ended so, and its end note was put
-  pub fed_whole : (outcome : Outcome) → now [] outcome → end ≡ end_of (ended_so count outcome) → IsFed gives fed Unasked old newer
+  pub fed_whole : (outcome : Outcome) → now [] outcome → end ≡ end_of (ended_so count outcome)
+      → IsFed gives fed Unasked old newer
   fed_whole outcome over is = record {
     texts = so_far.texts;
     others = [];

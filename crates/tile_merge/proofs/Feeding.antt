@@ -1,7 +1,6 @@
 -- A text, or the end, that was read ahead.
 use Rattle.std.proofs.Common.{◌≡◌, ◌+◌, ◌++◌, ℕ, Bool, true, false, List, [], ◌∷◌, Option, Some, length, if◌then◌else◌, refl, sym, ap, subst, ◌∙◌, arith}
-use Rattle.std.proofs.lemmas.List.{append_cancel_right, get_or-set_same}
-use Rattle.city_json.specs.Bytes.{newline}
+use Rattle.std.proofs.lemmas.List.{get_or-set_same}
 use Rattle.city_feature.specs.Feature.{FeatureValue}
 use Rattle.city_grid.specs.Axes.{Triple}
 use Rattle.tile_handoff.specs.Notes.{has_end}
@@ -12,7 +11,6 @@ use Rattle.tile_handoff.specs.declared.note.Note.TheVariants.{Line as LineNote, 
 use Rattle.tile_stream.specs.Coming.{MayComeTo, ComesBack, GivesText, SomethingComes}
 use Rattle.tile_merge.specs.EndNotes.{Ended, end_of, ended_so}
 use Rattle.tile_merge.specs.Feeds.{FeedState, Course, course_of, ThenComes, NotesCome, MayTake, TakesNone, TakesTurn, SomeCourse}
-use Rattle.tile_stream.specs.Stream.{with_newline}
 use Rattle.tile_stream.specs.Texts.{Outcome}
 use Rattle.tile_stream.specs.TileState.{TileState, most_to_come}
 use Rattle.tile_merge.proofs.FaultNumbers.{end_tells}
@@ -25,168 +23,225 @@ not_empty (other ∷ left) note is = cc is
 module _ (Then More : Course → Type 0) where
   -- no note more, but what follows them is another
   pub notes_stay : ((course : Course) → More course → Then course)
-      → (left : List Note) (texts : List (List ℕ)) (ended : Ended) → NotesCome More left texts ended → NotesCome Then left texts ended
+      → (left : List Note) (texts : List (List ℕ)) (ended : Ended) → NotesCome More left texts ended
+      → NotesCome Then left texts ended
   notes_stay step [] texts ended come = step (course_of texts ended) come
-  notes_stay step (LineNote other ∷ left) texts ended come = (come.0, come.1, come.2, come.3, notes_stay step left come.1 ended come.4)
+  notes_stay step (LineNote other ∷ left) texts ended come = (come.0, come.1, notes_stay step left come.0 ended come.2)
   notes_stay step (EndNote end ∷ left) texts ended come = come
 
   pub notes_follow : (more : List (List ℕ)) (last : Ended) → More (course_of more last)
-      → (left : List Note) → has_end left ≡ false → (texts : List (List ℕ)) (ended : Ended) → NotesCome Then left texts ended → SomeCourse (λ course. NotesCome More left course.texts course.ended)
+      → (left : List Note) → has_end left ≡ false → (texts : List (List ℕ)) (ended : Ended)
+      → NotesCome Then left texts ended → SomeCourse (λ course. NotesCome More left course.texts course.ended)
   notes_follow more last comes [] is_open texts ended come = (course_of more last, comes)
   notes_follow more last comes (LineNote other ∷ left) is_open texts ended come =
-      let some = notes_follow more last comes left is_open come.1 ended come.4 in
-      (course_of (come.0 ∷ some.0.texts) some.0.ended, (come.0, some.0.texts, refl, come.3, some.1))
+      let some = notes_follow more last comes left is_open come.0 ended come.2 in
+      (course_of (other ∷ some.0.texts) some.0.ended, (some.0.texts, refl, some.1))
   notes_follow more last comes (EndNote end ∷ left) is_open texts ended come = absurd (cc is_open)
 
-  module _ (text line : List ℕ) (is_line : line ≡ with_newline text) where
-    pub line_put : ((more : List (List ℕ)) (ended : Ended) → More (course_of more ended) → Then (course_of (text ∷ more) ended))
-        → (left : List Note) (texts : List (List ℕ)) (ended : Ended) → NotesCome More (left ++ LineNote line ∷ []) texts ended → NotesCome Then left texts ended
+  module _ (text : List ℕ) where
+    pub line_put : ((more : List (List ℕ)) (ended : Ended) → More (course_of more ended)
+        → Then (course_of (text ∷ more) ended))
+        → (left : List Note) (texts : List (List ℕ)) (ended : Ended)
+        → NotesCome More (left ++ LineNote text ∷ []) texts ended → NotesCome Then left texts ended
     line_put step [] texts ended come =
-        let same : come.0 ≡ text = append_cancel_right come.0 text (newline ∷ []) (sym come.3 ∙ is_line) in
-        subst (λ all. Then (course_of all ended)) (sym (come.2 ∙ ap (λ t. t ∷ come.1) same)) (step come.1 ended come.4)
-    line_put step (LineNote other ∷ left) texts ended come = (come.0, come.1, come.2, come.3, line_put step left come.1 ended come.4)
-    line_put step (EndNote end ∷ left) texts ended come = absurd (not_empty left (LineNote line) come.0)
+        subst (λ all. Then (course_of all ended)) (sym come.1) (step come.0 ended come.2)
+    line_put step (LineNote other ∷ left) texts ended come = (come.0, come.1, line_put step left come.0 ended come.2)
+    line_put step (EndNote end ∷ left) texts ended come = absurd (not_empty left (LineNote text) come.0)
 
     pub line_follows : (more : List (List ℕ)) (last : Ended) → More (course_of more last)
-        → (left : List Note) → has_end left ≡ false → (texts : List (List ℕ)) (ended : Ended) → NotesCome Then left texts ended → SomeCourse (λ course. NotesCome More (left ++ LineNote line ∷ []) course.texts course.ended)
-    line_follows more last comes [] is_open texts ended come = (course_of (text ∷ more) last, (text, more, refl, is_line, comes))
+        → (left : List Note) → has_end left ≡ false → (texts : List (List ℕ)) (ended : Ended)
+        → NotesCome Then left texts ended → SomeCourse
+        (λ course. NotesCome More (left ++ LineNote text ∷ []) course.texts course.ended)
+    line_follows more last comes [] is_open texts ended come = (course_of (text ∷ more) last, (more, refl, comes))
     line_follows more last comes (LineNote other ∷ left) is_open texts ended come =
-        let some = line_follows more last comes left is_open come.1 ended come.4 in
-        (course_of (come.0 ∷ some.0.texts) some.0.ended, (come.0, some.0.texts, refl, come.3, some.1))
+        let some = line_follows more last comes left is_open come.0 ended come.2 in
+        (course_of (other ∷ some.0.texts) some.0.ended, (some.0.texts, refl, some.1))
     line_follows more last comes (EndNote end ∷ left) is_open texts ended come = absurd (cc is_open)
 
   module _ (last : Ended) (end : End) (is_end : end ≡ end_of last) where
     pub end_put : Then (course_of [] last)
-        → (left : List Note) (texts : List (List ℕ)) (ended : Ended) → NotesCome More (left ++ EndNote end ∷ []) texts ended → NotesCome Then left texts ended
+        → (left : List Note) (texts : List (List ℕ)) (ended : Ended)
+        → NotesCome More (left ++ EndNote end ∷ []) texts ended → NotesCome Then left texts ended
     end_put over [] texts ended come =
         let same : last ≡ ended = end_tells last ended (sym is_end ∙ come.2) in
         let Over : List (List ℕ) → Type 0 = λ all. Then (course_of all ended) in
         subst Over (sym come.1) (subst (λ (e : Ended). Then (course_of [] e)) same over)
-    end_put over (LineNote other ∷ left) texts ended come = (come.0, come.1, come.2, come.3, end_put over left come.1 ended come.4)
+    end_put over (LineNote other ∷ left) texts ended come = (come.0, come.1, end_put over left come.0 ended come.2)
     end_put over (EndNote other ∷ left) texts ended come = absurd (not_empty left (EndNote end) come.0)
 
-    pub end_follows : (left : List Note) → has_end left ≡ false → (texts : List (List ℕ)) (ended : Ended) → NotesCome Then left texts ended → SomeCourse (λ course. NotesCome More (left ++ EndNote end ∷ []) course.texts course.ended)
+    pub end_follows : (left : List Note) → has_end left ≡ false → (texts : List (List ℕ)) (ended : Ended)
+        → NotesCome Then left texts ended → SomeCourse
+        (λ course. NotesCome More (left ++ EndNote end ∷ []) course.texts course.ended)
     end_follows [] is_open texts ended come = (course_of [] last, (refl, refl, is_end))
     end_follows (LineNote other ∷ left) is_open texts ended come =
-        let some = end_follows left is_open come.1 ended come.4 in
-        (course_of (come.0 ∷ some.0.texts) some.0.ended, (come.0, some.0.texts, refl, come.3, some.1))
+        let some = end_follows left is_open come.0 ended come.2 in
+        (course_of (other ∷ some.0.texts) some.0.ended, (some.0.texts, refl, some.1))
     end_follows (EndNote other ∷ left) is_open texts ended come = absurd (cc is_open)
 
 -- the queue that was set is there
-pub set_there : (queues : QueuesState) (queue : Queue) → length queues.tiles ≡ 1 → queue_of (with_queue queues 0 queue) 0 ≡ queue
+pub set_there : (queues : QueuesState) (queue : Queue) → length queues.tiles ≡ 1
+    → queue_of (with_queue queues 0 queue) 0 ≡ queue
 set_there queues queue one = get_or-set_same queues.tiles 0 queue _ (omega (arith, one))
 
 -- a feed before and after one more note was read
-module _ {R : Type 0} (gives : R → List ℕ → Bool → Type 0) (IsWanted : FeatureValue → Type 0) (shift : Triple) (places later_places count : ℕ) (last : Option End) (before after : TileState R) where
+module _ {R : Type 0} (gives : R → List ℕ → Bool → Type 0) (IsWanted : FeatureValue → Type 0) (shift : Triple)
+    (places later_places count : ℕ) (last : Option End) (before after : TileState R) where
   abbrev feed : TileState R → ℕ → ℕ → Queue → FeedState R
-  feed unread capacity lines queue = record { unread = unread; shift = shift; capacity = capacity; notes = queue; count = lines; last = last }
+  feed unread capacity lines queue = record {
+    unread = unread;
+    shift = shift;
+    capacity = capacity;
+    notes =
+        queue;
+    count = lines;
+    last = last;
+  }
 
   abbrev Comes : TileState R → List (List ℕ) → Outcome → Type 0
   Comes unread texts outcome = MayComeTo gives IsWanted shift unread texts outcome
 
   module _ (queue : Queue) (is_open : queue.closed ≡ false) where
     -- a line was read
-    module _ (text line : List ℕ) (is_line : line ≡ with_newline text) (given : GivesText (MayComeTo gives IsWanted shift before) (MayComeTo gives IsWanted shift after) text) (new : Queue) (is_new : new ≡ longer queue (LineNote line)) where
-      step : (more : List (List ℕ)) (ended : Ended) → ThenComes false gives IsWanted shift after (count + 1) last (course_of more ended) → ThenComes false gives IsWanted shift before count last (course_of (text ∷ more) ended)
+    module _ (text : List ℕ) (given : GivesText (MayComeTo gives IsWanted shift before)
+        (MayComeTo gives IsWanted shift after) text) (new : Queue) (is_new : new ≡ longer queue (LineNote text)) where
+      step : (more : List (List ℕ)) (ended : Ended)
+          → ThenComes false gives IsWanted shift after (count + 1) last (course_of more ended)
+          → ThenComes false gives IsWanted shift before count last (course_of (text ∷ more) ended)
       step more ended comes = (given more ended.outcome comes.0, omega (arith, comes.1))
 
       line_taken-open : (closed : Bool) → closed ≡ false → (texts : List (List ℕ)) (ended : Ended)
-          → NotesCome (ThenComes closed gives IsWanted shift after (count + 1) last) (queue.left ++ LineNote line ∷ []) texts ended → NotesCome (ThenComes closed gives IsWanted shift before count last) queue.left texts ended
+          → NotesCome (ThenComes closed gives IsWanted shift after (count + 1) last) (queue.left ++ LineNote text ∷ [])
+          texts ended → NotesCome (ThenComes closed gives IsWanted shift before count last) queue.left texts ended
       line_taken-open true is texts ended come = absurd (cc is)
       line_taken-open false is texts ended come =
-          line_put (ThenComes false gives IsWanted shift before count last) (ThenComes false gives IsWanted shift after (count + 1) last) text line is_line step queue.left texts ended come
+          line_put (ThenComes false gives IsWanted shift before count last)
+          (ThenComes false gives IsWanted shift after (count + 1) last) text step queue.left texts ended come
 
-      pub line_taken : TakesNone (MayTake gives IsWanted (feed before places count queue)) (MayTake gives IsWanted (feed after later_places (count + 1) new))
+      pub line_taken : TakesNone (MayTake gives IsWanted (feed before places count queue))
+          (MayTake gives IsWanted (feed after later_places (count + 1) new))
       line_taken course come =
-          let P : Queue → Type 0 = λ q. NotesCome (ThenComes q.closed gives IsWanted shift after (count + 1) last) q.left course.texts course.ended in
+          let P : Queue → Type 0 = λ q. NotesCome (ThenComes q.closed gives IsWanted shift after (count + 1) last)
+          q.left course.texts course.ended in
           line_taken-open queue.closed is_open course.texts course.ended (subst P is_new come)
 
-      line_some-open : (closed : Bool) → closed ≡ false → (texts : List (List ℕ)) (ended : Ended) → has_end queue.left ≡ false → SomethingComes (MayComeTo gives IsWanted shift after)
-          → NotesCome (ThenComes closed gives IsWanted shift before count last) queue.left texts ended → SomeCourse (λ course. NotesCome (ThenComes closed gives IsWanted shift after (count + 1) last) (queue.left ++ LineNote line ∷ []) course.texts course.ended)
+      line_some-open : (closed : Bool) → closed ≡ false → (texts : List (List ℕ)) (ended : Ended)
+          → has_end queue.left ≡ false → SomethingComes (MayComeTo gives IsWanted shift after)
+          → NotesCome (ThenComes closed gives IsWanted shift before count last) queue.left texts ended
+          → SomeCourse (λ course. NotesCome (ThenComes closed gives IsWanted shift after (count + 1) last)
+          (queue.left ++ LineNote text ∷ []) course.texts course.ended)
       line_some-open true is texts ended none some come = absurd (cc is)
       line_some-open false is texts ended none some come =
           let end = ended_so (count + 1 + length some.0) some.1.0 in
-          line_follows (ThenComes false gives IsWanted shift before count last) (ThenComes false gives IsWanted shift after (count + 1) last) text line is_line some.0 end (some.1.1, refl) queue.left none texts ended come
+          line_follows (ThenComes false gives IsWanted shift before count last)
+          (ThenComes false gives IsWanted shift after (count + 1) last) text some.0 end (some.1.1, refl) queue.left
+          none texts ended come
 
-      pub line_some : has_end queue.left ≡ false → SomethingComes (MayComeTo gives IsWanted shift after) → SomeCourse (MayTake gives IsWanted (feed before places count queue)) → SomeCourse (MayTake gives IsWanted (feed after later_places (count + 1) new))
+      pub line_some : has_end queue.left ≡ false → SomethingComes (MayComeTo gives IsWanted shift after)
+          → SomeCourse (MayTake gives IsWanted (feed before places count queue))
+          → SomeCourse (MayTake gives IsWanted (feed after later_places (count + 1) new))
       line_some none some was =
           let there = line_some-open queue.closed is_open was.0.texts was.0.ended none some was.1 in
-          let P : Queue → Type 0 = λ q. NotesCome (ThenComes q.closed gives IsWanted shift after (count + 1) last) q.left there.0.texts there.0.ended in
+          let P : Queue → Type 0 = λ q. NotesCome (ThenComes q.closed gives IsWanted shift after (count + 1) last)
+          q.left there.0.texts there.0.ended in
           (there.0, subst P (sym is_new) there.1)
 
     -- a line was read that is not chosen
     module _ (back : ComesBack (MayComeTo gives IsWanted shift before) (MayComeTo gives IsWanted shift after)) where
       nothing_taken-open : (closed : Bool) → closed ≡ false → (texts : List (List ℕ)) (ended : Ended)
-          → NotesCome (ThenComes closed gives IsWanted shift after count last) queue.left texts ended → NotesCome (ThenComes closed gives IsWanted shift before count last) queue.left texts ended
+          → NotesCome (ThenComes closed gives IsWanted shift after count last) queue.left texts ended
+          → NotesCome (ThenComes closed gives IsWanted shift before count last) queue.left texts ended
       nothing_taken-open true is texts ended come = absurd (cc is)
       nothing_taken-open false is texts ended come =
-          notes_stay (ThenComes false gives IsWanted shift before count last) (ThenComes false gives IsWanted shift after count last) (λ course comes. (back course.texts course.ended.outcome comes.0, comes.1)) queue.left texts ended come
+          notes_stay (ThenComes false gives IsWanted shift before count last)
+          (ThenComes false gives IsWanted shift after count last)
+          (λ course comes. (back course.texts course.ended.outcome comes.0, comes.1)) queue.left texts ended come
 
-      pub nothing_taken : TakesNone (MayTake gives IsWanted (feed before places count queue)) (MayTake gives IsWanted (feed after later_places count queue))
+      pub nothing_taken : TakesNone (MayTake gives IsWanted (feed before places count queue))
+          (MayTake gives IsWanted (feed after later_places count queue))
       nothing_taken course come = nothing_taken-open queue.closed is_open course.texts course.ended come
 
-      nothing_some-open : (closed : Bool) → closed ≡ false → (texts : List (List ℕ)) (ended : Ended) → has_end queue.left ≡ false → SomethingComes (MayComeTo gives IsWanted shift after)
-          → NotesCome (ThenComes closed gives IsWanted shift before count last) queue.left texts ended → SomeCourse (λ course. NotesCome (ThenComes closed gives IsWanted shift after count last) queue.left course.texts course.ended)
+      nothing_some-open : (closed : Bool) → closed ≡ false → (texts : List (List ℕ)) (ended : Ended)
+          → has_end queue.left ≡ false → SomethingComes (MayComeTo gives IsWanted shift after)
+          → NotesCome (ThenComes closed gives IsWanted shift before count last) queue.left texts ended
+          → SomeCourse (λ course. NotesCome (ThenComes closed gives IsWanted shift after count last) queue.left
+          course.texts course.ended)
       nothing_some-open true is texts ended none some come = absurd (cc is)
       nothing_some-open false is texts ended none some come =
           let end = ended_so (count + length some.0) some.1.0 in
-          notes_follow (ThenComes false gives IsWanted shift before count last) (ThenComes false gives IsWanted shift after count last) some.0 end (some.1.1, refl) queue.left none texts ended come
+          notes_follow (ThenComes false gives IsWanted shift before count last)
+          (ThenComes false gives IsWanted shift after count last) some.0 end (some.1.1, refl) queue.left none texts
+          ended come
 
-      pub nothing_some : has_end queue.left ≡ false → SomethingComes (MayComeTo gives IsWanted shift after) → SomeCourse (MayTake gives IsWanted (feed before places count queue)) → SomeCourse (MayTake gives IsWanted (feed after later_places count queue))
+      pub nothing_some : has_end queue.left ≡ false → SomethingComes (MayComeTo gives IsWanted shift after)
+          → SomeCourse (MayTake gives IsWanted (feed before places count queue))
+          → SomeCourse (MayTake gives IsWanted (feed after later_places count queue))
       nothing_some none some was = nothing_some-open queue.closed is_open was.0.texts was.0.ended none some was.1
 
     -- the end was read
-    module _ (outcome : Outcome) (over : Comes before [] outcome) (end : End) (is_end : end ≡ end_of (ended_so count outcome)) (new : Queue) (is_new : new ≡ longer queue (EndNote end)) where
+    module _ (outcome : Outcome) (over : Comes before [] outcome) (end : End)
+        (is_end : end ≡ end_of (ended_so count outcome)) (new : Queue) (is_new : new ≡ longer queue (EndNote end)) where
       end_taken-open : (closed : Bool) → closed ≡ false → (texts : List (List ℕ)) (ended : Ended)
-          → NotesCome (ThenComes true gives IsWanted shift after count last) (queue.left ++ EndNote end ∷ []) texts ended → NotesCome (ThenComes closed gives IsWanted shift before count last) queue.left texts ended
+          → NotesCome (ThenComes true gives IsWanted shift after count last) (queue.left ++ EndNote end ∷ []) texts
+          ended → NotesCome (ThenComes closed gives IsWanted shift before count last) queue.left texts ended
       end_taken-open true is texts ended come = absurd (cc is)
       end_taken-open false is texts ended come =
-          end_put (ThenComes false gives IsWanted shift before count last) (ThenComes true gives IsWanted shift after count last) (ended_so count outcome) end is_end (over, omega arith) queue.left texts ended come
+          end_put (ThenComes false gives IsWanted shift before count last)
+          (ThenComes true gives IsWanted shift after count last) (ended_so count outcome) end is_end
+          (over, omega arith) queue.left texts ended come
 
-      pub end_taken : TakesNone (MayTake gives IsWanted (feed before places count queue)) (MayTake gives IsWanted (feed after later_places count new))
+      pub end_taken : TakesNone (MayTake gives IsWanted (feed before places count queue))
+          (MayTake gives IsWanted (feed after later_places count new))
       end_taken course come =
-          let P : Queue → Type 0 = λ q. NotesCome (ThenComes q.closed gives IsWanted shift after count last) q.left course.texts course.ended in
+          let P : Queue → Type 0 = λ q. NotesCome (ThenComes q.closed gives IsWanted shift after count last) q.left
+          course.texts course.ended in
           end_taken-open queue.closed is_open course.texts course.ended (subst P is_new come)
 
-      end_some-open : (closed : Bool) → closed ≡ false → (texts : List (List ℕ)) (ended : Ended) → has_end queue.left ≡ false
-          → NotesCome (ThenComes closed gives IsWanted shift before count last) queue.left texts ended → SomeCourse (λ course. NotesCome (ThenComes true gives IsWanted shift after count last) (queue.left ++ EndNote end ∷ []) course.texts course.ended)
+      end_some-open : (closed : Bool) → closed ≡ false → (texts : List (List ℕ)) (ended : Ended)
+          → has_end queue.left ≡ false
+          → NotesCome (ThenComes closed gives IsWanted shift before count last) queue.left texts ended
+          → SomeCourse (λ course. NotesCome (ThenComes true gives IsWanted shift after count last)
+          (queue.left ++ EndNote end ∷ []) course.texts course.ended)
       end_some-open true is texts ended none come = absurd (cc is)
       end_some-open false is texts ended none come =
-          end_follows (ThenComes false gives IsWanted shift before count last) (ThenComes true gives IsWanted shift after count last) (ended_so count outcome) end is_end queue.left none texts ended come
+          end_follows (ThenComes false gives IsWanted shift before count last)
+          (ThenComes true gives IsWanted shift after count last) (ended_so count outcome) end is_end queue.left none
+          texts ended come
 
-      pub end_some : has_end queue.left ≡ false → SomeCourse (MayTake gives IsWanted (feed before places count queue)) → SomeCourse (MayTake gives IsWanted (feed after later_places count new))
+      pub end_some : has_end queue.left ≡ false → SomeCourse (MayTake gives IsWanted (feed before places count queue))
+          → SomeCourse (MayTake gives IsWanted (feed after later_places count new))
       end_some none was =
           let there = end_some-open queue.closed is_open was.0.texts was.0.ended none was.1 in
-          let P : Queue → Type 0 = λ q. NotesCome (ThenComes q.closed gives IsWanted shift after count last) q.left there.0.texts there.0.ended in
+          let P : Queue → Type 0 = λ q. NotesCome (ThenComes q.closed gives IsWanted shift after count last) q.left
+          there.0.texts there.0.ended in
           (there.0, subst P (sym is_new) there.1)
 
--- the first line is taken of those that were read ahead
-line_first : (Then : Course → Type 0) (line : List ℕ) (others left : List Note) → left ≡ LineNote line ∷ others → SomeCourse (λ course. NotesCome Then left course.texts course.ended)
-    → (text : List ℕ) × (line ≡ with_newline text)
-    × ((course : Course) → NotesCome Then others course.texts course.ended → NotesCome Then left (text ∷ course.texts) course.ended)
+-- the first text is taken of those that were read ahead
+line_first : (Then : Course → Type 0) (text : List ℕ) (others left : List Note) → left ≡ LineNote text ∷ others
+    → SomeCourse (λ course. NotesCome Then left course.texts course.ended)
+    → ((course : Course) → NotesCome Then others course.texts course.ended
+    → NotesCome Then left (text ∷ course.texts) course.ended)
     × SomeCourse (λ course. NotesCome Then others course.texts course.ended)
-line_first Then line others left is was =
+line_first Then text others left is was =
     let Comes : List Note → Type 0 = λ notes. NotesCome Then notes was.0.texts was.0.ended in
     let first = subst Comes is was.1 in (
-      first.0,
-      first.3,
-      λ course come. subst (λ notes. NotesCome Then notes (first.0 ∷ course.texts) course.ended) (sym is) (first.0, course.texts, refl, first.3, come),
-      (course_of first.1 was.0.ended, first.4),
+      λ course come. subst (λ notes. NotesCome Then notes (text ∷ course.texts) course.ended) (sym is)
+          (course.texts, refl, come),
+      (course_of first.0 was.0.ended, first.2),
     )
 
-pub line_turn : {R : Type 0} (gives : R → List ℕ → Bool → Type 0) (IsWanted : FeatureValue → Type 0) (before : FeedState R) (queue : Queue) (line : List ℕ)
-    → before.notes.left ≡ LineNote line ∷ queue.left → queue.closed ≡ before.notes.closed → SomeCourse (MayTake gives IsWanted before)
-    → (text : List ℕ) × (line ≡ with_newline text) × TakesTurn gives IsWanted before (record before { notes = queue }) (Some text)
-line_turn gives IsWanted before queue line is same was =
-    let Then : Bool → Course → Type 0 = λ closed course. ThenComes closed gives IsWanted before.shift before.unread before.count before.last course in
-    let first = line_first (Then before.notes.closed) line queue.left before.notes.left is was in
-    let Comes : Course → Bool → Type 0 = λ course closed. NotesCome (Then closed) queue.left course.texts course.ended in
+pub line_turn : {R : Type 0} (gives : R → List ℕ → Bool → Type 0) (IsWanted : FeatureValue → Type 0)
+    (before : FeedState R) (queue : Queue) (text : List ℕ)
+    → before.notes.left ≡ LineNote text ∷ queue.left → queue.closed ≡ before.notes.closed
+    → SomeCourse (MayTake gives IsWanted before)
+    → TakesTurn gives IsWanted before (record before { notes = queue }) (Some text)
+line_turn gives IsWanted before queue text is same was =
+    let Then : Bool → Course → Type 0 = λ closed course.
+    ThenComes closed gives IsWanted before.shift before.unread before.count before.last course in
+    let first = line_first (Then before.notes.closed) text queue.left before.notes.left is was in
+    let Comes : Course → Bool → Type 0 = λ course closed.
+    NotesCome (Then closed) queue.left course.texts course.ended in
     let open_part = ap (λ closed. if closed then 0 else 1 + most_to_come before.unread) same in (
-      first.0,
-      first.1,
-      (
-        λ course come. first.2 course (subst (Comes course) same come),
-        (first.3.0, subst (Comes first.3.0) (sym same) first.3.1),
-        omega (arith, ap length is, open_part),
-      ),
+      λ course come. first.0 course (subst (Comes course) same come),
+      (first.1.0, subst (Comes first.1.0) (sym same) first.1.1),
+      omega (arith, ap length is, open_part),
     )

@@ -11,9 +11,7 @@ use Rattle.tile_merge.specs.EndNotes.{ended_so, outcomes_in, totals_in}
 use Rattle.tile_merge.specs.Feeds.{FeedState, Course, course_of, MayTake}
 use Rattle.tile_merge.specs.Merged.{HeadedTile, MergedTile, HaveHeads, headers_of, shifts_of, texts_of, outcomes_of, ComesToTexts, Merges}
 use Rattle.tile_merge.specs.Opened.{AllThree, OpenState, IsOpened}
-use Rattle.tile_stream.specs.TileState.{AreLines}
 use Rattle.tile_merge.specs.Rounds.{IsFeedOf, MayTakeAll, SomeCourses, texts_in, ends_in}
-use Rattle.tile_stream.specs.Held.{held_value}
 use Rattle.tile_stream.proofs.HeldFirst.{something, tile_comes}
 
 module _ {R : Type 0} (gives : R → List ℕ → Bool → Type 0) (IsWanted : FeatureValue → Type 0) where
@@ -24,12 +22,15 @@ module _ {R : Type 0} (gives : R → List ℕ → Bool → Type 0) (IsWanted : F
       × (course.ended.total ≡ length course.texts)
 
   module _ (capacity : ℕ) where
-    fresh : (tile : OpenState R) (shift : Triple) (feed : FeedState R) → IsFeedOf capacity tile shift feed → (course : Course) → MayTake gives IsWanted feed course → MayGive tile shift course
+    fresh : (tile : OpenState R) (shift : Triple) (feed : FeedState R) → IsFeedOf capacity tile shift feed
+        → (course : Course) → MayTake gives IsWanted feed course → MayGive tile shift course
     fresh tile shift feed is course may =
         let there = subst (λ (f : FeedState R). MayTake gives IsWanted f course) is may in
         (there.0, omega (arith, there.1))
 
-    pub given_all : (tiles : List (OpenState R)) (shifts : List Triple) (feeds : List (FeedState R)) (courses : List Course) → AllThree (IsFeedOf capacity) tiles shifts feeds → MayTakeAll gives IsWanted feeds courses → AllThree MayGive tiles shifts courses
+    pub given_all : (tiles : List (OpenState R)) (shifts : List Triple) (feeds : List (FeedState R))
+        (courses : List Course) → AllThree (IsFeedOf capacity) tiles shifts feeds
+        → MayTakeAll gives IsWanted feeds courses → AllThree MayGive tiles shifts courses
     given_all [] [] [] [] fed may = tt
     given_all (tile ∷ tiles) (shift ∷ shifts) (feed ∷ feeds) (course ∷ courses) fed may =
         (fresh tile shift feed fed.0 course may.0, given_all tiles shifts feeds courses fed.1 may.1)
@@ -41,10 +42,12 @@ module _ {R : Type 0} (gives : R → List ℕ → Bool → Type 0) (IsWanted : F
     given_all (tile ∷ tiles) (shift ∷ shifts) (feed ∷ feeds) [] fed may = absurd may
 
     -- something may be ahead of each
-    pub some_ahead : (readers : List R) (tiles : List (OpenState R)) (headers : List HeaderValue) (shifts : List Triple) (feeds : List (FeedState R)) → AllThree (IsOpened gives) readers tiles headers → AllThree (IsFeedOf capacity) tiles shifts feeds → SomeCourses (MayTakeAll gives IsWanted feeds)
+    pub some_ahead : (readers : List R) (tiles : List (OpenState R)) (headers : List HeaderValue) (shifts : List Triple)
+        (feeds : List (FeedState R)) → AllThree (IsOpened gives) readers tiles headers
+        → AllThree (IsFeedOf capacity) tiles shifts feeds → SomeCourses (MayTakeAll gives IsWanted feeds)
     some_ahead [] [] [] [] [] opened fed = ([], tt)
     some_ahead (reader ∷ readers) (tile ∷ tiles) (header ∷ headers) (shift ∷ shifts) (feed ∷ feeds) opened fed =
-        let one = something gives IsWanted shift tile.unread (subst AreLines (sym opened.0.none_ready) tt) opened.0.some in
+        let one = something gives IsWanted shift tile.unread opened.0.some in
         let course = course_of one.0 (ended_so (0 + length one.0) one.1.0) in
         let may = subst (λ (f : FeedState R). MayTake gives IsWanted f course) (sym fed.0) (one.1.1, refl) in
         let more = some_ahead readers tiles headers shifts feeds opened.1 fed.1 in
@@ -59,7 +62,8 @@ module _ {R : Type 0} (gives : R → List ℕ → Bool → Type 0) (IsWanted : F
     some_ahead (reader ∷ readers) (tile ∷ tiles) (header ∷ headers) (shift ∷ shifts) [] opened fed = absurd fed
 
   -- the tiles of a merge, each with its head, its shift, and what it gave
-  pub record AreMerged (readers : List R) (headers : List HeaderValue) (shifts : List Triple) (courses : List Course) : Type 0 where
+  pub record AreMerged (readers : List R) (headers : List HeaderValue) (shifts : List Triple) (courses : List Course) :
+      Type 0 where
     pub merged : List MergedTile
     pub heads : HaveHeads gives readers (map (λ (m : MergedTile). m.tile) merged)
     pub comes : AllByRecursion (ComesToTexts IsWanted) merged
@@ -69,23 +73,46 @@ module _ {R : Type 0} (gives : R → List ℕ → Bool → Type 0) (IsWanted : F
     pub outcomes_are : outcomes_of merged ≡ outcomes_in (ends_in courses)
     pub totals_are : totals_in (ends_in courses) ≡ map length (texts_of merged)
 
-  pub are_merged : (readers : List R) (tiles : List (OpenState R)) (headers : List HeaderValue) (shifts : List Triple) (courses : List Course) → AllThree (IsOpened gives) readers tiles headers → AllThree MayGive tiles shifts courses → AreMerged readers headers shifts courses
-  are_merged [] [] [] [] [] opened given = record { merged = []; heads = tt; comes = tt; headers_are = refl; shifts_are = refl; texts_are = refl; outcomes_are = refl; totals_are = refl }
+  pub are_merged : (readers : List R) (tiles : List (OpenState R)) (headers : List HeaderValue) (shifts : List Triple)
+      (courses : List Course) → AllThree (IsOpened gives) readers tiles headers → AllThree MayGive tiles shifts courses
+      → AreMerged readers headers shifts courses
+  are_merged [] [] [] [] [] opened given = record {
+    merged = [];
+    heads = tt;
+    comes = tt;
+    headers_are = refl;
+    shifts_are = refl;
+    texts_are = refl;
+    outcomes_are =
+        refl;
+    totals_are = refl;
+  }
   are_merged (reader ∷ readers) (tile ∷ tiles) (header ∷ headers) (shift ∷ shifts) (course ∷ courses) opened given =
       let comes = given.0.0 in
-      let head = opened.0.head comes.0 comes.1.0 in
-      let headed : HeadedTile = record { lines = head.0; header = header; held = held_value tile.unread.held; after = comes.0 } in
-      let one : MergedTile = record { tile = headed; shift = shift; texts = course.texts; outcome = course.ended.outcome } in
+      let head = opened.0.head.2 comes.0 comes.1.0 in
+      let headed : HeadedTile = record { lines = head.0; header = header; held = opened.0.head.0; after = comes.0 } in
+      let one : MergedTile = record {
+        tile = headed;
+        shift = shift;
+        texts = course.texts;
+        outcome =
+            course.ended.outcome;
+      } in
       let more = are_merged readers tiles headers shifts courses opened.1 given.1 in
       record {
         merged = one ∷ more.merged;
         heads = ((head.1, head.2), more.heads);
-        comes = (tile_comes gives IsWanted shift tile.unread opened.0.none_ready (omega (arith, opened.0.line, opened.0.later)) course.texts course.ended.outcome comes, more.comes);
+        comes = (
+          tile_comes gives IsWanted shift tile.unread opened.0.head.0 opened.0.head.1 opened.0.none_ready
+              (omega (arith, opened.0.line, opened.0.later)) course.texts course.ended.outcome comes,
+          more.comes,
+        );
         headers_are = ap (λ xs. header ∷ xs) more.headers_are;
         shifts_are = ap (λ xs. shift ∷ xs) more.shifts_are;
         texts_are = ap (λ xs. course.texts ∷ xs) more.texts_are;
         outcomes_are = ap (λ xs. course.ended.outcome ∷ xs) more.outcomes_are;
-        totals_are = ap (λ n. n ∷ totals_in (ends_in courses)) given.0.1 ∙ ap (λ xs. length course.texts ∷ xs) more.totals_are;
+        totals_are = ap (λ n. n ∷ totals_in (ends_in courses)) given.0.1
+            ∙ ap (λ xs. length course.texts ∷ xs) more.totals_are;
       }
   are_merged [] [] [] [] (course ∷ courses) opened given = absurd given
   are_merged [] [] [] (shift ∷ shifts) courses opened given = absurd given
@@ -96,9 +123,12 @@ module _ {R : Type 0} (gives : R → List ℕ → Bool → Type 0) (IsWanted : F
   are_merged (reader ∷ readers) (tile ∷ tiles) (header ∷ headers) [] courses opened given = absurd given
   are_merged (reader ∷ readers) (tile ∷ tiles) (header ∷ headers) (shift ∷ shifts) [] opened given = absurd given
 
-  pub merges : (base : Base) (readers : List R) (headers : List HeaderValue) (line : List ℕ) (shifts : List Triple) (courses : List Course) (all : AreMerged readers headers shifts courses) → IsJoined base headers line shifts → Merges gives IsWanted base readers all.merged line
+  pub merges : (base : Base) (readers : List R) (headers : List HeaderValue) (line : List ℕ) (shifts : List Triple)
+      (courses : List Course) (all : AreMerged readers headers shifts courses) → IsJoined base headers line shifts
+      → Merges gives IsWanted base readers all.merged line
   merges base readers headers line shifts courses all joined = record {
     heads = all.heads;
-    joined = subst (λ (hs : List HeaderValue). IsJoined base hs line (shifts_of all.merged)) (sym all.headers_are) (subst (IsJoined base headers line) (sym all.shifts_are) joined);
+    joined = subst (λ (hs : List HeaderValue). IsJoined base hs line (shifts_of all.merged)) (sym all.headers_are)
+        (subst (IsJoined base headers line) (sym all.shifts_are) joined);
     texts = all.comes;
   }

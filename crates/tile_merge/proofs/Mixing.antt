@@ -1,16 +1,12 @@
--- Lines that are taken of several tiles, as they come: what was taken interleaves them.
+-- Texts that are taken of several tiles, as they come: what was taken interleaves them.
 use Rattle.std.proofs.Common.{◌≡◌, ◌≢◌, ◌≤◌, ◌<◌, ◌+◌, ◌-◌, ◌++◌, ℕ, zero, suc, Bool, true, false, List, [], ◌∷◌, length, take, get_or, set, map, ◌==◌, if◌then◌else◌, refl, sym, ap, subst, ◌∙◌, arith, append-nil, length-append}
 use Rattle.std.proofs.lemmas.Bool.{eq-eqb}
 use Rattle.std.proofs.lemmas.Bool.Decides.{nat_tests}
 use Rattle.std.proofs.lemmas.List.{get_or-set_same, get_or-set_other, get_or-map, length-map}
 use Rattle.std.proofs.lemmas.List.Elements.{All-append}
-use Rattle.std.proofs.Math.Seq.{take-append_seam}
 use Rattle.std.specs.List.{All, AllByRecursion, concat}
-use Rattle.city_json.specs.Bytes.{newline}
 use Rattle.tile_merge.specs.Interleaves.{Interleaves, items_at}
 use Rattle.tile_merge.specs.Opened.{AllThree}
-use Rattle.tile_merge.specs.Rounds.{lines_of}
-use Rattle.tile_stream.specs.Stream.{with_newline}
 use Rattle.tile_merge.proofs.Opening.{all_three_long}
 use Rattle.tile_merge.proofs.TurnsInterleave.{at-append, at_other, at_own}
 
@@ -21,10 +17,13 @@ set_long (x ∷ items) (suc i) y = ap suc (set_long items i y)
 
 module _ {X : Type 0} where
   -- the items of a number, where one more item is of it or of another
-  at_one : (t n : ℕ) (item : X) (same : Bool) → (n == t) ≡ same → items_at t (n ∷ []) (item ∷ []) ≡ (if same then item ∷ [] else [])
+  at_one : (t n : ℕ) (item : X) (same : Bool) → (n == t) ≡ same
+      → items_at t (n ∷ []) (item ∷ []) ≡ (if same then item ∷ [] else [])
   at_one t n item same is = rw is refl
 
-  at_this : (lists : List (List X)) (i t : ℕ) (item : X) → i < length lists → (same : Bool) → (i == t) ≡ same → get_or lists t [] ++ (if same then item ∷ [] else []) ≡ get_or (set lists i (get_or lists i [] ++ item ∷ [])) t []
+  at_this : (lists : List (List X)) (i t : ℕ) (item : X) → i < length lists → (same : Bool) → (i == t) ≡ same
+      → get_or lists t [] ++ (if same then item ∷ [] else [])
+      ≡ get_or (set lists i (get_or lists i [] ++ item ∷ [])) t []
   at_this lists i t item within true is =
       let same : t ≡ i = grind (arith, nat_tests, is) in
       rw same (sym (get_or-set_same lists i (get_or lists i [] ++ item ∷ []) [] within))
@@ -47,14 +46,16 @@ module _ {X : Type 0} where
       empty_at (list ∷ ls) nothing (suc t) = empty_at ls nothing.1 t
 
   -- an item more of the list of number i
-  pub one_mixed : (lists : List (List X)) (out : List X) (i : ℕ) (item : X) → i < length lists → Interleaves lists out → Interleaves (set lists i (get_or lists i [] ++ item ∷ [])) (out ++ item ∷ [])
+  pub one_mixed : (lists : List (List X)) (out : List X) (i : ℕ) (item : X) → i < length lists → Interleaves lists out
+      → Interleaves (set lists i (get_or lists i [] ++ item ∷ [])) (out ++ item ∷ [])
   one_mixed lists out i item within mixed =
       let longer = set_long lists i (get_or lists i [] ++ item ∷ []) in
       let Own : ℕ → Type 0 = λ n. n < length (set lists i (get_or lists i [] ++ item ∷ [])) in
       record {
         numbers = mixed.numbers ++ i ∷ [];
         long = omega (arith, length-append mixed.numbers (i ∷ []), length-append out (item ∷ []), mixed.long);
-        own = All-append Own mixed.numbers (i ∷ []) (λ k d there. omega (arith, longer, mixed.own k d there)) (λ k d there. only_own Own k d (omega (arith, there)) (omega (arith, longer, within)));
+        own = All-append Own mixed.numbers (i ∷ []) (λ k d there. omega (arith, longer, mixed.own k d there))
+            (λ k d there. only_own Own k d (omega (arith, there)) (omega (arith, longer, within)));
         each = λ t there.
             at-append t mixed.numbers (i ∷ []) out (item ∷ []) mixed.long
             ∙ ap (λ items. items ++ items_at t (i ∷ []) (item ∷ [])) (mixed.each t (omega (arith, there, longer)))
@@ -88,50 +89,68 @@ module _ {X : Type 0} where
   numbers_long next [] = refl
   numbers_long next (rest ∷ rests) =
       let long = length-map rest (λ (item : X). next) in
-      omega (arith, long, numbers_long (suc next) rests, length-append (map (λ (item : X). next) rest) (numbers_of (suc next) rests), length-append rest (flat rests))
+      omega (
+        arith,
+        long,
+        numbers_long (suc next) rests,
+        length-append (map (λ (item : X). next) rest) (numbers_of (suc next) rests),
+        length-append rest (flat rests),
+      )
 
   same_own : (P : ℕ → Type 0) (next : ℕ) → P next → (rest : List X) → All P (map (λ item. next) rest)
   same_own P next holds [] k d within = absurd (omega (arith, within))
   same_own P next holds (item ∷ rest) zero d within = holds
   same_own P next holds (item ∷ rest) (suc k) d within = same_own P next holds rest k d (omega (arith, within))
 
-  numbers_own : (count next : ℕ) (rests : List (List X)) → next + length rests ≤ count → All (λ (n : ℕ). n < count) (numbers_of next rests)
+  numbers_own : (count next : ℕ) (rests : List (List X)) → next + length rests ≤ count
+      → All (λ (n : ℕ). n < count) (numbers_of next rests)
   unfolding numbers_of
   numbers_own count next [] fits = λ k d within. absurd (omega (arith, within))
   numbers_own count next (rest ∷ rests) fits =
       let Own : ℕ → Type 0 = λ n. n < count in
-      All-append Own (map (λ item. next) rest) (numbers_of (suc next) rests) (same_own Own next (omega (arith, fits)) rest) (numbers_own count (suc next) rests (omega (arith, fits)))
+      All-append Own (map (λ item. next) rest) (numbers_of (suc next) rests)
+      (same_own Own next (omega (arith, fits)) rest) (numbers_own count (suc next) rests (omega (arith, fits)))
 
   here_at : (t next : ℕ) (rest : List X) → next ≡ t → items_at t (map (λ item. next) rest) rest ≡ rest
   here_at t next [] same = refl
-  here_at t next (item ∷ rest) same = at_own t next (map (λ item. next) rest) item rest same ∙ ap (λ items. item ∷ items) (here_at t next rest same)
+  here_at t next (item ∷ rest) same = at_own t next (map (λ item. next) rest) item rest same
+      ∙ ap (λ items. item ∷ items) (here_at t next rest same)
 
   elsewhere_at : (t next : ℕ) (rest : List X) → next ≢ t → items_at t (map (λ item. next) rest) rest ≡ []
   elsewhere_at t next [] other = refl
-  elsewhere_at t next (item ∷ rest) other = at_other t next (map (λ item. next) rest) item rest other ∙ elsewhere_at t next rest other
+  elsewhere_at t next (item ∷ rest) other = at_other t next (map (λ item. next) rest) item rest other
+      ∙ elsewhere_at t next rest other
 
   before_at : (t next : ℕ) (rests : List (List X)) → t < next → items_at t (numbers_of next rests) (flat rests) ≡ []
   unfolding numbers_of
   before_at t next [] before = refl
   before_at t next (rest ∷ rests) before =
-      at-append t (map (λ item. next) rest) (numbers_of (suc next) rests) rest (flat rests) (length-map rest (λ (item : X). next))
-      ∙ ap (λ items. items ++ items_at t (numbers_of (suc next) rests) (flat rests)) (elsewhere_at t next rest (λ same. omega (arith, same, before)))
+      at-append t (map (λ item. next) rest) (numbers_of (suc next) rests) rest (flat rests)
+      (length-map rest (λ (item : X). next))
+      ∙ ap (λ items. items ++ items_at t (numbers_of (suc next) rests) (flat rests))
+      (elsewhere_at t next rest (λ same. omega (arith, same, before)))
       ∙ before_at t (suc next) rests (omega (arith, before))
 
-  rest_at : (t next place : ℕ) (rests : List (List X)) → t ≡ next + place → items_at t (numbers_of next rests) (flat rests) ≡ get_or rests place []
+  rest_at : (t next place : ℕ) (rests : List (List X)) → t ≡ next + place
+      → items_at t (numbers_of next rests) (flat rests) ≡ get_or rests place []
   unfolding numbers_of
   rest_at t next place [] is = refl
   rest_at t next zero (rest ∷ rests) is =
-      at-append t (map (λ item. next) rest) (numbers_of (suc next) rests) rest (flat rests) (length-map rest (λ (item : X). next))
-      ∙ ap (λ items. items ++ items_at t (numbers_of (suc next) rests) (flat rests)) (here_at t next rest (omega (arith, is)))
+      at-append t (map (λ item. next) rest) (numbers_of (suc next) rests) rest (flat rests)
+      (length-map rest (λ (item : X). next))
+      ∙ ap (λ items. items ++ items_at t (numbers_of (suc next) rests) (flat rests))
+      (here_at t next rest (omega (arith, is)))
       ∙ ap (λ items. rest ++ items) (before_at t (suc next) rests (omega (arith, is)))
       ∙ append-nil rest
   rest_at t next (suc place) (rest ∷ rests) is =
-      at-append t (map (λ item. next) rest) (numbers_of (suc next) rests) rest (flat rests) (length-map rest (λ (item : X). next))
-      ∙ ap (λ items. items ++ items_at t (numbers_of (suc next) rests) (flat rests)) (elsewhere_at t next rest (λ same. omega (arith, same, is)))
+      at-append t (map (λ item. next) rest) (numbers_of (suc next) rests) rest (flat rests)
+      (length-map rest (λ (item : X). next))
+      ∙ ap (λ items. items ++ items_at t (numbers_of (suc next) rests) (flat rests))
+      (elsewhere_at t next rest (λ same. omega (arith, same, is)))
       ∙ rest_at t (suc next) place rests (omega (arith, is))
 
-  parted_at : (taken wholes rests : List (List X)) → AllThree AreParted taken wholes rests → (t : ℕ) → get_or wholes t [] ≡ get_or taken t [] ++ get_or rests t []
+  parted_at : (taken wholes rests : List (List X)) → AllThree AreParted taken wholes rests → (t : ℕ)
+      → get_or wholes t [] ≡ get_or taken t [] ++ get_or rests t []
   parted_at [] [] [] parted t = refl
   parted_at (list ∷ taken) (whole ∷ wholes) (rest ∷ rests) parted zero = parted.0
   parted_at (list ∷ taken) (whole ∷ wholes) (rest ∷ rests) parted (suc t) = parted_at taken wholes rests parted.1 t
@@ -141,93 +160,26 @@ module _ {X : Type 0} where
   parted_at (list ∷ taken) (whole ∷ wholes) [] parted t = absurd parted
 
   -- what was taken, and then what is left of each list, interleaves the whole lists
-  pub mixed_on : (taken wholes rests : List (List X)) → AllThree AreParted taken wholes rests → (out : List X) → Interleaves taken out → Interleaves wholes (out ++ flat rests)
+  pub mixed_on : (taken wholes rests : List (List X)) → AllThree AreParted taken wholes rests → (out : List X)
+      → Interleaves taken out → Interleaves wholes (out ++ flat rests)
   mixed_on taken wholes rests parted out mixed =
       let long = all_three_long AreParted taken wholes rests parted in
       record {
         numbers = mixed.numbers ++ numbers_of 0 rests;
-        long = omega (arith, length-append mixed.numbers (numbers_of 0 rests), length-append out (flat rests), mixed.long, numbers_long 0 rests);
-        own = All-append (λ (n : ℕ). n < length wholes) mixed.numbers (numbers_of 0 rests) (λ k d there. omega (arith, long.0, mixed.own k d there)) (numbers_own (length wholes) 0 rests (omega (arith, long.0, long.1)));
+        long = omega (
+          arith,
+          length-append mixed.numbers (numbers_of 0 rests),
+          length-append out (flat rests),
+          mixed.long,
+          numbers_long 0 rests,
+        );
+        own = All-append (λ (n : ℕ). n < length wholes) mixed.numbers (numbers_of 0 rests)
+            (λ k d there. omega (arith, long.0, mixed.own k d there))
+            (numbers_own (length wholes) 0 rests (omega (arith, long.0, long.1)));
         each = λ t there.
             at-append t mixed.numbers (numbers_of 0 rests) out (flat rests) mixed.long
-            ∙ ap (λ items. items ++ items_at t (numbers_of 0 rests) (flat rests)) (mixed.each t (omega (arith, there, long.0)))
+            ∙ ap (λ items. items ++ items_at t (numbers_of 0 rests) (flat rests))
+            (mixed.each t (omega (arith, there, long.0)))
             ∙ ap (λ items. get_or taken t [] ++ items) (rest_at t 0 t rests (omega arith))
             ∙ sym (parted_at taken wholes rests parted t);
       }
-
--- ---- lines and their texts ----
-
--- a line without its last byte
-abbrev front_of : List ℕ → List ℕ
-front_of line = take (length line - 1) line
-
-front_is : (text : List ℕ) → front_of (with_newline text) ≡ text
-front_is text =
-    let long = length-append text (newline ∷ []) in
-    let short : length (with_newline text) - 1 ≡ length text = omega (arith, long) in
-    ap (λ n. take n (with_newline text)) short ∙ take-append_seam text (newline ∷ [])
-
-fronts_are : (texts : List (List ℕ)) → map front_of (map with_newline texts) ≡ texts
-fronts_are [] = refl
-fronts_are (text ∷ texts) = rw (front_is text, fronts_are texts) refl
-
-abbrev IsLine : List ℕ → Type 0
-IsLine line = line ≡ with_newline (front_of line)
-
-all_lines : (texts : List (List ℕ)) → AllByRecursion IsLine (map with_newline texts)
-all_lines [] = tt
-all_lines (text ∷ texts) = (ap with_newline (sym (front_is text)), all_lines texts)
-
-joined_lines : (lines : List (List ℕ)) → AllByRecursion IsLine lines → concat lines ≡ lines_of (map front_of lines)
-joined_lines [] all = refl
-joined_lines (line ∷ lines) all = ap (λ l. l ++ concat lines) all.0 ∙ ap (λ l. with_newline (front_of line) ++ l) (joined_lines lines all.1)
-
-module _ {X Y : Type 0} (f : X → Y) where
-  this : (same : Bool) (item : X) (images : List Y) (items : List X) → images ≡ map f items → (if same then f item ∷ images else images) ≡ map f (if same then item ∷ items else items)
-  this true item images items are = ap (λ ys. f item ∷ ys) are
-  this false item images items are = are
-
-  at_map : (t : ℕ) (numbers : List ℕ) (out : List X) → items_at t numbers (map f out) ≡ map f (items_at t numbers out)
-  at_map t [] out = refl
-  at_map t (n ∷ numbers) [] = refl
-  at_map t (n ∷ numbers) (item ∷ out) = this (n == t) item (items_at t numbers (map f out)) (items_at t numbers out) (at_map t numbers out)
-
--- what holds of the items of each list holds of all
-module _ {X : Type 0} (P : X → Type 0) (count : ℕ) where
-  own_all : (numbers : List ℕ) (out : List X) → length numbers ≡ length out → All (λ (n : ℕ). n < count) numbers → ((t : ℕ) → t < count → AllByRecursion P (items_at t numbers out)) → AllByRecursion P out
-  own_all [] [] long own each = tt
-  own_all [] (item ∷ out) long own each = absurd (omega (arith, long))
-  own_all (n ∷ numbers) [] long own each = absurd (omega (arith, long))
-  own_all (n ∷ numbers) (item ∷ out) long own each =
-      let here = subst (AllByRecursion P) (at_own n n numbers item out refl) (each n (own 0 n (omega arith))) in (
-        here.0,
-        own_all numbers out (omega (arith, long)) (λ k d within. own (suc k) d (omega (arith, within))) (λ t within. later t (n == t) (each t within)),
-      )
-    where
-      later : (t : ℕ) (same : Bool) → AllByRecursion P (if same then item ∷ items_at t numbers out else items_at t numbers out) → AllByRecursion P (items_at t numbers out)
-      later t true all = all.1
-      later t false all = all
-
--- texts whose lines these are
-pub record AreTexts (lists : List (List (List ℕ))) (lines : List (List ℕ)) : Type 0 where
-  pub texts : List (List ℕ)
-  pub mixes : Interleaves lists texts
-  pub bytes : concat lines ≡ lines_of texts
-
--- lines that interleave those of texts are the lines of an interleaving of the texts
-pub texts_mixed : (lists : List (List (List ℕ))) (lines : List (List ℕ)) → Interleaves (map (map with_newline) lists) lines → AreTexts lists lines
-texts_mixed lists lines mixed =
-    let long = length-map lists (map with_newline) in
-    let lines_at : (t : ℕ) → t < length lists → items_at t mixed.numbers lines ≡ map with_newline (get_or lists t []) =
-    λ t within. mixed.each t (omega (arith, within, long)) ∙ get_or-map (map with_newline) lists t [] [] within in
-    let ends = own_all IsLine (length lists) mixed.numbers lines mixed.long (λ k d within. omega (arith, long, mixed.own k d within)) (λ t within. subst (AllByRecursion IsLine) (sym (lines_at t within)) (all_lines (get_or lists t []))) in
-    record {
-      texts = map front_of lines;
-      mixes = record {
-        numbers = mixed.numbers;
-        long = mixed.long ∙ sym (length-map lines front_of);
-        own = λ k d within. omega (arith, long, mixed.own k d within);
-        each = λ t within. at_map front_of t mixed.numbers lines ∙ ap (map front_of) (lines_at t within) ∙ fronts_are (get_or lists t []);
-      };
-      bytes = joined_lines lines ends;
-    }

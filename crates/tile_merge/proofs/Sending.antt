@@ -1,6 +1,6 @@
 -- A tile may move to a thread of its own, with all that it holds, where its reader may.
 use denote.RattleType.{RattleType}
-use denote.Param.Send.{IsSend, recorded_send, sendable, struct_send, view_send}
+use denote.Param.Send.{IsSend, recorded_send, struct_send, view_send}
 use denote.Struct.Declared.{shape}
 use denote.Struct.Struct.{Struct}
 use Rattle.std.proofs.Crossing as crossing
@@ -8,24 +8,15 @@ use Rattle.std.specs.contracts.alloc.Global as heap
 use Rattle.std.specs.contracts.collections.VecDeque as deque
 use Rattle.std.specs.contracts.impls.GlobalAllocator.TheImpl.{ghosts}
 use Rattle.byte_streams.specs.contracts.line.Line as line_type
-use Rattle.city_json.proofs.json.Json.TheLaws.TheKnot as json
 use Rattle.byte_streams.proofs.line.Line.TheSendSync as line
 use Rattle.city_grid.proofs.shifts.Shift.TheSendSync as shift
-use Rattle.city_grid.proofs.vertices.Vertex.TheSendSync as vertex
-use Rattle.city_feature.specs.contracts.features.Feature as feature_type
 use Rattle.city_feature.proofs.choices.Choice.TheSendSync as choice
 use Rattle.tile_merge.specs.contracts.merging.threaded.feeder.FedTile as fed_tile
 use Rattle.tile_merge.specs.contracts.merging.threaded.feeder.FedTile.TheInside as fed_inside
 use Rattle.tile_stream.specs.contracts.tile_reader.TileReader as reader_type
 use Rattle.tile_stream.specs.contracts.tile_reader.TileReader.TheInside as reader_inside
-use Rattle.tile_stream.specs.contracts.tile_reader.held.Held as held_type
+use Rattle.tile_stream.proofs.tile_reader.held.Held.TheSendSync as held
 use Rattle.tile_stream.proofs.lines.Lines.TheSendSync as lines
-
-feature_send : IsSend feature_type.the_row
-feature_send = search (sendable, crossing.crosses, json.send-Json, vertex.the_send) depth 20
-
-held_send : IsSend (Struct (shape held_type.the_type))
-held_send = search (sendable, crossing.crosses, feature_send) depth 20
 
 ready_send : IsSend (deque.the_row line_type.the_row heap.the_row ghosts)
 ready_send = crossing.Deque-send line_type.the_row line.the_send
@@ -34,7 +25,7 @@ module _ (R : RattleType) (reader : IsSend R) where
   reader_inside_send : IsSend (reader_inside.the_row R)
   reader_inside_send =
       let T = reader_inside.the_type R in
-      let fields = struct_send (shape T) (lines.the_send R reader, (held_send, (ready_send, tt))) in
+      let fields = struct_send (shape T) (lines.the_send R reader, (held.the_field_send, (ready_send, tt))) in
       recorded_send (Struct (shape T)) T.D T.to T.to_one fields
 
   reader_send : IsSend (reader_type.the_row R)

@@ -1,5 +1,5 @@
 -- Tiles that join, each with its thread, or why one has none.
-use Rattle.std.proofs.Common.{◌≡◌, ◌≤◌, ◌<◌, ◌++◌, ◌⊎◌, ℕ, Bool, List, [], ◌∷◌, Option, Result, Ok, Err, IfErr, length, take, take_all, get_or, inl, inr, refl, sym, ap, subst, ◌∙◌, arith}
+use Rattle.std.proofs.Common.{◌≡◌, ◌≤◌, ◌<◌, ◌-◌, ◌++◌, ◌⊎◌, ℕ, Bool, List, [], ◌∷◌, Option, Result, Ok, Err, IfErr, length, take, take_all, get_or, inl, inr, refl, sym, ap, subst, ◌∙◌, arith}
 use Rattle.std.proofs.lemmas.Grind.{common_steps}
 use Rattle.std.proofs.KnownBytes.{Keeps-refl}
 use Rattle.byte_streams.specs.declared.fault.Fault.{Fault}
@@ -20,57 +20,91 @@ use Rattle.tile_merge.specs.declared.merging.report.Report.{Report}
 use Rattle.tile_merge.proofs.Feeds.{take_next}
 use Rattle.tile_merge.proofs.InTurn.{of_early}
 use Rattle.tile_merge.proofs.Opening.{have_heads, all_three_long}
+use Rattle.tile_merge.proofs.Readying.{quiet_memory, quiet_tile}
+use Rattle.tile_stream.specs.Filtered.{failures_after_refusal}
 use Rattle.tile_merge.proofs.Threes.{all_three_push}
 
 module _ {A B C : Type 0} (P : A → B → C → Type 0) where
   -- all of the first list were gone through
-  pub threes_all : (xs yielded : List A) (ys : List B) (zs : List C) → yielded ≡ xs → length ys ≡ length xs → AllThree P yielded (take (length yielded) ys) zs → AllThree P xs ys zs
+  pub threes_all : (xs yielded : List A) (ys : List B) (zs : List C) → yielded ≡ xs → length ys ≡ length xs
+      → AllThree P yielded (take (length yielded) ys) zs → AllThree P xs ys zs
   threes_all xs yielded ys zs same long all =
       let whole = take_all (length yielded) ys (omega (arith, long, ap length same)) in
       let Holds : List A → List B → Type 0 = λ front back. AllThree P front back zs in
       subst (λ front. Holds front ys) same (subst (Holds yielded) whole all)
 
   -- one place more
-  pub threes_more : (xs : List A) (ys : List B) (zs newer : List C) (x : A) (y : B) (z : C) → AllThree P xs (take (length xs) ys) zs → length xs < length ys → y ≡ get_or ys (length xs) y → P x y z → newer ≡ zs ++ z ∷ []
+  pub threes_more : (xs : List A) (ys : List B) (zs newer : List C) (x : A) (y : B) (z : C)
+      → AllThree P xs (take (length xs) ys) zs → length xs < length ys → y ≡ get_or ys (length xs) y → P x y z
+      → newer ≡ zs ++ z ∷ []
       → AllThree P (xs ++ x ∷ []) (take (length (xs ++ x ∷ [])) ys) newer
   threes_more xs ys zs newer x y z all within is_y holds grown =
       let longer : take (length (xs ++ x ∷ [])) ys ≡ take (length xs) ys ++ y ∷ [] =
-      ap (λ n. take n ys) (grind (arith, common_steps)) ∙ take_next ys (length xs) y within ∙ ap (λ b. take (length xs) ys ++ b ∷ []) (sym is_y) in
+      ap (λ n. take n ys) (grind (arith, common_steps)) ∙ take_next ys (length xs) y within
+      ∙ ap (λ b. take (length xs) ys ++ b ∷ []) (sym is_y) in
       rw (longer, grown) (all_three_push P xs (take (length xs) ys) zs x y z all holds)
 
 -- a refusal to start the thread of a tile
-pub unstarted : (count tile : ℕ) → 0 < tile → tile ≤ count → (fault : Fault) → (fault ≡ Memory) ⊎ (fault ≡ NoThread) → (refusal : MergeFault)
-    → (fault ≡ NoThread → refusal ≡ record { tile = tile; line = 0; fault = NoThread }) → (fault ≡ Memory → refusal ≡ record { tile = 0; line = 0; fault = Memory }) → IsUnstarted count refusal
+pub unstarted : (count tile : ℕ) → 0 < tile → tile ≤ count → (fault : Fault) → (fault ≡ Memory) ⊎ (fault ≡ NoThread)
+    → (refusal : MergeFault)
+    → (fault ≡ NoThread → refusal ≡ record { tile = tile; line = 0; fault = NoThread })
+    → (fault ≡ Memory → refusal ≡ record { tile = 0; line = 0; fault = Memory }) → IsUnstarted count refusal
 unstarted count tile some within fault (inl memory) refusal thread none = inl (none memory)
 unstarted count tile some within fault (inr lacking) refusal thread none =
     let is = thread lacking in
     let Unstarted : MergeFault → Type 0 = λ r. (r.fault ≡ NoThread) × (r.line ≡ 0) × (0 < r.tile) × (r.tile ≤ count) in
     inr (subst Unstarted (sym is) (refl, refl, some, within))
 
+-- it is no failed write
+pub quiet_unstarted : (count : ℕ) (refusal : MergeFault) → IsUnstarted count refusal → (n : ℕ)
+    → failures_after_refusal refusal n ≡ n
+quiet_unstarted count refusal (inl memory) n =
+    let none = ap (λ (r : MergeFault). r.tile) memory in
+    quiet_memory refusal (none, ap (λ (r : MergeFault). r.line) memory) (ap (λ (r : MergeFault). r.fault) memory) n
+quiet_unstarted count refusal (inr lacking) n = quiet_tile refusal (refusal.tile - 1) (omega (arith, lacking.2)) n
+
 module _ {R : Type 0} (gives : R → List ℕ → Bool → Type 0) (base : Base) (readers : List R) where
-  pub not_started : (tiles : List (OpenState R)) (headers : List HeaderValue) (header : List ℕ) (shifts : List Triple) → AllThree (IsOpened gives) readers tiles headers → IsJoined base headers header shifts
-      → (refusal : MergeFault) → IsUnstarted (length tiles) refusal → HasNoThread gives base readers refusal ⊎ IsRefusedEarly gives base readers refusal
+  pub not_started : (tiles : List (OpenState R)) (headers : List HeaderValue) (header : List ℕ) (shifts : List Triple)
+      → AllThree (IsOpened gives) readers tiles headers → IsJoined base headers header shifts
+      → (refusal : MergeFault) → IsUnstarted (length tiles) refusal → HasNoThread gives base readers refusal
+      ⊎ IsRefusedEarly gives base readers refusal
   not_started tiles headers header shifts opened joined refusal (inl memory) =
       let none = ap (λ (r : MergeFault). r.tile) memory in
       inr (inr (inr (inr ((none, ap (λ (r : MergeFault). r.line) memory), ap (λ (r : MergeFault). r.fault) memory))))
   not_started tiles headers header shifts opened joined refusal (inr lacking) =
       let long = all_three_long (IsOpened gives) readers tiles headers opened in
       let heads = have_heads gives readers tiles headers opened in
-      let joins : HeadersJoin gives base readers = (heads.0, header, shifts, heads.1, subst (λ (hs : List HeaderValue). IsJoined base hs header shifts) (sym heads.2) joined) in
+      let joins : HeadersJoin gives base readers = (
+        heads.0,
+        header,
+        shifts,
+        heads.1,
+        subst (λ (hs : List HeaderValue). IsJoined base hs header shifts)
+            (sym heads.2) joined,
+      ) in
       inl (lacking.0, lacking.1, lacking.2, omega (arith, lacking.3, long.0), joins)
 
-  pub refused_start : (IsWanted : FeatureValue → Type 0) (refusal : MergeFault) (old : Option (List ℕ)) → HasNoThread gives base readers refusal ⊎ IsRefusedEarly gives base readers refusal → IsRefusedThreaded gives IsWanted base readers refusal old old
+  pub refused_start : (IsWanted : FeatureValue → Type 0) (refusal : MergeFault) (old : Option (List ℕ))
+      → HasNoThread gives base readers refusal ⊎ IsRefusedEarly gives base readers refusal
+      → IsRefusedThreaded gives IsWanted base readers refusal old old
   refused_start IsWanted refusal old (inl lacking) = inl (lacking, Keeps-refl old)
-  refused_start IsWanted refusal old (inr early) = inr (of_early gives IsWanted base Interleaves readers refusal old early)
+  refused_start IsWanted refusal old (inr early) =
+      inr (of_early gives IsWanted base Interleaves readers refusal old early)
 
-  pub refused_all : (IsWanted : FeatureValue → Type 0) (old new : Option (List ℕ)) (result : Result Report MergeFault) → IfErr result (λ e. IsRefusedMerge gives IsWanted base Interleaves readers e old new) → IfErr result (λ e. IsRefusedThreaded gives IsWanted base readers e old new)
+  pub refused_all : (IsWanted : FeatureValue → Type 0) (old new : Option (List ℕ)) (result : Result Report MergeFault)
+      → IfErr result (λ e. IsRefusedMerge gives IsWanted base Interleaves readers e old new)
+      → IfErr result (λ e. IsRefusedThreaded gives IsWanted base readers e old new)
   refused_all IsWanted old new (Ok report) refused = tt
   refused_all IsWanted old new (Err e) refused = inr refused
 
 -- nothing was taken of tiles whose threads were only started
-pub are_fresh : {R : Type 0} (choice : Choice) (tiles : List (OpenState R)) (shifts : List Triple) (running : List (RunningState R)) → AllThree (IsRunOf choice) tiles shifts running → AreFresh running
+pub are_fresh : {R : Type 0} (choice : Choice) (tiles : List (OpenState R)) (shifts : List Triple)
+    (running : List (RunningState R)) → AllThree (IsRunOf choice) tiles shifts running → AreFresh running
 are_fresh choice [] [] [] runs = tt
-are_fresh choice (tile ∷ tiles) (shift ∷ shifts) (run ∷ running) runs = ((ap (λ (r : RunningState _). r.lines) runs.0, ap (λ (r : RunningState _). r.cancels) runs.0), are_fresh choice tiles shifts running runs.1)
+are_fresh choice (tile ∷ tiles) (shift ∷ shifts) (run ∷ running) runs = (
+  (ap (λ (r : RunningState _). r.lines) runs.0, ap (λ (r : RunningState _). r.cancels) runs.0),
+  are_fresh choice tiles shifts running runs.1,
+)
 are_fresh choice [] [] (run ∷ running) runs = absurd runs
 are_fresh choice [] (shift ∷ shifts) running runs = absurd runs
 are_fresh choice (tile ∷ tiles) [] running runs = absurd runs

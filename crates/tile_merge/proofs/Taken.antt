@@ -4,13 +4,13 @@ use Rattle.tile_handoff.specs.declared.note.End.{End}
 use Rattle.tile_handoff.specs.declared.note.Note.{Note}
 use Rattle.tile_handoff.specs.declared.note.Note.TheVariants.{Line as LineNote, End as EndNote}
 use Rattle.tile_handoff.specs.Notes.{has_end}
-use Rattle.tile_merge.specs.EndNotes.{end_of, ended_so, line_note, notes_of}
+use Rattle.tile_merge.specs.EndNotes.{end_of, ended_so, notes_of}
 use Rattle.tile_merge.specs.Feeds.{Course, course_of}
-use Rattle.tile_stream.specs.Stream.{with_newline}
 use Rattle.tile_merge.specs.Threads.{Fed, IsFed, HasGiven, TellsEnd, lines_in}
 
 -- a line more, and the end note
-pub lines_more : (notes : List Note) (line : List ℕ) → lines_in (notes ++ LineNote line ∷ []) ≡ lines_in notes ++ line ∷ []
+pub lines_more : (notes : List Note) (line : List ℕ)
+    → lines_in (notes ++ LineNote line ∷ []) ≡ lines_in notes ++ line ∷ []
 lines_more [] line = refl
 lines_more (LineNote first ∷ notes) line = ap (λ ls. first ∷ ls) (lines_more notes line)
 lines_more (EndNote end ∷ notes) line = lines_more notes line
@@ -21,9 +21,12 @@ lines_ended (LineNote first ∷ notes) end = ap (λ ls. first ∷ ls) (lines_end
 lines_ended (EndNote first ∷ notes) end = lines_ended notes end
 
 -- the lines of texts
-lines_of_notes : (texts : List (List ℕ)) → lines_in (map line_note texts) ≡ map with_newline texts
+abbrev line_note : List ℕ → Note
+line_note text = LineNote text
+
+lines_of_notes : (texts : List (List ℕ)) → lines_in (map line_note texts) ≡ texts
 lines_of_notes [] = refl
-lines_of_notes (text ∷ texts) = ap (λ ls. with_newline text ∷ ls) (lines_of_notes texts)
+lines_of_notes (text ∷ texts) = ap (λ ls. text ∷ ls) (lines_of_notes texts)
 
 -- an end note that stands last is among them
 pub has_its_end : (front : List Note) (end : End) → has_end (front ++ EndNote end ∷ []) ≡ true
@@ -32,7 +35,8 @@ has_its_end (LineNote line ∷ front) end = has_its_end front end
 has_its_end (EndNote first ∷ front) end = refl
 
 -- the end note of texts is the one that stands last
-same_end : (texts : List (List ℕ)) (end last : End) (front : List Note) → map line_note texts ++ EndNote end ∷ [] ≡ front ++ EndNote last ∷ [] → last ≡ end
+same_end : (texts : List (List ℕ)) (end last : End) (front : List Note)
+    → map line_note texts ++ EndNote end ∷ [] ≡ front ++ EndNote last ∷ [] → last ≡ end
 same_end [] end last [] same = cc same
 same_end [] end last (note ∷ []) same = absurd (cc same)
 same_end [] end last (note ∷ other ∷ front) same = absurd (cc same)
@@ -44,11 +48,15 @@ some_end None is = absurd (cc is)
 some_end (Some end) is = (end, refl)
 
 -- what was taken of a tile, all that its thread put, is what the tile gave, or the first of it
-pub has_given : {R : Type 0} (gives : R → List ℕ → Bool → Type 0) (fed : Fed R) (last : Option End) (cancels : ℕ) (Unasked : Type 0) (end : End) → last ≡ Some end → (before carried taken : List Note) → before ≡ [] → IsFed gives fed Unasked before carried → taken ≡ carried → TellsEnd last taken → (cancels ≡ 0 → Unasked)
-    → (course : Course) × HasGiven gives (record { fed = fed; lines = lines_in taken; last = last; cancels = cancels }) course
+pub has_given : {R : Type 0} (gives : R → List ℕ → Bool → Type 0) (fed : Fed R) (last : Option End) (cancels : ℕ)
+    (Unasked : Type 0) (end : End) → last ≡ Some end → (before carried taken : List Note) → before ≡ []
+    → IsFed gives fed Unasked before carried → taken ≡ carried → TellsEnd last taken → (cancels ≡ 0 → Unasked)
+    → (course : Course) × HasGiven gives (record { fed = fed; lines = lines_in taken; last = last; cancels = cancels })
+    course
 has_given gives fed last cancels Unasked end is before carried taken empty put whole tells unasked =
     let told = subst (λ l. TellsEnd l taken) is tells in
-    let are : taken ≡ notes_of put.texts put.end = whole ∙ put.put ∙ ap (λ ns. ns ++ notes_of put.texts put.end) empty in
+    let are : taken ≡ notes_of put.texts put.end =
+    whole ∙ put.put ∙ ap (λ ns. ns ++ notes_of put.texts put.end) empty in
     let notes = map line_note put.texts in
     let all = put.texts ++ put.others in
     let last_is : last ≡ Some put.end = is ∙ ap Some (same_end put.texts put.end end told.0 (sym are ∙ told.1)) in (
@@ -62,7 +70,11 @@ has_given gives fed last cancels Unasked end is before carried taken empty put w
         lines = ap lines_in are ∙ lines_ended notes put.end ∙ lines_of_notes put.texts;
         whole = λ none.
             let all_came = put.whole (unasked none) in
-            let texts_are : put.texts ≡ all = sym (append-nil put.texts) ∙ ap (λ others. put.texts ++ others) (sym all_came.0) in
-            (all_came.0, last_is ∙ ap Some (all_came.1 ∙ ap (λ texts. end_of (ended_so (length texts) put.outcome)) texts_are));
+            let texts_are : put.texts ≡ all = sym (append-nil put.texts)
+            ∙ ap (λ others. put.texts ++ others) (sym all_came.0) in (
+              all_came.0,
+              last_is ∙ ap Some (all_came.1
+                  ∙ ap (λ texts. end_of (ended_so (length texts) put.outcome)) texts_are),
+            );
       },
     )

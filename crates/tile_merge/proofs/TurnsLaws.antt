@@ -21,7 +21,8 @@ module _ {X : Type 0} where
   no_firsts ([] ∷ others) none = no_firsts others (omega (arith, none))
   no_firsts ((x ∷ list) ∷ others) none = absurd (omega (arith, none))
 
-  step_of : (lists : List (List X)) (before after : ℕ) → longest lists ≡ before → after ≡ before - 1 → rounds before lists ≡ firsts lists ++ rounds after (rests lists)
+  step_of : (lists : List (List X)) (before after : ℕ) → longest lists ≡ before → after ≡ before - 1
+      → rounds before lists ≡ firsts lists ++ rounds after (rests lists)
   unfolding rounds
   step_of lists zero after long one = rw (no_firsts lists long, one) refl
   step_of lists (suc n) after long one =

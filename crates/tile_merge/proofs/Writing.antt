@@ -1,16 +1,17 @@
 -- The lines of tiles whose threads run, written as they are taken.
-use Rattle.std.proofs.Common.{◌≡◌, ◌<◌, ◌+◌, ◌++◌, ℕ, List, [], ◌∷◌, Option, Result, Ok, Err, IfErr, IsOk, OnOk, is_ok, false, zero, suc, length, take, get_or, set, refl, sym, ap, subst, ◌∙◌, arith, append_assoc, append-nil, take_all, le_refl}
+use Rattle.std.proofs.Common.{◌≡◌, ◌<◌, ◌+◌, ◌++◌, ℕ, List, [], ◌∷◌, Option, Result, Ok, Err, IfErr, IsOk, OnOk, is_ok, false, zero, suc, length, take, flat_map, get_or, set, refl, sym, ap, subst, ◌∙◌, arith, append_assoc, append-nil, take_all, le_refl}
 use Rattle.std.proofs.Math.Seq.{take-append-add, map-set_same}
 use Rattle.std.specs.Io.KnownBytes.{Appends, Keeps}
 use Rattle.std.proofs.KnownBytes.{Appends-trans}
 use Rattle.std.proofs.lemmas.List.{get_or-map, length-map, map-set}
-use Rattle.std.proofs.lemmas.List.Folds.{concat-append}
-use Rattle.std.specs.List.{AllByRecursion, concat}
+use Rattle.std.proofs.lemmas.Grind.{flat_map-append}
+use Rattle.std.specs.List.{AllByRecursion}
 use Rattle.byte_streams.specs.Failures.{after_call}
 use Rattle.byte_streams.specs.declared.fault.Fault.{Fault}
 use Rattle.byte_streams.specs.declared.fault.Fault.TheVariants.{Write}
 use Rattle.tile_merge.specs.Interleaves.{Interleaves}
 use Rattle.tile_merge.specs.Threads.{Fed, RunningState, AreFresh, AreUncancelled, LinesSoFar, WroteUnless, feds_of, lines_taken}
+use Rattle.tile_stream.specs.Stream.{stream, with_newline}
 use Rattle.tile_stream.proofs.Steps.{Appends-kept, first_of_longer}
 use Rattle.tile_merge.proofs.Mixing.{none_mixed, one_mixed}
 
@@ -27,23 +28,36 @@ both_ok A B onward wrote (Err fault) after holds = tt
 
 module _ (bytes line : List ℕ) (old : Option (List ℕ)) where
   -- a write failed before
-  pub still_failed : (fault other : Fault) (new : Option (List ℕ)) (wrote result : Result (Unit {0}) Fault) → wrote ≡ Err fault → result ≡ Err other → WroteUnless wrote bytes old new → WroteUnless result (bytes ++ line) old new
+  pub still_failed : (fault other : Fault) (new : Option (List ℕ)) (wrote result : Result (Unit {0}) Fault)
+      → wrote ≡ Err fault → result ≡ Err other → WroteUnless wrote bytes old new
+      → WroteUnless result (bytes ++ line) old new
   still_failed fault other new wrote result was is front =
       let part = subst (λ (r : Done). WroteUnless r bytes old new) was front in
       let first = first_of_longer part.0 bytes line in
-      subst (λ (r : Done). WroteUnless r (bytes ++ line) old new) (sym is) (first.0, subst (Appends old new) (sym first.1) part.1)
+      subst (λ (r : Done). WroteUnless r (bytes ++ line) old new) (sym is)
+      (first.0, subst (Appends old new) (sym first.1) part.1)
 
   -- it fails now
-  pub fails_now : (fault : Fault) (mid new : Option (List ℕ)) (wrote result : Result (Unit {0}) Fault) → wrote ≡ Ok tt → result ≡ Err fault → WroteUnless wrote bytes old mid → (count : ℕ) × Appends mid new (take count line) → WroteUnless result (bytes ++ line) old new
+  pub fails_now : (fault : Fault) (mid new : Option (List ℕ)) (wrote result : Result (Unit {0}) Fault) → wrote ≡ Ok tt
+      → result ≡ Err fault → WroteUnless wrote bytes old mid → (count : ℕ) × Appends mid new (take count line)
+      → WroteUnless result (bytes ++ line) old new
   fails_now fault mid new wrote result was is front part =
       let whole = subst (λ (r : Done). WroteUnless r bytes old mid) was front in
-      subst (λ (r : Done). WroteUnless r (bytes ++ line) old new) (sym is) (length bytes + part.0, subst (Appends old new) (sym (take-append-add bytes line part.0)) (Appends-trans old mid new _ _ whole part.1))
+      subst (λ (r : Done). WroteUnless r (bytes ++ line) old new) (sym is) (
+        length bytes + part.0,
+        subst (Appends old new) (sym (take-append-add bytes line part.0))
+            (Appends-trans old mid new _ _ whole part.1),
+      )
 
 -- a flush that follows what was written
-pub flushed : (result : Result (Unit {0}) Fault) (bytes : List ℕ) (old mid new : Option (List ℕ)) → Appends old mid bytes → Keeps mid new → WroteUnless result bytes old new
+pub flushed : (result : Result (Unit {0}) Fault) (bytes : List ℕ) (old mid new : Option (List ℕ))
+    → Appends old mid bytes → Keeps mid new → WroteUnless result bytes old new
 flushed (Ok done) bytes old mid new wrote keeps = Appends-kept old mid new bytes wrote keeps
-flushed (Err fault) bytes old mid new wrote keeps =
-    (length bytes, subst (Appends old new) (sym (take_all (length bytes) bytes (le_refl _))) (Appends-kept old mid new bytes wrote keeps))
+flushed (Err fault) bytes old mid new wrote keeps = (
+  length bytes,
+  subst (Appends old new) (sym (take_all (length bytes) bytes (le_refl _)))
+      (Appends-kept old mid new bytes wrote keeps),
+)
 
 pub on_ok : (A : Type 0) (wrote : Done) → wrote ≡ Ok tt → OnOk wrote A → A
 on_ok A wrote is holds = subst (λ (r : Done). OnOk r A) is holds
@@ -56,7 +70,8 @@ none_ok : (A : Type 0) (wrote : Done) → is_ok wrote ≡ false → OnOk wrote A
 none_ok A (Ok done) failing = absurd (cc failing)
 none_ok A (Err fault) failing = tt
 
-uncancelled_set : {R : Type 0} (tiles : List (RunningState R)) (i : ℕ) (default new : RunningState R) → new.cancels ≡ (get_or tiles i default).cancels → AreUncancelled tiles → AreUncancelled (set tiles i new)
+uncancelled_set : {R : Type 0} (tiles : List (RunningState R)) (i : ℕ) (default new : RunningState R)
+    → new.cancels ≡ (get_or tiles i default).cancels → AreUncancelled tiles → AreUncancelled (set tiles i new)
 uncancelled_set [] i default new kept none = tt
 uncancelled_set (tile ∷ tiles) zero default new kept none = (kept ∙ none.0, none.1)
 uncancelled_set (tile ∷ tiles) (suc i) default new kept none = (none.0, uncancelled_set tiles i default new kept none.1)
@@ -71,13 +86,17 @@ module _ {R : Type 0} where
   lines_of_tile tile = tile.lines
 
   -- nothing was taken yet
-  pub first_lines : (tiles : List (RunningState R)) (header : List ℕ) (wrote : Result (Unit {0}) Fault) (old new : Option (List ℕ)) (failures newer : ℕ) → AreFresh tiles → WroteUnless wrote ([] ++ header) old new → newer ≡ after_call wrote failures → IfErr wrote (λ fault. fault ≡ Write)
+  pub first_lines : (tiles : List (RunningState R)) (header : List ℕ) (wrote : Result (Unit {0}) Fault)
+      (old new : Option (List ℕ)) (failures newer : ℕ) → AreFresh tiles
+      → WroteUnless wrote ([] ++ with_newline header) old new → newer ≡ after_call wrote failures
+      → IfErr wrote (λ fault. fault ≡ Write)
       → LinesSoFar (feds_of tiles) header tiles wrote old new failures newer
   first_lines tiles header wrote old new failures newer fresh written failed fault = record {
     fed = refl;
     out = [];
     mixes = none_mixed (lines_taken tiles) (none_taken tiles fresh);
-    written = subst (λ (bytes : List ℕ). WroteUnless wrote bytes old new) (sym (append-nil header)) written;
+    written = subst (λ (bytes : List ℕ). WroteUnless wrote bytes old new) (sym (append-nil (with_newline header)))
+        written;
     failed = failed;
     fault = fault;
     uncancelled = where_ok wrote (unasked tiles fresh);
@@ -91,36 +110,48 @@ module _ {R : Type 0} where
       unasked [] nothing = tt
       unasked (tile ∷ all) nothing = (nothing.0.1, unasked all nothing.1)
 
-      none_taken : (all : List (RunningState R)) → AreFresh all → AllByRecursion (λ (list : List (List ℕ)). list ≡ []) (lines_taken all)
+      none_taken : (all : List (RunningState R)) → AreFresh all
+          → AllByRecursion (λ (list : List (List ℕ)). list ≡ []) (lines_taken all)
       none_taken [] nothing = tt
       none_taken (tile ∷ all) nothing = (nothing.0.0, none_taken all nothing.1)
 
-  module _ (feds : List (Fed R)) (header : List ℕ) (tiles : List (RunningState R)) (i : ℕ) (default new : RunningState R) (within : i < length tiles) (same : new.fed ≡ (get_or tiles i default).fed) (old : Option (List ℕ)) (count : ℕ) where
+  module _ (feds : List (Fed R)) (header : List ℕ) (tiles : List (RunningState R)) (i : ℕ)
+      (default new : RunningState R) (within : i < length tiles) (same : new.fed ≡ (get_or tiles i default).fed)
+      (old : Option (List ℕ)) (count : ℕ) where
     same_feds : feds_of (set tiles i new) ≡ feds_of tiles
     same_feds = map-set_same fed_in tiles i new default same
 
     -- nobody asked it to stop since
-    unasked_since : new.cancels ≡ (get_or tiles i default).cancels → AreUncancelled tiles → AreUncancelled (set tiles i new)
+    unasked_since : new.cancels ≡ (get_or tiles i default).cancels → AreUncancelled tiles
+        → AreUncancelled (set tiles i new)
     unasked_since kept none = uncancelled_set tiles i default new kept none
 
     -- the tile gave no line
-    pub no_line : new.cancels ≡ (get_or tiles i default).cancels → new.lines ≡ (get_or tiles i default).lines → (wrote : Result (Unit {0}) Fault) (mid : Option (List ℕ)) (newer : ℕ) → LinesSoFar feds header tiles wrote old mid count newer → LinesSoFar feds header (set tiles i new) wrote old mid count newer
+    pub no_line : new.cancels ≡ (get_or tiles i default).cancels → new.lines ≡ (get_or tiles i default).lines
+        → (wrote : Result (Unit {0}) Fault) (mid : Option (List ℕ)) (newer : ℕ)
+        → LinesSoFar feds header tiles wrote old mid count newer
+        → LinesSoFar feds header (set tiles i new) wrote old mid count newer
     no_line kept none wrote mid newer so_far = record {
       fed = same_feds ∙ so_far.fed;
       out = so_far.out;
-      mixes = subst (λ (lists : List (List (List ℕ))). Interleaves lists so_far.out) (sym (map-set_same lines_of_tile tiles i new default none)) so_far.mixes;
+      mixes = subst (λ (lists : List (List (List ℕ))). Interleaves lists so_far.out)
+          (sym (map-set_same lines_of_tile tiles i new default none)) so_far.mixes;
       written = so_far.written;
       failed = so_far.failed;
       fault = so_far.fault;
-      uncancelled = both_ok (AreUncancelled tiles) (AreUncancelled (set tiles i new)) (unasked_since kept) wrote wrote (same_ok wrote) so_far.uncancelled;
+      uncancelled = both_ok (AreUncancelled tiles) (AreUncancelled (set tiles i new)) (unasked_since kept) wrote wrote
+          (same_ok wrote) so_far.uncancelled;
     }
 
     -- the tile was asked to stop, where a write failed
-    pub one_asked : new.lines ≡ (get_or tiles i default).lines → (wrote : Result (Unit {0}) Fault) → is_ok wrote ≡ false → (mid : Option (List ℕ)) (newer : ℕ) → LinesSoFar feds header tiles wrote old mid count newer → LinesSoFar feds header (set tiles i new) wrote old mid count newer
+    pub one_asked : new.lines ≡ (get_or tiles i default).lines → (wrote : Result (Unit {0}) Fault) → is_ok wrote ≡ false
+        → (mid : Option (List ℕ)) (newer : ℕ) → LinesSoFar feds header tiles wrote old mid count newer
+        → LinesSoFar feds header (set tiles i new) wrote old mid count newer
     one_asked none wrote failing mid newer so_far = record {
       fed = same_feds ∙ so_far.fed;
       out = so_far.out;
-      mixes = subst (λ (lists : List (List (List ℕ))). Interleaves lists so_far.out) (sym (map-set_same lines_of_tile tiles i new default none)) so_far.mixes;
+      mixes = subst (λ (lists : List (List (List ℕ))). Interleaves lists so_far.out)
+          (sym (map-set_same lines_of_tile tiles i new default none)) so_far.mixes;
       written = so_far.written;
       failed = so_far.failed;
       fault = so_far.fault;
@@ -128,58 +159,80 @@ module _ {R : Type 0} where
     }
 
     -- the tile gave this line
-    pub one_line : new.cancels ≡ (get_or tiles i default).cancels → (line : List ℕ) → new.lines ≡ (get_or tiles i default).lines ++ line ∷ [] → (wrote result : Result (Unit {0}) Fault) (mid newest : Option (List ℕ)) (newer after : ℕ)
-        → ((bytes : List ℕ) (first : Option (List ℕ)) → WroteUnless wrote bytes first mid → WroteUnless result (bytes ++ line) first newest)
+    pub one_line : new.cancels ≡ (get_or tiles i default).cancels → (line : List ℕ)
+        → new.lines ≡ (get_or tiles i default).lines ++ line ∷ []
+        → (wrote result : Result (Unit {0}) Fault) (mid newest : Option (List ℕ)) (newer after : ℕ)
+        → ((bytes : List ℕ) (first : Option (List ℕ)) → WroteUnless wrote bytes first mid
+        → WroteUnless result (bytes ++ with_newline line) first newest)
         → ((n : ℕ) → newer ≡ after_call wrote n → after ≡ after_call result n)
         → (IfErr wrote (λ fault. fault ≡ Write) → IfErr result (λ fault. fault ≡ Write))
         → OnOk result (IsOk wrote)
-        → LinesSoFar feds header tiles wrote old mid count newer → LinesSoFar feds header (set tiles i new) result old newest count after
+        → LinesSoFar feds header tiles wrote old mid count newer
+        → LinesSoFar feds header (set tiles i new) result old newest count after
     one_line kept line longer wrote result mid newest newer after writes fails faults later so_far =
         let lists = lines_taken tiles in
-        let here : get_or lists i [] ≡ (get_or tiles i default).lines = get_or-map lines_of_tile tiles i default [] within in
+        let here : get_or lists i [] ≡ (get_or tiles i default).lines =
+        get_or-map lines_of_tile tiles i default [] within in
         let grown : lines_taken (set tiles i new) ≡ set lists i (get_or lists i [] ++ line ∷ []) =
-        map-set lines_of_tile tiles i new ∙ ap (λ (ls : List (List ℕ)). set lists i ls) (longer ∙ ap (λ (ls : List (List ℕ)). ls ++ line ∷ []) (sym here)) in
-        let bytes : (header ++ concat so_far.out) ++ line ≡ header ++ concat (so_far.out ++ line ∷ []) =
-        append_assoc header (concat so_far.out) line ∙ ap (λ (l : List ℕ). header ++ l) (ap (λ (l : List ℕ). concat so_far.out ++ l) (sym (append-nil line)) ∙ sym (concat-append so_far.out (line ∷ []))) in
+        map-set lines_of_tile tiles i new ∙ ap (λ (ls : List (List ℕ)). set lists i ls)
+        (longer ∙ ap (λ (ls : List (List ℕ)). ls ++ line ∷ []) (sym here)) in
+        let bytes : stream header so_far.out ++ with_newline line ≡ stream header (so_far.out ++ line ∷ []) =
+        append_assoc (with_newline header) (flat_map with_newline so_far.out) (with_newline line)
+        ∙ ap (λ (l : List ℕ). with_newline header ++ l)
+        (ap (λ (l : List ℕ). flat_map with_newline so_far.out ++ l) (sym (append-nil (with_newline line)))
+        ∙ sym (flat_map-append with_newline so_far.out (line ∷ []))) in
         record {
           fed = same_feds ∙ so_far.fed;
           out = so_far.out ++ line ∷ [];
-          mixes = subst (λ (ls : List (List (List ℕ))). Interleaves ls (so_far.out ++ line ∷ [])) (sym grown) (one_mixed lists so_far.out i line (omega (arith, within, length-map tiles lines_of_tile)) so_far.mixes);
+          mixes = subst (λ (ls : List (List (List ℕ))). Interleaves ls (so_far.out ++ line ∷ [])) (sym grown)
+              (one_mixed lists so_far.out i line (omega (arith, within, length-map tiles lines_of_tile)) so_far.mixes);
           written = subst (λ (l : List ℕ). WroteUnless result l old newest) bytes (writes _ old so_far.written);
           failed = fails count so_far.failed;
           fault = faults so_far.fault;
-          uncancelled = both_ok (AreUncancelled tiles) (AreUncancelled (set tiles i new)) (unasked_since kept) wrote result later so_far.uncancelled;
+          uncancelled = both_ok (AreUncancelled tiles) (AreUncancelled (set tiles i new)) (unasked_since kept) wrote
+              result later so_far.uncancelled;
         }
 
   -- a flush follows what was written so far
-  pub flushed_between : (feds : List (Fed R)) (header : List ℕ) (tiles : List (RunningState R)) (wrote result : Result (Unit {0}) Fault) (old mid new : Option (List ℕ)) (failures between newer : ℕ)
-      → ((bytes : List ℕ) (first : Option (List ℕ)) → WroteUnless wrote bytes first mid → WroteUnless result bytes first new)
+  pub flushed_between : (feds : List (Fed R)) (header : List ℕ) (tiles : List (RunningState R))
+      (wrote result : Result (Unit {0}) Fault) (old mid new : Option (List ℕ)) (failures between newer : ℕ)
+      → ((bytes : List ℕ) (first : Option (List ℕ)) → WroteUnless wrote bytes first mid
+      → WroteUnless result bytes first new)
       → ((n : ℕ) → between ≡ after_call wrote n → newer ≡ after_call result n)
       → (IfErr wrote (λ fault. fault ≡ Write) → IfErr result (λ fault. fault ≡ Write))
       → OnOk result (IsOk wrote)
-      → LinesSoFar feds header tiles wrote old mid failures between → LinesSoFar feds header tiles result old new failures newer
-  flushed_between feds header tiles wrote result old mid new failures between newer writes fails faults later so_far = record {
-    fed = so_far.fed;
-    out = so_far.out;
-    mixes = so_far.mixes;
-    written = writes _ old so_far.written;
-    failed = fails failures so_far.failed;
-    fault = faults so_far.fault;
-    uncancelled = both_ok (AreUncancelled tiles) (AreUncancelled tiles) (λ none. none) wrote result later so_far.uncancelled;
-  }
+      → LinesSoFar feds header tiles wrote old mid failures between
+      → LinesSoFar feds header tiles result old new failures newer
+  flushed_between feds header tiles wrote result old mid new failures between newer writes fails faults later so_far =
+      record {
+        fed = so_far.fed;
+        out = so_far.out;
+        mixes = so_far.mixes;
+        written = writes _ old so_far.written;
+        failed = fails failures so_far.failed;
+        fault = faults so_far.fault;
+        uncancelled = both_ok (AreUncancelled tiles) (AreUncancelled tiles) (λ none. none) wrote result later
+            so_far.uncancelled;
+      }
 
   -- a flush follows all lines
-  pub flushed_lines : (feds : List (Fed R)) (header : List ℕ) (tiles : List (RunningState R)) (wrote result : Result (Unit {0}) Fault) (old mid new : Option (List ℕ)) (failures between newer : ℕ) → wrote ≡ Ok tt → LinesSoFar feds header tiles wrote old mid failures between
-      → Keeps mid new → newer ≡ after_call result between → IfErr result (λ fault. fault ≡ Write) → LinesSoFar feds header tiles result old new failures newer
-  flushed_lines feds header tiles wrote result old mid new failures between newer was so_far keeps failed fault = record {
-    fed = so_far.fed;
-    out = so_far.out;
-    mixes = so_far.mixes;
-    written = flushed result (header ++ concat so_far.out) old mid new (subst (λ (r : Done). WroteUnless r (header ++ concat so_far.out) old mid) was so_far.written) keeps;
-    failed = failed ∙ ap (after_call result) (so_far.failed ∙ ap (λ (r : Done). after_call r failures) was);
-    fault = fault;
-    uncancelled = both_ok (AreUncancelled tiles) (AreUncancelled tiles) (λ none. none) wrote result (all_ok result was) so_far.uncancelled;
-  }
+  pub flushed_lines : (feds : List (Fed R)) (header : List ℕ) (tiles : List (RunningState R))
+      (wrote result : Result (Unit {0}) Fault) (old mid new : Option (List ℕ)) (failures between newer : ℕ)
+      → wrote ≡ Ok tt → LinesSoFar feds header tiles wrote old mid failures between
+      → Keeps mid new → newer ≡ after_call result between → IfErr result (λ fault. fault ≡ Write)
+      → LinesSoFar feds header tiles result old new failures newer
+  flushed_lines feds header tiles wrote result old mid new failures between newer was so_far keeps failed fault =
+      record {
+        fed = so_far.fed;
+        out = so_far.out;
+        mixes = so_far.mixes;
+        written = flushed result (stream header so_far.out) old mid new
+            (subst (λ (r : Done). WroteUnless r (stream header so_far.out) old mid) was so_far.written) keeps;
+        failed = failed ∙ ap (after_call result) (so_far.failed ∙ ap (λ (r : Done). after_call r failures) was);
+        fault = fault;
+        uncancelled = both_ok (AreUncancelled tiles) (AreUncancelled tiles) (λ none. none) wrote result (all_ok result was)
+            so_far.uncancelled;
+      }
     where
       all_ok : (last : Done) → wrote ≡ Ok tt → OnOk last (IsOk wrote)
       all_ok (Ok done) is = subst (λ (r : Done). IsOk r) (sym is) refl

@@ -8,7 +8,6 @@ use Rattle.tile_handoff.specs.declared.note.Note.{Note}
 use Rattle.tile_handoff.specs.declared.note.Note.TheVariants.{Line as LineNote, End as EndNote}
 use Rattle.tile_stream.specs.Coming.{MayComeTo}
 use Rattle.tile_merge.specs.EndNotes.{Ended, end_of}
-use Rattle.tile_stream.specs.Stream.{with_newline}
 use Rattle.tile_stream.specs.TileState.{TileState, most_to_come}
 
 -- The reader, the shift, how many notes may be read ahead, those that were, how many lines were put
@@ -45,15 +44,11 @@ ThenComes false gives IsWanted shift unread count last course =
     MayComeTo gives IsWanted shift unread course.texts course.ended.outcome
     × (course.ended.total ≡ count + length course.texts)
 
--- these notes come first: each line is a text, and the end note is the last
+-- these notes come first: their texts, and the end note is the last
 abbrev pub NotesCome : (Course → Type 0) → List Note → List (List ℕ) → Ended → Type 0
 NotesCome Then [] texts ended = Then (course_of texts ended)
-NotesCome Then (LineNote line ∷ notes) texts ended =
-    (text : List ℕ)
-    × (more : List (List ℕ))
-    × (texts ≡ text ∷ more)
-    × (line ≡ with_newline text)
-    × NotesCome Then notes more ended
+NotesCome Then (LineNote text ∷ notes) texts ended =
+    (more : List (List ℕ)) × (texts ≡ text ∷ more) × NotesCome Then notes more ended
 NotesCome Then (EndNote end ∷ notes) texts ended =
     (notes ≡ []) × (texts ≡ []) × (end ≡ end_of ended)
 
@@ -82,8 +77,8 @@ abbrev pub IsAhead : {R : Type 0} → FeedState R → Type 0
 IsAhead feed = (feed.notes.closed ≡ true) ⊎ (0 < length feed.notes.left)
 
 -- there is a place for a note more
-abbrev pub HasRoom : {R : Type 0} → FeedState R → Type 0
-HasRoom feed = (feed.notes.closed ≡ false) × (length feed.notes.left < feed.capacity)
+abbrev pub HasFreePlace : {R : Type 0} → FeedState R → Type 0
+HasFreePlace feed = (feed.notes.closed ≡ false) × (length feed.notes.left < feed.capacity)
 
 -- how many notes may be ahead at most
 abbrev pub most_ahead : {R : Type 0} → FeedState R → ℕ

@@ -4,6 +4,7 @@ use Rattle.std.specs.Prelude.{◌≡◌, ◌⊎◌, ◌<◌, ◌+◌, ◌++◌, 
 use Rattle.std.specs.Io.KnownBytes.{Appends, Keeps}
 use Rattle.std.specs.List.{AllZip, AllByRecursion}
 use Rattle.byte_streams.specs.declared.fault.Fault.TheVariants.{Write, Memory, TooManyTiles}
+use Rattle.byte_streams.specs.Limits.{max_tiles}
 use Rattle.city_feature.specs.Feature.{FeatureValue}
 use Rattle.city_feature.specs.Header.{HeaderValue}
 use Rattle.city_feature.specs.Joined.{IsJoined, RefusesJoin}
@@ -112,7 +113,7 @@ pub record IsFirstHeadless {R : Type 0} (gives : R → List ℕ → Bool → Typ
   pub tiles : List HeadedTile
   pub heads : HaveHeads gives before tiles
   pub number : refusal.tile ≡ length before + 1
-  pub none : SomeTile (IsOfTile (gives reader) stream_limits) (λ lines. HasNoHead lines (record { number = refusal.line; fault = refusal.fault }))
+  pub none : SomeTile (IsOfTile (gives reader) stream_limits) (λ lines. HasNoHead lines (record { line = refusal.line; fault = refusal.fault }))
 
 -- the headers do not join: this tile is the first that does not fit, and this the line of its header
 pub record IsFirstUnfit {R : Type 0} (gives : R → List ℕ → Bool → Type 0) (base : Base) (readers : List R) (refusal : MergeFault) : Type 0 where
@@ -133,7 +134,7 @@ IsOfNoTile refusal = (refusal.tile ≡ 0) × (refusal.line ≡ 0)
 
 -- there are more than 64 readers
 abbrev pub IsTooMany : {R : Type 0} → List R → MergeFault → Type 0
-IsTooMany readers refusal = IsOfNoTile refusal × (refusal.fault ≡ TooManyTiles) × (64 < length readers)
+IsTooMany readers refusal = IsOfNoTile refusal × (refusal.fault ≡ TooManyTiles) × (max_tiles < length readers)
 
 -- before a byte is written: there are too many tiles; one has no head; the headers do not join; or
 -- memory ran out
@@ -144,10 +145,10 @@ IsRefusedEarly gives base readers refusal =
     ⊎ IsFirstUnfit gives base readers refusal
     ⊎ (IsOfNoTile refusal × (refusal.fault ≡ Memory))
 
--- the output failed, or memory ran out, while the stream was written
+-- the output failed while the stream was written
 abbrev pub IsOutputFault : MergeFault → Type 0
 IsOutputFault refusal =
-    IsOfNoTile refusal × ((refusal.fault ≡ Write) ⊎ (refusal.fault ≡ Memory))
+    IsOfNoTile refusal × (refusal.fault ≡ Write)
 
 -- Why a merge is refused, and what was written: nothing; or the first bytes of a stream, where the
 -- output failed; or the whole stream of the texts before the ends, where a tile stopped.

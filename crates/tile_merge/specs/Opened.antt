@@ -2,8 +2,7 @@
 use Rattle.std.specs.Prelude.{◌≡◌, ◌≤◌, ◌<◌, ℕ, Bool, List, [], ◌∷◌}
 use Rattle.city_feature.specs.Header.{HeaderValue}
 use Rattle.tile_stream.specs.Coming.{MayLeave}
-use Rattle.tile_stream.specs.Head.{GivesHead}
-use Rattle.tile_stream.specs.Held.{held_value}
+use Rattle.tile_stream.specs.Head.{GivesHeld}
 use Rattle.tile_stream.specs.Tile.{TileLines, stream_limits}
 use Rattle.tile_stream.specs.TileState.{TileState, most_to_come, most_texts}
 use Rattle.tile_stream.specs.Unread.{Leaves, IsOfTile}
@@ -25,6 +24,6 @@ pub record IsOpened {R : Type 0} (gives : R → List ℕ → Bool → Type 0) (r
   pub line : tile.line ≡ tile.unread.held.line
   pub none_ready : tile.unread.ready ≡ []
   pub later : tile.line < tile.unread.lines.number
-  pub head : GivesHead (IsOfTile (gives reader) stream_limits) (Leaves gives tile.unread.lines) header (held_value tile.unread.held)
+  pub head : GivesHeld (IsOfTile (gives reader) stream_limits) (Leaves gives tile.unread.lines) header tile.unread.held
   pub some : (left : TileLines) × MayLeave gives tile.unread.lines left
   pub most : most_to_come tile.unread ≤ most_texts

@@ -22,11 +22,9 @@ pub record AreReady {R : Type 0} (gives : R → List ℕ → Bool → Type 0) (b
   pub tiles : List (OpenState R)
   pub headers : List HeaderValue
   pub shifts : List Triple
-  pub header : List ℕ
   pub opened : AllThree (IsOpened gives) readers tiles headers
-  pub joined : IsJoined base headers header shifts
+  pub joined : IsJoined base headers line shifts
   pub fed : AllThree (IsFeedOf capacity) tiles shifts feeds
-  pub line_is : line ≡ with_newline header
 
 abbrev pub texts_in : List Course → List (List (List ℕ))
 texts_in courses = map (λ course. course.texts) courses

@@ -1,7 +1,7 @@
 -- Tiles whose texts threads of their own put into rings, and what the caller took out of these.
 use Rattle.std.specs.Prelude.{◌≡◌, ◌⊎◌, ◌≤◌, ◌<◌, ◌++◌, ℕ, Bool, List, [], ◌∷◌, Option, Some, None, is_some, Result, Ok, Err, IfErr, OnOk, length, map, take}
 use Rattle.std.specs.Io.KnownBytes.{Appends}
-use Rattle.std.specs.List.{AllZip, AllByRecursion, concat, list_all}
+use Rattle.std.specs.List.{AllZip, AllByRecursion, list_all}
 use Rattle.byte_streams.specs.Failures.{after_call}
 use Rattle.byte_streams.specs.declared.fault.Fault.{Fault}
 use Rattle.byte_streams.specs.declared.fault.Fault.TheVariants.{Write, Memory, NoThread}
@@ -15,11 +15,11 @@ use Rattle.tile_handoff.specs.declared.note.End.{End}
 use Rattle.tile_handoff.specs.declared.note.Note.{Note}
 use Rattle.tile_handoff.specs.declared.note.Note.TheVariants.{Line as LineNote, End as EndNote}
 use Rattle.tile_stream.specs.Coming.{MayComeTo}
-use Rattle.tile_merge.specs.EndNotes.{end_of, ended_so, line_note, notes_of}
+use Rattle.tile_merge.specs.EndNotes.{end_of, ended_so, notes_of}
 use Rattle.tile_merge.specs.Feeds.{Course}
 use Rattle.tile_merge.specs.Interleaves.{Interleaves}
 use Rattle.tile_merge.specs.Opened.{AllThree, OpenState, IsOpened}
-use Rattle.tile_stream.specs.Stream.{with_newline}
+use Rattle.tile_stream.specs.Stream.{stream}
 use Rattle.tile_stream.specs.Texts.{Outcome}
 use Rattle.tile_stream.specs.TileState.{TileState}
 use Rattle.byte_streams.specs.declared.places.MergeFault.{MergeFault}
@@ -56,7 +56,7 @@ pub record FedSoFar (before now : List (List ℕ) → Outcome → Type 0) (count
   pub texts : List (List ℕ)
   pub back : (others : List (List ℕ)) (outcome : Outcome) → now others outcome → before (texts ++ others) outcome
   pub counted : count ≡ length texts
-  pub put : new ≡ old ++ map line_note texts
+  pub put : new ≡ old ++ map (λ text. LineNote text) texts
 
 -- ---- in the thread of the caller ----
 
@@ -112,7 +112,7 @@ pub record HasGiven {R : Type 0} (gives : R → List ℕ → Bool → Type 0) (t
   pub are : course.texts ≡ texts ++ others
   pub comes : MayFeed gives tile.fed course.texts course.ended.outcome
   pub counted : course.ended.total ≡ length course.texts
-  pub lines : tile.lines ≡ map with_newline texts
+  pub lines : tile.lines ≡ texts
   pub whole : tile.cancels ≡ 0 → (others ≡ []) × (tile.last ≡ Some (end_of course.ended))
 
 -- each of the tiles has given one of these courses
@@ -126,13 +126,13 @@ abbrev pub WroteUnless : Result (Unit {0}) Fault → List ℕ → Option (List �
 WroteUnless (Ok done) bytes old new = Appends old new bytes
 WroteUnless (Err fault) bytes old new = (count : ℕ) × Appends old new (take count bytes)
 
--- The line of the header, and then the lines that were taken in the order in which they were, were
+-- The stream of the header and of the texts that were taken, in the order in which they were, was
 -- written, up to the first write that failed. Before that nobody asked a thread to stop.
 pub record LinesSoFar {R : Type 0} (feds : List (Fed R)) (header : List ℕ) (tiles : List (RunningState R)) (wrote : Result (Unit {0}) Fault) (old new : Option (List ℕ)) (failures newer : ℕ) : Type 0 where
   pub fed : feds_of tiles ≡ feds
   pub out : List (List ℕ)
   pub mixes : Interleaves (lines_taken tiles) out
-  pub written : WroteUnless wrote (header ++ concat out) old new
+  pub written : WroteUnless wrote (stream header out) old new
   pub failed : newer ≡ after_call wrote failures
   pub fault : IfErr wrote (λ fault. fault ≡ Write)
   pub uncancelled : OnOk wrote (AreUncancelled tiles)
@@ -158,11 +158,9 @@ pub record AreStarted {R : Type 0} (gives : R → List ℕ → Bool → Type 0) 
   pub tiles : List (OpenState R)
   pub headers : List HeaderValue
   pub shifts : List Triple
-  pub header : List ℕ
   pub opened : AllThree (IsOpened gives) readers tiles headers
-  pub joined : IsJoined base headers header shifts
+  pub joined : IsJoined base headers line shifts
   pub runs : AllThree (IsRunOf choice) tiles shifts running
-  pub line_is : line ≡ with_newline header
 
 -- nothing was taken of any tile yet, and nothing asked
 abbrev pub AreFresh : {R : Type 0} → List (RunningState R) → Type 0

@@ -3,16 +3,16 @@ use Rattle.std.specs.Prelude.{◌+◌, ℕ, Bool, true, false, List, [], ◌∷�
 use Rattle.byte_streams.specs.declared.fault.Fault.{Fault}
 use Rattle.byte_streams.specs.declared.fault.Fault.TheVariants.{Memory}
 use Rattle.tile_stream.specs.Texts.{Outcome}
-use Rattle.tile_stream.specs.Tile.{FaultyLine}
 use Rattle.byte_streams.specs.declared.places.MergeFault.{MergeFault}
+use Rattle.byte_streams.specs.declared.places.LineFault.{LineFault}
 
 abbrev pub is_memory : Fault → Bool
 is_memory Memory = true
 is_memory other = false
 
 -- the fault of the tile of this number
-abbrev pub fault_of_tile : ℕ → FaultyLine → MergeFault
-fault_of_tile tile at = record { tile = tile; line = at.number; fault = at.fault }
+abbrev pub fault_of_tile : ℕ → LineFault → MergeFault
+fault_of_tile tile at = record { tile = tile; line = at.line; fault = at.fault }
 
 -- the fault of the first tile of which this holds, where tiles are counted from `tile`
 abbrev pub first_where : (Fault → Bool) → ℕ → List Outcome → Option MergeFault

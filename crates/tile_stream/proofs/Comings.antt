@@ -1,46 +1,52 @@
 -- What one line does to what may be to come of a tile.
-use Rattle.std.proofs.Common.{◌≡◌, ◌≢◌, ◌≤◌, ◌<◌, ◌++◌, ℕ, Bool, true, false, List, [], ◌∷◌, Option, Some, None, is_some, unwrap_or, option_to_list, refl, sym, ap, subst, ◌∙◌, inl, inr, arith, append_assoc, append-nil}
-use Rattle.city_json.specs.Bytes.{newline}
+use Rattle.std.proofs.Common.{◌≡◌, ◌≢◌, ◌≤◌, ◌<◌, ◌++◌, ℕ, Bool, true, false, List, [], ◌∷◌, Option, Some, None, is_some, unwrap_or, option_to_list, refl, sym, ap, subst, ◌∙◌, inl, inr, arith, append-nil}
 use Rattle.byte_streams.specs.declared.fault.Fault.{Fault}
 use Rattle.byte_streams.specs.declared.fault.Fault.TheVariants.{Memory, Read, Write}
+use Rattle.byte_streams.specs.declared.places.LineFault.{LineFault}
 use Rattle.city_feature.specs.Feature.{FeatureValue}
 use Rattle.city_feature.specs.FeatureLine.{GivesFeature, RefusesFeatureLine}
 use Rattle.city_grid.specs.Axes.{Triple}
 use Rattle.tile_stream.specs.Coming.{LeftComesTo, LinesMayComeTo, GivesText, SomethingComes}
-use Rattle.tile_stream.specs.Stream.{with_newline}
 use Rattle.tile_stream.specs.Texts.{Outcome, EndsAfter, LinesComeTo}
-use Rattle.tile_stream.specs.Tile.{Part, FaultyLine, TileLines, part_of, line_before, nothing_left, only_fault}
+use Rattle.tile_stream.specs.Tile.{Part, TileLines, part_of, line_before, nothing_left, only_fault}
 use Rattle.tile_stream.specs.Unread.{Unread, Leaves, GivesLine, MayBeOver, IsRefused, IsFaultFrom, BeginsFrom, ComesFrom, is_read}
 use Rattle.tile_stream.proofs.Leaving.{begins_before}
 
-abbrev at_line : ℕ → Fault → FaultyLine
-at_line number fault = record { number = number; fault = fault }
+abbrev at_line : ℕ → Fault → LineFault
+at_line number fault = record { line = number; fault = fault }
 
 false_is_true : false ≡ true → ⊥
 false_is_true is = cc is
 
 -- memory may run out at the next line
-memory_in : (Gives : List ℕ → Option (List ℕ) → Type 0) (Refuses : Fault → List ℕ → Type 0) (lines : List Part) (fault : Option FaultyLine) (last number : ℕ) → ComesFrom number lines fault last → LinesComeTo Gives Refuses lines fault last [] (Some (at_line number Memory))
+memory_in : (Gives : List ℕ → Option (List ℕ) → Type 0) (Refuses : Fault → List ℕ → Type 0) (lines : List Part)
+    (fault : Option LineFault) (last number : ℕ) → ComesFrom number lines fault last
+    → LinesComeTo Gives Refuses lines fault last [] (Some (at_line number Memory))
 memory_in Gives Refuses [] None last number comes = (refl, (refl, comes))
 memory_in Gives Refuses [] (Some fault) last number comes = (refl, inr (refl, comes))
 memory_in Gives Refuses (line ∷ others) fault last number comes = inl (refl, inr (refl, comes))
 
-pub ends_after : (number next : ℕ) (outcome : Outcome) → number < next → IsFaultFrom next outcome → EndsAfter number outcome
+pub ends_after : (number next : ℕ) (outcome : Outcome) → number < next → IsFaultFrom next outcome
+    → EndsAfter number outcome
 ends_after number next None below from = tt
 ends_after number next (Some at) below from = omega (arith, below, from)
 
-ends_from : (first number : ℕ) (outcome : Outcome) → first ≤ number → EndsAfter number outcome → IsFaultFrom first outcome
+ends_from : (first number : ℕ) (outcome : Outcome) → first ≤ number → EndsAfter number outcome
+    → IsFaultFrom first outcome
 ends_from first number None low after = tt
 ends_from first number (Some at) low after = omega (arith, low, after)
 
 -- something comes of the lines that are left
 module _ (IsWanted : FeatureValue → Type 0) (k : Triple) (number : ℕ) where
-  lines_come : (lines : List Part) (fault : Option FaultyLine) (last : ℕ) → BeginsFrom number lines fault → SomethingComes (LeftComesTo IsWanted k number (record { lines = lines; fault = fault; last = last }))
+  lines_come : (lines : List Part) (fault : Option LineFault) (last : ℕ) → BeginsFrom number lines fault
+      → SomethingComes (LeftComesTo IsWanted k number (record { lines = lines; fault = fault; last = last }))
   lines_come [] None last begins = ([], (None, (tt, (refl, tt))))
   lines_come [] (Some fault) last begins = ([], (Some fault, (begins, (refl, inl refl))))
-  lines_come (line ∷ others) fault last begins = ([], (Some (at_line number Memory), (omega arith, inl (refl, inr (refl, begins)))))
+  lines_come (line ∷ others) fault last begins =
+      ([], (Some (at_line number Memory), (omega arith, inl (refl, inr (refl, begins)))))
 
-  pub left_comes : (left : TileLines) → BeginsFrom number left.lines left.fault → SomethingComes (LeftComesTo IsWanted k number left)
+  pub left_comes : (left : TileLines) → BeginsFrom number left.lines left.fault
+      → SomethingComes (LeftComesTo IsWanted k number left)
   left_comes left begins = lines_come left.lines left.fault left.last begins
 
 module _ {R : Type 0} (gives : R → List ℕ → Bool → Type 0) (IsWanted : FeatureValue → Type 0) (k : Triple) where
@@ -51,55 +57,68 @@ module _ {R : Type 0} (gives : R → List ℕ → Bool → Type 0) (IsWanted : F
     pub nothing_comes : MayBeOver (Leaves gives before) → Comes before [] None
     nothing_comes over = (nothing_left over.0, (over.1, tt), (tt, (refl, tt)))
 
-    pub fault_comes : (fault : Fault) (number : ℕ) → before.number ≤ number → IsRefused fault number (Leaves gives before) → Comes before [] (Some (at_line number fault))
+    pub fault_comes : (fault : Fault) (number : ℕ) → before.number ≤ number
+        → IsRefused fault number (Leaves gives before) → Comes before [] (Some (at_line number fault))
     fault_comes Memory number from refused =
-        let left = refused.0 in
-        (left, (refused.1, begins_before before.number number left.lines left.fault left.last from refused.2), (from, memory_in (GivesFeature IsWanted k) (RefusesFeatureLine k) left.lines left.fault left.last number refused.2))
+        let left = refused.0 in (
+          left,
+          (refused.1, begins_before before.number number left.lines left.fault left.last from refused.2),
+          (
+            from,
+            memory_in (GivesFeature IsWanted k) (RefusesFeatureLine k) left.lines left.fault left.last number
+                refused.2,
+          ),
+        )
     fault_comes other number from refused = (only_fault number other, (refused, from), (from, (refl, inl refl)))
 
-    module _ (after : Unread R) (number : ℕ) (bytes : List ℕ) (taken : GivesLine (Leaves gives before) (Leaves gives after) number bytes) (from : before.number ≤ number) where
-      abbrev line : Part
-      line = part_of number taken.0 bytes
+    module _ (after : Unread R) (number : ℕ) (bytes : List ℕ)
+        (taken : GivesLine (Leaves gives before) (Leaves gives after) number bytes) (from : before.number ≤ number)
+      where
+        abbrev line : Part
+        line = part_of number taken.0 bytes
 
-      pub line_comes : number < after.number → (given : Option (List ℕ)) → GivesFeature IsWanted k bytes given → (texts : List (List ℕ)) (outcome : Outcome) → Comes after texts outcome → Comes before (option_to_list given ++ texts) outcome
-      line_comes later given feature texts outcome comes =
-          let left = comes.0 in
-          let ends = ends_after number after.number outcome later comes.2.0 in (
-            line_before line left,
-            (taken.1 left comes.1.0, from),
-            (ends_from before.number number outcome from ends, inr (given, texts, feature, ends, comes.2.1, refl)),
-          )
+        pub line_comes : number < after.number → (given : Option (List ℕ)) → GivesFeature IsWanted k bytes given
+            → (texts : List (List ℕ)) (outcome : Outcome) → Comes after texts outcome
+            → Comes before (option_to_list given ++ texts) outcome
+        line_comes later given feature texts outcome comes =
+            let left = comes.0 in
+            let ends = ends_after number after.number outcome later comes.2.0 in (
+              line_before line left,
+              (taken.1 left comes.1.0, from),
+              (ends_from before.number number outcome from ends, inr (given, texts, feature, ends, comes.2.1, refl)),
+            )
 
-      pub refusal_comes : (left : TileLines) → Leaves gives after left → (fault : Fault) → RefusesFeatureLine k fault bytes → Comes before [] (Some (at_line number fault))
-      refusal_comes left leaves fault refused =
-          (line_before line left, (taken.1 left leaves, from), (from, inl (refl, inl (refl, refused))))
+        pub refusal_comes : (left : TileLines) → Leaves gives after left → (fault : Fault)
+            → RefusesFeatureLine k fault bytes → Comes before [] (Some (at_line number fault))
+        refusal_comes left leaves fault refused =
+            (line_before line left, (taken.1 left leaves, from), (from, inl (refl, inl (refl, refused))))
 
-      module _ (start : Unread R) (back : (texts : List (List ℕ)) (outcome : Outcome) → Comes before texts outcome → Comes start texts outcome) where
-        pub text_comes : number < after.number → (given : Option (List ℕ)) (is_chosen : Bool) → GivesFeature IsWanted k bytes given → is_some given ≡ is_chosen → is_chosen ≡ true
-            → (text old new longer : List ℕ) → old ≡ text → new ≡ old ++ unwrap_or given [] → longer ≡ with_newline new
-            → (x : List ℕ) × (longer ≡ text ++ with_newline x) × GivesText (LinesMayComeTo gives IsWanted k start) (LinesMayComeTo gives IsWanted k after) x
-        text_comes later None is_chosen feature some chosen text old new longer same appended ended = absurd (false_is_true (some ∙ chosen))
-        text_comes later (Some x) is_chosen feature some chosen text old new longer same appended ended = (
-          x,
-          ended ∙ ap with_newline (appended ∙ ap (λ front. front ++ x) same) ∙ append_assoc text x (newline ∷ []),
-          λ texts outcome comes. back (x ∷ texts) outcome (line_comes later (Some x) feature texts outcome comes),
-        )
+        module _ (start : Unread R) (back : (texts : List (List ℕ)) (outcome : Outcome) → Comes before texts outcome
+            → Comes start texts outcome) where
+          pub text_comes : number < after.number → (given : Option (List ℕ)) (is_chosen : Bool)
+              → GivesFeature IsWanted k bytes given → is_some given ≡ is_chosen → is_chosen ≡ true
+              → (old new : List ℕ) → old ≡ [] → new ≡ old ++ unwrap_or given []
+              → GivesText (LinesMayComeTo gives IsWanted k start) (LinesMayComeTo gives IsWanted k after) new
+          text_comes later None is_chosen feature some chosen old new empty appended texts outcome comes =
+              absurd (false_is_true (some ∙ chosen))
+          text_comes later (Some x) is_chosen feature some chosen old new empty appended texts outcome comes =
+              let is : new ≡ x = appended ∙ ap (λ front. front ++ x) empty in
+              back (new ∷ texts) outcome (subst (λ (t : List ℕ). Comes before (t ∷ texts) outcome) (sym is)
+              (line_comes later (Some x) feature texts outcome comes))
 
-        pub none_comes : number < after.number → (given : Option (List ℕ)) (is_chosen : Bool) → GivesFeature IsWanted k bytes given → is_some given ≡ is_chosen → is_chosen ≡ false
-            → (texts : List (List ℕ)) (outcome : Outcome) → Comes after texts outcome → Comes start texts outcome
-        none_comes later None is_chosen feature some chosen texts outcome comes = back texts outcome (line_comes later None feature texts outcome comes)
-        none_comes later (Some x) is_chosen feature some chosen texts outcome comes = absurd (false_is_true (sym (some ∙ chosen)))
+          pub none_comes : number < after.number → (given : Option (List ℕ)) (is_chosen : Bool)
+              → GivesFeature IsWanted k bytes given → is_some given ≡ is_chosen → is_chosen ≡ false
+              → (texts : List (List ℕ)) (outcome : Outcome) → Comes after texts outcome → Comes start texts outcome
+          none_comes later None is_chosen feature some chosen texts outcome comes =
+              back texts outcome (line_comes later None feature texts outcome comes)
+          none_comes later (Some x) is_chosen feature some chosen texts outcome comes =
+              absurd (false_is_true (sym (some ∙ chosen)))
 
-        pub memory_comes : (left : TileLines) → Leaves gives after left → (given : Option (List ℕ)) → GivesFeature IsWanted k bytes given → Comes start [] (Some (at_line number Memory))
-        memory_comes left leaves given feature =
-            let spelled = feature.1.1 in
-            let refused : RefusesFeatureLine k Memory bytes = inr (inl (feature.1.0.value, spelled.0, spelled.1, spelled.2.0)) in
-            back [] (Some (at_line number Memory)) (refusal_comes left leaves Memory refused)
-
--- nothing was appended of a feature that is not chosen
-pub same_text : (given : Option (List ℕ)) (is_chosen : Bool) → is_some given ≡ is_chosen → is_chosen ≡ false → (text old new : List ℕ) → old ≡ text → new ≡ old ++ unwrap_or given [] → new ≡ text
-same_text None is_chosen some chosen text old new same appended = appended ∙ append-nil old ∙ same
-same_text (Some x) is_chosen some chosen text old new same appended = absurd (false_is_true (sym (some ∙ chosen)))
+-- a feature that is not chosen gives no text
+pub no_text : (given : Option (List ℕ)) (is_chosen : Bool) → is_some given ≡ is_chosen → is_chosen ≡ false
+    → (old new : List ℕ) → old ≡ [] → new ≡ old ++ unwrap_or given [] → new ≡ []
+no_text None is_chosen some chosen old new empty appended = appended ∙ append-nil old ∙ empty
+no_text (Some x) is_chosen some chosen old new empty appended = absurd (false_is_true (sym (some ∙ chosen)))
 
 -- a line is refused neither because a write failed nor because a read did
 module _ (k : Triple) (line : List ℕ) where

@@ -1,90 +1,90 @@
--- The lines of the features that a first line holds, made one after another.
-use Rattle.std.proofs.Common.{◌≡◌, ◌≢◌, ◌≤◌, ◌++◌, ℕ, List, [], ◌∷◌, Option, Some, None, length, length-append, map, option_map, option_to_list, refl, sym, ap, subst, ◌∙◌, arith, append_assoc, append-nil}
-use Rattle.std.proofs.lemmas.List.{map-append, length-map}
-use Rattle.std.proofs.Math.Seq.{get_or-append_seam}
-use Rattle.city_json.specs.Compact.{compact}
+-- The texts of the features that a first line holds, made one after another.
+use Rattle.std.proofs.Common.{◌≡◌, ◌≢◌, ◌≤◌, ◌<◌, ◌+◌, ◌++◌, ◌⊎◌, inl, inr, ℕ, List, [], ◌∷◌, Option, Some, None, length, length-append, get_or, take, take_all, option_to_list, refl, sym, ap, subst, ◌∙◌, arith, append_assoc, append-nil}
+use Rattle.std.proofs.Math.ListN.{get_or-map}
+use Rattle.std.proofs.lemmas.List.{get_or_default, length-map, take_more}
 use Rattle.byte_streams.specs.declared.fault.Fault.{Fault}
-use Rattle.byte_streams.specs.declared.fault.Fault.TheVariants.{VertexRange, Memory}
-use Rattle.city_feature.specs.Feature.{FeatureValue, IsMovable, RefusesMove, moved}
-use Rattle.city_feature.specs.FeatureLine.{IsTextOf}
-use Rattle.city_feature.specs.Values.{FeatureJson, feature_value}
+use Rattle.byte_streams.specs.declared.fault.Fault.TheVariants.{Memory}
+use Rattle.city_cut.specs.HeldTexts.{HeldTexts, texts_in}
+use Rattle.city_feature.specs.Feature.{FeatureValue}
+use Rattle.city_feature.specs.FeatureLine.{GivesFeature, RefusesFeatureLine}
 use Rattle.city_grid.specs.Axes.{Triple}
-use Rattle.tile_stream.specs.Held.{GiveTexts, RefusesHeld}
-use Rattle.tile_stream.specs.Stream.{with_newline}
+use Rattle.tile_stream.specs.Held.{LinesGive, RefusesLines}
 
--- the texts of these features so far, and their lines
-pub record MadeSoFar (IsWanted : FeatureValue → Type 0) (k : Triple) (features : List FeatureValue) (lines : List (List ℕ)) : Type 0 where
-  pub texts : List (List ℕ)
-  pub lines_are : lines ≡ map with_newline texts
-  pub give : GiveTexts IsWanted k features texts
-  pub few : length lines ≤ length features
+-- these are the texts that these lines give
+pub record MadeSoFar (IsWanted : FeatureValue → Type 0) (k : Triple) (lines : List (List ℕ)) (texts : List (List ℕ)) :
+    Type 0 where
+  pub give : LinesGive IsWanted k lines texts
+  pub few : length texts ≤ length lines
 
-some_items : {X : Type 0} (before : List X) (x : X) (after : List X) → before ++ x ∷ after ≢ []
-some_items [] x after is = cc is
-some_items (y ∷ before) x after is = cc is
+at_most_one : (given : Option (List ℕ)) → length (option_to_list given) ≤ 1
+at_most_one None = omega (arith)
+at_most_one (Some text) = omega (arith)
 
 module _ (IsWanted : FeatureValue → Type 0) (k : Triple) where
-  give_more : (features : List FeatureValue) (texts : List (List ℕ)) → GiveTexts IsWanted k features texts → (feature : FeatureValue) (given : Option (List ℕ)) → IsMovable feature k → IsTextOf IsWanted (moved feature k) given
-      → GiveTexts IsWanted k (features ++ feature ∷ []) (texts ++ option_to_list given)
-  give_more [] texts give feature given movable text =
-      (given, [], movable, text, refl, ap (λ ts. ts ++ option_to_list given) give ∙ sym (append-nil (option_to_list given)))
-  give_more (first ∷ others) texts give feature given movable text =
-      let more = give_more others give.1 give.4 feature given movable text in
-      (give.0, give.1 ++ option_to_list given, give.2, give.3, more, ap (λ ts. ts ++ option_to_list given) give.5 ∙ append_assoc (option_to_list give.0) give.1 (option_to_list given))
+  give_more : (lines : List (List ℕ)) (texts : List (List ℕ)) → LinesGive IsWanted k lines texts
+      → (line : List ℕ) (given : Option (List ℕ)) → GivesFeature IsWanted k line given
+      → LinesGive IsWanted k (lines ++ line ∷ []) (texts ++ option_to_list given)
+  give_more [] texts give line given one =
+      (given, [], one, refl, ap (λ ts. ts ++ option_to_list given) give ∙ sym (append-nil (option_to_list given)))
+  give_more (first ∷ others) texts give line given one =
+      let more = give_more others give.1 give.3 line given one in (
+        give.0,
+        give.1 ++ option_to_list given,
+        give.2,
+        more,
+        ap (λ ts. ts ++ option_to_list given) give.4
+            ∙ append_assoc (option_to_list give.0) give.1 (option_to_list given),
+      )
 
-  pub made_start : (lines : List (List ℕ)) → lines ≡ [] → MadeSoFar IsWanted k [] lines
-  made_start lines none = record { texts = []; lines_are = none; give = refl; few = omega (arith, ap length none) }
+  pub made_start : (lines texts : List (List ℕ)) → texts ≡ [] → MadeSoFar IsWanted k (take 0 lines) texts
+  made_start lines texts none = record { give = none; few = omega (arith, ap length none) }
 
-  -- they are those of all features
-  pub all_made : (all done : List FeatureJson) → done ≡ all → (lines : List (List ℕ)) → MadeSoFar IsWanted k (map feature_value done) lines
-      → ((texts : List (List ℕ)) × (lines ≡ map with_newline texts) × GiveTexts IsWanted k (map feature_value all) texts) × (length lines ≤ length all)
-  all_made all done same lines made =
-      let give = subst (λ (features : List FeatureJson). GiveTexts IsWanted k (map feature_value features) made.texts) same made.give in
-      ((made.texts, made.lines_are, give), omega (arith, made.few, length-map done feature_value, ap length same))
+  module _ (all : List (List ℕ)) (at : ℕ) (texts : List (List ℕ)) (so_far : MadeSoFar IsWanted k (take at all) texts)
+    where
+      -- the line at this place gave its text, where it has one
+      pub made_more : at < length all → (given : Option (List ℕ)) → GivesFeature IsWanted k (get_or all at []) given
+          → (longer : List (List ℕ)) → longer ≡ texts ++ option_to_list given
+          → MadeSoFar IsWanted k (take (at + 1) all) longer
+      made_more within given one longer is =
+          let grown : take (at + 1) all ≡ take at all ++ get_or all at [] ∷ [] = take_more all at [] within in
+          let Made : List (List ℕ) → Type 0 = λ lines. MadeSoFar IsWanted k lines longer in
+          subst Made (sym grown) (record {
+            give = subst (LinesGive IsWanted k (take at all ++ get_or all at [] ∷ [])) (sym is)
+                (give_more (take at all) texts so_far.give (get_or all at []) given one);
+            few = omega (
+              arith,
+              so_far.few,
+              ap length is,
+              length-append texts (option_to_list given),
+              at_most_one given,
+              length-append (take at all) (get_or all at [] ∷ []),
+            );
+          })
 
-  module _ (done : List FeatureJson) (lines : List (List ℕ)) (so_far : MadeSoFar IsWanted k (map feature_value done) lines) (feature : FeatureJson) where
-    features_more : map feature_value (done ++ feature ∷ []) ≡ map feature_value done ++ feature_value feature ∷ []
-    features_more = map-append feature_value done (feature ∷ [])
+      -- they are those of all lines
+      pub all_made : length all ≤ at → LinesGive IsWanted k all texts × (length texts ≤ length all)
+      all_made done =
+          let Made : List (List ℕ) → Type 0 = λ lines. MadeSoFar IsWanted k lines texts in
+          let made = subst Made (take_all at all done) so_far in
+          (made.give, made.few)
 
-    -- the feature was moved, and its line, where it has one, is the last
-    pub made_more : (given : Option (List ℕ)) → IsMovable (feature_value feature) k → IsTextOf IsWanted (moved (feature_value feature) k) given → (longer : List (List ℕ)) → longer ≡ lines ++ option_to_list (option_map with_newline given)
-        → MadeSoFar IsWanted k (map feature_value (done ++ feature ∷ [])) longer
-    made_more None movable text longer is =
-        record {
-          texts = so_far.texts ++ [];
-          lines_are = is ∙ append-nil lines ∙ so_far.lines_are ∙ ap (map with_newline) (sym (append-nil so_far.texts));
-          give = rw features_more (give_more (map feature_value done) so_far.texts so_far.give (feature_value feature) None movable text);
-          few = omega (arith, so_far.few, ap length is, length-append lines [], ap length features_more, length-append (map feature_value done) (feature_value feature ∷ []));
-        }
-    made_more (Some one) movable text longer is =
-        record {
-          texts = so_far.texts ++ one ∷ [];
-          lines_are = is ∙ ap (λ ls. ls ++ with_newline one ∷ []) so_far.lines_are ∙ sym (map-append with_newline so_far.texts (one ∷ []));
-          give = rw features_more (give_more (map feature_value done) so_far.texts so_far.give (feature_value feature) (Some one) movable text);
-          few = omega (arith, so_far.few, ap length is, length-append lines (with_newline one ∷ []), ap length features_more, length-append (map feature_value done) (feature_value feature ∷ []));
-        }
+-- a line that is refused is among them
+pub refuses_all : (k : Triple) (fault : Fault) (all : List (List ℕ)) (at : ℕ) → at < length all → (fault ≡ Memory)
+    ⊎ RefusesFeatureLine k fault (get_or all at []) → RefusesLines k fault all
+refuses_all k fault all at within (inl out) = inl (out, filled all within)
+  where
+    filled : (all : List (List ℕ)) → at < length all → all ≢ []
+    filled all within none = omega (arith, within, ap length none)
+refuses_all k fault all at within (inr refused) =
+    inr (at, get_or all at [], within, get_or_default all at (get_or all at []) [] within, refused)
 
--- a feature that is refused is among them
-refuses_one : (k : Triple) (fault : Fault) (before after : List FeatureValue) (feature : FeatureValue) → RefusesMove fault feature k → RefusesHeld k fault (before ++ feature ∷ after)
-refuses_one k VertexRange before after feature refused =
-    (length before, feature, omega (arith, length-append before (feature ∷ after)), get_or-append_seam before feature after feature, refused)
-refuses_one k Memory before after feature refused = some_items before feature after
-refuses_one k other before after feature refused = absurd refused
+-- the texts are as many as their own parts, and each is its own part and the common one
+pub texts_long : (held : HeldTexts) → length (texts_in held) ≡ length held.own
+texts_long held = length-map held.own (λ own. own ++ held.common)
 
-pub refuses_all : (k : Triple) (fault : Fault) (all before after : List FeatureJson) (feature : FeatureJson) → all ≡ before ++ feature ∷ after → RefusesMove fault (feature_value feature) k → RefusesHeld k fault (map feature_value all)
-refuses_all k fault all before after feature are refused =
-    rw (ap (map feature_value) are ∙ map-append feature_value before (feature ∷ after)) (refuses_one k fault (map feature_value before) (map feature_value after) (feature_value feature) refused)
-
--- a feature was moved, and its line added where it is wanted
-module _ (IsWanted : FeatureValue → Type 0) (k : Triple) (feature there : FeatureValue) (moves : (there ≡ moved feature k) × IsMovable feature k) (old new : List (List ℕ)) where
-  abbrev Added : Type 0
-  Added =
-      (text : Option (List ℕ))
-      × (new ≡ old ++ option_to_list (option_map with_newline text))
-      × IsMovable feature k
-      × IsTextOf IsWanted (moved feature k) text
-
-  pub line_added : IsWanted there → (line : List ℕ) → line ≡ with_newline (compact there.value) → new ≡ old ++ line ∷ [] → Added
-  line_added wanted line is grown =
-      let text : compact there.value ≡ compact (moved feature k).value = ap (λ (f : FeatureValue). compact f.value) moves.0 in
-      (Some (compact there.value), grown ∙ ap (λ l. old ++ l ∷ []) is, moves.1, (subst IsWanted moves.0 wanted, text))
+pub text_held : (held : HeldTexts) (at : ℕ) → at < length held.own → (old line shown : List ℕ) → old ≡ []
+    → line ≡ old ++ (get_or held.own at [] ++ held.common) → shown ≡ line → get_or (texts_in held) at [] ≡ shown
+text_held held at within old line shown empty appended same =
+    get_or_default (texts_in held) at [] ([] ++ held.common) (omega (arith, within, texts_long held))
+    ∙ (get_or-map (λ own. own ++ held.common) held.own at []
+    ∙ sym (same ∙ (appended ∙ ap (λ front. front ++ (get_or held.own at [] ++ held.common)) empty)))

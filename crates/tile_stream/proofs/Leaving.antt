@@ -4,17 +4,20 @@ use Rattle.std.proofs.lemmas.Bool.{cases_Bool}
 use Rattle.city_json.specs.Bytes.{newline}
 use Rattle.byte_streams.specs.declared.fault.Fault.{Fault}
 use Rattle.byte_streams.specs.declared.fault.Fault.TheVariants.{LineTooLong, TileTooLong, Read, Memory}
+use Rattle.byte_streams.specs.declared.places.LineFault.{LineFault}
 use Rattle.tile_stream.specs.declared.limits.Limits.{Limits}
 use Rattle.tile_stream.specs.Ahead.{Ahead, MayCome}
 use Rattle.tile_stream.specs.Taking.{HasNoNewline, IsFineFront, IsFineLine, IsRefusal}
 use Rattle.tile_stream.specs.Unread.{Unread, Leaves, part_before, IsRefused, BeginsFrom, ComesFrom, EndsFrom}
-use Rattle.tile_stream.specs.Tile.{Part, FaultyLine, TileLines, part_of, number_parts, is_blank, fault_at, lines_of_parts, lines_from, line_before, nothing_left, only_fault}
+use Rattle.tile_stream.specs.Tile.{Part, TileLines, part_of, number_parts, is_blank, fault_at, lines_of_parts, lines_from, line_before, nothing_left, only_fault}
 use Rattle.tile_stream.proofs.FirstParts.{split-cons, by_fault, after_blank, after_line, by_blank, whole_blank, whole_line, last_blank, last_line}
 
-part_blank : (number start : ℕ) (bytes : List ℕ) (left : TileLines) → is_blank bytes ≡ true → part_before (part_of number start bytes) left ≡ left
+part_blank : (number start : ℕ) (bytes : List ℕ) (left : TileLines) → is_blank bytes ≡ true
+    → part_before (part_of number start bytes) left ≡ left
 part_blank number start bytes left blank = rw blank refl
 
-part_full : (number start : ℕ) (bytes : List ℕ) (left : TileLines) → is_blank bytes ≡ false → part_before (part_of number start bytes) left ≡ line_before (part_of number start bytes) left
+part_full : (number start : ℕ) (bytes : List ℕ) (left : TileLines) → is_blank bytes ≡ false
+    → part_before (part_of number start bytes) left ≡ line_before (part_of number start bytes) left
 part_full number start bytes left full = rw full refl
 
 fault_cases : (fault : Option Fault) → (fault ≡ None) ⊎ ((is : Fault) × (fault ≡ Some is))
@@ -28,7 +31,8 @@ abbrev Comes : ℕ → TileLines → Type 0
 Comes from left = ComesFrom from left.lines left.fault left.last
 
 -- what comes at a number or above it begins at each lower one
-pub begins_before : (first number : ℕ) (lines : List Part) (fault : Option FaultyLine) (last : ℕ) → first ≤ number → ComesFrom number lines fault last → BeginsFrom first lines fault
+pub begins_before : (first number : ℕ) (lines : List Part) (fault : Option LineFault) (last : ℕ) → first ≤ number
+    → ComesFrom number lines fault last → BeginsFrom first lines fault
 begins_before first number [] None last low comes = tt
 begins_before first number [] (Some fault) last low comes = omega (arith, low, comes)
 begins_before first number (line ∷ others) fault last low comes = omega (arith, low, comes)
@@ -38,7 +42,9 @@ module _ (limits : Limits) (size : ℕ) (fails : Bool) (from : ℕ) where
   abbrev Given : List Part → Type 0
   Given parts = Comes from (lines_of_parts limits size fails parts)
 
-  first_comes : (part : Part) (others : List Part) → from ≤ part.number → (fault_at limits size fails part ≡ None → is_blank part.bytes ≡ true → Given (part ∷ others)) → Given (part ∷ others)
+  first_comes : (part : Part) (others : List Part) → from ≤ part.number
+      → (fault_at limits size fails part ≡ None → is_blank part.bytes ≡ true → Given (part ∷ others))
+      → Given (part ∷ others)
   first_comes part others low if_blank =
       ⊎_elim
       (λ fine. ⊎_elim
@@ -48,29 +54,42 @@ module _ (limits : Limits) (size : ℕ) (fails : Bool) (from : ℕ) where
       (λ faulty. subst (Comes from) (sym (by_fault limits size fails part others faulty.0 faulty.1)) low)
       (fault_cases (fault_at limits size fails part))
 
-  parts_come : (number start : ℕ) (bytes : List ℕ) (others : List (List ℕ)) → from ≤ number → Given (number_parts number start (bytes ∷ others))
+  parts_come : (number start : ℕ) (bytes : List ℕ) (others : List (List ℕ)) → from ≤ number
+      → Given (number_parts number start (bytes ∷ others))
   parts_come number start bytes [] low =
       let part = part_of number start bytes in
-      first_comes part [] low (λ fine blank. subst (Comes from) (sym (after_blank limits size fails part [] fine blank)) low)
+      first_comes part [] low (λ fine blank. subst (Comes from) (sym (after_blank limits size fails part [] fine blank))
+      low)
   parts_come number start bytes (next ∷ others) low =
       let part = part_of number start bytes in
       let after = number_parts (number + 1) (start + length bytes + 1) (next ∷ others) in
       first_comes part after low (λ fine blank.
-      subst (Comes from) (sym (by_blank limits size fails part after fine (part_of (number + 1) (start + length bytes + 1) next, number_parts (number + 1 + 1) (start + length bytes + 1 + length next + 1) others, refl) blank)) (parts_come (number + 1) (start + length bytes + 1) next others (omega arith)))
+      subst (Comes from) (sym (by_blank limits size fails part after fine (
+        part_of (number + 1) (start + length bytes + 1) next,
+        number_parts (number + 1 + 1) (start + length bytes + 1 + length next + 1) others,
+        refl,
+      ) blank))
+      (parts_come (number + 1) (start + length bytes + 1) next others (omega arith)))
 
-lines_come : (limits : Limits) (number start : ℕ) (bytes : List ℕ) (fails : Bool) → Comes number (lines_from limits number start bytes fails)
+lines_come : (limits : Limits) (number start : ℕ) (bytes : List ℕ) (fails : Bool)
+    → Comes number (lines_from limits number start bytes fails)
 lines_come limits number start bytes fails =
     let split = split-cons bytes in
-    let Given : List (List ℕ) → Type 0 = λ parts. Comes number (lines_of_parts limits (start + length bytes) fails (number_parts number start parts)) in
-    subst Given (sym split.1.1.0) (parts_come limits (start + length bytes) fails number number start split.0 split.1.0 (omega arith))
+    let Given : List (List ℕ) → Type 0 = λ parts.
+    Comes number (lines_of_parts limits (start + length bytes) fails (number_parts number start parts)) in
+    subst Given (sym split.1.1.0) (parts_come limits (start + length bytes) fails number number start split.0 split.1.0
+    (omega arith))
 
 module _ {R : Type 0} (gives : R → List ℕ → Bool → Type 0) (limits : Limits) (number start : ℕ) (before : Ahead R) where
   abbrev unread : Ahead R → ℕ → ℕ → Unread R
   unread ahead number start = record { ahead = ahead; limits = limits; number = number; start = start; ended = None }
 
-  pub by_ended : (line : List ℕ) (after : Ahead R) (next : ℕ) → next ≡ start + length line + 1 → HasNoNewline line → IsFineLine limits start line
-      → ((bytes : List ℕ) (fails : Bool) → MayCome gives after bytes fails → MayCome gives before (line ++ newline ∷ bytes) fails)
-      → (left : TileLines) → Leaves gives (unread after (number + 1) next) left → Leaves gives (unread before number start) (part_before (part_of number start line) left)
+  pub by_ended : (line : List ℕ) (after : Ahead R) (next : ℕ) → next ≡ start + length line + 1 → HasNoNewline line
+      → IsFineLine limits start line
+      → ((bytes : List ℕ) (fails : Bool) → MayCome gives after bytes fails
+      → MayCome gives before (line ++ newline ∷ bytes) fails)
+      → (left : TileLines) → Leaves gives (unread after (number + 1) next) left
+      → Leaves gives (unread before number start) (part_before (part_of number start line) left)
   by_ended line after next place none fine follows left leaves =
       let bytes = leaves.0 in
       let fails = leaves.1 in
@@ -79,20 +98,33 @@ module _ {R : Type 0} (gives : R → List ℕ → Bool → Type 0) (limits : Lim
         fails,
         follows bytes fails leaves.2,
         ⊎_elim
-            (λ blank. part_blank number start line left blank ∙ is ∙ sym (whole_blank limits number start line none fine bytes fails blank))
-            (λ full. part_full number start line left full ∙ ap (line_before (part_of number start line)) is ∙ sym (whole_line limits number start line none fine bytes fails full))
+            (λ blank. part_blank number start line left blank ∙ is
+            ∙ sym (whole_blank limits number start line none fine bytes fails blank))
+            (λ full. part_full number start line left full ∙ ap (line_before (part_of number start line)) is
+            ∙ sym (whole_line limits number start line none fine bytes fails full))
             (cases_Bool (is_blank line)),
       )
 
-  pub by_last_blank : (line : List ℕ) → HasNoNewline line → IsFineFront limits start line → MayCome gives before line false → is_blank line ≡ true → Leaves gives (unread before number start) (nothing_left number)
-  by_last_blank line none fine comes blank = (line, false, comes, sym (last_blank limits number start line none fine blank))
+  pub by_last_blank : (line : List ℕ) → HasNoNewline line → IsFineFront limits start line
+      → MayCome gives before line false → is_blank line ≡ true
+      → Leaves gives (unread before number start) (nothing_left number)
+  by_last_blank line none fine comes blank =
+      (line, false, comes, sym (last_blank limits number start line none fine blank))
 
-  pub by_last : (line : List ℕ) → HasNoNewline line → IsFineFront limits start line → MayCome gives before line false → is_blank line ≡ false
-      → (left : TileLines) → left ≡ nothing_left number → Leaves gives (unread before number start) (part_before (part_of number start line) left)
-  by_last line none fine comes full left is =
-      (line, false, comes, part_full number start line left full ∙ ap (line_before (part_of number start line)) is ∙ sym (last_line limits number start line none fine full))
+  pub by_last : (line : List ℕ) → HasNoNewline line → IsFineFront limits start line → MayCome gives before line false
+      → is_blank line ≡ false
+      → (left : TileLines) → left ≡ nothing_left number
+      → Leaves gives (unread before number start) (part_before (part_of number start line) left)
+  by_last line none fine comes full left is = (
+    line,
+    false,
+    comes,
+    part_full number start line left full ∙ ap (line_before (part_of number start line)) is
+        ∙ sym (last_line limits number start line none fine full),
+  )
 
-  pub by_refusal : (fault : Fault) → IsRefusal fault limits start (MayCome gives before) → IsRefused fault number (Leaves gives (unread before number start))
+  pub by_refusal : (fault : Fault) → IsRefusal fault limits start (MayCome gives before)
+      → IsRefused fault number (Leaves gives (unread before number start))
   by_refusal Memory is =
       let bytes = is.0 in
       let fails = is.1 in
@@ -109,7 +141,10 @@ by_kept Memory line = (only_fault line Memory, refl, omega arith)
 by_kept other line = refl
 
 -- Something may be left, since each reader gives something; it begins at the next line's number.
-something_if : {R : Type 0} (gives : R → List ℕ → Bool → Type 0) → ((reader : R) → (bytes : List ℕ) × ((fails : Bool) × gives reader bytes fails)) → (ended : Option TileLines) (lines : Unread R) → lines.ended ≡ ended → EndsFrom lines.number ended → (left : TileLines) × Leaves gives lines left × Begins lines.number left
+something_if : {R : Type 0} (gives : R → List ℕ → Bool → Type 0)
+    → ((reader : R) → (bytes : List ℕ) × ((fails : Bool) × gives reader bytes fails))
+    → (ended : Option TileLines) (lines : Unread R) → lines.ended ≡ ended → EndsFrom lines.number ended
+    → (left : TileLines) × Leaves gives lines left × Begins lines.number left
 something_if gives some (Some known) lines is from = rw is (known, refl, from)
 something_if gives some None lines is from =
     let rest = some lines.ahead.reader in
@@ -122,5 +157,7 @@ something_if gives some None lines is from =
       begins_before lines.number lines.number left.lines left.fault left.last (omega arith) comes,
     )
 
-pub something_left : {R : Type 0} (gives : R → List ℕ → Bool → Type 0) → ((reader : R) → (bytes : List ℕ) × ((fails : Bool) × gives reader bytes fails)) → (lines : Unread R) → EndsFrom lines.number lines.ended → (left : TileLines) × Leaves gives lines left × Begins lines.number left
+pub something_left : {R : Type 0} (gives : R → List ℕ → Bool → Type 0)
+    → ((reader : R) → (bytes : List ℕ) × ((fails : Bool) × gives reader bytes fails)) → (lines : Unread R)
+    → EndsFrom lines.number lines.ended → (left : TileLines) × Leaves gives lines left × Begins lines.number left
 something_left gives some lines from = something_if gives some lines.ended lines refl from

@@ -1,9 +1,11 @@
+pub mod CityHeld
 pub mod Coming
 pub mod Comings
 pub mod Filtering
 pub mod FirstParts
 pub mod GoneThrough
 pub mod Heads
+pub mod HeldFeatures
 pub mod HeldFirst
 pub mod HeldTexts
 pub mod Leaving

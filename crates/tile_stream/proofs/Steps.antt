@@ -1,5 +1,5 @@
 -- One text more is taken and its line written.
-use Rattle.std.proofs.Common.{◌≡◌, ◌≢◌, ◌+◌, ◌++◌, ℕ, List, [], ◌∷◌, Option, Some, None, length, take, flat_map, refl, sym, ap, subst, ◌∙◌, arith, append_assoc, append-nil, ⊎_elim, true, false, nat_le, take_all}
+use Rattle.std.proofs.Common.{◌≡◌, ◌≢◌, ◌+◌, ◌++◌, ℕ, List, [], ◌∷◌, Option, Some, None, length, take, flat_map, refl, sym, ap, subst, ◌∙◌, arith, append_assoc, append-nil, ⊎_elim, true, false, nat_le, take_all, le_refl}
 use Rattle.std.proofs.lemmas.Bool.{cases_Bool}
 use Rattle.std.proofs.lemmas.Bool.Decides.{nat_tests}
 use Rattle.std.proofs.Math.Seq.{take-append-add, take-append_seam}
@@ -7,24 +7,28 @@ use Rattle.std.proofs.lemmas.List.{take-append-le}
 use Rattle.std.specs.Io.KnownBytes.{Appends, Keeps}
 use Rattle.std.proofs.KnownBytes.{Appends-nil, Appends-trans}
 use Rattle.std.proofs.lemmas.Grind.{common_steps, flat_map-append}
+use Rattle.city_json.specs.Bytes.{newline}
 use Rattle.byte_streams.specs.declared.fault.Fault.{Fault}
 use Rattle.byte_streams.specs.declared.fault.Fault.TheVariants.{Write}
+use Rattle.byte_streams.specs.declared.places.LineFault.{LineFault}
 use Rattle.tile_stream.specs.Coming.{GivesText, SomethingComes, ComesBack}
 use Rattle.tile_stream.specs.Filtered.{failures_after_write}
 use Rattle.tile_stream.specs.Progress.{SoFar, WroteTexts, StoppedAfter, WroteFront, IsRefusedAfter}
 use Rattle.tile_stream.specs.Stream.{with_newline}
 use Rattle.tile_stream.specs.Texts.{Outcome}
-use Rattle.tile_stream.specs.Tile.{FaultyLine}
 
 -- the first bytes of a list are the first bytes of a longer one
 pub first_of_longer : (count : ℕ) (front back : List ℕ) → (n : ℕ) × (take n (front ++ back) ≡ take count front)
 first_of_longer count front back = ⊎_elim
-    (λ (within : nat_le count (length front) ≡ true). (count, take-append-le count front back (grind (arith, nat_tests, within))))
-    (λ (past : nat_le count (length front) ≡ false). (length front, take-append_seam front back ∙ sym (take_all count front (grind (arith, nat_tests, past)))))
+    (λ (within : nat_le count (length front) ≡ true).
+    (count, take-append-le count front back (grind (arith, nat_tests, within))))
+    (λ (past : nat_le count (length front) ≡ false).
+    (length front, take-append_seam front back ∙ sym (take_all count front (grind (arith, nat_tests, past)))))
     (cases_Bool (nat_le count (length front)))
 
 -- known bytes that grew and then stayed
-pub Appends-kept : (old mid new : Option (List ℕ)) (bytes : List ℕ) → Appends old mid bytes → Keeps mid new → Appends old new bytes
+pub Appends-kept : (old mid new : Option (List ℕ)) (bytes : List ℕ) → Appends old mid bytes → Keeps mid new
+    → Appends old new bytes
 Appends-kept None mid new bytes grew stayed = tt
 Appends-kept (Some x) None new bytes grew stayed = absurd grew
 Appends-kept (Some x) (Some y) None bytes grew stayed = absurd stayed
@@ -39,18 +43,21 @@ module _ (before : List (List ℕ) → Outcome → Type 0) (old : Option (List �
     written = Appends-nil old;
   }
 
-  module _ (now : List (List ℕ) → Outcome → Type 0) (count : ℕ) (new : Option (List ℕ)) (so_far : SoFar before now count old new) where
+  module _ (now : List (List ℕ) → Outcome → Type 0) (count : ℕ) (new : Option (List ℕ))
+      (so_far : SoFar before now count old new) where
     comes_last : (outcome : Outcome) → now [] outcome → before so_far.texts outcome
-    comes_last outcome comes = subst (λ texts. before texts outcome) (append-nil so_far.texts) (so_far.back [] outcome comes)
+    comes_last outcome comes = subst (λ texts. before texts outcome) (append-nil so_far.texts)
+        (so_far.back [] outcome comes)
 
     pub at_end : now [] None → WroteTexts before count old new
     at_end over = (so_far.texts, comes_last None over, so_far.counted, so_far.written)
 
-    pub at_fault : (at : FaultyLine) → now [] (Some at) → StoppedAfter before at old new
+    pub at_fault : (at : LineFault) → now [] (Some at) → StoppedAfter before at old new
     at_fault at refused = (so_far.texts, comes_last (Some at) refused, so_far.written)
 
     -- a line that came to nothing was taken
-    pub at_skipped : (after : List (List ℕ) → Outcome → Type 0) → ComesBack now after → (newer : Option (List ℕ)) → Keeps new newer → SoFar before after count old newer
+    pub at_skipped : (after : List (List ℕ) → Outcome → Type 0) → ComesBack now after → (newer : Option (List ℕ))
+        → Keeps new newer → SoFar before after count old newer
     at_skipped after skipped newer kept = record {
       texts = so_far.texts;
       back = λ others outcome comes. so_far.back others outcome (skipped others outcome comes);
@@ -64,7 +71,8 @@ module _ (before : List (List ℕ) → Outcome → Type 0) (old : Option (List �
         let more = some.0 in
         let written = flat_map with_newline so_far.texts in
         let all : take (length written) (flat_map with_newline (so_far.texts ++ more)) ≡ written =
-        ap (take (length written)) (flat_map-append with_newline so_far.texts more) ∙ take-append_seam written (flat_map with_newline more) in (
+        ap (take (length written)) (flat_map-append with_newline so_far.texts more)
+        ∙ take-append_seam written (flat_map with_newline more) in (
           so_far.texts ++ more,
           some.1.0,
           length written,
@@ -72,27 +80,35 @@ module _ (before : List (List ℕ) → Outcome → Type 0) (old : Option (List �
           subst (Appends old newer) (sym all) (Appends-kept old new newer _ so_far.written kept),
         )
 
-    module _ (after : List (List ℕ) → Outcome → Type 0) (text line : List ℕ) (is_line : line ≡ with_newline text) (gives : GivesText now after text) where
-      pub at_text : (newer : Option (List ℕ)) → Appends new newer line → SoFar before after (count + 1) old newer
+    module _ (after : List (List ℕ) → Outcome → Type 0) (text : List ℕ) (gives : GivesText now after text) where
+      pub at_text : (newer : Option (List ℕ)) → Appends new newer (with_newline text)
+          → SoFar before after (count + 1) old newer
       at_text newer appends =
           let written = flat_map with_newline so_far.texts in
-          let all : flat_map with_newline (so_far.texts ++ text ∷ []) ≡ written ++ line =
-          flat_map-append with_newline so_far.texts (text ∷ []) ∙ ap (λ l. written ++ l) (append-nil (with_newline text) ∙ sym is_line) in
+          let all : flat_map with_newline (so_far.texts ++ text ∷ []) ≡ written ++ with_newline text =
+          flat_map-append with_newline so_far.texts (text ∷ [])
+          ∙ ap (λ l. written ++ l) (append-nil (with_newline text)) in
           record {
             texts = so_far.texts ++ text ∷ [];
-            back = λ others outcome comes. subst (λ texts. before texts outcome) (sym (append_assoc so_far.texts (text ∷ []) others)) (so_far.back (text ∷ others) outcome (gives others outcome comes));
+            back = λ others outcome comes. subst (λ texts. before texts outcome)
+                (sym (append_assoc so_far.texts (text ∷ []) others))
+                (so_far.back (text ∷ others) outcome (gives others outcome comes));
             counted = grind (arith, common_steps, so_far.counted);
             written = subst (Appends old newer) (sym all) (Appends-trans old new newer _ _ so_far.written appends);
           }
 
-      pub at_failed_write : SomethingComes after → (newer : Option (List ℕ)) (taken : ℕ) → Appends new newer (take taken line) → WroteFront before old newer
+      pub at_failed_write : SomethingComes after → (newer : Option (List ℕ)) (taken : ℕ)
+          → Appends new newer (take taken (with_newline text)) → WroteFront before old newer
       at_failed_write some newer taken appends =
           let more = some.0 in
           let outcome = some.1.0 in
           let written = flat_map with_newline so_far.texts in
           let first = first_of_longer taken (with_newline text) (flat_map with_newline more) in
-          let part : take (length written + first.0) (flat_map with_newline (so_far.texts ++ text ∷ more)) ≡ written ++ take taken line =
-          ap (take (length written + first.0)) (flat_map-append with_newline so_far.texts (text ∷ more)) ∙ take-append-add written (flat_map with_newline (text ∷ more)) first.0 ∙ ap (λ l. written ++ l) (first.1 ∙ ap (take taken) (sym is_line)) in (
+          let part : take (length written + first.0) (flat_map with_newline (so_far.texts ++ text ∷ more)) ≡ written
+          ++ take taken (with_newline text) =
+          ap (take (length written + first.0)) (flat_map-append with_newline so_far.texts (text ∷ more))
+          ∙ take-append-add written (flat_map with_newline (text ∷ more)) first.0
+          ∙ ap (λ l. written ++ l) first.1 in (
             so_far.texts ++ text ∷ more,
             outcome,
             length written + first.0,
@@ -100,9 +116,39 @@ module _ (before : List (List ℕ) → Outcome → Type 0) (old : Option (List �
             subst (Appends old newer) (sym part) (Appends-trans old new newer _ _ so_far.written appends),
           )
 
+-- a text and its newline are written, one after the other
+module _ (old mid new : Option (List ℕ)) (text : List ℕ) where
+  pub line_written : Appends old mid text → Appends mid new (newline ∷ []) → Appends old new (with_newline text)
+  line_written wrote more = Appends-trans old mid new text (newline ∷ []) wrote more
+
+  pub text_failed : (count : ℕ) → Appends old mid (take count text) → (n : ℕ)
+      × Appends old mid (take n (with_newline text))
+  text_failed count wrote =
+      let first = first_of_longer count text (newline ∷ []) in
+      (first.0, subst (Appends old mid) (sym first.1) wrote)
+
+  pub newline_failed : Appends old mid text → (count : ℕ) → Appends mid new (take count (newline ∷ [])) → (n : ℕ)
+      × Appends old new (take n (with_newline text))
+  newline_failed wrote count more = (
+    length text + count,
+    subst (Appends old new) (sym (take-append-add text (newline ∷ []) count))
+        (Appends-trans old mid new _ _ wrote more),
+  )
+
+-- a line was written, and could not be passed on
+pub whole_written : (old mid new : Option (List ℕ)) (text : List ℕ) → Appends old mid (with_newline text)
+    → Keeps mid new → (n : ℕ) × Appends old new (take n (with_newline text))
+whole_written old mid new text wrote kept =
+    let line = with_newline text in (
+      length line,
+      subst (Appends old new) (sym (take_all (length line) line (le_refl _)))
+          (Appends-kept old mid new line wrote kept),
+    )
+
 -- a fault that is no failed write belongs to a line
 module _ (comes : List (List ℕ) → Outcome → Type 0) (number : ℕ) (old new : Option (List ℕ)) where
-  pub of_line : (fault : Fault) → fault ≢ Write → StoppedAfter comes (record { number = number; fault = fault }) old new → IsRefusedAfter comes fault 1 number old new
+  pub of_line : (fault : Fault) → fault ≢ Write → StoppedAfter comes (record { line = number; fault = fault }) old new
+      → IsRefusedAfter comes fault 1 number old new
   of_line Write not stopped = absurd (not refl)
   of_line other not stopped = (refl, stopped)
 

@@ -1,10 +1,9 @@
 -- What is still to come of a tile that is being read: texts, and how it ends.
-use Rattle.std.specs.Prelude.{◌≡◌, ℕ, Bool, List, [], ◌∷◌}
+use Rattle.std.specs.Prelude.{◌≡◌, ◌++◌, ℕ, Bool, List, ◌∷◌}
 use Rattle.city_feature.specs.Feature.{FeatureValue}
 use Rattle.city_feature.specs.FeatureLine.{GivesFeature, RefusesFeatureLine}
 use Rattle.city_grid.specs.Axes.{Triple}
-use Rattle.tile_stream.specs.Held.{HeldFirst, held_value}
-use Rattle.tile_stream.specs.Stream.{with_newline}
+use Rattle.tile_stream.specs.Held.{TextsFirst}
 use Rattle.tile_stream.specs.Texts.{Outcome, ComesTo}
 use Rattle.tile_stream.specs.Tile.{TileLines}
 use Rattle.tile_stream.specs.TileState.{TileState}
@@ -26,23 +25,17 @@ abbrev pub LinesMayComeTo : {R : Type 0} → (R → List ℕ → Bool → Type 0
 LinesMayComeTo gives IsWanted k lines texts outcome =
     (left : TileLines) × MayLeave gives lines left × LeftComesTo IsWanted k lines.number left texts outcome
 
--- the texts of these lines come first, and then what else comes
+-- these texts come first, and then what else comes
 abbrev pub ReadyFirst : List (List ℕ) → (List (List ℕ) → Outcome → Type 0) → List (List ℕ) → Outcome → Type 0
-ReadyFirst [] Then texts outcome = Then texts outcome
-ReadyFirst (line ∷ lines) Then texts outcome =
-    (text : List ℕ)
-    × (more : List (List ℕ))
-    × (line ≡ with_newline text)
-    × (texts ≡ text ∷ more)
-    × ReadyFirst lines Then more outcome
+ReadyFirst ready Then texts outcome = (more : List (List ℕ)) × (texts ≡ ready ++ more) × Then more outcome
 
--- The same of a tile: first the texts that are ready, then those of the features that it holds, then
--- those of the lines that may be left.
+-- The same of a tile: first the texts that are ready, then those of the features that it holds, each
+-- moved as if its text were a line, then those of the lines that may be left.
 abbrev pub MayComeTo : {R : Type 0} → (R → List ℕ → Bool → Type 0) → (FeatureValue → Type 0) → Triple → TileState R → List (List ℕ) → Outcome → Type 0
 MayComeTo gives IsWanted k tile texts outcome =
     (left : TileLines)
     × MayLeave gives tile.lines left
-    × ReadyFirst tile.ready (HeldFirst IsWanted k (held_value tile.held) (LeftComesTo IsWanted k tile.lines.number left)) texts outcome
+    × ReadyFirst tile.ready (TextsFirst IsWanted k tile.held (LeftComesTo IsWanted k tile.lines.number left)) texts outcome
 
 -- Whatever may be to come after, may with this text in front have been to come before.
 abbrev pub GivesText : (List (List ℕ) → Outcome → Type 0) → (List (List ℕ) → Outcome → Type 0) → List ℕ → Type 0

@@ -12,9 +12,10 @@ use Rattle.tile_stream.specs.Head.{HasHead, HasNoHead, SomeTile}
 use Rattle.tile_stream.specs.Held.{Held, TileComesTo}
 use Rattle.tile_stream.specs.Stream.{stream}
 use Rattle.tile_stream.specs.Texts.{Outcome}
-use Rattle.tile_stream.specs.Tile.{FaultyLine, TileLines}
+use Rattle.tile_stream.specs.Tile.{TileLines}
 use Rattle.tile_stream.specs.Unread.{failed_reads_after}
 use Rattle.byte_streams.specs.declared.places.MergeFault.{MergeFault}
+use Rattle.byte_streams.specs.declared.places.LineFault.{LineFault}
 
 -- the shift of a tile that stays where it is
 abbrev pub no_steps : Triple
@@ -40,7 +41,7 @@ WroteStream tile IsWanted count old new =
 
 -- A line is at fault, or memory ran out there: the tile has no head, and nothing was written; or it has
 -- one, and the stream of the texts before the fault was.
-abbrev pub StoppedAt : TileLines → (FeatureValue → Type 0) → FaultyLine → Option (List ℕ) → Option (List ℕ) → Type 0
+abbrev pub StoppedAt : TileLines → (FeatureValue → Type 0) → LineFault → Option (List ℕ) → Option (List ℕ) → Type 0
 StoppedAt tile IsWanted at old new =
     (HasNoHead tile at × Keeps old new)
     ⊎ ((header : HeaderValue)
@@ -65,14 +66,14 @@ IsRefusedFilter MayBe IsWanted Write tile line old new =
 IsRefusedFilter MayBe IsWanted fault tile line old new =
     (tile ≡ 1)
     × SomeTile MayBe (λ lines.
-    StoppedAt lines IsWanted (record { number = line; fault = fault }) old new)
+    StoppedAt lines IsWanted (record { line = line; fault = fault }) old new)
 
 -- the tile has no head, for this fault of this line
 abbrev pub IsHeadless : (TileLines → Type 0) → MergeFault → Type 0
 IsHeadless MayBe refusal =
     (refusal.tile ≡ 1)
     × SomeTile MayBe (λ lines.
-    HasNoHead lines (record { number = refusal.line; fault = refusal.fault }))
+    HasNoHead lines (record { line = refusal.line; fault = refusal.fault }))
 
 -- Where a refusal is answered: a write or a flush failed; or nothing was written; or what was written
 -- was passed on.

@@ -4,9 +4,9 @@ use Rattle.std.specs.Prelude.{◌≡◌, ◌++◌, ℕ, List, Option, Some, None
 use Rattle.std.specs.Io.KnownBytes.{Appends}
 use Rattle.byte_streams.specs.declared.fault.Fault.{Fault}
 use Rattle.byte_streams.specs.declared.fault.Fault.TheVariants.{Write}
+use Rattle.byte_streams.specs.declared.places.LineFault.{LineFault}
 use Rattle.tile_stream.specs.Stream.{with_newline}
 use Rattle.tile_stream.specs.Texts.{Outcome}
-use Rattle.tile_stream.specs.Tile.{FaultyLine}
 
 -- This many texts came, whatever may come now may have come after them, and their lines were written.
 pub record SoFar (before now : List (List ℕ) → Outcome → Type 0) (count : ℕ) (old new : Option (List ℕ)) : Type 0 where
@@ -24,7 +24,7 @@ WroteTexts comes count old new =
     × Appends old new (flat_map with_newline texts)
 
 -- Some texts came, then this fault, and the lines of the texts were written.
-abbrev pub StoppedAfter : (List (List ℕ) → Outcome → Type 0) → FaultyLine → Option (List ℕ) → Option (List ℕ) → Type 0
+abbrev pub StoppedAfter : (List (List ℕ) → Outcome → Type 0) → LineFault → Option (List ℕ) → Option (List ℕ) → Type 0
 StoppedAfter comes at old new =
     (texts : List (List ℕ)) × comes texts (Some at) × Appends old new (flat_map with_newline texts)
 
@@ -40,4 +40,4 @@ WroteFront comes old new =
 abbrev pub IsRefusedAfter : (List (List ℕ) → Outcome → Type 0) → Fault → ℕ → ℕ → Option (List ℕ) → Option (List ℕ) → Type 0
 IsRefusedAfter comes Write tile line old new = (tile ≡ 0) × (line ≡ 0) × WroteFront comes old new
 IsRefusedAfter comes fault tile line old new =
-    (tile ≡ 1) × StoppedAfter comes (record { number = line; fault = fault }) old new
+    (tile ≡ 1) × StoppedAfter comes (record { line = line; fault = fault }) old new

@@ -4,37 +4,38 @@
 use Rattle.std.specs.Prelude.{◌≡◌, ◌⊎◌, ◌++◌, ◌≤◌, ◌<◌, ℕ, List, [], ◌∷◌, Option, Some, None, option_to_list}
 use Rattle.byte_streams.specs.declared.fault.Fault.{Fault}
 use Rattle.byte_streams.specs.declared.fault.Fault.TheVariants.{Memory}
-use Rattle.tile_stream.specs.Tile.{Part, FaultyLine, TileLines}
+use Rattle.byte_streams.specs.declared.places.LineFault.{LineFault}
+use Rattle.tile_stream.specs.Tile.{Part, TileLines}
 
 -- how a tile ended: nothing is wrong, or the number of the line at which it stopped, and why
 abbrev pub Outcome : Type 0
-Outcome = Option FaultyLine
+Outcome = Option LineFault
 
 -- memory ran out at a line of this number at the latest
-abbrev pub IsOutOfMemory : ℕ → FaultyLine → Type 0
-IsOutOfMemory number at = (at.fault ≡ Memory) × (at.number ≤ number)
+abbrev pub IsOutOfMemory : ℕ → LineFault → Type 0
+IsOutOfMemory number at = (at.fault ≡ Memory) × (at.line ≤ number)
 
 -- how a tile ends after its last line, at the part of this number: as it is, or out of memory
-abbrev pub EndsSo : Option FaultyLine → ℕ → Outcome → Type 0
+abbrev pub EndsSo : Option LineFault → ℕ → Outcome → Type 0
 EndsSo None last None = Unit {0}
 EndsSo None last (Some at) = IsOutOfMemory last at
 EndsSo (Some fault) last None = ⊥
-EndsSo (Some fault) last (Some at) = (at ≡ fault) ⊎ IsOutOfMemory fault.number at
+EndsSo (Some fault) last (Some at) = (at ≡ fault) ⊎ IsOutOfMemory fault.line at
 
 -- the tile stops at this line: it is refused, or memory ran out
 abbrev pub StopsAt : (Fault → List ℕ → Type 0) → Part → Outcome → Type 0
 StopsAt Refuses line None = ⊥
 StopsAt Refuses line (Some at) =
-    ((at.number ≡ line.number) × Refuses at.fault line.bytes) ⊎ IsOutOfMemory line.number at
+    ((at.line ≡ line.number) × Refuses at.fault line.bytes) ⊎ IsOutOfMemory line.number at
 
 -- the tile ends after the line of this number
 abbrev pub EndsAfter : ℕ → Outcome → Type 0
 EndsAfter number None = Unit {0}
-EndsAfter number (Some at) = number < at.number
+EndsAfter number (Some at) = number < at.line
 
 -- These lines, and then the fault of the tile, which ends at the part of this number, come to these
 -- texts and end so.
-abbrev pub LinesComeTo : (List ℕ → Option (List ℕ) → Type 0) → (Fault → List ℕ → Type 0) → List Part → Option FaultyLine → ℕ → List (List ℕ) → Outcome → Type 0
+abbrev pub LinesComeTo : (List ℕ → Option (List ℕ) → Type 0) → (Fault → List ℕ → Type 0) → List Part → Option LineFault → ℕ → List (List ℕ) → Outcome → Type 0
 LinesComeTo Gives Refuses [] fault last texts outcome = (texts ≡ []) × EndsSo fault last outcome
 LinesComeTo Gives Refuses (line ∷ others) fault last texts outcome =
     ((texts ≡ []) × StopsAt Refuses line outcome)

@@ -1,9 +1,11 @@
 -- The lines of a tile: the parts between newlines, numbered from 1, blank ones left out, up to the first fault.
-use Rattle.std.specs.Prelude.{◌+◌, ◌-◌, ◌^◌, ◌==◌, ◌&&◌, ◌||◌, ℕ, Bool, not, List, [], ◌∷◌, Option, Some, None, length, filter, filter_map, take_while, option_map, is_none, nat_le, nat_lt, if◌then◌else◌}
+use Rattle.std.specs.Prelude.{◌+◌, ◌-◌, ◌==◌, ◌&&◌, ◌||◌, ℕ, Bool, not, List, [], ◌∷◌, Option, Some, None, length, filter, filter_map, take_while, option_map, is_none, nat_le, nat_lt, if◌then◌else◌}
 use Rattle.std.specs.List.{slice_split, list_all}
+use Rattle.byte_streams.specs.Limits.{max_line_bytes, max_tile_bytes}
 use Rattle.city_json.specs.Bytes.{space, tab, newline, carriage_return}
 use Rattle.byte_streams.specs.declared.fault.Fault.{Fault}
 use Rattle.byte_streams.specs.declared.fault.Fault.TheVariants.{LineTooLong, TileTooLong, Read}
+use Rattle.byte_streams.specs.declared.places.LineFault.{LineFault}
 use Rattle.tile_stream.specs.declared.limits.Limits.{Limits}
 
 -- what a reader gave: its bytes up to its first end or its first Err, and whether an Err came
@@ -38,7 +40,7 @@ limits_of line tile = record { line = line; tile = tile }
 
 -- the limits of the streams that the program reads
 abbrev pub stream_limits : Limits
-stream_limits = limits_of (2 ^ 28) (2 ^ 40)
+stream_limits = limits_of max_line_bytes max_tile_bytes
 
 -- More bytes than a line may have stand in a row without a newline, all of them within the tile's limit.
 abbrev pub is_long_line : Limits → ℕ → ℕ → Bool
@@ -68,12 +70,8 @@ abbrev pub is_blank : List ℕ → Bool
 is_blank line = list_all (λ b. (b == space) || (b == tab) || (b == carriage_return)) line
 
 -- the number of a line, and why it is refused
-pub record FaultyLine : Type 0 where
-  pub number : ℕ
-  pub fault : Fault
-
-abbrev pub faulty_line : Limits → ℕ → Bool → Part → Option FaultyLine
-faulty_line limits size fails part = option_map (λ fault. record { number = part.number; fault = fault }) (fault_at limits size fails part)
+abbrev pub faulty_line : Limits → ℕ → Bool → Part → Option LineFault
+faulty_line limits size fails part = option_map (λ fault. record { line = part.number; fault = fault }) (fault_at limits size fails part)
 
 abbrev pub first_of : {X : Type 0} → List X → Option X
 first_of [] = None
@@ -88,13 +86,13 @@ last_number before (part ∷ others) = last_number part.number others
 -- there is one; and the number of the part at which it ends, the one at fault or else its last.
 pub record TileLines : Type 0 where
   pub lines : List Part
-  pub fault : Option FaultyLine
+  pub fault : Option LineFault
   pub last : ℕ
 
 -- the part at fault, or else the last of these
-abbrev pub end_number : Option FaultyLine → List Part → ℕ
+abbrev pub end_number : Option LineFault → List Part → ℕ
 end_number None some_parts = last_number 0 some_parts
-end_number (Some at) some_parts = at.number
+end_number (Some at) some_parts = at.line
 
 -- what these parts give, in a tile of `size` bytes
 abbrev pub lines_of_parts : Limits → ℕ → Bool → List Part → TileLines
@@ -121,4 +119,4 @@ nothing_left number = record { lines = []; fault = None; last = number }
 
 -- only a fault is to come
 abbrev pub only_fault : ℕ → Fault → TileLines
-only_fault number fault = record { lines = []; fault = Some (record { number = number; fault = fault }); last = number }
+only_fault number fault = record { lines = []; fault = Some (record { line = number; fault = fault }); last = number }

@@ -1,27 +1,21 @@
 -- A tile that is being read: what its first line holds, what is ready of that, and the lines after it.
 use Rattle.std.specs.Prelude.{◌≡◌, ◌+◌, ◌^◌, ℕ, List, [], length}
-use Rattle.std.specs.List.{AllByRecursion}
-use Rattle.tile_stream.specs.Held.{HeldJson}
-use Rattle.tile_stream.specs.Stream.{with_newline}
+use Rattle.tile_stream.specs.Held.{HeldLine}
 use Rattle.tile_stream.specs.Unread.{Unread, most_left}
 
--- The lines of texts that come next, the features that come after them, and the lines after these.
+-- The texts that come next, those of the features that come after them, not yet moved, and the lines after these.
 pub record TileState (R : Type 0) : Type 0 where
   pub ready : List (List ℕ)
-  pub held : HeldJson
+  pub held : HeldLine
   pub lines : Unread R
-
--- each is a text and a newline
-abbrev pub AreLines : List (List ℕ) → Type 0
-AreLines lines = AllByRecursion (λ line. (text : List ℕ) × (line ≡ with_newline text)) lines
 
 -- nothing is left of what the first line held
 abbrev pub IsPassed : {R : Type 0} → TileState R → Type 0
-IsPassed tile = (tile.ready ≡ []) × (tile.held.features ≡ [])
+IsPassed tile = (tile.ready ≡ []) × (tile.held.texts ≡ [])
 
 -- how many texts may be to come at most
 abbrev pub most_to_come : {R : Type 0} → TileState R → ℕ
-most_to_come tile = length tile.ready + length tile.held.features + most_left tile.lines
+most_to_come tile = length tile.ready + length tile.held.texts + most_left tile.lines
 
 -- how many texts a tile gives at most
 abbrev pub most_texts : ℕ

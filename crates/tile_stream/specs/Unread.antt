@@ -9,7 +9,7 @@ use Rattle.byte_streams.specs.declared.places.LineFault.{LineFault}
 use Rattle.tile_stream.specs.declared.lines.state.State.{State}
 use Rattle.tile_stream.specs.declared.lines.state.State.TheVariants.{Open, Over, Refused}
 use Rattle.tile_stream.specs.Ahead.{Ahead, MayCome}
-use Rattle.tile_stream.specs.Tile.{Part, FaultyLine, TileLines, part_of, is_newline, is_blank, tile_of, tile_lines, lines_from, line_before, nothing_left, only_fault}
+use Rattle.tile_stream.specs.Tile.{Part, TileLines, part_of, is_newline, is_blank, tile_of, tile_lines, lines_from, line_before, nothing_left, only_fault}
 
 -- What is ahead of the reader, the number of the next line, the byte at which it begins, and, once no
 -- more is read, what is left.
@@ -66,11 +66,11 @@ abbrev pub GivesLine : (TileLines → Type 0) → (TileLines → Type 0) → ℕ
 GivesLine before after number bytes = (start : ℕ) × ((left : TileLines) → after left → before (line_before (part_of number start bytes) left))
 
 -- The first line, or where there is none the fault, bears this number or a higher one.
-abbrev pub IsFaultFrom : ℕ → Option FaultyLine → Type 0
+abbrev pub IsFaultFrom : ℕ → Option LineFault → Type 0
 IsFaultFrom number None = Unit {0}
-IsFaultFrom number (Some at) = number ≤ at.number
+IsFaultFrom number (Some at) = number ≤ at.line
 
-abbrev pub BeginsFrom : ℕ → List Part → Option FaultyLine → Type 0
+abbrev pub BeginsFrom : ℕ → List Part → Option LineFault → Type 0
 BeginsFrom number [] fault = IsFaultFrom number fault
 BeginsFrom number (line ∷ others) fault = number ≤ line.number
 
@@ -80,9 +80,9 @@ EndsFrom number None = Unit {0}
 EndsFrom number (Some left) = BeginsFrom number left.lines left.fault
 
 -- What comes next, a line, a fault or the end, bears this number or a higher one.
-abbrev pub ComesFrom : ℕ → List Part → Option FaultyLine → ℕ → Type 0
+abbrev pub ComesFrom : ℕ → List Part → Option LineFault → ℕ → Type 0
 ComesFrom number [] None last = number ≤ last
-ComesFrom number [] (Some at) last = number ≤ at.number
+ComesFrom number [] (Some at) last = number ≤ at.line
 ComesFrom number (line ∷ others) fault last = number ≤ line.number
 
 -- A line is refused: out of memory in place of what comes next; else because that fault is all that is
@@ -125,7 +125,7 @@ abbrev pub is_read : Fault → Bool
 is_read Read = true
 is_read other = false
 
-abbrev pub is_failed_read : Option FaultyLine → Bool
+abbrev pub is_failed_read : Option LineFault → Bool
 is_failed_read None = false
 is_failed_read (Some at) = is_read at.fault
 
@@ -147,9 +147,9 @@ failed_reads_after Read count = one_more count
 failed_reads_after other count = count
 
 -- Once no more is read, each call answers the same: the fault, or none.
-abbrev pub answer_again : {X : Type 0} → Option FaultyLine → Result (Option X) LineFault
+abbrev pub answer_again : {X : Type 0} → Option LineFault → Result (Option X) LineFault
 answer_again None = Ok None
-answer_again (Some at) = Err (record { line = at.number; fault = at.fault })
+answer_again (Some at) = Err (record { line = at.line; fault = at.fault })
 
 abbrev pub IsAgain : {X : Type 0} → Option TileLines → Result (Option X) LineFault → Type 0
 IsAgain None result = Unit {0}

@@ -7,15 +7,14 @@ ghost use Rattle.city_feature.specs.Header.{HeaderValue};
 ghost use Rattle.city_feature.specs.Values.{header_value};
 ghost use Rattle.tile_stream.specs.Coming.{MayComeTo, MayLeave};
 ghost use Rattle.tile_stream.specs.Filtered.{WroteStream, IsRefusedFilter, CountsReads, PassedOn, ToldAfter, failures_after_filter, failed_reads_after_filter, no_steps};
-ghost use Rattle.tile_stream.specs.Head.{HasNoHead, SomeTile, GivesHead};
-ghost use Rattle.tile_stream.specs.Held.{held_value};
+ghost use Rattle.tile_stream.specs.Head.{HasNoHead, SomeTile, GivesHeld};
 ghost use Rattle.tile_stream.specs.Progress.{WroteTexts, IsRefusedAfter};
 ghost use Rattle.tile_stream.specs.Stream.{with_newline};
 ghost use Rattle.tile_stream.specs.Tile.{TileLines, stream_limits};
 ghost use Rattle.tile_stream.specs.TileState.{most_to_come, most_texts};
 ghost use Rattle.tile_stream.specs.Unread.{IsOfTile, Leaves, has_failed, is_read, failed_reads_between};
 
-use crate::line_end::{emptied, end_line};
+use crate::spare::emptied;
 use crate::tile_reader::{Head, Passed, TileReader};
 use byte_streams::{Fault, Line, LineFault, MergeFault, Sink, Source, write_all};
 use city_feature::Choice;
@@ -119,13 +118,13 @@ fn told_after<W: Sink>(refusal: MergeFault, output: &mut W) -> MergeFault
 /// Takes the header of a tile, and gives its line in the stream.
 fn take_header_line<R: Source>(alloc: Global, tile: &mut TileReader<R>) -> Result<Line, LineFault>
     ensures ok { IfOk result (λ line. (header : HeaderValue)
-        × (line ≡ with_newline (compact header.value))
-        × GivesHead (Leaves R.gives tile.old.lines) (Leaves R.gives tile.new.lines)
-        header (held_value tile.new.held)) }
+        × (line ≡ compact header.value)
+        × GivesHeld (Leaves R.gives tile.old.lines) (Leaves R.gives tile.new.lines)
+        header tile.new.held) }
     ensures none_ready { OnOk result (tile.new.ready ≡ []) }
     ensures later { OnOk result (tile.new.held.line < tile.new.lines.number) }
     ensures refused { IfErr result (λ e. SomeTile (Leaves R.gives tile.old.lines) (λ lines.
-        HasNoHead lines (record { number = e.line; fault = e.fault }))) }
+        HasNoHead lines (record { line = e.line; fault = e.fault }))) }
     ensures not_written { IfErr result (λ e. e.fault ≢ Fault.Write) }
     ensures some { (left : TileLines) × MayLeave R.gives tile.new.lines left }
     ensures most { OnOk result (most_to_come tile.new ≤ most_texts) }
@@ -142,20 +141,19 @@ fn take_header_line<R: Source>(alloc: Global, tile: &mut TileReader<R>) -> Resul
     header_line(alloc, &head)
 }
 
-/// The line of a header: its compact text and a newline.
+/// The line of a header: its compact text.
 fn header_line(alloc: Global, head: &Head) -> Result<Line, LineFault>
-    ensures ok { IfOk result (λ line. line
-        ≡ with_newline (compact (header_value head.now.header).value)) }
+    ensures ok { IfOk result (λ line. line ≡ compact (header_value head.now.header).value) }
     ensures err { IfErr result (λ e. e ≡ record { line = head.now.line; fault = Fault.Memory }) }
 {
     let mut text = Line::new(alloc);
-    if print(head.header.json(), &mut text).is_err() {
-        return Err(LineFault {
+    match print(head.header.json(), &mut text) {
+        Ok(()) => Ok(text),
+        Err(_) => Err(LineFault {
             line: head.line,
             fault: Fault::Memory,
-        });
+        }),
     }
-    end_line(text, head.line)
 }
 
 /// Writes the lines of a tile's chosen features, and says how many there are. `text` is a buffer
@@ -188,15 +186,18 @@ fn write_features<R: Source, W: Sink>(
             Ok(None) => return Ok(count),
             Err(at) => return Err(MergeFault::of_line(at.line, at.fault)),
         };
-        let Passed { is_chosen, line } = passed;
+        let Passed {
+            is_chosen,
+            text: given,
+        } = passed;
         if !is_chosen {
             text = match pass_on(tile, output) {
-                Ok(()) => line,
+                Ok(()) => given,
                 Err(_) => return Err(MergeFault::of_no_line(Fault::Write)),
             };
             continue;
         }
-        text = match write_on(tile, output, line) {
+        text = match write_on(tile, output, given) {
             Ok(text) => text,
             Err(_) => return Err(MergeFault::of_no_line(Fault::Write)),
         };
@@ -204,8 +205,8 @@ fn write_features<R: Source, W: Sink>(
     }
 }
 
-/// Writes a line, and passes on what was written where the tile's next line has to be read first.
-/// Gives the line back empty, for its memory.
+/// Writes a line and its newline, and passes on what was written where the tile's next line has to be
+/// read first. Gives the line back empty, for its memory.
 ///
 /// # Errors
 ///
@@ -217,9 +218,9 @@ fn write_on<R: Source, W: Sink>(
     line: Line,
 ) -> Result<Line, Fault>
     ensures all { IfOk result (λ text. (text ≡ [])
-        × Appends (W.taken output.old) (W.taken output.new) line) }
+        × Appends (W.taken output.old) (W.taken output.new) (with_newline line)) }
     ensures some { OnErr result ((count : ℕ)
-        × Appends (W.taken output.old) (W.taken output.new) (take count line)) }
+        × Appends (W.taken output.old) (W.taken output.new) (take count (with_newline line))) }
     ensures failures { W.failures output.new ≡ after_call result (W.failures output.old) }
     ensures fault { IfErr result (λ fault. fault ≡ Fault.Write) }
 {
@@ -249,19 +250,44 @@ pub fn pass_on<R: Source, W: Sink>(tile: &TileReader<R>, output: &mut W) -> Resu
     output.flush()
 }
 
-/// Writes a line, and gives it back empty, for its memory.
+/// Writes a line and its newline, and gives the line back empty, for its memory.
 ///
 /// # Errors
 ///
 /// [`Fault::Write`] where a write failed; some first bytes of the line were written then.
 pub fn write_line<W: Sink>(output: &mut W, line: Line) -> Result<Line, Fault>
     ensures all { IfOk result (λ text. (text ≡ [])
-        × Appends (W.taken output.old) (W.taken output.new) line) }
+        × Appends (W.taken output.old) (W.taken output.new) (with_newline line)) }
     ensures some { OnErr result ((count : ℕ)
-        × Appends (W.taken output.old) (W.taken output.new) (take count line)) }
+        × Appends (W.taken output.old) (W.taken output.new) (take count (with_newline line))) }
     ensures failures { W.failures output.new ≡ after_call result (W.failures output.old) }
     ensures fault { IfErr result (λ fault. fault ≡ Fault.Write) }
 {
-    write_all(output, line.items())?;
-    Ok(emptied(line))
+    match write_text(output, line.items()) {
+        Ok(()) => return Ok(emptied(line)),
+        Err(fault) => return Err(fault),
+    }
+}
+
+/// Writes a text and its newline.
+///
+/// # Errors
+///
+/// [`Fault::Write`] where a write failed; some first bytes of the line were written then.
+pub fn write_text<W: Sink>(output: &mut W, text: &[u8]) -> Result<(), Fault>
+    ensures all { OnOk result
+        (Appends (W.taken output.old) (W.taken output.new) (with_newline text.now)) }
+    ensures some { OnErr result ((count : ℕ)
+        × Appends (W.taken output.old) (W.taken output.new) (take count (with_newline text.now))) }
+    ensures failures { W.failures output.new ≡ after_call result (W.failures output.old) }
+    ensures fault { IfErr result (λ fault. fault ≡ Fault.Write) }
+{
+    match write_all(output, text) {
+        Ok(()) => {}
+        Err(fault) => return Err(fault),
+    }
+    match write_all(output, b"\n") {
+        Ok(()) => return Ok(()),
+        Err(fault) => return Err(fault),
+    }
 }

@@ -6,13 +6,12 @@
 mod filter;
 mod laws;
 mod limits;
-mod line_end;
 mod lines;
+mod spare;
 mod tile_reader;
 
 pub use byte_streams::{LineFault, MergeFault};
-pub use filter::{filter_stream, filter_tile, pass_on, write_line};
+pub use filter::{filter_stream, filter_tile, pass_on, write_line, write_text};
 pub use laws::tape_leaves_one_list;
-pub use line_end::end_line;
 pub use lines::{Lines, NumberedLine};
 pub use tile_reader::{Head, Passed, TileReader};

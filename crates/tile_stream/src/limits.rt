@@ -1,3 +1,5 @@
+use byte_streams::limits::{MAX_LINE_BYTES, MAX_TILE_BYTES};
+
 /// The most bytes that a line and a tile may have.
 #[derive(Clone, Copy, Debug, PartialEq, Eq)]
 pub struct Limits {
@@ -7,6 +9,6 @@ pub struct Limits {
 
 /// The limits of a stream that the program reads.
 pub const STREAM_LIMITS: Limits = Limits {
-    line: 1 << 28,
-    tile: 1 << 40,
+    line: MAX_LINE_BYTES,
+    tile: MAX_TILE_BYTES,
 };

@@ -1,4 +1,5 @@
-ghost use Rattle.std.specs.Prelude.{◌≡◌, ◌≤◌, ◌<◌, ◌+◌, ◌^◌, ◌↔◌, false, Some, None, IfOk, IfErr, IfSome, IfNone};
+ghost use Rattle.std.specs.Prelude.{◌≡◌, ◌≤◌, ◌<◌, ◌+◌, ◌↔◌, false, Some, None, IfOk, IfErr, IfSome, IfNone};
+ghost use Rattle.byte_streams.specs.Limits.{max_tile_bytes};
 ghost use Rattle.tile_stream.specs.Ahead.{MayCome};
 ghost use Rattle.tile_stream.specs.Tile.{TileLines, only_fault, limits_of, stream_limits};
 ghost use Rattle.tile_stream.specs.Unread.{Leaves, IsOfTile, GivesPart, GivesLine, MayBeOver, StandsAt, IsRefused, IsLineFault, IsAgain, BeginsFrom, EndsFrom, is_refused, most_left, has_failed, failed_reads_between};
@@ -37,7 +38,8 @@ pub struct Lines<R> {
 }
 
 impl<R> Model for Lines<R> {
-    ghost use Rattle.std.specs.Prelude.{◌≤◌, ◌<◌, ◌+◌, ◌^◌};
+    ghost use Rattle.std.specs.Prelude.{◌≤◌, ◌<◌, ◌+◌};
+    ghost use Rattle.byte_streams.specs.Limits.{max_tile_bytes};
     ghost use Rattle.tile_stream.specs.Unread.{Unread, ended_by, IsKeptFrom};
 
     ghost Value = { Unread R };
@@ -50,7 +52,7 @@ impl<R> Model for Lines<R> {
       ended = ended_by l.state;
     } };
 
-    ghost invariant = { λ l. (l.limits.tile ≤ 2 ^ 40) × (l.start ≤ l.limits.tile)
+    ghost invariant = { λ l. (l.limits.tile ≤ max_tile_bytes) × (l.start ≤ l.limits.tile)
         × (0 < l.number) × (l.number ≤ l.start + 1) × IsKeptFrom l.number l.state };
 }
 
@@ -60,7 +62,7 @@ impl<R: Source> Lines<R> {
         ensures tile { (left : TileLines) → Leaves R.gives result left
             ↔ IsOfTile (R.gives reader) stream_limits left }
         ensures number { result.number ≡ 1 }
-        ensures most { most_left result ≤ 2 ^ 40 + 1 }
+        ensures most { most_left result ≤ max_tile_bytes + 1 }
         ensures is_open { result.ended ≡ None }
         ensures not_failed { has_failed result ≡ false }
         ensures failures { R.failures result.ahead.reader ≡ R.failures reader }
@@ -71,7 +73,7 @@ impl<R: Source> Lines<R> {
     /// The lines of what the reader gives, of at most `line` bytes each in a tile of at most
     /// `tile`.
     pub fn with_limits(alloc: Global, reader: R, line: u64, tile: u64) -> Lines<R>
-        requires { tile ≤ 2 ^ 40 }
+        requires { tile ≤ max_tile_bytes }
         ensures tile { (left : TileLines) → Leaves R.gives result left
             ↔ IsOfTile (R.gives reader) (limits_of line tile) left }
         ensures number { result.number ≡ 1 }
@@ -117,7 +119,7 @@ impl<R: Source> Lines<R> {
         ensures given_counted { IfOk result (λ next. IfSome next (λ line. 0 < line.number)) }
         ensures fewer { IfOk result (λ next. IfSome next (λ line.
             most_left self.new < most_left self.old)) }
-        ensures most { most_left self.new ≤ 2 ^ 40 + 1 }
+        ensures most { most_left self.new ≤ max_tile_bytes + 1 }
         ensures some { (left : TileLines) × Leaves R.gives self.new left
             × BeginsFrom self.new.number left.lines left.fault }
         ensures ended { EndsFrom self.new.number self.new.ended }
@@ -167,7 +169,7 @@ impl<R: Source> Lines<R> {
         ensures given_counted { IfOk result (λ next. IfSome next (λ line. 0 < line.number)) }
         ensures fewer { IfOk result (λ next. IfSome next (λ line.
             most_left self.new < most_left self.old)) }
-        ensures most { most_left self.new ≤ 2 ^ 40 + 1 }
+        ensures most { most_left self.new ≤ max_tile_bytes + 1 }
         ensures ended { EndsFrom self.new.number self.new.ended }
         ensures had_not_failed { IfOk result (λ next. has_failed self.old ≡ false) }
         ensures not_failed { IfOk result (λ next. has_failed self.new ≡ false) }

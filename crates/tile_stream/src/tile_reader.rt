@@ -2,9 +2,7 @@ ghost use Rattle.std.specs.Prelude.{◌≡◌, ◌≢◌, ◌≤◌, ◌<◌, �
 ghost use Rattle.city_feature.specs.Choice.{IsChosen};
 ghost use Rattle.city_feature.specs.Values.{header_value};
 ghost use Rattle.tile_stream.specs.Coming.{MayComeTo, MayLeave, GivesText, ComesBack, SomethingComes};
-ghost use Rattle.tile_stream.specs.Head.{HasNoHead, SomeTile, GivesHead, RanOutAt};
-ghost use Rattle.tile_stream.specs.Held.{held_value};
-ghost use Rattle.tile_stream.specs.Stream.{with_newline};
+ghost use Rattle.tile_stream.specs.Head.{HasNoHead, SomeTile, GivesHeld, RanOutAt};
 ghost use Rattle.tile_stream.specs.Tile.{TileLines, stream_limits};
 ghost use Rattle.tile_stream.specs.TileState.{IsPassed, most_to_come, most_texts};
 ghost use Rattle.tile_stream.specs.Unread.{Leaves, IsOfTile, has_failed, is_read, is_refused, failed_reads_between};
@@ -13,14 +11,14 @@ mod feature_lines;
 mod head;
 mod held;
 
-use crate::line_end::emptied;
 use crate::lines::Lines;
 pub use crate::tile_reader::feature_lines::Passed;
 use crate::tile_reader::feature_lines::{pass_line, take_feature};
 pub use crate::tile_reader::head::Head;
 use crate::tile_reader::head::{FirstLine, read_first_line};
-use crate::tile_reader::held::{Held, lines_of};
+use crate::tile_reader::held::{Held, texts_of};
 use byte_streams::{Fault, Line, LineFault, Source};
+use city_cut::FeatureTexts;
 use city_feature::Choice;
 use city_grid::Shift;
 use std::alloc::Global;
@@ -40,23 +38,23 @@ pub struct TileReader<R> {
 impl<R> Model for TileReader<R> {
     ghost use Rattle.std.specs.Prelude.{◌≡◌, [], true};
     ghost use Rattle.std.specs.Coded.{codes};
-    ghost use Rattle.city_feature.specs.contracts.features.Feature as feature_type;
-    ghost use Rattle.tile_stream.specs.TileState.{TileState, AreLines};
+    ghost use Rattle.city_cut.specs.HeldTexts.{texts_in};
+    ghost use Rattle.city_cut.specs.contracts.held.FeatureTexts as texts_type;
+    ghost use Rattle.tile_stream.specs.TileState.{TileState};
     ghost use Rattle.tile_stream.specs.Unread.{EndsFrom, has_failed};
 
     ghost Value = { TileState R };
 
-    ghost coded = { Prim.hlevel (codes, feature_type.the_row.coded) };
+    ghost coded = { Prim.hlevel (codes, texts_type.the_row.coded) };
 
     ghost view = { λ tile. record {
       ready = tile.ready.items;
-      held = record { line = tile.held.line; features = tile.held.features.items };
+      held = record { line = tile.held.line; texts = texts_in tile.held.texts };
       lines = tile.lines;
     } };
 
-    ghost invariant = { λ tile. AreLines tile.ready.items
-        × EndsFrom tile.lines.number tile.lines.ended
-        × (has_failed tile.lines ≡ true → (tile.ready.items ≡ []) × (tile.held.features.items ≡ [])) };
+    ghost invariant = { λ tile. EndsFrom tile.lines.number tile.lines.ended
+        × (has_failed tile.lines ≡ true → (tile.ready.items ≡ []) × (texts_in tile.held.texts ≡ [])) };
 }
 
 impl<R: Source> TileReader<R> {
@@ -71,7 +69,7 @@ impl<R: Source> TileReader<R> {
             lines: Lines::new(alloc, reader),
             held: Held {
                 line: 0,
-                features: Vec::new(alloc),
+                texts: FeatureTexts::none(alloc),
             },
             ready: VecDeque::new(alloc),
         }
@@ -86,14 +84,14 @@ impl<R: Source> TileReader<R> {
     /// the value as a header, or of the document's [`cut`](city_cut::cut). [`Fault::Memory`] at the
     /// line that did not find room.
     pub fn take_head(&mut self, alloc: Global) -> Result<Head, LineFault>
-        ensures head { IfOk result (λ head. GivesHead (Leaves R.gives self.old.lines)
-            (Leaves R.gives self.new.lines) (header_value head.header) (held_value self.new.held)) }
+        ensures head { IfOk result (λ head. GivesHeld (Leaves R.gives self.old.lines)
+            (Leaves R.gives self.new.lines) (header_value head.header) self.new.held) }
         ensures line { IfOk result (λ head. head.line ≡ self.new.held.line) }
         ensures counted { IfOk result (λ head. 0 < head.line) }
         ensures none_ready { OnOk result (self.new.ready ≡ []) }
         ensures later { IfOk result (λ head. head.line < self.new.lines.number) }
         ensures refused { IfErr result (λ e. SomeTile (Leaves R.gives self.old.lines) (λ tile.
-            HasNoHead tile (record { number = e.line; fault = e.fault }))) }
+            HasNoHead tile (record { line = e.line; fault = e.fault }))) }
         ensures not_written { IfErr result (λ e. e.fault ≢ Fault.Write) }
 
         // Out of memory is told at the line at which reading stands, or at the one that was taken.
@@ -110,7 +108,7 @@ impl<R: Source> TileReader<R> {
             (has_failed self.old.lines) (has_failed self.new.lines)
             (R.failures self.old.lines.ahead.reader) }
     {
-        self.held.features = Vec::new(alloc);
+        self.held.texts = FeatureTexts::none(alloc);
         self.ready = VecDeque::new(alloc);
         let line = match self.lines.next() {
             Ok(Some(line)) => line,
@@ -124,10 +122,11 @@ impl<R: Source> TileReader<R> {
         };
         let number = line.number;
         match read_first_line(alloc, line.bytes.items()) {
-            Ok(FirstLine { header, features }) => {
+            Ok(FirstLine { header, texts }) => {
+                texts.known();
                 self.held = Held {
                     line: number,
-                    features,
+                    texts,
                 };
                 Ok(Head {
                     header,
@@ -141,8 +140,8 @@ impl<R: Source> TileReader<R> {
         }
     }
 
-    /// Takes the line of the next feature that is chosen when it is moved by the shift: its compact
-    /// text, so moved, and a newline. None after the last. `spare` is a buffer to reuse.
+    /// Takes the compact text of the next feature that is chosen when it is moved by the shift, so
+    /// moved. None after the last. `spare` is a buffer to reuse.
     ///
     /// # Errors
     ///
@@ -156,17 +155,16 @@ impl<R: Source> TileReader<R> {
         choice: &Choice,
         spare: Line,
     ) -> Result<Option<Line>, LineFault>
-        ensures text { IfOk result (λ taken. IfSome taken (λ line. (given : List ℕ)
-            × (line ≡ with_newline given)
-            × GivesText (MayComeTo R.gives (IsChosen choice.now) shift self.old)
-            (MayComeTo R.gives (IsChosen choice.now) shift self.new) given)) }
+        ensures text { IfOk result (λ taken. IfSome taken
+            (GivesText (MayComeTo R.gives (IsChosen choice.now) shift self.old)
+            (MayComeTo R.gives (IsChosen choice.now) shift self.new))) }
         ensures over { IfOk result (λ taken. IfNone taken
             (MayComeTo R.gives (IsChosen choice.now) shift self.old [] None)) }
         ensures refused { IfErr result (λ e. MayComeTo R.gives (IsChosen choice.now) shift
-            self.old [] (Some (record { number = e.line; fault = e.fault }))) }
+            self.old [] (Some (record { line = e.line; fault = e.fault }))) }
         ensures not_written { IfErr result (λ e. e.fault ≢ Fault.Write) }
         ensures some { SomethingComes (MayComeTo R.gives (IsChosen choice.now) shift self.new) }
-        ensures fewer { IfOk result (λ taken. IfSome taken (λ line.
+        ensures fewer { IfOk result (λ taken. IfSome taken (λ text.
             most_to_come self.new < most_to_come self.old)) }
         ensures had_not_failed { OnOk result (has_failed self.old.lines ≡ false) }
         ensures not_failed { OnOk result (has_failed self.new.lines ≡ false) }
@@ -176,14 +174,14 @@ impl<R: Source> TileReader<R> {
             (R.failures self.old.lines.ahead.reader) }
     {
         match self.take_ready(alloc, shift, choice)? {
-            Some(line) => Ok(Some(line)),
-            None => take_feature(alloc, &mut self.lines, shift, choice, emptied(spare)),
+            Some(text) => Ok(Some(text)),
+            None => take_feature(alloc, &mut self.lines, shift, choice, spare),
         }
     }
 
-    /// Takes the line of the next feature of the first line that is chosen, or else the next line,
+    /// Takes the text of the next feature of the first line that is chosen, or else the next line,
     /// which may come to nothing. None after the last. `spare` is a buffer to reuse, and
-    /// comes back empty with a line that comes to nothing.
+    /// comes back empty where that line comes to nothing.
     ///
     /// # Errors
     ///
@@ -196,17 +194,16 @@ impl<R: Source> TileReader<R> {
         spare: Line,
     ) -> Result<Option<Passed>, LineFault>
         ensures text { IfOk result (λ taken. IfSome taken (λ passed. passed.is_chosen ≡ true
-            → (given : List ℕ) × (passed.line ≡ with_newline given)
-            × GivesText (MayComeTo R.gives (IsChosen choice.now) shift self.old)
-            (MayComeTo R.gives (IsChosen choice.now) shift self.new) given)) }
+            → GivesText (MayComeTo R.gives (IsChosen choice.now) shift self.old)
+            (MayComeTo R.gives (IsChosen choice.now) shift self.new) passed.text)) }
         ensures skipped { IfOk result (λ taken. IfSome taken (λ passed. passed.is_chosen ≡ false
-            → (passed.line ≡ [])
+            → (passed.text ≡ [])
             × ComesBack (MayComeTo R.gives (IsChosen choice.now) shift self.old)
             (MayComeTo R.gives (IsChosen choice.now) shift self.new))) }
         ensures over { IfOk result (λ taken. IfNone taken
             (MayComeTo R.gives (IsChosen choice.now) shift self.old [] None)) }
         ensures refused { IfErr result (λ e. MayComeTo R.gives (IsChosen choice.now) shift
-            self.old [] (Some (record { number = e.line; fault = e.fault }))) }
+            self.old [] (Some (record { line = e.line; fault = e.fault }))) }
         ensures not_written { IfErr result (λ e. e.fault ≢ Fault.Write) }
         ensures some { SomethingComes (MayComeTo R.gives (IsChosen choice.now) shift self.new) }
         ensures fewer { IfOk result (λ taken. IfSome taken (λ passed.
@@ -220,11 +217,11 @@ impl<R: Source> TileReader<R> {
     {
         let ready = self.take_ready(alloc, shift, choice)?;
         match ready {
-            Some(line) => Ok(Some(Passed {
+            Some(text) => Ok(Some(Passed {
                 is_chosen: true,
-                line,
+                text,
             })),
-            None => pass_line(alloc, &mut self.lines, shift, choice, emptied(spare)),
+            None => pass_line(alloc, &mut self.lines, shift, choice, spare),
         }
     }
 
@@ -234,25 +231,24 @@ impl<R: Source> TileReader<R> {
         !self.ready.is_empty() || self.lines.holds_line()
     }
 
-    /// Takes the line of the next of the features that the first line holds. None after the last.
+    /// Takes the text of the next of the features that the first line holds. None after the last.
     fn take_ready(
         &mut self,
         alloc: Global,
         shift: Shift,
         choice: &Choice,
     ) -> Result<Option<Line>, LineFault>
-        ensures text { IfOk result (λ taken. IfSome taken (λ line. (given : List ℕ)
-            × (line ≡ with_newline given)
-            × GivesText (MayComeTo R.gives (IsChosen choice.now) shift self.old)
-            (MayComeTo R.gives (IsChosen choice.now) shift self.new) given)) }
+        ensures text { IfOk result (λ taken. IfSome taken
+            (GivesText (MayComeTo R.gives (IsChosen choice.now) shift self.old)
+            (MayComeTo R.gives (IsChosen choice.now) shift self.new))) }
         ensures over { IfOk result (λ taken. IfNone taken (IsPassed self.new
             × ComesBack (MayComeTo R.gives (IsChosen choice.now) shift self.old)
             (MayComeTo R.gives (IsChosen choice.now) shift self.new))) }
         ensures refused { IfErr result (λ e. MayComeTo R.gives (IsChosen choice.now) shift
-            self.old [] (Some (record { number = e.line; fault = e.fault }))) }
+            self.old [] (Some (record { line = e.line; fault = e.fault }))) }
         ensures kind { IfErr result (λ e. (e.fault ≢ Fault.Write) × (is_read e.fault ≡ false)) }
         ensures some { SomethingComes (MayComeTo R.gives (IsChosen choice.now) shift self.new) }
-        ensures fewer { IfOk result (λ taken. IfSome taken (λ line.
+        ensures fewer { IfOk result (λ taken. IfSome taken (λ text.
             most_to_come self.new < most_to_come self.old)) }
         ensures no_more { most_to_come self.new ≤ most_to_come self.old }
         ensures lines { self.new.lines ≡ self.old.lines }
@@ -264,17 +260,17 @@ impl<R: Source> TileReader<R> {
         Ok(self.ready.pop_front())
     }
 
-    /// Makes the lines of all features that the first line holds, unless this was done.
+    /// Makes the texts of all features that the first line holds, unless this was done.
     fn make_ready(&mut self, alloc: Global, shift: Shift, choice: &Choice) -> Result<(), LineFault>
         ensures back { OnOk result (ComesBack
             (MayComeTo R.gives (IsChosen choice.now) shift self.old)
             (MayComeTo R.gives (IsChosen choice.now) shift self.new)) }
         ensures refused { IfErr result (λ e. MayComeTo R.gives (IsChosen choice.now) shift
-            self.old [] (Some (record { number = e.line; fault = e.fault }))) }
+            self.old [] (Some (record { line = e.line; fault = e.fault }))) }
         ensures kind { IfErr result (λ e. (e.fault ≢ Fault.Write) × (is_read e.fault ≡ false)) }
         ensures some { OnErr result
             (SomethingComes (MayComeTo R.gives (IsChosen choice.now) shift self.new)) }
-        ensures none_held { OnOk result (self.new.ready ≡ [] → self.new.held.features ≡ []) }
+        ensures none_held { OnOk result (self.new.ready ≡ [] → self.new.held.texts ≡ []) }
         ensures no_more { most_to_come self.new ≤ most_to_come self.old }
         ensures lines { self.new.lines ≡ self.old.lines }
         ensures not_failed { OnErr result (has_failed self.old.lines ≡ false) }
@@ -282,13 +278,13 @@ impl<R: Source> TileReader<R> {
         if !self.ready.is_empty() {
             return Ok(());
         }
-        if self.held.features.is_empty() {
+        if self.held.texts.len() == 0 {
             return Ok(());
         }
-        let features = mem::replace(&mut self.held.features, Vec::new(alloc));
-        match lines_of(alloc, features, shift, choice) {
-            Ok(lines) => {
-                self.ready = lines;
+        let held = mem::replace(&mut self.held.texts, FeatureTexts::none(alloc));
+        match texts_of(alloc, &held, shift, choice) {
+            Ok(texts) => {
+                self.ready = texts;
                 Ok(())
             }
             Err(fault) => Err(LineFault {

@@ -353,11 +353,12 @@ impl<'a> Write for CountedWriter<'a> {
 }
 
 #[test]
-fn each_line_is_one_write(rt: HostRuntime) -> Result<(), Fail> {
+fn each_text_and_each_newline_is_one_write(rt: HostRuntime) -> Result<(), Fail> {
     for (failing, answer, written, flushed) in [
-        (None, Ok(2), 3u64, 2u64),
+        (None, Ok(2), 6u64, 2u64),
         (Some(0u64), Err(NOT_WRITTEN), 1, 0),
         (Some(1), Err(NOT_WRITTEN), 2, 0),
+        (Some(2), Err(NOT_WRITTEN), 3, 0),
     ] {
         let writes = AtomicU64::new(0);
         let flushes = AtomicU64::new(0);

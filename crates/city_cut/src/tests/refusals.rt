@@ -108,7 +108,7 @@ fn a_building_is_refused(rt: HostRuntime) -> Result<(), Fail> {
         let objects = building(rt.alloc(), members, first, second)?;
         let text = document(rt.alloc(), &objects)?;
         assert_eq!(rt; fault_of(rt.alloc(), &text), Some(fault), "{text}");
-        expect_same_lines(&rt, &text, Err(fault))?;
+        expect_same_texts(&rt, &text, Err(fault))?;
     }
     Ok(())
 }
@@ -193,7 +193,7 @@ fn a_document_is_refused(rt: HostRuntime) -> Result<(), Fail> {
     ];
     for (text, fault) in rows {
         assert_eq!(rt; fault_of(rt.alloc(), text), Some(fault), "{text}");
-        expect_same_lines(&rt, text, Err(fault))?;
+        expect_same_texts(&rt, text, Err(fault))?;
     }
     Ok(())
 }

@@ -28,18 +28,22 @@ max_above : (a b : ℤ) → (a ≤ℤ int_max a b) × (b ≤ℤ int_max a b)
 max_above a b = (grind (arith, tests), grind (arith, tests))
 
 -- the first three are the last three as the code passes them on
-pub least_of_two : (x y z a b least : ℤ) → x ≡ a → y ≡ b → z ≡ least → least ≡ int_min x y → (n : ℤ) → (z ≤ℤ n) ↔ ((a ≤ℤ n) ⊎ (b ≤ℤ n))
+pub least_of_two : (x y z a b least : ℤ) → x ≡ a → y ≡ b → z ≡ least → least ≡ int_min x y → (n : ℤ) → (z ≤ℤ n)
+    ↔ ((a ≤ℤ n) ⊎ (b ≤ℤ n))
 least_of_two x y z a b least of_a of_b of_least is n =
     let min : z ≡ int_min a b = of_least ∙ is ∙ ap (λ v. int_min v y) of_a ∙ ap (int_min a) of_b in (
       λ below. lesser _ a b n (subst (λ v. v ≤ℤ n) min below),
-      ⊎_elim (λ h. omega (arith, ints, min, (min_below a b).0, h)) (λ h. omega (arith, ints, min, (min_below a b).1, h)),
+      ⊎_elim (λ h. omega (arith, ints, min, (min_below a b).0, h))
+          (λ h. omega (arith, ints, min, (min_below a b).1, h)),
     )
 
-pub greatest_of_two : (x y z a b greatest : ℤ) → x ≡ a → y ≡ b → z ≡ greatest → greatest ≡ int_max x y → (n : ℤ) → (n ≤ℤ z) ↔ ((n ≤ℤ a) ⊎ (n ≤ℤ b))
+pub greatest_of_two : (x y z a b greatest : ℤ) → x ≡ a → y ≡ b → z ≡ greatest → greatest ≡ int_max x y → (n : ℤ)
+    → (n ≤ℤ z) ↔ ((n ≤ℤ a) ⊎ (n ≤ℤ b))
 greatest_of_two x y z a b greatest of_a of_b of_greatest is n =
     let max : z ≡ int_max a b = of_greatest ∙ is ∙ ap (λ v. int_max v y) of_a ∙ ap (int_max a) of_b in (
       λ above. greater _ a b n (subst (λ v. n ≤ℤ v) max above),
-      ⊎_elim (λ h. omega (arith, ints, max, (max_above a b).0, h)) (λ h. omega (arith, ints, max, (max_above a b).1, h)),
+      ⊎_elim (λ h. omega (arith, ints, max, (max_above a b).0, h))
+          (λ h. omega (arith, ints, max, (max_above a b).1, h)),
     )
 
 one_more : {A : Type 0} (P : A → Type 0) (y : A) (x : A) (xs : List A) → Any P xs ⊎ P y → Any P (x ∷ xs) ⊎ P y
@@ -50,7 +54,8 @@ any_of_push : {A : Type 0} (P : A → Type 0) (xs : List A) (y : A) → Any P (x
 any_of_push P [] y (zero, z, within, at, holds) = inr (subst P (sym at) holds)
 any_of_push P [] y (suc k, z, within, at, holds) = absurd (omega (arith, within))
 any_of_push P (x ∷ xs) y (zero, z, within, at, holds) = inl (zero, z, omega arith, at, holds)
-any_of_push P (x ∷ xs) y (suc k, z, within, at, holds) = one_more P y x xs (any_of_push P xs y (k, z, omega (arith, within), at, holds))
+any_of_push P (x ∷ xs) y (suc k, z, within, at, holds) =
+    one_more P y x xs (any_of_push P xs y (k, z, omega (arith, within), at, holds))
 
 any_before_push : {A : Type 0} (P : A → Type 0) (xs : List A) (y : A) → Any P xs → Any P (xs ++ y ∷ [])
 any_before_push P [] y (k, z, within, at, holds) = absurd (omega (arith, within))
@@ -59,29 +64,43 @@ any_before_push P (x ∷ xs) y (suc k, z, within, at, holds) =
     let (j, w, inside, there, fine) = any_before_push P xs y (k, z, omega (arith, within), at, holds) in
     (suc j, w, omega (arith, inside), there, fine)
 
-any_along : {A : Type 0} (P : A → Type 0) (Q : Type 0) (xs : List A) (y : A) → Q ↔ Any P xs → (Q ⊎ P y) ↔ Any P (xs ++ y ∷ [])
+any_along : {A : Type 0} (P : A → Type 0) (Q : Type 0) (xs : List A) (y : A) → Q ↔ Any P xs → (Q ⊎ P y)
+    ↔ Any P (xs ++ y ∷ [])
 any_along P Q xs y same = (
   ⊎_elim (λ q. any_before_push P xs y (same.0 q)) (λ holds. Any-push P xs y holds),
   λ some. ⊎_elim (λ before. inl (same.1 before)) (λ holds. inr holds) (any_of_push P xs y some),
 )
 
-range_more : (measure : Triple → ℤ) (vertices : List Triple) (p : Triple) (range wider : Range) → IsRange measure vertices range → ((n : ℤ) → (wider.least ≤ℤ n) ↔ ((range.least ≤ℤ n) ⊎ (measure p ≤ℤ n))) → ((n : ℤ) → (n ≤ℤ wider.greatest) ↔ ((n ≤ℤ range.greatest) ⊎ (n ≤ℤ measure p))) → IsRange measure (vertices ++ p ∷ []) wider
+range_more : (measure : Triple → ℤ) (vertices : List Triple) (p : Triple) (range wider : Range)
+    → IsRange measure vertices range → ((n : ℤ) → (wider.least ≤ℤ n) ↔ ((range.least ≤ℤ n) ⊎ (measure p ≤ℤ n)))
+    → ((n : ℤ) → (n ≤ℤ wider.greatest) ↔ ((n ≤ℤ range.greatest) ⊎ (n ≤ℤ measure p)))
+    → IsRange measure (vertices ++ p ∷ []) wider
 range_more measure vertices p range wider is least greatest =
     record {
-      least = λ n. let step = any_along (λ q. measure q ≤ℤ n) (range.least ≤ℤ n) vertices p (is.least n) in (λ h. step.0 ((least n).0 h), λ h. (least n).1 (step.1 h));
-      greatest = λ n. let step = any_along (λ q. n ≤ℤ measure q) (n ≤ℤ range.greatest) vertices p (is.greatest n) in (λ h. step.0 ((greatest n).0 h), λ h. (greatest n).1 (step.1 h));
+      least = λ n. let step = any_along (λ q. measure q ≤ℤ n) (range.least ≤ℤ n) vertices p (is.least n) in
+          (λ h. step.0 ((least n).0 h), λ h. (least n).1 (step.1 h));
+      greatest = λ n. let step = any_along (λ q. n ≤ℤ measure q) (n ≤ℤ range.greatest) vertices p (is.greatest n) in
+          (λ h. step.0 ((greatest n).0 h), λ h. (greatest n).1 (step.1 h));
     }
 
 -- the same of the first vertex and those up to one place and up to the next; `number` is the next
 -- one's measure as the code passes it on
-pub range_with_next : (measure : Triple → ℤ) (first : Triple) (others : List Triple) (i : ℕ) (d p : Triple) (number : ℤ) (range wider : Range) → i < length others → p ≡ get_or others i d → number ≡ measure p → IsRange measure (first ∷ take i others) range → ((n : ℤ) → (wider.least ≤ℤ n) ↔ ((range.least ≤ℤ n) ⊎ (number ≤ℤ n))) → ((n : ℤ) → (n ≤ℤ wider.greatest) ↔ ((n ≤ℤ range.greatest) ⊎ (n ≤ℤ number))) → IsRange measure (first ∷ take (i + 1) others) wider
+pub range_with_next : (measure : Triple → ℤ) (first : Triple) (others : List Triple) (i : ℕ) (d p : Triple) (number : ℤ)
+    (range wider : Range) → i < length others → p ≡ get_or others i d → number ≡ measure p
+    → IsRange measure (first ∷ take i others) range
+    → ((n : ℤ) → (wider.least ≤ℤ n) ↔ ((range.least ≤ℤ n) ⊎ (number ≤ℤ n)))
+    → ((n : ℤ) → (n ≤ℤ wider.greatest) ↔ ((n ≤ℤ range.greatest) ⊎ (n ≤ℤ number)))
+    → IsRange measure (first ∷ take (i + 1) others) wider
 range_with_next measure first others i d p number range wider within at kept is least greatest =
-    let more : (first ∷ take i others) ++ p ∷ [] ≡ first ∷ take (i + 1) others = ap (λ vertices. first ∷ vertices) (ap (λ q. take i others ++ q ∷ []) at ∙ sym (take_more others i d within)) in
+    let more : (first ∷ take i others) ++ p ∷ [] ≡ first ∷ take (i + 1) others =
+    ap (λ vertices. first ∷ vertices) (ap (λ q. take i others ++ q ∷ []) at ∙ sym (take_more others i d within)) in
     let least_so = subst (λ m. (n : ℤ) → (wider.least ≤ℤ n) ↔ ((range.least ≤ℤ n) ⊎ (m ≤ℤ n))) kept least in
     let greatest_so = subst (λ m. (n : ℤ) → (n ≤ℤ wider.greatest) ↔ ((n ≤ℤ range.greatest) ⊎ (n ≤ℤ m))) kept greatest in
-    subst (λ vertices. IsRange measure vertices wider) more (range_more measure (first ∷ take i others) p range wider is least_so greatest_so)
+    subst (λ vertices. IsRange measure vertices wider) more
+    (range_more measure (first ∷ take i others) p range wider is least_so greatest_so)
 
-pub all_vertices : (vertices : List Triple) (first d : Triple) → 1 ≤ length vertices → first ≡ get_or vertices 0 d → first ∷ take (length vertices - 1) (drop 1 vertices) ≡ vertices
+pub all_vertices : (vertices : List Triple) (first d : Triple) → 1 ≤ length vertices → first ≡ get_or vertices 0 d
+    → first ∷ take (length vertices - 1) (drop 1 vertices) ≡ vertices
 all_vertices [] first d some is = absurd (omega (arith, some))
 all_vertices (vertex ∷ others) first d some is =
     let count : length (vertex ∷ others) - 1 ≡ length others = omega arith in
@@ -91,11 +110,27 @@ all_vertices (vertex ∷ others) first d some is =
 
 -- the area is met where each range and the area's, as the code passes its ends on, have a number in
 -- common
-pub meets_as_ranges : (area : Area) (vertices : List Triple) (extent : Extent) (min_x min_y max_x max_y : ℤ) → min_x ≡ area.min_x → min_y ≡ area.min_y → max_x ≡ area.max_x → max_y ≡ area.max_y → IsExtent vertices extent →
-    (((extent.x.least ≤ℤ max_x) × (min_x ≤ℤ extent.x.greatest)) × ((extent.y.least ≤ℤ max_y) × (min_y ≤ℤ extent.y.greatest))) ↔ Meets area vertices
+pub meets_as_ranges : (area : Area) (vertices : List Triple) (extent : Extent) (min_x min_y max_x max_y : ℤ)
+    → min_x ≡ area.min_x → min_y ≡ area.min_y → max_x ≡ area.max_x → max_y ≡ area.max_y → IsExtent vertices extent →
+    (((extent.x.least ≤ℤ max_x) × (min_x ≤ℤ extent.x.greatest))
+    × ((extent.y.least ≤ℤ max_y) × (min_y ≤ℤ extent.y.greatest))) ↔ Meets area vertices
 meets_as_ranges area vertices extent min_x min_y max_x max_y is_min_x is_min_y is_max_x is_max_y is =
     let x = is.0 in
     let y = is.1 in (
-      λ h. ((x.least area.max_x).0 (subst (λ n. extent.x.least ≤ℤ n) is_max_x h.0.0), (x.greatest area.min_x).0 (subst (λ n. n ≤ℤ extent.x.greatest) is_min_x h.0.1), (y.least area.max_y).0 (subst (λ n. extent.y.least ≤ℤ n) is_max_y h.1.0), (y.greatest area.min_y).0 (subst (λ n. n ≤ℤ extent.y.greatest) is_min_y h.1.1)),
-      λ h. ((subst (λ n. extent.x.least ≤ℤ n) (sym is_max_x) ((x.least area.max_x).1 h.0), subst (λ n. n ≤ℤ extent.x.greatest) (sym is_min_x) ((x.greatest area.min_x).1 h.1)), (subst (λ n. extent.y.least ≤ℤ n) (sym is_max_y) ((y.least area.max_y).1 h.2), subst (λ n. n ≤ℤ extent.y.greatest) (sym is_min_y) ((y.greatest area.min_y).1 h.3))),
+      λ h. (
+        (x.least area.max_x).0 (subst (λ n. extent.x.least ≤ℤ n) is_max_x h.0.0),
+        (x.greatest area.min_x).0 (subst (λ n. n ≤ℤ extent.x.greatest) is_min_x h.0.1),
+        (y.least area.max_y).0 (subst (λ n. extent.y.least ≤ℤ n) is_max_y h.1.0),
+        (y.greatest area.min_y).0 (subst (λ n. n ≤ℤ extent.y.greatest) is_min_y h.1.1),
+      ),
+      λ h. (
+        (
+          subst (λ n. extent.x.least ≤ℤ n) (sym is_max_x) ((x.least area.max_x).1 h.0),
+          subst (λ n. n ≤ℤ extent.x.greatest) (sym is_min_x) ((x.greatest area.min_x).1 h.1),
+        ),
+        (
+          subst (λ n. extent.y.least ≤ℤ n) (sym is_max_y) ((y.least area.max_y).1 h.2),
+          subst (λ n. n ≤ℤ extent.y.greatest) (sym is_min_y) ((y.greatest area.min_y).1 h.3),
+        ),
+      ),
     )

@@ -15,7 +15,7 @@ use Rattle.city_json.specs.ReadString.{is_plain, prepend, string_at}
 use Rattle.city_json.specs.Tree.{Tree, null, boolean, number, string, array, object, MemberTrees, no_members, member}
 use Rattle.city_json.specs.Writable.{IsWritable, AreWritableMembers}
 use Rattle.city_json.specs.declared.compacting.parts.Part.{Part}
-use Rattle.city_feature.proofs.features.QuickLines.{equal_names, found_at, number_begins, utf8}
+use Rattle.city_feature.proofs.QuickLines.{equal_names, found_at, number_begins, utf8}
 use Rattle.city_feature.specs.Quick.{AreLetters, IsLetter, IsLine, IsPartNamed}
 use Rattle.city_feature.specs.Shapes.{member_in}
 
@@ -43,7 +43,8 @@ read_quoted : (a x : List ℕ) → IsUtf8 a → string_at (rest_of (quoted a ++ 
 read_quoted a x is = string_at-complete a (flat_map written a ++ quotation_mark ∷ []) x (quoted-spells a is).0
 
 quoted_front : (a b x y : List ℕ) → IsUtf8 a → IsUtf8 b → quoted a ++ x ≡ quoted b ++ y → (a ≡ b) × (x ≡ y)
-quoted_front a b x y is also same = same_reads a b x y (sym (read_quoted a x is) ∙ ap (λ l. string_at (rest_of l)) same ∙ read_quoted b y also)
+quoted_front a b x y is also same =
+    same_reads a b x y (sym (read_quoted a x is) ∙ ap (λ l. string_at (rest_of l)) same ∙ read_quoted b y also)
 
 -- letters stand for themselves
 plain_letter : (c : ℕ) → IsLetter c → is_plain c ≡ true
@@ -62,13 +63,16 @@ letters_push : (cs : List ℕ) (c : ℕ) → AreLetters cs → IsLetter c → Ar
 letters_push [] c all is = (is, tt)
 letters_push (d ∷ cs) c all is = (all.0, letters_push cs c all.1 is)
 
-pub letters_more : (cs : List ℕ) (i : ℕ) → i < length cs → AreLetters (take i cs) → IsLetter (get_or cs i 0) → AreLetters (take (i + 1) cs)
-letters_more cs i within all is = subst AreLetters (sym (take_more cs i 0 within)) (letters_push (take i cs) (get_or cs i 0) all is)
+pub letters_more : (cs : List ℕ) (i : ℕ) → i < length cs → AreLetters (take i cs) → IsLetter (get_or cs i 0)
+    → AreLetters (take (i + 1) cs)
+letters_more cs i within all is =
+    subst AreLetters (sym (take_more cs i 0 within)) (letters_push (take i cs) (get_or cs i 0) all is)
 
 read_letters : (name more : List ℕ) → AreLetters name → string_at (name ++ quotation_mark ∷ more) ≡ Some (name, more)
 read_letters name more all =
     string_at-some (name ++ quotation_mark ∷ more) name more
-    (decoded-run name (quotation_mark ∷ more) (letters_plain name all) ∙ ap (prepend name) (decoded-quote more) ∙ ap (λ l. Some (l, more)) (append-nil name))
+    (decoded-run name (quotation_mark ∷ more) (letters_plain name all) ∙ ap (prepend name) (decoded-quote more)
+    ∙ ap (λ l. Some (l, more)) (append-nil name))
     ∙ checked-some name more (IsUtf8-from_ascii name (small_letters name all))
 
 -- how values begin
@@ -85,16 +89,19 @@ module _ (x rest : List ℕ) where
       let here : begins.0 ≡ mark = ap head_of (ap (λ l. l ++ x) (sym begins.2) ∙ is) in
       omega (arith, begins.3, here, far)
 
-  object_front : (v : Tree) → IsWritable v → compact v ++ x ≡ open_brace ∷ rest → (members : MemberTrees) × (v ≡ object members) × AreWritableMembers members × (compact_members members ++ close_brace ∷ x ≡ rest)
+  object_front : (v : Tree) → IsWritable v → compact v ++ x ≡ open_brace ∷ rest → (members : MemberTrees)
+      × (v ≡ object members) × AreWritableMembers members × (compact_members members ++ close_brace ∷ x ≡ rest)
   object_front null writable is = absurd (omega (arith, ap head_of is))
   object_front (boolean true) writable is = absurd (omega (arith, ap head_of is))
   object_front (boolean false) writable is = absurd (omega (arith, ap head_of is))
   object_front (number text) writable is = absurd (number_head text open_brace (omega arith) writable is)
   object_front (string text) writable is = absurd (omega (arith, ap head_of is))
   object_front (array items) writable is = absurd (omega (arith, ap head_of is))
-  object_front (object members) writable is = (members, refl, writable, sym (append_assoc (compact_members members) (close_brace ∷ []) x) ∙ ap rest_of is)
+  object_front (object members) writable is =
+      (members, refl, writable, sym (append_assoc (compact_members members) (close_brace ∷ []) x) ∙ ap rest_of is)
 
-  string_front : (v : Tree) → IsWritable v → compact v ++ x ≡ quotation_mark ∷ rest → (text : List ℕ) × (v ≡ string text) × IsUtf8 text × (quoted text ++ x ≡ quotation_mark ∷ rest)
+  string_front : (v : Tree) → IsWritable v → compact v ++ x ≡ quotation_mark ∷ rest → (text : List ℕ)
+      × (v ≡ string text) × IsUtf8 text × (quoted text ++ x ≡ quotation_mark ∷ rest)
   string_front null writable is = absurd (omega (arith, ap head_of is))
   string_front (boolean true) writable is = absurd (omega (arith, ap head_of is))
   string_front (boolean false) writable is = absurd (omega (arith, ap head_of is))
@@ -106,27 +113,39 @@ module _ (x rest : List ℕ) where
 regroup : (q v more x : List ℕ) → ((q ++ colon ∷ v) ++ more) ++ x ≡ q ++ (colon ∷ (v ++ (more ++ x)))
 regroup q v more x = simp append_assoc
 
-member_front : (members : MemberTrees) (x name y : List ℕ) → IsUtf8 name → AreWritableMembers members → compact_members members ++ close_brace ∷ x ≡ quoted name ++ y
-    → (v : Tree) × (others : MemberTrees) × (members ≡ member name v others) × IsWritable v × (colon ∷ (compact v ++ (compact_more_members others ++ close_brace ∷ x)) ≡ y)
+member_front : (members : MemberTrees) (x name y : List ℕ) → IsUtf8 name → AreWritableMembers members
+    → compact_members members ++ close_brace ∷ x ≡ quoted name ++ y
+    → (v : Tree) × (others : MemberTrees) × (members ≡ member name v others) × IsWritable v
+    × (colon ∷ (compact v ++ (compact_more_members others ++ close_brace ∷ x)) ≡ y)
 member_front no_members x name y is writable same = absurd (omega (arith, ap head_of same))
 member_front (member n v others) x name y is writable same =
-    let front = quoted_front n name (colon ∷ (compact v ++ (compact_more_members others ++ close_brace ∷ x))) y writable.0 is (sym (regroup (quoted n) (compact v) (compact_more_members others) (close_brace ∷ x)) ∙ same) in
+    let front = quoted_front n name (colon ∷ (compact v ++ (compact_more_members others ++ close_brace ∷ x))) y
+    writable.0 is (sym (regroup (quoted n) (compact v) (compact_more_members others) (close_brace ∷ x)) ∙ same) in
     (v, others, ap (λ k. member k v others) front.0, writable.1, front.1)
 
 first_is : (name : List ℕ) (v : Tree) (others : MemberTrees) → first_named name (member name v others) ≡ Some v
 first_is name v others = ap (λ b. if b then Some v else first_named name others) (equal_names name name refl)
 
 type_in_text : (value : Tree) (id name more : List ℕ) → IsWritable value → IsUtf8 id → AreLetters name
-    → compact value ≡ open_brace ∷ (quoted id ++ (colon ∷ (open_brace ∷ (quoted (codes "type") ++ (colon ∷ (quotation_mark ∷ (name ++ quotation_mark ∷ more)))))))
+    → compact value ≡ open_brace ∷ (quoted id
+    ++ (colon ∷ (open_brace ∷ (quoted (codes "type")
+    ++ (colon ∷ (quotation_mark ∷ (name ++ quotation_mark ∷ more)))))))
     → member_in (codes "type") (member_in id (Some value)) ≡ Some (string name)
 type_in_text value id name more writable is letters begins =
-    let (objects, value_is, objects_writable, objects_are) = object_front [] _ value writable (append-nil (compact value) ∙ begins) in
-    let (object_tree, others, objects_is, object_writable, object_is) = member_front objects [] id _ is objects_writable objects_are in
-    let (members, object_tree_is, members_writable, members_are) = object_front (compact_more_members others ++ close_brace ∷ []) _ object_tree object_writable (ap rest_of object_is) in
-    let (type_tree, further, members_is, type_writable, type_is) = member_front members (compact_more_members others ++ close_brace ∷ []) (codes "type") _ (utf8 (codes "type") refl) members_writable members_are in
+    let (objects, value_is, objects_writable, objects_are) =
+    object_front [] _ value writable (append-nil (compact value) ∙ begins) in
+    let (object_tree, others, objects_is, object_writable, object_is) =
+    member_front objects [] id _ is objects_writable objects_are in
+    let (members, object_tree_is, members_writable, members_are) =
+    object_front (compact_more_members others ++ close_brace ∷ []) _ object_tree object_writable
+    (ap rest_of object_is) in
+    let (type_tree, further, members_is, type_writable, type_is) =
+    member_front members (compact_more_members others ++ close_brace ∷ []) (codes "type") _
+    (utf8 (codes "type") refl) members_writable members_are in
     let behind = compact_more_members further ++ close_brace ∷ (compact_more_members others ++ close_brace ∷ []) in
     let (text, type_tree_is, text_utf8, text_is) = string_front behind _ type_tree type_writable (ap rest_of type_is) in
-    let same : text ≡ name = (same_reads text name behind more (sym (read_quoted text behind text_utf8) ∙ ap (λ l. string_at (rest_of l)) text_is ∙ read_letters name more letters)).0 in
+    let same : text ≡ name = (same_reads text name behind more (sym (read_quoted text behind text_utf8)
+    ∙ ap (λ l. string_at (rest_of l)) text_is ∙ read_letters name more letters)).0 in
     ap (λ t. member_in (codes "type") (member_in id (Some t))) value_is
     ∙ ap (λ m. member_in (codes "type") (first_named id m)) objects_is
     ∙ ap (member_in (codes "type")) (first_is id object_tree others)
@@ -135,17 +154,30 @@ type_in_text value id name more writable is letters begins =
     ∙ first_is (codes "type") type_tree further
     ∙ ap Some (type_tree_is ∙ ap string same)
 
-pub type_at : (line : List ℕ) (parts : List Part) (all : MemberTrees) (part : Part) (id name objects first object_text value more : List ℕ) → IsLine line parts all → IsPartNamed line parts (quoted (codes "CityObjects") ++ colon ∷ []) part → IsUtf8 id → AreLetters name
-    → objects ≡ slice_range line part.value part.end → objects ≡ open_brace ∷ first → first ≡ quoted id ++ object_text → object_text ≡ colon ∷ (open_brace ∷ (quoted (codes "type") ++ (colon ∷ (quotation_mark ∷ value)))) → value ≡ name ++ quotation_mark ∷ more
+pub type_at : (line : List ℕ) (parts : List Part) (all : MemberTrees) (part : Part)
+    (id name objects first object_text value more : List ℕ) → IsLine line parts all
+    → IsPartNamed line parts (quoted (codes "CityObjects") ++ colon ∷ []) part → IsUtf8 id → AreLetters name
+    → objects ≡ slice_range line part.value part.end → objects ≡ open_brace ∷ first → first ≡ quoted id ++ object_text
+    → object_text ≡ colon ∷ (open_brace ∷ (quoted (codes "type") ++ (colon ∷ (quotation_mark ∷ value))))
+    → value ≡ name ++ quotation_mark ∷ more
     → member_in (codes "type") (member_in id (first_named (codes "CityObjects") all)) ≡ Some (string name)
-type_at line parts all part id name objects first object_text value more is here id_utf8 letters lies first_is_it id_is object_is value_is =
+type_at line parts all part id name objects first object_text value more is here id_utf8 letters lies first_is_it id_is
+    object_is value_is =
     let found = found_at line parts all (codes "CityObjects") part (utf8 (codes "CityObjects") refl) is here in
-    let begins : compact found.value ≡ open_brace ∷ (quoted id ++ (colon ∷ (open_brace ∷ (quoted (codes "type") ++ (colon ∷ (quotation_mark ∷ (name ++ quotation_mark ∷ more))))))) =
-    sym found.valued ∙ sym lies ∙ first_is_it ∙ ap (λ l. open_brace ∷ l) (id_is ∙ ap (λ l. quoted id ++ l) (object_is ∙ ap (λ l. colon ∷ (open_brace ∷ (quoted (codes "type") ++ (colon ∷ (quotation_mark ∷ l))))) value_is)) in
-    ap (λ o. member_in (codes "type") (member_in id o)) found.is ∙ type_in_text found.value id name more found.writable id_utf8 letters begins
+    let begins : compact found.value ≡ open_brace
+    ∷ (quoted id ++ (colon ∷ (open_brace
+    ∷ (quoted (codes "type") ++ (colon ∷ (quotation_mark ∷ (name ++ quotation_mark ∷ more))))))) =
+    sym found.valued ∙ sym lies ∙ first_is_it
+    ∙ ap (λ l. open_brace ∷ l) (id_is
+    ∙ ap (λ l. quoted id ++ l) (object_is
+    ∙ ap (λ l. colon ∷ (open_brace ∷ (quoted (codes "type") ++ (colon ∷ (quotation_mark ∷ l))))) value_is)) in
+    ap (λ o. member_in (codes "type") (member_in id o)) found.is
+    ∙ type_in_text found.value id name more found.writable id_utf8 letters begins
 
 -- what is told of a name that is found
-pub if_some_type : {B : Type 0} (now : B → List ℕ) (found : Option B) (text : List ℕ) (P : List ℕ → Type 0) → ((name : List ℕ) → AreLetters name → (more : List ℕ) → text ≡ name ++ quotation_mark ∷ more → P name)
-    → IfSome found (λ name. AreLetters (now name) × (more : List ℕ) × (text ≡ now name ++ quotation_mark ∷ more)) → IfSome found (λ name. P (now name))
+pub if_some_type : {B : Type 0} (now : B → List ℕ) (found : Option B) (text : List ℕ) (P : List ℕ → Type 0)
+    → ((name : List ℕ) → AreLetters name → (more : List ℕ) → text ≡ name ++ quotation_mark ∷ more → P name)
+    → IfSome found (λ name. AreLetters (now name) × (more : List ℕ) × (text ≡ now name ++ quotation_mark ∷ more))
+    → IfSome found (λ name. P (now name))
 if_some_type now None text P onward told = tt
 if_some_type now (Some name) text P onward told = onward (now name) told.0 told.1 told.2

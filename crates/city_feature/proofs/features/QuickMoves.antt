@@ -22,83 +22,142 @@ use Rattle.city_feature.specs.Quick.{IsCompacted, IsLine, IsPlaceOf, no_steps}
 use Rattle.city_feature.specs.Shapes.{IsText, IsThere}
 
 -- what lies in a part, put there again
-pub kept : (line value : List ℕ) (part : Part) → part.value ≤ part.end → slice_range line part.value part.end ≡ value → with_value line part value ≡ line
+pub kept : (line value : List ℕ) (part : Part) → part.value ≤ part.end → slice_range line part.value part.end ≡ value
+    → with_value line part value ≡ line
 kept line value part ordered lies =
     let size = part.end - part.value in
     let rest = drop part.value line in
-    let from_there : drop part.end line ≡ drop size rest = ap (λ n. drop n line) (omega arith) ∙ sym (drop-drop size part.value line) in
-    ap (λ v. take part.value line ++ (v ++ drop part.end line)) (sym lies) ∙ ap (λ back. take part.value line ++ (take size rest ++ back)) from_there ∙ ap (λ back. take part.value line ++ back) (take-append-drop size rest) ∙ take-append-drop part.value line
+    let from_there : drop part.end line ≡ drop size rest = ap (λ n. drop n line) (omega arith)
+    ∙ sym (drop-drop size part.value line) in
+    ap (λ v. take part.value line ++ (v ++ drop part.end line)) (sym lies)
+    ∙ ap (λ back. take part.value line ++ (take size rest ++ back)) from_there
+    ∙ ap (λ back. take part.value line ++ back) (take-append-drop size rest) ∙ take-append-drop part.value line
 
 unmoved_one : (p : Triple) → sum p no_steps ≡ p
 unmoved_one p =
-    ap (λ n. triple n (p.y +ℤ pos 0) (p.z +ℤ pos 0)) (+ℤ_idr p.x) ∙ ap (λ n. triple p.x n (p.z +ℤ pos 0)) (+ℤ_idr p.y) ∙ ap (λ n. triple p.x p.y n) (+ℤ_idr p.z)
+    ap (λ n. triple n (p.y +ℤ pos 0) (p.z +ℤ pos 0)) (+ℤ_idr p.x) ∙ ap (λ n. triple p.x n (p.z +ℤ pos 0)) (+ℤ_idr p.y)
+    ∙ ap (λ n. triple p.x p.y n) (+ℤ_idr p.z)
 
 -- vertices that are moved by nothing
 pub unmoved : (ps : List Triple) → moved_vertices ps no_steps ≡ ps
 unmoved [] = refl
 unmoved (p ∷ ps) = ap (λ q. q ∷ moved_vertices ps no_steps) (unmoved_one p) ∙ ap (λ qs. p ∷ qs) (unmoved ps)
 
-pub kept_line : (line given : List ℕ) (part : Part) (ps qs : List Triple) (k : Triple) → given ≡ line → with_value given part (compact (vertices_tree ps)) ≡ given → qs ≡ moved_vertices ps k → k ≡ no_steps → with_value line part (compact (vertices_tree qs)) ≡ line
+pub kept_line : (line given : List ℕ) (part : Part) (ps qs : List Triple) (k : Triple) → given ≡ line
+    → with_value given part (compact (vertices_tree ps)) ≡ given → qs ≡ moved_vertices ps k → k ≡ no_steps
+    → with_value line part (compact (vertices_tree qs)) ≡ line
 kept_line line given part ps qs k same there moved_is none =
     let stay : qs ≡ ps = moved_is ∙ ap (moved_vertices ps) none ∙ unmoved ps in
-    ap (λ vs. with_value line part (compact (vertices_tree vs))) stay ∙ ap (λ l. with_value l part (compact (vertices_tree ps))) (sym same) ∙ there ∙ same
+    ap (λ vs. with_value line part (compact (vertices_tree vs))) stay
+    ∙ ap (λ l. with_value l part (compact (vertices_tree ps))) (sym same) ∙ there ∙ same
 
 -- and what stands there once it is moved
-pub moved_there : (bytes line items : List ℕ) (parts passed : List Part) (members : MemberTrees) (part : Part) (ps qs : List Triple) (k : Triple) (types : Option (List (List ℕ))) (has : Bool) → Spells bytes (object members) → Fits (object members) → line ≡ compact (object members) → AreParts 1 parts members → items ≡ line → passed ≡ parts
+pub moved_there : (bytes line items : List ℕ) (parts passed : List Part) (members : MemberTrees) (part : Part)
+    (ps qs : List Triple) (k : Triple) (types : Option (List (List ℕ))) (has : Bool) → Spells bytes (object members)
+    → Fits (object members) → line ≡ compact (object members) → AreParts 1 parts members → items ≡ line → passed ≡ parts
     → (IsLine items passed members → IsFeature (object members) ps × IsPlaceOf (codes "vertices") members items part)
-    → (IsLine items passed members → IsThere IsText (first_named (codes "id") members) → IsTrue has ↔ IfSome types (λ names. HasType names (object members)))
+    → (IsLine items passed members → IsThere IsText (first_named (codes "id") members) → IsTrue has
+    ↔ IfSome types (λ names. HasType names (object members)))
     → qs ≡ moved_vertices ps k → All IsInRange qs
-    → (there : FeatureValue) × SpellsMoved k bytes there × (there.vertices ≡ qs) × (compact there.value ≡ with_value line part (compact (vertices_tree qs))) × (IsTrue has ↔ IfSome types (λ names. HasType names there.value))
-moved_there bytes line items parts passed members part ps qs k types has spells fits written are_parts same_line same_parts placed typed moved_is moved_range =
-    let is : IsLine items passed members = record { written = same_line ∙ written; are_parts = subst (λ l. AreParts 1 l members) (sym same_parts) are_parts; names_differ = fits.1.0; writable = spelled_writable bytes (object members) spells } in
+    → (there : FeatureValue) × SpellsMoved k bytes there × (there.vertices ≡ qs)
+    × (compact there.value ≡ with_value line part (compact (vertices_tree qs)))
+    × (IsTrue has ↔ IfSome types (λ names. HasType names there.value))
+moved_there bytes line items parts passed members part ps qs k types has spells fits written are_parts same_line
+    same_parts placed typed moved_is moved_range =
+    let is : IsLine items passed members =
+    record {
+      written = same_line ∙ written;
+      are_parts =
+          subst (λ l. AreParts 1 l members) (sym same_parts) are_parts;
+      names_differ = fits.1.0;
+      writable =
+          spelled_writable bytes (object members) spells;
+    } in
     let at = placed is in
     let feature : FeatureValue = record { value = object members; vertices = ps } in (
       moved feature k,
       (feature, (spells, fits, at.0), subst (All IsInRange) moved_is moved_range, refl),
       sym moved_is,
-      at.1 (vertices_tree (moved_vertices ps k)) ∙ ap (λ rs. with_value items part (compact (vertices_tree rs))) (sym moved_is) ∙ ap (λ l. with_value l part (compact (vertices_tree qs))) same_line,
+      at.1 (vertices_tree (moved_vertices ps k))
+          ∙ ap (λ rs. with_value items part (compact (vertices_tree rs))) (sym moved_is)
+          ∙ ap (λ l. with_value l part (compact (vertices_tree qs))) same_line,
       moved_types types has (vertices_tree (moved_vertices ps k)) members (typed is at.0.0.1),
     )
 
-pub gives_moved : (IsWanted : FeatureValue → Type 0) (k : Triple) (bytes line : List ℕ) (part : Part) (there : FeatureValue) (qs passed : List Triple) (old given text : List ℕ) → SpellsMoved k bytes there → there.vertices ≡ qs → compact there.value ≡ with_value line part (compact (vertices_tree qs)) → passed ≡ qs → IsWanted (record { value = there.value; vertices = passed }) → given ≡ with_value line part (compact (vertices_tree qs)) → text ≡ old ++ given
-    → (out : Option (List ℕ)) × GivesFeature IsWanted k bytes out × (is_some out ≡ true) × (text ≡ old ++ unwrap_or out [])
+pub gives_moved : (IsWanted : FeatureValue → Type 0) (k : Triple) (bytes line : List ℕ) (part : Part)
+    (there : FeatureValue) (qs passed : List Triple) (old given text : List ℕ) → SpellsMoved k bytes there
+    → there.vertices ≡ qs → compact there.value ≡ with_value line part (compact (vertices_tree qs)) → passed ≡ qs
+    → IsWanted (record { value = there.value; vertices = passed })
+    → given ≡ with_value line part (compact (vertices_tree qs)) → text ≡ old ++ given
+    → (out : Option (List ℕ)) × GivesFeature IsWanted k bytes out × (is_some out ≡ true)
+    × (text ≡ old ++ unwrap_or out [])
 gives_moved IsWanted k bytes line part there qs passed old given text spells same written also wanted put more =
-    let wanted_there : IsWanted there = subst (λ vs. IsWanted (record { value = there.value; vertices = vs })) (also ∙ sym same) wanted in
+    let wanted_there : IsWanted there =
+    subst (λ vs. IsWanted (record { value = there.value; vertices = vs })) (also ∙ sym same) wanted in
     (Some given, (there, spells, (wanted_there, put ∙ sym written)), refl, more)
 
 pub not_both : (b : Bool) → b ≡ false → ¬ IsTrue b
 not_both b is_not = λ is. cc
 
-pub gives_none : (IsWanted : FeatureValue → Type 0) (k : Triple) (bytes : List ℕ) (there : FeatureValue) (qs passed : List Triple) (old text : List ℕ) → SpellsMoved k bytes there → there.vertices ≡ qs → passed ≡ qs → ¬ IsWanted (record { value = there.value; vertices = passed }) → text ≡ old
-    → (out : Option (List ℕ)) × GivesFeature IsWanted k bytes out × (is_some out ≡ false) × (text ≡ old ++ unwrap_or out [])
+pub gives_none : (IsWanted : FeatureValue → Type 0) (k : Triple) (bytes : List ℕ) (there : FeatureValue)
+    (qs passed : List Triple) (old text : List ℕ) → SpellsMoved k bytes there → there.vertices ≡ qs → passed ≡ qs
+    → ¬ IsWanted (record { value = there.value; vertices = passed }) → text ≡ old
+    → (out : Option (List ℕ)) × GivesFeature IsWanted k bytes out × (is_some out ≡ false)
+    × (text ≡ old ++ unwrap_or out [])
 gives_none IsWanted k bytes there qs passed old text spells same also unwanted stays =
-    let unwanted_there : ¬ IsWanted there = subst (λ vs. ¬ IsWanted (record { value = there.value; vertices = vs })) (also ∙ sym same) unwanted in
+    let unwanted_there : ¬ IsWanted there =
+    subst (λ vs. ¬ IsWanted (record { value = there.value; vertices = vs })) (also ∙ sym same) unwanted in
     (None, (there, spells, unwanted_there), refl, stays ∙ sym (append-nil old))
 
 -- where no area is asked for, the vertices choose nothing
-pub chosen_anywhere : (choice : Choice) (value : Tree) (ps qs : List Triple) → choice.area ≡ None → IsChosen choice (record { value = value; vertices = ps }) → IsChosen choice (record { value = value; vertices = qs })
+pub chosen_anywhere : (choice : Choice) (value : Tree) (ps qs : List Triple) → choice.area ≡ None
+    → IsChosen choice (record { value = value; vertices = ps })
+    → IsChosen choice (record { value = value; vertices = qs })
 chosen_anywhere choice value ps qs none chosen =
-    subst (λ a. MatchBool choice.exclude (¬ (IfSome choice.types (λ types. HasType types value) × IfSome a (λ area. Meets area qs))) (IfSome choice.types (λ types. HasType types value) × IfSome a (λ area. Meets area qs))) (sym none)
-    (subst (λ a. MatchBool choice.exclude (¬ (IfSome choice.types (λ types. HasType types value) × IfSome a (λ area. Meets area ps))) (IfSome choice.types (λ types. HasType types value) × IfSome a (λ area. Meets area ps))) none chosen)
+    subst (λ a. MatchBool choice.exclude
+    (¬ (IfSome choice.types (λ types. HasType types value) × IfSome a (λ area. Meets area qs)))
+    (IfSome choice.types (λ types. HasType types value) × IfSome a (λ area. Meets area qs))) (sym none)
+    (subst (λ a. MatchBool choice.exclude
+    (¬ (IfSome choice.types (λ types. HasType types value) × IfSome a (λ area. Meets area ps)))
+    (IfSome choice.types (λ types. HasType types value) × IfSome a (λ area. Meets area ps))) none chosen)
 
 -- a line whose vertices stay
-pub kept_there : (bytes line items : List ℕ) (parts passed : List Part) (members : MemberTrees) (part : Part) (ps : List Triple) (types : Option (List (List ℕ))) (has : Bool) → Spells bytes (object members) → Fits (object members) → line ≡ compact (object members) → AreParts 1 parts members → items ≡ line → passed ≡ parts
+pub kept_there : (bytes line items : List ℕ) (parts passed : List Part) (members : MemberTrees) (part : Part)
+    (ps : List Triple) (types : Option (List (List ℕ))) (has : Bool) → Spells bytes (object members)
+    → Fits (object members) → line ≡ compact (object members) → AreParts 1 parts members → items ≡ line → passed ≡ parts
     → (IsLine items passed members → IsFeature (object members) ps × IsPlaceOf (codes "vertices") members items part)
-    → (IsLine items passed members → IsThere IsText (first_named (codes "id") members) → IsTrue has ↔ IfSome types (λ names. HasType names (object members)))
+    → (IsLine items passed members → IsThere IsText (first_named (codes "id") members) → IsTrue has
+    ↔ IfSome types (λ names. HasType names (object members)))
     → All IsInRange ps → with_value items part (compact (vertices_tree ps)) ≡ items
-    → (there : FeatureValue) × SpellsMoved no_steps bytes there × (compact there.value ≡ line) × (IsTrue has ↔ IfSome types (λ names. HasType names there.value))
-kept_there bytes line items parts passed members part ps types has spells fits written are_parts same_line same_parts placed typed range stays =
+    → (there : FeatureValue) × SpellsMoved no_steps bytes there × (compact there.value ≡ line)
+    × (IsTrue has ↔ IfSome types (λ names. HasType names there.value))
+kept_there bytes line items parts passed members part ps types has spells fits written are_parts same_line same_parts
+    placed typed range stays =
     let stay : ps ≡ moved_vertices ps no_steps = sym (unmoved ps) in
-    let (there, moved_is, vertices, text, typed_there) = moved_there bytes line items parts passed members part ps ps no_steps types has spells fits written are_parts same_line same_parts placed typed stay range in
+    let (there, moved_is, vertices, text, typed_there) =
+    moved_there bytes line items parts passed members part ps ps no_steps types has spells fits written are_parts
+    same_line same_parts placed typed stay range in
     (there, moved_is, text ∙ kept_line line items part ps ps no_steps same_line stays stay refl, typed_there)
 
-pub still_given : (IsWanted : FeatureValue → Type 0) (shift : Triple) (bytes line old before new : List ℕ) (parts : List Part) (found : Option Bool) → shift ≡ no_steps → before ≡ old → IsCompacted bytes line parts
-    → IfSome found (λ is_chosen. (from : List ℕ) → IsCompacted from line parts → (given : Option (List ℕ)) × GivesFeature IsWanted no_steps from given × (is_some given ≡ is_chosen) × (new ≡ before ++ unwrap_or given []))
-    → IfSome found (λ is_chosen. (given : Option (List ℕ)) × GivesFeature IsWanted shift bytes given × (is_some given ≡ is_chosen) × (new ≡ old ++ unwrap_or given []))
+pub still_given : (IsWanted : FeatureValue → Type 0) (shift : Triple) (bytes line old before new : List ℕ)
+    (parts : List Part) (found : Option Bool) → shift ≡ no_steps → before ≡ old → IsCompacted bytes line parts
+    → IfSome found (λ is_chosen. (from : List ℕ) → IsCompacted from line parts → (given : Option (List ℕ))
+    × GivesFeature IsWanted no_steps from given × (is_some given ≡ is_chosen)
+    × (new ≡ before ++ unwrap_or given []))
+    → IfSome found (λ is_chosen. (given : Option (List ℕ)) × GivesFeature IsWanted shift bytes given
+    × (is_some given ≡ is_chosen) × (new ≡ old ++ unwrap_or given []))
 still_given IsWanted shift bytes line old before new parts None still same is told = tt
 still_given IsWanted shift bytes line old before new parts (Some b) still same is told =
-    let (given, gives, is_given, put) = told bytes is in
-    (given, subst (λ k. GivesFeature IsWanted k bytes given) (sym still) gives, is_given, put ∙ ap (λ l. l ++ unwrap_or given []) same)
+    let (given, gives, is_given, put) = told bytes is in (
+      given,
+      subst (λ k. GivesFeature IsWanted k bytes given) (sym still) gives,
+      is_given,
+      put
+          ∙ ap (λ l. l ++ unwrap_or given []) same,
+    )
 
-pub compacted : (bytes line : List ℕ) (parts : List Part) → (members : MemberTrees) × Spells bytes (object members) × Fits (object members) × (¬ IsDeep bytes) × (line ≡ compact (object members)) × AreParts 1 parts members → IsCompacted bytes line parts
-compacted bytes line parts (members, spells, fits, shallow, written, are_parts) = (members, spells, fits, written, are_parts)
+pub compacted : (bytes line : List ℕ) (parts : List Part) → (members : MemberTrees) × Spells bytes (object members)
+    × Fits (object members) × (¬ IsDeep bytes) × (line ≡ compact (object members)) × AreParts 1 parts members
+    → IsCompacted bytes line parts
+compacted bytes line parts (members, spells, fits, shallow, written, are_parts) =
+    (members, spells, fits, written, are_parts)

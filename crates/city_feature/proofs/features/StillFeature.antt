@@ -18,19 +18,27 @@ module _ (name : List ℕ) (x : Tree) where
   this_named no_members = ap (λ b. if b then Some x else None) ((bytes_eq-Decides name name).1 refl)
   this_named (member other value others) = told (bytes_eq other name) refl (this_named others)
     where
-      told : (b : Bool) → bytes_eq other name ≡ b → first_named name (with_named name x others) ≡ Some x → first_named name (if b then member other x others else member other value (with_named name x others)) ≡ Some x
+      told : (b : Bool) → bytes_eq other name ≡ b → first_named name (with_named name x others) ≡ Some x
+          → first_named name (if b then member other x others else member other value (with_named name x others))
+          ≡ Some x
       told true is later = ap (λ b. if b then Some x else first_named name others) is
       told false is later = ap (λ b. if b then Some value else first_named name (with_named name x others)) is ∙ later
 
   module _ (another : List ℕ) (apart : bytes_eq name another ≡ false) where
-    other_named : (members : MemberTrees) → first_named another (with_named name x members) ≡ first_named another members
+    other_named : (members : MemberTrees)
+        → first_named another (with_named name x members) ≡ first_named another members
     other_named no_members = ap (λ b. if b then Some x else None) apart
-    other_named (member other value others) = told (bytes_eq other name) (bytes_eq-Decides other name).0 (other_named others)
+    other_named (member other value others) =
+        told (bytes_eq other name) (bytes_eq-Decides other name).0 (other_named others)
       where
-        told : (b : Bool) → (b ≡ true → other ≡ name) → first_named another (with_named name x others) ≡ first_named another others → first_named another (if b then member other x others else member other value (with_named name x others)) ≡ (if bytes_eq other another then Some value else first_named another others)
+        told : (b : Bool) → (b ≡ true → other ≡ name)
+            → first_named another (with_named name x others) ≡ first_named another others
+            → first_named another (if b then member other x others else member other value (with_named name x others))
+            ≡ (if bytes_eq other another then Some value else first_named another others)
         told true is later =
             let away : bytes_eq other another ≡ false = ap (λ y. bytes_eq y another) (is refl) ∙ apart in
-            ap (λ b. if b then Some x else first_named another others) away ∙ sym (ap (λ b. if b then Some value else first_named another others) away)
+            ap (λ b. if b then Some x else first_named another others) away
+            ∙ sym (ap (λ b. if b then Some value else first_named another others) away)
         told false is later = ap (λ rest. if bytes_eq other another then Some value else rest) later
 
     pub other_member : (value : Tree) → member_of another (with_member name x value) ≡ member_of another value
@@ -41,7 +49,8 @@ module _ (name : List ℕ) (x : Tree) where
     other_member (array items) = refl
     other_member (object members) = other_named members
 
-  this_member : (value old : Tree) → member_of name value ≡ Some old → member_of name (with_member name x value) ≡ Some x
+  this_member : (value old : Tree) → member_of name value ≡ Some old
+      → member_of name (with_member name x value) ≡ Some x
   this_member null old is = cc
   this_member (boolean b) old is = cc
   this_member (number text) old is = cc
@@ -49,7 +58,8 @@ module _ (name : List ℕ) (x : Tree) where
   this_member (array items) old is = cc
   this_member (object members) old is = this_named members
 
-pub still_feature : (value : Tree) (ps qs : List Triple) → IsFeature value ps → AreReadAgain qs → IsFeature (with_member (codes "vertices") (vertices_tree qs) value) qs
+pub still_feature : (value : Tree) (ps qs : List Triple) → IsFeature value ps → AreReadAgain qs
+    → IsFeature (with_member (codes "vertices") (vertices_tree qs) value) qs
 still_feature value ps qs feature again =
     let name = codes "vertices" in
     let x = vertices_tree qs in
@@ -70,10 +80,12 @@ count_is no_items (p ∷ ps) are = absurd are
 count_is (item value others) [] are = absurd are
 count_is (item value others) (p ∷ ps) are = ap suc (count_is others ps are.2)
 
-pub has_items : (value : Tree) (ps : List Triple) (count : ℕ) → HasVertices value ps → count ≡ length ps → IsThere (HasItems count) (member_of (codes "vertices") value)
+pub has_items : (value : Tree) (ps : List Triple) (count : ℕ) → HasVertices value ps → count ≡ length ps
+    → IsThere (HasItems count) (member_of (codes "vertices") value)
 has_items value ps count (items, are, vertices) same =
     subst (IsThere (HasItems count)) (sym are) (count_is items ps vertices ∙ sym same)
 
-pub move_refused : (fault : Fault) (feature : FeatureJson) (k : Triple) → (fault ≡ VertexRange) × (¬ All IsInRange (moved_vertices feature.vertices k)) → RefusesMove fault (feature_value feature) k
+pub move_refused : (fault : Fault) (feature : FeatureJson) (k : Triple) → (fault ≡ VertexRange)
+    × (¬ All IsInRange (moved_vertices feature.vertices k)) → RefusesMove fault (feature_value feature) k
 move_refused fault feature k refused =
     subst (λ f. RefusesMove f (feature_value feature) k) (sym refused.0) refused.1

@@ -1,6 +1,6 @@
 //! The line of a feature with no tree: checked, moved and written on its compact text.
 //!
-//! It answers for the common spellings only, and says nothing of any other line and of no fault.
+//! It decides only lines in the common spellings that have no fault.
 ghost use Rattle.std.specs.Prelude.{◌≡◌, ◌≤◌, ◌++◌, [], ℕ, List, All, Option, codes, slice_range, ◌↔◌, is_some, unwrap_or, IfSome, IfNone, IsTrue, OnOk, OnSome};
 ghost use Rattle.city_json.specs.Compact.{compact};
 ghost use Rattle.city_json.specs.Parts.{with_value};
@@ -47,7 +47,7 @@ struct MovedLine {
 }
 
 /// The text between two places.
-fn between(text: &[u8], from: usize, to: usize) -> Option<&[u8]>
+pub fn between(text: &[u8], from: usize, to: usize) -> Option<&[u8]>
     ensures some { IfSome result (λ found. found.now ≡ slice_range text.now from to) }
     ensures ordered { IfSome result (λ found. from ≤ to) }
 {
@@ -61,7 +61,7 @@ fn between(text: &[u8], from: usize, to: usize) -> Option<&[u8]>
 }
 
 /// Whether this text stands between two places.
-fn is_between(text: &[u8], from: usize, to: usize, other: &[u8]) -> bool
+pub fn is_between(text: &[u8], from: usize, to: usize, other: &[u8]) -> bool
     ensures { IsTrue result → slice_range text.now from to ≡ other.now }
 {
     let Some(found) = between(text, from, to) else {
@@ -71,7 +71,7 @@ fn is_between(text: &[u8], from: usize, to: usize, other: &[u8]) -> bool
 }
 
 /// The first part of a name, which is given as it stands in the line, with its marks and its colon.
-fn part_named(line: &[u8], parts: &[Part], name: &[u8]) -> Option<Part>
+pub fn part_named(line: &[u8], parts: &[Part], name: &[u8]) -> Option<Part>
     ensures { IfSome result (λ part. IsPartNamed line.now parts.now name.now part) }
 {
     for part in parts {

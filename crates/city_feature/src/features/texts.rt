@@ -28,7 +28,7 @@ pub struct SpelledVertices {
     pub as_written: bool,
 }
 
-/// The vertex at `at`. None says nothing of the text.
+/// The vertex at `at`; `None`: undecided.
 #[inline(always)]
 fn spelled_at(text: &[u8], at: usize) -> Option<SpelledVertex>
     requires { at ≤ length text.now }
@@ -72,7 +72,7 @@ fn both(one: bool, other: bool) -> bool
     one && other
 }
 
-/// The vertices that the text spells. None says nothing of the text.
+/// The vertices that the text spells; `None`: undecided.
 #[inline(never)]
 pub fn vertices_of(alloc: Global, text: &[u8]) -> Option<SpelledVertices>
     ensures spelled { IfSome result (λ found. SpellsVertices text.now found.vertices.items) }
@@ -112,7 +112,7 @@ pub fn vertices_of(alloc: Global, text: &[u8]) -> Option<SpelledVertices>
     }
 }
 
-/// Whether the text is what would be written for some vertices. No says nothing of the text.
+/// Whether the text is what would be written for its vertices; `false`: undecided.
 #[inline(never)]
 pub fn is_vertices_text(text: &[u8]) -> bool
     ensures { IsTrue result → IsVerticesText text.now }

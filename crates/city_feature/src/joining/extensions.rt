@@ -17,7 +17,7 @@ use std::marker::Model;
 
 /// The most extensions that are found by the hash of their names. Its seed is fixed, so names can be
 /// made that all have one hash.
-const MOST_HASHED: usize = 16;
+const MAX_HASHED: usize = 16;
 
 /// Names and values of extensions, in the order in which the names first appeared.
 #[derive(Drop)]
@@ -114,7 +114,7 @@ impl<'a> Extensions<'a> {
             ≡ with_last (lent_members self.old) name.now (tree value.now)) }
         ensures fault { IfErr result (λ fault. fault ≡ Fault.Memory) }
     {
-        if self.later.is_empty() && self.first.len() < MOST_HASHED {
+        if self.later.is_empty() && self.first.len() < MAX_HASHED {
             self.first.insert(name, value)?;
             return Ok(());
         }

@@ -7,9 +7,11 @@ use Rattle.city_json.specs.Tree.{Tree, tree, tree_step, member_step, array, item
 use Rattle.city_grid.specs.Axes.{Texts, three}
 
 pub tree_of_list : (items : Vec Json Global) → tree (JsonList items) ≡ array (items_tree items.items)
-tree_of_list items = ap tree (sym (rolls-List items)) ∙ fold-roll-Json Tree (List ℕ × Tree) tree_step member_step (Json-F.List items)
+tree_of_list items = ap tree (sym (rolls-List items))
+    ∙ fold-roll-Json Tree (List ℕ × Tree) tree_step member_step (Json-F.List items)
 
-trees_of_three : (trees : List Tree) (texts : Texts) → array (item_trees trees) ≡ three texts → trees ≡ number texts.x ∷ (number texts.y ∷ (number texts.z ∷ []))
+trees_of_three : (trees : List Tree) (texts : Texts) → array (item_trees trees) ≡ three texts
+    → trees ≡ number texts.x ∷ (number texts.y ∷ (number texts.z ∷ []))
 trees_of_three [] texts equal = cc
 trees_of_three (a ∷ []) texts equal = cc
 trees_of_three (a ∷ b ∷ []) texts equal = cc
@@ -22,17 +24,22 @@ module _ (values : List Json) (texts : Texts) (equal : array (items_tree values)
 
   pub first_of_three : (x : Json) → x ≡ get_or values 0 x → tree x ≡ number texts.x
   first_of_three x is =
-      ap tree is ∙ sym (get_or-map tree values 0 x (number []) (omega (arith, length_of_three))) ∙ ap (λ trees. get_or trees 0 (number [])) (trees_of_three (map tree values) texts equal)
+      ap tree is ∙ sym (get_or-map tree values 0 x (number []) (omega (arith, length_of_three)))
+      ∙ ap (λ trees. get_or trees 0 (number [])) (trees_of_three (map tree values) texts equal)
 
   pub second_of_three : (x : Json) → x ≡ get_or values 1 x → tree x ≡ number texts.y
   second_of_three x is =
-      ap tree is ∙ sym (get_or-map tree values 1 x (number []) (omega (arith, length_of_three))) ∙ ap (λ trees. get_or trees 1 (number [])) (trees_of_three (map tree values) texts equal)
+      ap tree is ∙ sym (get_or-map tree values 1 x (number []) (omega (arith, length_of_three)))
+      ∙ ap (λ trees. get_or trees 1 (number [])) (trees_of_three (map tree values) texts equal)
 
   pub third_of_three : (x : Json) → x ≡ get_or values 2 x → tree x ≡ number texts.z
   third_of_three x is =
-      ap tree is ∙ sym (get_or-map tree values 2 x (number []) (omega (arith, length_of_three))) ∙ ap (λ trees. get_or trees 2 (number [])) (trees_of_three (map tree values) texts equal)
+      ap tree is ∙ sym (get_or-map tree values 2 x (number []) (omega (arith, length_of_three)))
+      ∙ ap (λ trees. get_or trees 2 (number [])) (trees_of_three (map tree values) texts equal)
 
-pub three_from : (values : List Json) (x y z : Json) (texts : Texts) → length values ≡ 3 → x ≡ get_or values 0 x → y ≡ get_or values 1 y → z ≡ get_or values 2 z → tree x ≡ number texts.x → tree y ≡ number texts.y → tree z ≡ number texts.z → array (items_tree values) ≡ three texts
+pub three_from : (values : List Json) (x y z : Json) (texts : Texts) → length values ≡ 3 → x ≡ get_or values 0 x
+    → y ≡ get_or values 1 y → z ≡ get_or values 2 z → tree x ≡ number texts.x → tree y ≡ number texts.y
+    → tree z ≡ number texts.z → array (items_tree values) ≡ three texts
 three_from [] x y z texts all first second third tx ty tz = absurd (omega arith)
 three_from (a ∷ []) x y z texts all first second third tx ty tz = absurd (omega arith)
 three_from (a ∷ b ∷ []) x y z texts all first second third tx ty tz = absurd (omega arith)

@@ -9,11 +9,13 @@ same_triple p q x y z =
     let triple : ℤ → ℤ → ℤ → Triple = λ a b c. record { x = a; y = b; z = c } in
     ap (λ a. triple a p.y p.z) x ∙ ap (λ b. triple q.x b p.z) y ∙ ap (λ c. triple q.x q.y c) z
 
-pub found_at : (found : Option Triple) (p v : Triple) → SomeIff found (IsInRange p) p → p.x ≡ v.x → p.y ≡ v.y → p.z ≡ v.z → SomeIff found (IsInRange v) v
+pub found_at : (found : Option Triple) (p v : Triple) → SomeIff found (IsInRange p) p → p.x ≡ v.x → p.y ≡ v.y
+    → p.z ≡ v.z → SomeIff found (IsInRange v) v
 found_at found p v given x y z = subst (λ t. SomeIff found (IsInRange t) t) (same_triple p v x y z) given
 
 -- `found.ok_or(fault)`, where what is found is v exactly where it is in range
-module _ (found : Option Triple) (v : Triple) (given : SomeIff found (IsInRange v) v) (fault : Fault) (answer : Result Triple Fault) (is : answer ≡ ok_or found fault) where
+module _ (found : Option Triple) (v : Triple) (given : SomeIff found (IsInRange v) v) (fault : Fault)
+    (answer : Result Triple Fault) (is : answer ≡ ok_or found fault) where
   pub answered : IfOk answer (λ r. r ≡ v)
   answered = subst (λ a. IfOk a (λ r. r ≡ v)) (sym is) (go found given)
     where
@@ -31,6 +33,7 @@ module _ (found : Option Triple) (v : Triple) (given : SomeIff found (IsInRange 
   pub refused : IfErr answer (λ f. (f ≡ fault) × ¬ IsInRange v)
   refused = subst (λ a. IfErr a (λ f. (f ≡ fault) × ¬ IsInRange v)) (sym is) (go found given)
     where
-      go : (found : Option Triple) → SomeIff found (IsInRange v) v → IfErr (ok_or found fault) (λ f. (f ≡ fault) × ¬ IsInRange v)
+      go : (found : Option Triple) → SomeIff found (IsInRange v) v
+          → IfErr (ok_or found fault) (λ f. (f ≡ fault) × ¬ IsInRange v)
       go None given = (refl, given)
       go (Some r) given = tt

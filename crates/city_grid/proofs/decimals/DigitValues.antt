@@ -20,12 +20,15 @@ digit_below ds i all below =
     let here = digit_at ds i all below in
     omega (arith, digit_byte (get_or ds i 0) here)
 
-pub value_after-append : (n : ℕ) (xs ys : List ℕ) → digits_value_after 10 n (xs ++ ys) ≡ digits_value_after 10 (digits_value_after 10 n xs) ys
+pub value_after-append : (n : ℕ) (xs ys : List ℕ)
+    → digits_value_after 10 n (xs ++ ys) ≡ digits_value_after 10 (digits_value_after 10 n xs) ys
 value_after-append n [] ys = refl
 value_after-append n (x ∷ xs) ys = value_after-append (n * 10 + digit_value x) xs ys
 
-pub value_after_more : (n : ℕ) (ds : List ℕ) (i : ℕ) → i < length ds → digits_value_after 10 n (take (i + 1) ds) ≡ digits_value_after 10 n (take i ds) * 10 + digit_value (get_or ds i 0)
-value_after_more n ds i below = ap (digits_value_after 10 n) (take_more ds i 0 below) ∙ value_after-append n (take i ds) (get_or ds i 0 ∷ [])
+pub value_after_more : (n : ℕ) (ds : List ℕ) (i : ℕ) → i < length ds
+    → digits_value_after 10 n (take (i + 1) ds) ≡ digits_value_after 10 n (take i ds) * 10 + digit_value (get_or ds i 0)
+value_after_more n ds i below = ap (digits_value_after 10 n) (take_more ds i 0 below)
+    ∙ value_after-append n (take i ds) (get_or ds i 0 ∷ [])
 
 shifted : (n v p d e : ℕ) → e ≡ (0 * 10 + v) * p + d → (n * 10 + v) * p + d ≡ n * (p * 10) + e
 shifted n v p d e written = omega arith
@@ -35,9 +38,12 @@ pub value_after_is : (n : ℕ) (ds : List ℕ) → digits_value_after 10 n ds �
 value_after_is n [] = omega arith
 value_after_is n (d ∷ ds) =
     let written = value_after_is (0 * 10 + digit_value d) ds in
-    value_after_is (n * 10 + digit_value d) ds ∙ shifted n (digit_value d) (10 ^ length ds) (digits_value 10 ds) _ written ∙ ap (λ q. n * q + digits_value 10 (d ∷ ds)) (sym (pow-suc 10 (length ds)))
+    value_after_is (n * 10 + digit_value d) ds
+    ∙ shifted n (digit_value d) (10 ^ length ds) (digits_value 10 ds) _ written
+    ∙ ap (λ q. n * q + digits_value 10 (d ∷ ds)) (sym (pow-suc 10 (length ds)))
 
-pub value-append : (xs ys : List ℕ) → digits_value 10 (xs ++ ys) ≡ digits_value 10 xs * 10 ^ length ys + digits_value 10 ys
+pub value-append : (xs ys : List ℕ)
+    → digits_value 10 (xs ++ ys) ≡ digits_value 10 xs * 10 ^ length ys + digits_value 10 ys
 value-append xs ys = value_after-append 0 xs ys ∙ value_after_is (digits_value 10 xs) ys
 
 pub value_after_grows : (n : ℕ) (ds : List ℕ) → n ≤ digits_value_after 10 n ds
@@ -45,7 +51,8 @@ value_after_grows n ds = omega (arith, value_after_is n ds, mul-le-mul_left n (o
 
 pub value_after_part : (n : ℕ) (ds : List ℕ) (i : ℕ) → digits_value_after 10 n (take i ds) ≤ digits_value_after 10 n ds
 value_after_part n ds i =
-    let whole = sym (value_after-append n (take i ds) (drop i ds)) ∙ ap (digits_value_after 10 n) (take-append-drop i ds) in
+    let whole = sym (value_after-append n (take i ds) (drop i ds))
+    ∙ ap (digits_value_after 10 n) (take-append-drop i ds) in
     omega (arith, whole, value_after_grows (digits_value_after 10 n (take i ds)) (drop i ds))
 
 -- one zero more
@@ -53,7 +60,8 @@ pub raised_more : (n v shown : ℕ) → v ≡ n * 10 ^ shown → v * 10 ≡ n * 
 raised_more n v shown is = rw add-one (omega (arith, ap (λ q. n * q) (pow-suc 10 shown)))
 
 -- a multiple that is too large with one zero more stays so with others
-pub too_large : (n v shown most bound : ℕ) → v ≡ n * 10 ^ shown → shown < most → bound ≤ v * 10 → n * 10 ^ most < bound → ⊥
+pub too_large : (n v shown most bound : ℕ) → v ≡ n * 10 ^ shown → shown < most → bound ≤ v * 10 → n * 10 ^ most < bound
+    → ⊥
 too_large n v shown most bound is more large small =
     let powers : 10 ^ (shown + 1) ≤ 10 ^ most = pow-le-pow_right (omega arith) (omega arith) in
     omega (arith, raised_more n v shown is, mul-le-mul_left n powers)
@@ -63,13 +71,19 @@ pub value_from_zeros : (ds : List ℕ) → All (λ d. d ≡ 48) ds → digits_va
 value_from_zeros [] zeros = refl
 value_from_zeros (d ∷ ds) zeros =
     let here : digit_value d ≡ 0 = ap digit_value (zeros 0 d (omega arith)) in
-    value_after_is (0 * 10 + digit_value d) ds ∙ omega (arith, ap (λ v. (0 * 10 + v) * 10 ^ length ds) here, value_from_zeros ds (All-tail (λ d. d ≡ 48) d ds zeros))
+    value_after_is (0 * 10 + digit_value d) ds
+    ∙ omega (
+      arith,
+      ap (λ v. (0 * 10 + v) * 10 ^ length ds) here,
+      value_from_zeros ds (All-tail (λ d. d ≡ 48) d ds zeros),
+    )
 
 pub zeros_from_value : (ds : List ℕ) → AllDigits 10 ds → digits_value 10 ds ≡ 0 → All (λ d. d ≡ 48) ds
 zeros_from_value [] all nothing = All-nil (λ d. d ≡ 48)
 zeros_from_value (d ∷ ds) all nothing =
     let sum = sym (value_after_is (0 * 10 + digit_value d) ds) ∙ nothing in
-    let large : digit_value d ≤ digit_value d * 10 ^ length ds = omega (arith, mul-le-mul_left (digit_value d) (one-le-pow (length ds) 10 (omega arith))) in
+    let large : digit_value d ≤ digit_value d * 10 ^ length ds =
+    omega (arith, mul-le-mul_left (digit_value d) (one-le-pow (length ds) 10 (omega arith))) in
     let zero : digit_value d ≡ 0 = omega arith in
     let here : d ≡ 48 = omega (arith, digit_byte d (digit_from_value d all.0)) in
     All-cons (λ d. d ≡ 48) d ds here (zeros_from_value ds all.1 (omega arith))

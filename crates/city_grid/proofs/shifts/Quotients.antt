@@ -20,7 +20,9 @@ pub same_multiple : (k m d : ℤ) → pos 0 <ℤ d → k *ℤ d ≡ m *ℤ d →
 same_multiple k m (negsuc n) above equal = absurd (omega (arith, ints))
 same_multiple k (pos j) (pos n) above equal =
     let some : 0 < n = omega (arith, ints) in
-    sign_is false k j n n some equal ∙ ap (signed false) (eq_of_mul-eq-mul_right n some (unsigned_abs k) j (size_is false k j n n equal))
+    sign_is false k j n n some equal
+    ∙ ap (signed false) (eq_of_mul-eq-mul_right n some (unsigned_abs k) j (size_is false k j n n equal))
 same_multiple k (negsuc j) (pos n) above equal =
     let some : 0 < n = omega (arith, ints) in
-    sign_is true k (suc j) n n some equal ∙ ap (signed true) (eq_of_mul-eq-mul_right n some (unsigned_abs k) (suc j) (size_is true k (suc j) n n equal))
+    sign_is true k (suc j) n n some equal
+    ∙ ap (signed true) (eq_of_mul-eq-mul_right n some (unsigned_abs k) (suc j) (size_is true k (suc j) n n equal))

@@ -19,7 +19,8 @@ whole_from (d ∷ ds) all first = inr (omega arith, (digit_from_value d all.0).1
 
 pub decimal_is_whole : (n : ℕ) → n < 2 ^ 64 → IsWhole (decimal n)
 decimal_is_whole zero short = subst IsWhole (sym (decimal_digit 0 (omega arith))) (inl (refl, refl))
-decimal_is_whole (suc n) short = whole_from (decimal (suc n)) (decimal_is_IsNumeral (suc n) short).0.1 (first_decimal (suc n) (omega arith) short)
+decimal_is_whole (suc n) short =
+    whole_from (decimal (suc n)) (decimal_is_IsNumeral (suc n) short).0.1 (first_decimal (suc n) (omega arith) short)
 
 unfoldable pub decimal_is_number : (z : ℤ) → FitsSigned w64 z → IsNumber (signed_decimal z)
 decimal_is_number (pos n) fits =

@@ -47,10 +47,19 @@ negative_number n small =
 pub unsigned_integer : (text : List ℕ) (n : ℕ) → n < 10 ^ 16 → text ≡ decimal n → IsInteger text (signed false n)
 unfolding unsigned_number
 unsigned_integer text n small written =
-    subst (λ t. IsInteger t (signed false n)) (sym written) (subst (IsInteger (decimal n)) (ap (signed false) (digits_value-decimal numerals n (omega arith))) (integer_from (decimal n) (unsigned_number n small) false (decimal n) [] [] refl refl refl refl refl refl))
+    subst (λ t. IsInteger t (signed false n)) (sym written)
+    (subst (IsInteger (decimal n)) (ap (signed false) (digits_value-decimal numerals n (omega arith)))
+    (integer_from (decimal n) (unsigned_number n small) false (decimal n) [] [] refl refl refl refl refl refl))
 
-pub negative_integer : (text : List ℕ) (at end n : ℕ) → at < length text → get_or text at 0 ≡ minus → at + 1 < end → n < 10 ^ 16 → slice_range text (at + 1) end ≡ decimal n → IsInteger (slice_range text at end) (signed true n)
+pub negative_integer : (text : List ℕ) (at end n : ℕ) → at < length text → get_or text at 0 ≡ minus → at + 1 < end
+    → n < 10 ^ 16 → slice_range text (at + 1) end ≡ decimal n → IsInteger (slice_range text at end) (signed true n)
 unfolding negative_number
 negative_integer text at end n within is onward small written =
-    let marked : slice_range text at end ≡ minus ∷ decimal n = slice_more text at (at + 1) end (omega arith) (omega arith) ∙ ap (λ l. l ++ slice_range text (at + 1) end) (slice_one text at minus within is) ∙ ap (λ l. minus ∷ l) written in
-    subst (λ t. IsInteger t (signed true n)) (sym marked) (subst (IsInteger (minus ∷ decimal n)) (ap (signed true) (digits_value-decimal numerals n (omega arith))) (integer_from (minus ∷ decimal n) (negative_number n small) true (decimal n) [] [] refl refl refl refl refl refl))
+    let marked : slice_range text at end ≡ minus ∷ decimal n =
+    slice_more text at (at + 1) end (omega arith) (omega arith)
+    ∙ ap (λ l. l ++ slice_range text (at + 1) end) (slice_one text at minus within is)
+    ∙ ap (λ l. minus ∷ l) written in
+    subst (λ t. IsInteger t (signed true n)) (sym marked)
+    (subst (IsInteger (minus ∷ decimal n)) (ap (signed true) (digits_value-decimal numerals n (omega arith)))
+    (integer_from (minus ∷ decimal n) (negative_number n small) true (decimal n) []
+    [] refl refl refl refl refl refl))

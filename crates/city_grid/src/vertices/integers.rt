@@ -1,20 +1,20 @@
 ghost use Rattle.std.specs.Prelude.{◌≡◌, ◌≤◌, ◌<◌, ◌+◌, ◌*◌, ℤ, IfSome, IfNone};
 ghost use Rattle.std.specs.Str.Parse.{AllDigits, digits_value};
-ghost use Rattle.city_grid.specs.Axes.{most_steps};
+ghost use Rattle.byte_streams.specs.Limits.{max_steps};
 ghost use Rattle.city_grid.specs.Vertex.{IsInteger, IsCapped, IsSameOrLarge};
 
 use crate::decimals::digits::digit_of;
-use crate::steps::MOST_STEPS;
+use byte_streams::limits::MAX_STEPS;
 use city_json::NumText;
 
 /// One digit more, after a number that is not above 2^53 - 1.
 fn append_digit(size: u64, digit: u8) -> u64
-    requires { (size ≤ 10 * most_steps + 9) × (digit < 10) }
-    ensures more { size ≤ most_steps → result ≡ size * 10 + digit }
-    ensures large { most_steps < size → result ≡ size }
-    ensures small { result ≤ 10 * most_steps + 9 }
+    requires { (size ≤ 10 * max_steps + 9) × (digit < 10) }
+    ensures more { size ≤ max_steps → result ≡ size * 10 + digit }
+    ensures large { max_steps < size → result ≡ size }
+    ensures small { result ≤ 10 * max_steps + 9 }
 {
-    if size <= MOST_STEPS {
+    if size <= MAX_STEPS {
         size * 10 + u64::from(digit)
     } else {
         size
@@ -25,7 +25,7 @@ fn append_digit(size: u64, digit: u8) -> u64
 fn capped_value(digits: &[u8]) -> u64
     requires { AllDigits 10 digits.now }
     ensures value { IsCapped (digits_value 10 digits.now) result }
-    ensures small { result ≤ 10 * most_steps + 9 }
+    ensures small { result ≤ 10 * max_steps + 9 }
 {
     let mut size = 0u64;
     for digit in digits {

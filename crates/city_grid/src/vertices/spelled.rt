@@ -27,8 +27,7 @@ fn spelled_integer_at(text: &[u8], at: usize) -> Option<PlacedInteger>
     })
 }
 
-/// The vertex at `at`, where each of its integers is written in at most sixteen digits; `-0` is 0. None says nothing of
-/// the text.
+/// The vertex at `at`, where each of its integers is written in at most sixteen digits; `-0` is 0. `None`: undecided.
 #[inline(never)]
 pub fn spelled_vertex_at(text: &[u8], at: usize) -> Option<PlacedVertex>
     requires { at ≤ length text.now }

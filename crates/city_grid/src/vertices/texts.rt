@@ -5,28 +5,27 @@ ghost use Rattle.std.specs.Fmt.{decimal, signed_decimal};
 ghost use Rattle.std.specs.Simd.Lanes.{mask_l};
 ghost use Rattle.std.specs.Str.Parse.{AllDigits, digits_value};
 ghost use Rattle.city_json.specs.Compact.{compact};
-ghost use Rattle.city_grid.specs.Axes.{IsInRange, most_steps};
+ghost use Rattle.city_grid.specs.Axes.{IsInRange};
+ghost use Rattle.byte_streams.specs.Limits.{max_steps};
 ghost use Rattle.city_grid.specs.Vertex.{vertex_tree, IsShortNumber, IsShortInteger, IsVertexText};
 
 use crate::vertices::Vertex;
 use byte_streams::Line;
+use byte_streams::limits::MAX_STEPS;
 use core::dec2flt::read_digits;
 use itoa::write_digits;
 use std::alloc::AllocError;
 use std::simd::prelude::*;
 
 /// How many digits a number has at most that is read here: as many as the largest component.
-const MOST_DIGITS: usize = 16;
-
-/// The largest size of a component.
-const MOST_SIZE: u64 = 9_007_199_254_740_991;
+const MAX_DIGITS: usize = 16;
 
 /// How long the text of a vertex and a byte before it is at most, and some bytes more.
-const MOST_LEN: usize = 64;
+const MAX_LEN: usize = 64;
 
 /// The number that digits write, and where they end.
 #[derive(Clone, Copy, Drop)]
-pub(super) struct Digits {
+pub struct Digits {
     pub size: u64,
     pub end: usize,
 }
@@ -64,7 +63,7 @@ fn digits_at(text: &[u8], at: usize) -> Digits
     ensures value { result.size ≡ digits_value 10 (slice_range text.now at result.end) }
 {
     let (end, size) = read_digits(text, at, 0);
-    if end - at > MOST_DIGITS {
+    if end - at > MAX_DIGITS {
         return Digits { size: 0, end: at };
     }
     Digits { size, end }
@@ -72,7 +71,7 @@ fn digits_at(text: &[u8], at: usize) -> Digits
 
 /// The number at `at` that is written in at most sixteen digits, with no zero before others.
 #[inline(always)]
-pub(super) fn number_at(text: &[u8], at: usize) -> Option<Digits>
+pub fn number_at(text: &[u8], at: usize) -> Option<Digits>
     requires { at ≤ length text.now }
     ensures onward { IfSome result (λ found. at < found.end) }
     ensures within { IfSome result (λ found. found.end ≤ length text.now) }
@@ -118,7 +117,7 @@ fn integer_at(text: &[u8], at: usize) -> Option<PlacedInteger>
     })
 }
 
-/// The vertex at `at`, where it is in the text that would be written for it. None says nothing of the text.
+/// The vertex at `at`, where it is in the text that would be written for it; `None`: undecided.
 #[inline(always)]
 pub fn vertex_at(text: &[u8], at: usize) -> Option<PlacedVertex>
     requires { at ≤ length text.now }
@@ -212,7 +211,7 @@ fn long_number_end(text: &[u8], at: usize) -> usize
     let Some(found) = number_at(text, at) else {
         return at;
     };
-    if found.size > MOST_SIZE {
+    if found.size > MAX_STEPS {
         return at;
     }
     found.end
@@ -239,7 +238,7 @@ fn integer_end(text: &[u8], at: usize) -> usize
     number_end(text, at)
 }
 
-/// Where the vertex at `at` ends, where it is in the text that would be written for it, or `at`, which says nothing.
+/// Where the vertex at `at` ends, where it is in the text that would be written for it; `at`: undecided.
 #[inline(always)]
 pub fn vertex_end(text: &[u8], at: usize) -> usize
     requires { at ≤ length text.now }
@@ -290,7 +289,7 @@ fn put_byte(byte: u8, to: &mut [u8], end: usize) -> usize
 /// Puts an integer in decimal before `end`: where it begins.
 #[inline(always)]
 fn put_integer(value: i64, to: &mut [u8], end: usize) -> usize
-    requires small { unsigned_abs value ≤ most_steps }
+    requires small { unsigned_abs value ≤ max_steps }
     requires room { 17 ≤ end }
     requires within { end ≤ length to.old }
     ensures short { end ≤ result + 17 }
@@ -311,8 +310,8 @@ pub fn append_vertex(before: u8, vertex: &Vertex, to: &mut Line) -> Result<(), A
     ensures { OnOk result (to.new ≡ to.old ++ before ∷ compact (vertex_tree vertex.now)) }
 {
     let steps = vertex.steps();
-    let mut text = [0u8; MOST_LEN];
-    let closed = put_byte(b']', &mut text, MOST_LEN);
+    let mut text = [0u8; MAX_LEN];
+    let closed = put_byte(b']', &mut text, MAX_LEN);
     let z = put_integer(steps.z, &mut text, closed);
     let second = put_byte(b',', &mut text, z);
     let y = put_integer(steps.y, &mut text, second);

@@ -100,7 +100,7 @@ fn append_short(text: &[u8], from: usize, at: usize, line: &mut Line) -> Option<
     Some(())
 }
 
-/// The place of the next byte that is no white space. The end of the text says nothing.
+/// The place of the next byte that is no white space; the end of the text: undecided.
 #[inline(always)]
 pub(super) fn skip<'a>(text: &'a [u8], at: usize, draft: &mut Draft<'a>) -> usize
     requires copied { draft.old.from ≤ at }

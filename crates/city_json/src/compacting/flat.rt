@@ -132,7 +132,7 @@ pub(super) fn after_item<'a>(
     Some(Place { at: end, depth: 0 })
 }
 
-/// Whether an array with an item begins at `at`, and no white space stands in it before that. No says nothing.
+/// Whether an array with an item begins at `at`, and no white space stands in it before that; `false`: undecided.
 #[inline(always)]
 pub(super) fn opens_array(text: &[u8], at: usize) -> bool
     requires { at < length text.now }

@@ -7,7 +7,7 @@ ghost use Rattle.city_json.specs.NamePrint.{print_of, short_print_of};
 ghost use Rattle.city_json.specs.Tree.{MemberTrees};
 
 use super::name::Name;
-use crate::reading::names::{MOST_COMPARED, are_apart_when_sorted};
+use crate::reading::names::{MAX_COMPARED, are_apart_when_sorted};
 use std::alloc::Global;
 use std::marker::Model;
 
@@ -75,7 +75,7 @@ impl<'a> Names<'a> {
             → HasDistinctNames members }
     {
         let listed = &self.listed[base..];
-        if listed.len() <= MOST_COMPARED {
+        if listed.len() <= MAX_COMPARED {
             few_are_apart(listed)
         } else {
             many_are_apart(alloc, listed)

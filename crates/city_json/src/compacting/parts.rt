@@ -12,8 +12,8 @@ ghost use Rattle.city_json.specs.declared.compacting.parts.Part.{Part};
 use super::draft::{Draft, begun, copy_to, skip, skip_white, written_len};
 use super::strings::name_and_colon;
 use super::values::member_value;
-use crate::reading::depth::MOST_DEPTH;
 use byte_streams::Line;
+use byte_streams::limits::MAX_DEPTH;
 use std::alloc::Global;
 
 /// Most features have no more members.
@@ -38,7 +38,7 @@ pub struct Compacted {
 /// The compact text of the object that the text spells, and where its members lie in it, in their order. What `line`
 /// held is dropped; it is taken for its memory.
 ///
-/// None says nothing of the text: [`crate::read`] tells what is the matter with it.
+/// `None`: undecided; [`crate::read`] decides.
 pub fn compact_parts(alloc: Global, text: &[u8], line: Line) -> Option<Compacted>
     ensures { IfSome result (λ found. (members : MemberTrees)
         × Spells text.now (object members) × Fits (object members) × (¬ IsDeep text.now)
@@ -53,7 +53,7 @@ pub fn compact_parts(alloc: Global, text: &[u8], line: Line) -> Option<Compacted
     if at == text.len() || text[at] != b'{' {
         return None;
     }
-    let end = members(text, at + 1, MOST_DEPTH - 1, &mut draft, &mut parts)?;
+    let end = members(text, at + 1, MAX_DEPTH - 1, &mut draft, &mut parts)?;
     let last = skip_white(text, end, &mut draft)?;
     if last < text.len() {
         return None;

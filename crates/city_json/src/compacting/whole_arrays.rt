@@ -2,10 +2,12 @@
 ghost use Rattle.std.specs.Prelude.{◌≡◌, ◌<◌, ◌≤◌, ◌+◌, ◌-◌, ◌++◌, ◌∷◌, ◌==◌, ◌||◌, ◌&&◌, Bool, true, if◌then◌else◌, ℕ, List, length, map, take, slice_index, slice_range, IfSome, IsTrue};
 ghost use Rattle.std.specs.Char.{is_ascii_digit};
 ghost use Rattle.std.specs.Simd.Lanes.{mask_l};
+ghost use Rattle.byte_streams.specs.Limits.{max_depth};
 ghost use Rattle.city_json.specs.Bytes.{open_bracket, close_bracket, comma};
 ghost use Rattle.city_json.specs.Whole.{AreFine, StaysOpen, Closes, IsItemsText, stage_of, is_wrong, begins_zero, zeroed_by, is_place, lag, ups, downs};
 
 use crate::reading::depth::marks_of;
+use byte_streams::limits::MAX_DEPTH;
 use std::simd::prelude::*;
 
 /// The brackets of a block, and whether it ends with a zero that begins a number.
@@ -139,8 +141,7 @@ struct Place {
 fn after_block(text: &[u8], at: usize, from: Place) -> Option<Place>
     requires some { 0 < at }
     requires within { at + 64 ≤ length text.now }
-    requires depth { from.depth ≤ 129 }
-    requires room { from.room ≤ 129 }
+    requires levels { from.depth + from.room ≤ max_depth + 1 }
     requires place { is_place (slice_index text.now (at - 1)) ≡ true }
     ensures open { IfSome result (λ to. 0 < to.depth) }
     ensures sum { IfSome result (λ to. to.depth + to.room ≡ from.depth + from.room) }
@@ -171,8 +172,7 @@ fn after_byte(text: &[u8], at: usize, from: Place) -> Option<Place>
     requires some { 0 < at }
     requires within { at < length text.now }
     requires open { 0 < from.depth }
-    requires depth { from.depth ≤ 129 }
-    requires room { from.room ≤ 129 }
+    requires levels { from.depth + from.room ≤ max_depth + 1 }
     requires place { is_place (slice_index text.now (at - 1)) ≡ true }
     ensures sum { IfSome result (λ to. to.depth + to.room ≡ from.depth + from.room) }
     ensures place { IfSome result (λ to. is_place (slice_index text.now at) ≡ true) }
@@ -341,11 +341,10 @@ fn front_len(marks: Marks) -> usize
     64 - closes.leading_zeros() as usize
 }
 
-/// How many bytes at the front of a block close all arrays that are open after the byte `before`; 0 says nothing.
+/// How many bytes at the front of a block close all arrays that are open after the byte `before`; 0: undecided.
 #[inline(always)]
 fn closing_len(block: u8x64, before: u8, from: Place) -> usize
-    requires depth { from.depth ≤ 129 }
-    requires room { from.room ≤ 129 }
+    requires levels { from.depth + from.room ≤ max_depth + 1 }
     requires place { is_place before ≡ true }
     ensures within { result ≤ 63 }
     ensures closes { 0 < result
@@ -368,13 +367,12 @@ fn closing_len(block: u8x64, before: u8, from: Place) -> usize
     len
 }
 
-/// Where the bytes from `at` on have closed all arrays that are open, within a block; `at` says nothing.
+/// Where the bytes from `at` on have closed all arrays that are open, within a block; `at`: undecided.
 #[inline(always)]
 fn closing_end(text: &[u8], at: usize, from: Place) -> usize
     requires some { 0 < at }
     requires within { at ≤ length text.now }
-    requires depth { from.depth ≤ 129 }
-    requires room { from.room ≤ 129 }
+    requires levels { from.depth + from.room ≤ max_depth + 1 }
     requires place { is_place (slice_index text.now (at - 1)) ≡ true }
     ensures onward { at ≤ result }
     ensures within { result ≤ length text.now }
@@ -393,8 +391,7 @@ fn short_closing_end(text: &[u8], at: usize, from: Place) -> usize
     requires some { 0 < at }
     requires within { at ≤ length text.now }
     requires few { length text.now < at + 64 }
-    requires depth { from.depth ≤ 129 }
-    requires room { from.room ≤ 129 }
+    requires levels { from.depth + from.room ≤ max_depth + 1 }
     requires place { is_place (slice_index text.now (at - 1)) ≡ true }
     ensures onward { at ≤ result }
     ensures within { result ≤ length text.now }
@@ -418,7 +415,7 @@ pub(super) fn whole_end(text: &[u8], at: usize, levels: usize) -> usize
     requires some { 0 < at }
     requires within { at ≤ length text.now }
     requires opened { slice_index text.now (at - 1) ≡ open_bracket }
-    requires levels { levels ≤ 128 }
+    requires levels { levels ≤ max_depth }
     ensures onward { at ≤ result }
     ensures within { result ≤ length text.now }
     ensures is { at < result → IsItemsText levels text.now at result }
@@ -465,7 +462,7 @@ pub(super) fn whole_from(text: &[u8], at: usize, levels: usize) -> usize
     ensures within { result ≤ length text.now }
     ensures is { at < result → IsItemsText levels text.now at result }
 {
-    if at < 2 || at == text.len() || levels > 128 {
+    if at < 2 || at == text.len() || levels > MAX_DEPTH {
         return at;
     }
     if text[at - 2] != b':' || text[at - 1] != b'[' || text[at] > b'[' || text[at] < b'0' {

@@ -6,10 +6,8 @@ ghost use Rattle.city_json.specs.Bytes.{backslash};
 ghost use Rattle.city_json.specs.Depth.{IsDeep};
 ghost use Rattle.city_json.specs.BracketRun.{IsBracketRun, outside_after, place_of};
 
+use byte_streams::limits::MAX_DEPTH;
 use std::simd::prelude::*;
-
-/// How deep arrays and objects may nest.
-pub(crate) const MOST_DEPTH: usize = 128;
 
 /// How many bytes are looked at in one step.
 const BLOCK: usize = 64;
@@ -18,15 +16,18 @@ const BLOCK: usize = 64;
 pub(crate) fn is_deep(bytes: &[u8]) -> bool
     ensures { IsTrue result ↔ IsDeep bytes.now }
 {
+    if bytes.len() <= MAX_DEPTH {
+        return false;
+    }
     let mut rest = bytes;
     let mut in_string = false;
     let mut opened = 0usize;
     let mut closed = 0usize;
-    while opened <= closed + MOST_DEPTH {
+    while opened <= closed + MAX_DEPTH {
         if rest.is_empty() {
             return false;
         }
-        let run = next_run(rest, in_string, closed + MOST_DEPTH - opened);
+        let run = next_run(rest, in_string, closed + MAX_DEPTH - opened);
         opened += run.opened;
         closed += run.closed;
         in_string = run.in_string;

@@ -8,15 +8,15 @@ use crate::json::Member;
 use std::alloc::{AllocError, Global};
 
 /// The most members whose names are compared with one another. Past it sorting the names is faster.
-pub(crate) const MOST_COMPARED: usize = 16;
+pub(crate) const MAX_COMPARED: usize = 16;
 
 /// Whether no two members have the same name. The time is near linear in the names' bytes, whatever they are.
-/// Memory is taken for more than [`MOST_COMPARED`] members only.
+/// Memory is taken for more than [`MAX_COMPARED`] members only.
 pub(crate) fn names_differ(alloc: Global, members: &[Member]) -> Result<bool, AllocError>
     ensures { IfOk result (λ differ. IsTrue differ
         ↔ HasDistinctNames (members_tree members.now)) }
 {
-    if members.len() <= MOST_COMPARED {
+    if members.len() <= MAX_COMPARED {
         Ok(few_names_differ(members))
     } else {
         many_names_differ(alloc, members)

@@ -151,9 +151,7 @@ impl<'a> Write for CountedWriter<'a> {
 }
 
 #[test]
-fn the_lines_of_features_are_one_write_and_none_follows_a_failure(
-    rt: HostRuntime,
-) -> Result<(), Fail> {
+fn each_text_is_written_and_none_follows_a_failure(rt: HostRuntime) -> Result<(), Fail> {
     let objects = r#""a":{"type":"Road"},"b":{"type":"Road"},"c":{"type":"Road"}"#;
     let three = HEADER.replace(
         rt.alloc(),
@@ -162,9 +160,13 @@ fn the_lines_of_features_are_one_write_and_none_follows_a_failure(
     )?;
     let three = three.replace(rt.alloc(), "OBJECTS", objects)?;
     for (failing, answer, written, flushed) in [
-        (None, Ok(3), 2u64, 1u64),
+        // Of each feature its own part, the common part and the newline.
+        (None, Ok(3), 11u64, 1u64),
         (Some(0u64), Err(NOT_WRITTEN), 1, 0),
         (Some(1), Err(NOT_WRITTEN), 2, 0),
+        (Some(2), Err(NOT_WRITTEN), 3, 0),
+        (Some(6), Err(NOT_WRITTEN), 7, 0),
+        (Some(10), Err(NOT_WRITTEN), 11, 0),
     ] {
         let writes = AtomicU64::new(0);
         let flushes = AtomicU64::new(0);

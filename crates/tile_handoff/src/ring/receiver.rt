@@ -1,9 +1,8 @@
 ghost use Rattle.std.specs.Prelude.{◌≤◌};
 ghost use Rattle.rtrb.specs.Ring.{consumer_capacity};
-ghost use Rattle.tile_handoff.specs.declared.queues.TheConstants.{MAX_CAPACITY};
+ghost use Rattle.byte_streams.specs.declared.limits.TheConstants.{MAX_CAPACITY};
 
 use crate::note::Note;
-use crate::queues::MAX_CAPACITY;
 use crate::ring::sender::Closed;
 use byte_streams::Fault;
 use rtrb::Consumer;

@@ -3,8 +3,7 @@ ghost use Rattle.std.specs.Io.KnownBytes.{Keeps};
 ghost use Rattle.byte_streams.specs.Failures.{after_call};
 ghost use Rattle.city_feature.specs.Choice.{IsChosen};
 ghost use Rattle.tile_handoff.specs.Queues.{queue_of, empty_queue};
-ghost use Rattle.tile_merge.specs.Feeds.{fresh_feed, MayTake, SomeCourse, TakesNone, TakesTurn, HasRoom, IsAhead, most_ahead, most_lines};
-ghost use Rattle.tile_stream.specs.Stream.{with_newline};
+ghost use Rattle.tile_merge.specs.Feeds.{fresh_feed, MayTake, SomeCourse, TakesNone, TakesTurn, HasFreePlace, IsAhead, most_ahead, most_lines};
 ghost use Rattle.tile_stream.specs.TileState.{most_to_come, most_texts};
 
 use crate::merging::ends::end_note;
@@ -75,7 +74,7 @@ impl<R: Source> Feed<R> {
         }
     }
 
-    /// Takes the line of the next feature that is chosen; texts that need no waiting are read ahead, as
+    /// Takes the text of the next feature that is chosen; texts that need no waiting are read ahead, as
     /// many as the queue holds. None after the last. Where a line has to be read that may be long in
     /// coming, what was written is passed on first.
     ///
@@ -89,9 +88,8 @@ impl<R: Source> Feed<R> {
         output: &mut W,
     ) -> Result<Option<Line>, Fault>
         requires { SomeCourse (MayTake R.gives (IsChosen choice.now) self.old) }
-        ensures text { IfOk result (λ taken. IfSome taken (λ line. (text : List ℕ)
-            × (line ≡ with_newline text)
-            × TakesTurn R.gives (IsChosen choice.now) self.old self.new (Some text))) }
+        ensures text { IfOk result (λ taken. IfSome taken (λ text.
+            TakesTurn R.gives (IsChosen choice.now) self.old self.new (Some text))) }
         ensures over { IfOk result (λ taken. IfNone taken
             (TakesTurn R.gives (IsChosen choice.now) self.old self.new None)) }
         ensures bytes { Keeps (W.taken output.old) (W.taken output.new) }
@@ -103,7 +101,7 @@ impl<R: Source> Feed<R> {
             Err(fault) => return Err(fault),
         }
         match self.notes.take(0) {
-            Took::Line(line) => return Ok(Some(line)),
+            Took::Line(text) => return Ok(Some(text)),
             Took::End(end) => {
                 self.last = Some(end);
                 return Ok(None);
@@ -160,7 +158,7 @@ impl<R: Source> Feed<R> {
     /// Whether a line more is to be read: where there is no note yet, or where the line is held
     /// already and there is a place for its note.
     fn reads_on(&self) -> bool
-        ensures room { IsTrue result → HasRoom self.now }
+        ensures room { IsTrue result → HasFreePlace self.now }
         ensures ahead { result ≡ false → IsAhead self.now }
     {
         !self.notes.is_closed(0)
@@ -169,7 +167,7 @@ impl<R: Source> Feed<R> {
 
     /// Reads the next line, and puts its text into the queue where it is chosen, or the end.
     fn read_line(&mut self, alloc: Global, choice: &Choice)
-        requires room { HasRoom self.old }
+        requires room { HasFreePlace self.old }
         requires some { SomeCourse (MayTake R.gives (IsChosen choice.now) self.old) }
         ensures none { TakesNone (MayTake R.gives (IsChosen choice.now) self.old)
             (MayTake R.gives (IsChosen choice.now) self.new) }
@@ -189,12 +187,12 @@ impl<R: Source> Feed<R> {
                 return;
             }
         };
-        let Passed { is_chosen, line } = passed;
+        let Passed { is_chosen, text } = passed;
         if !is_chosen {
-            self.spare = line;
+            self.spare = text;
             return;
         }
-        self.notes.store_line(0, line);
+        self.notes.store_line(0, text);
         self.count += 1;
     }
 }

@@ -1,4 +1,4 @@
-ghost use Rattle.std.specs.Prelude.{◌≡◌, ◌⊎◌, ◌≤◌, ◌<◌, ◌+◌, ◌^◌, ℕ, All, Err, length, filter_map, IfOk, IfErr, OnOk, OnErr};
+ghost use Rattle.std.specs.Prelude.{◌≡◌, ◌⊎◌, ◌≤◌, ◌<◌, ◌+◌, ◌^◌, ℕ, All, Err, [], length, filter_map, IfOk, IfErr, OnOk, OnErr};
 ghost use Rattle.byte_streams.specs.Failures.{after_call};
 ghost use Rattle.city_feature.specs.Choice.{IsChosen};
 ghost use Rattle.tile_stream.specs.Filtered.{failures_after_merge, failures_after_refusal};
@@ -10,20 +10,21 @@ ghost use Rattle.tile_stream.specs.TileState.{most_to_come, most_texts};
 ghost use Rattle.tile_merge.specs.Rounds.{AreReady, IsFeedOf, MayTakeAll, SomeCourses, WroteRound, WroteTurns, WroteTurnsFront};
 
 use crate::merging::feed::Feed;
-use crate::merging::report::{Report, report_of};
+use crate::merging::report::{Ends, Report};
 use crate::merging::tiles::{JoinedTiles, OpenTile, join_tiles, tile_count};
 use byte_streams::{Fault, Line, MergeFault, Sink, Source};
 use city_feature::{Base, Choice};
 use city_grid::Shift;
-use std::alloc::{AllocError, Global};
-use tile_handoff::{End, MAX_CAPACITY, Queues};
+use std::alloc::Global;
+use tile_handoff::{MAX_CAPACITY, Queues};
 use tile_stream::write_line;
 
-/// Tiles that are ready to be merged in turn, and the line of their header.
+/// Tiles that are ready to be merged in turn, the line of their header, and room for their ends.
 #[derive(Debug, Drop)]
 struct ReadyTiles<R> {
     feeds: Vec<Feed<R>>,
     line: Line,
+    ends: Ends,
 }
 
 /// Merges the tiles that the readers give, in turn: the joined header, then the first feature that
@@ -35,10 +36,10 @@ struct ReadyTiles<R> {
 /// # Errors
 ///
 /// Before a byte is written: [`Fault::TooManyTiles`], of no tile, above 64 readers; else that of the
-/// first tile that has no header; else that of joining, at the line of the tile's header. A faulty
-/// line ends its tile there, and the others are written whole: then that of the lowest tile that ran
-/// out of memory, or else of the lowest that is faulty. Of no tile [`Fault::Write`] where a write or
-/// the flush failed, and [`Fault::Memory`].
+/// first tile that has no header; else that of joining, at the line of the tile's header; of no tile
+/// [`Fault::Memory`] may come in place of these. A faulty line ends its tile there, and the others
+/// are written whole: then that of the lowest tile that ran out of memory, or else of the lowest
+/// that is faulty. Of no tile [`Fault::Write`] where a write or the flush failed.
 pub fn merge_in_turn<R: Source + Drop, W: Sink>(
     alloc: Global,
     readers: Vec<R>,
@@ -96,12 +97,15 @@ fn merge_few<R: Source + Drop, W: Sink>(
         ⊎ IsOutputFault e ⊎ W.is_flushed output.new) }
     ensures failures { W.failures output.new ≡ failures_after_merge result (W.failures output.old) }
 {
-    let ReadyTiles { mut feeds, line } = make_ready(alloc, readers, base, capacity)?;
+    let ReadyTiles {
+        mut feeds,
+        line,
+        ends,
+    } = make_ready(alloc, readers, base, capacity)?;
     write_line(output, line)?;
     write_turns(alloc, &mut feeds, choice, output)?;
     output.flush()?;
-    let ends = ends_of(alloc, &feeds)?;
-    report_of(alloc, &ends)
+    ends_of(&feeds, ends).report()
 }
 
 /// Opens and joins the tiles, and makes their feeds.
@@ -117,6 +121,8 @@ fn make_ready<R: Source + Drop>(
     ensures ok { IfOk result (λ ready.
         AreReady R.gives base capacity readers.items ready.feeds.items ready.line) }
     ensures few { IfOk result (λ ready. length ready.feeds.items ≤ 64) }
+    ensures room { IfOk result (λ ready. ready.ends
+        ≡ record { room = length ready.feeds.items; ends = [] }) }
     ensures refused { IfErr result (IsRefusedEarly R.gives base readers.items) }
     ensures quiet { IfErr result (λ e. (count : ℕ) → failures_after_refusal e count ≡ count) }
 {
@@ -125,8 +131,9 @@ fn make_ready<R: Source + Drop>(
         line,
         shifts,
     } = join_tiles(alloc, readers, base)?;
+    let ends = Ends::new(alloc, tiles.len())?;
     let feeds = feeds_of(alloc, tiles, shifts.items(), capacity)?;
-    Ok(ReadyTiles { feeds, line })
+    Ok(ReadyTiles { feeds, line, ends })
 }
 
 /// The tiles, each with its shift and an empty queue.
@@ -195,12 +202,12 @@ fn write_round<R: Source, W: Sink>(
 {
     let mut any = false;
     'tiles: for feed in feeds.iter_mut() {
-        let line = match feed.take(alloc, choice, output) {
-            Ok(Some(line)) => line,
+        let text = match feed.take(alloc, choice, output) {
+            Ok(Some(text)) => text,
             Ok(None) => continue,
             Err(fault) => return Err(fault),
         };
-        match write_line(output, line) {
+        match write_line(output, text) {
             Ok(spare) => {
                 feed.keep(spare);
                 any = true;
@@ -212,15 +219,17 @@ fn write_round<R: Source, W: Sink>(
 }
 
 /// The ends of tiles that are over.
-fn ends_of<R: Source>(alloc: Global, feeds: &[Feed<R>]) -> Result<Vec<End>, AllocError>
-    ensures { IfOk result (λ ends. ends.items ≡ filter_map (λ feed. feed.last) feeds.now) }
+fn ends_of<R: Source>(feeds: &[Feed<R>], none: Ends) -> Ends
+    requires none { none.ends ≡ [] }
+    requires room { length feeds.now ≤ none.room }
+    ensures { result.ends ≡ filter_map (λ feed. feed.last) feeds.now }
 {
-    let mut ends = Vec::with_capacity(alloc, feeds.len())?;
+    let mut ends = none;
     for feed in feeds {
         let Some(end) = feed.last() else {
             continue;
         };
-        ends.push(end)?;
+        ends.add(end);
     }
-    Ok(ends)
+    ends
 }

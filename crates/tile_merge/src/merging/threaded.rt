@@ -1,4 +1,4 @@
-ghost use Rattle.std.specs.Prelude.{◌≡◌, ◌⊎◌, ◌≤◌, ◌<◌, ◌+◌, ◌^◌, ℕ, List, All, Err, true, length, filter_map, IfOk, IfErr, OnOk};
+ghost use Rattle.std.specs.Prelude.{◌≡◌, ◌⊎◌, ◌≤◌, ◌<◌, ◌+◌, ◌^◌, ℕ, List, All, Err, true, [], length, filter_map, IfOk, IfErr, OnOk};
 ghost use Rattle.std.specs.List.{AllZip};
 ghost use Rattle.city_feature.specs.Choice.{IsChosen};
 ghost use Rattle.city_feature.specs.declared.base.Base.{Base};
@@ -18,7 +18,7 @@ mod running;
 mod waiting;
 mod writing;
 
-use crate::merging::report::{Report, report_of};
+use crate::merging::report::{Ends, Report};
 use crate::merging::threaded::feeder::FedTile;
 use crate::merging::threaded::running::{RunningTile, start};
 use crate::merging::threaded::waiting::Bell;
@@ -27,16 +27,17 @@ use crate::merging::tiles::{JoinedTiles, OpenTile, join_tiles, tile_count};
 use byte_streams::{Fault, Line, MergeFault, Sink, Source};
 use city_feature::{Base, Choice};
 use city_grid::Shift;
-use std::alloc::{AllocError, Global};
+use std::alloc::Global;
 use std::sync::Wait;
 use std::thread::Threads;
-use tile_handoff::{End, MAX_CAPACITY};
+use tile_handoff::MAX_CAPACITY;
 
-/// Tiles whose threads run, and the line of their header.
+/// Tiles whose threads run, the line of their header, and room for their ends.
 #[derive(Drop)]
 struct StartedTiles<R: Source> {
     tiles: Vec<RunningTile<R>>,
     line: Line,
+    ends: Ends,
 }
 
 /// Merges the tiles that the readers give, with a thread for each: the joined header, and then the
@@ -49,10 +50,10 @@ struct StartedTiles<R: Source> {
 ///
 /// Before a byte is written: [`Fault::TooManyTiles`], of no tile, above 64 readers; else that of the
 /// first tile that has no header; else that of joining, at the line of the tile's header; else
-/// [`Fault::NoThread`] of the first tile whose thread could not be started. A faulty line ends its
-/// tile there, and the others are written whole: then that of the lowest tile that ran out of
-/// memory, or else of the lowest that is faulty. Of no tile [`Fault::Write`] where a write or the
-/// flush failed, and [`Fault::Memory`].
+/// [`Fault::NoThread`] of the first tile whose thread could not be started; of no tile
+/// [`Fault::Memory`] may come in place of these. A faulty line ends its tile there, and the others
+/// are written whole: then that of the lowest tile that ran out of memory, or else of the lowest
+/// that is faulty. Of no tile [`Fault::Write`] where a write or the flush failed.
 pub fn merge<H, R, W>(
     rt: &H,
     alloc: Global,
@@ -123,10 +124,8 @@ where
     ensures failures { W.failures output.new ≡ failures_after_merge result (W.failures output.old) }
 {
     let filled = Bell::new(alloc)?;
-    let StartedTiles { tiles, line } = start_tiles(
-        rt, alloc, readers, choice, base, capacity, &filled,
-    )?;
-    finish(rt, alloc, &filled, tiles, line, output)
+    let started = start_tiles(rt, alloc, readers, choice, base, capacity, &filled)?;
+    finish(rt, &filled, started, output)
 }
 
 /// Opens and joins the tiles, and starts their threads.
@@ -148,6 +147,8 @@ where
     ensures ok { IfOk result (λ started. AreStarted R.gives choice.now base
         readers.items started.tiles.items started.line) }
     ensures few { IfOk result (λ started. length started.tiles.items ≤ 64) }
+    ensures room { IfOk result (λ started. started.ends
+        ≡ record { room = length started.tiles.items; ends = [] }) }
     ensures refused { IfErr result (λ e. HasNoThread R.gives base readers.items e
         ⊎ IsRefusedEarly R.gives base readers.items e) }
     ensures quiet { IfErr result (λ e. (count : ℕ) → failures_after_refusal e count ≡ count) }
@@ -157,8 +158,9 @@ where
         line,
         shifts,
     } = join_tiles(alloc, readers, base)?;
+    let ends = Ends::new(alloc, tiles.len())?;
     let tiles = start_all(rt, alloc, tiles, shifts.items(), choice, capacity, filled)?;
-    Ok(StartedTiles { tiles, line })
+    Ok(StartedTiles { tiles, line, ends })
 }
 
 /// Starts a thread for each tile. Where one cannot be started, those that run are stopped.
@@ -255,49 +257,51 @@ fn stop_all<H: Threads + Wait, R: Source + Drop>(
 /// Writes the stream of tiles whose threads run, and joins these.
 fn finish<H: Threads + Wait, R: Source + Drop, W: Sink>(
     rt: &H,
-    alloc: Global,
     filled: &Bell,
-    tiles: Vec<RunningTile<R>>,
-    line: Line,
+    started: StartedTiles<R>,
     output: &mut W,
 ) -> Result<Report, MergeFault>
-    requires few { length tiles.items ≤ 64 }
-    requires fresh { AreFresh tiles.items }
+    requires few { length started.tiles.items ≤ 64 }
+    requires room { started.ends ≡ record { room = length started.tiles.items; ends = [] } }
+    requires fresh { AreFresh started.tiles.items }
     ensures ok { (choice : Choice) (base : Base) (readers : List R)
-        → AreStarted R.gives choice base readers tiles.items line
+        → AreStarted R.gives choice base readers started.tiles.items started.line
         → IfOk result (λ report. MergedAll R.gives (IsChosen choice) base Interleaves
         readers report.counts (W.taken output.old) (W.taken output.new)) }
     ensures refused { (choice : Choice) (base : Base) (readers : List R)
-        → AreStarted R.gives choice base readers tiles.items line
+        → AreStarted R.gives choice base readers started.tiles.items started.line
         → IfErr result (λ e. IsRefusedMerge R.gives (IsChosen choice) base Interleaves
         readers e (W.taken output.old) (W.taken output.new)) }
     ensures flushed { OnOk result (W.is_flushed output.new) }
     ensures passed_on { IfErr result (λ e. IsOutputFault e ⊎ W.is_flushed output.new) }
     ensures failures { W.failures output.new ≡ failures_after_merge result (W.failures output.old) }
 {
-    let mut tiles = tiles;
+    let StartedTiles {
+        mut tiles,
+        line,
+        ends,
+    } = started;
     let wrote = write_stream(rt, filled, &mut tiles, line, output);
-    let ends = ends_of(alloc, &tiles);
+    let ends = ends_of(&tiles, ends);
     join_all(rt, tiles);
     wrote?;
-    report_of(alloc, &ends?)
+    ends.report()
 }
 
 /// The end notes of tiles of which they were taken.
-fn ends_of<R: Source + Drop>(
-    alloc: Global,
-    tiles: &[RunningTile<R>],
-) -> Result<Vec<End>, AllocError>
-    ensures { IfOk result (λ ends. ends.items ≡ filter_map (λ tile. tile.last) tiles.now) }
+fn ends_of<R: Source + Drop>(tiles: &[RunningTile<R>], none: Ends) -> Ends
+    requires none { none.ends ≡ [] }
+    requires room { length tiles.now ≤ none.room }
+    ensures { result.ends ≡ filter_map (λ tile. tile.last) tiles.now }
 {
-    let mut ends = Vec::with_capacity(alloc, tiles.len())?;
+    let mut ends = none;
     for tile in tiles {
         let Some(end) = tile.last() else {
             continue;
         };
-        ends.push(end)?;
+        ends.add(end);
     }
-    Ok(ends)
+    ends
 }
 
 /// Joins the threads of all tiles, and confirms what was taken of each.

@@ -5,18 +5,15 @@ ghost use Rattle.city_feature.specs.Values.{header_value};
 ghost use Rattle.tile_stream.specs.Head.{HasNoHead, SomeTile};
 ghost use Rattle.tile_merge.specs.Merged.{IsFirstHeadless, IsFirstUnfit, IsOfNoTile};
 ghost use Rattle.tile_merge.specs.Opened.{AllThree, IsOpened};
-ghost use Rattle.tile_stream.specs.Stream.{with_newline};
 ghost use Rattle.tile_stream.specs.Tile.{stream_limits};
 ghost use Rattle.tile_stream.specs.Unread.{IsOfTile};
 
+use byte_streams::limits::MAX_TILES;
 use byte_streams::{Fault, Line, LineFault, MergeFault, Source};
 use city_feature::{Base, Header, HeaderFault, Joined, Shifts, join_headers};
 use std::alloc::Global;
 use std::marker::Model;
 use tile_stream::{Head, TileReader};
-
-/// How many tiles are merged at most.
-const MAX_TILES: usize = 64;
 
 /// A tile whose header was taken.
 #[derive(Debug, Drop)]
@@ -63,7 +60,7 @@ pub fn tile_count(count: usize) -> Result<(), MergeFault>
     ensures many { IfErr result (λ e. (64 < count)
         × (e ≡ record { tile = 0; line = 0; fault = Fault.TooManyTiles })) }
 {
-    if count > MAX_TILES {
+    if count > MAX_TILES as usize {
         return Err(MergeFault::of_no_line(Fault::TooManyTiles));
     }
     Ok(())
@@ -82,9 +79,9 @@ pub(crate) fn join_tiles<R: Source + Drop>(
 ) -> Result<JoinedTiles<R>, MergeFault>
     requires some { 0 < length readers.items }
     requires few { length readers.items ≤ 64 }
-    ensures ok { IfOk result (λ joined. (headers : List HeaderValue) × (line : List ℕ)
+    ensures ok { IfOk result (λ joined. (headers : List HeaderValue)
         × AllThree (IsOpened R.gives) readers.items joined.tiles.items headers
-        × IsJoined base headers line joined.shifts × (joined.line ≡ with_newline line)) }
+        × IsJoined base headers joined.line joined.shifts) }
     ensures shifts { IfOk result (λ joined. length joined.shifts ≡ length joined.tiles.items) }
     ensures refused { IfErr result (λ e. IsFirstHeadless R.gives readers.items e
         ⊎ IsFirstUnfit R.gives base readers.items e
@@ -95,11 +92,9 @@ pub(crate) fn join_tiles<R: Source + Drop>(
         Ok(joined) => joined,
         Err(refused) => return Err(refusal_at_head(refused, &tiles)),
     };
-    let mut line = line.into_vec();
-    line.push(b'\n')?;
     Ok(JoinedTiles {
         tiles,
-        line: Line::from_vec(line),
+        line,
         shifts,
     })
 }
@@ -130,7 +125,7 @@ fn open_tile<R: Source + Drop>(alloc: Global, reader: R) -> Result<(OpenTile<R>,
     ensures ok { IfOk result (λ opened.
         IsOpened R.gives reader opened.0 (header_value opened.1)) }
     ensures refused { IfErr result (λ e. SomeTile (IsOfTile (R.gives reader) stream_limits)
-        (λ lines. HasNoHead lines (record { number = e.line; fault = e.fault }))) }
+        (λ lines. HasNoHead lines (record { line = e.line; fault = e.fault }))) }
 {
     let mut reader = TileReader::new(alloc, reader);
     let Head { header, line } = reader.take_head(alloc)?;

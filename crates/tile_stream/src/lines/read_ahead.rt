@@ -2,13 +2,11 @@ ghost use Rattle.std.specs.Prelude.{◌≡◌, ◌≤◌, true, false, [], lengt
 ghost use Rattle.byte_streams.specs.Source.{GivesFirst};
 ghost use Rattle.tile_stream.specs.Taking.{IsFillFault, failed_reads_after_call};
 
+use byte_streams::limits::MAX_PIECE_BYTES;
 use byte_streams::{Fault, Source};
 use memchr::memrchr;
 use std::alloc::Global;
 use std::marker::Model;
-
-/// How many bytes are asked of a reader at once.
-const PIECE: usize = 64 * 1024;
 
 /// A reader, and the bytes of its last read that were not taken yet.
 #[derive(Debug, Drop)]
@@ -88,7 +86,7 @@ impl<R: Source> ReadAhead<R> {
             ≡ failed_reads_after_call result (R.failures self.old.reader) }
     {
         if self.piece.is_empty() {
-            self.piece.resize(PIECE, 0)?;
+            self.piece.resize(MAX_PIECE_BYTES, 0)?;
         }
         self.at = 0;
         self.filled = 0;

@@ -1,4 +1,5 @@
-ghost use Rattle.std.specs.Prelude.{◌≡◌, ◌≤◌, ◌+◌, ◌^◌, false, IfOk, IfErr, IfSome};
+ghost use Rattle.std.specs.Prelude.{◌≡◌, ◌≤◌, ◌+◌, false, IfOk, IfErr, IfSome};
+ghost use Rattle.byte_streams.specs.Limits.{max_tile_bytes};
 ghost use Rattle.tile_stream.specs.Ahead.{MayCome};
 ghost use Rattle.tile_stream.specs.Taking.{IsTaken, IsRefusal, IsLimitFault, StandsWithin, failed_reads_after_call};
 ghost use Rattle.tile_stream.specs.Tile.{fault_between, is_blank};
@@ -19,7 +20,7 @@ pub fn take_part<R: Source>(
     start: u64,
 ) -> Result<NextPart, Fault>
     requires start { start ≤ limits.tile }
-    requires tile { limits.tile ≤ 2 ^ 40 }
+    requires tile { limits.tile ≤ max_tile_bytes }
     ensures taken { IfOk result (λ part. IsTaken part limits start (MayCome R.gives ahead.old)
         (MayCome R.gives ahead.new)) }
     ensures refused { IfErr result (λ fault. IsRefusal fault limits start
@@ -64,7 +65,7 @@ pub fn take_part<R: Source>(
 fn fault_between(limits: Limits, size: u64, start: u64, end: u64) -> Option<Fault>
     requires order { start ≤ end }
     requires start { start ≤ limits.tile }
-    requires tile { limits.tile ≤ 2 ^ 40 }
+    requires tile { limits.tile ≤ max_tile_bytes }
     ensures fault { result ≡ fault_between limits size false start end }
     ensures kind { IfSome result IsLimitFault }
 {

@@ -1,26 +1,25 @@
-ghost use Rattle.std.specs.Prelude.{◌≡◌, ◌≢◌, ◌<◌, ◌++◌, ℕ, List, [], true, false, Some, None, IfOk, IfErr, IfSome, IfNone, OnOk};
+ghost use Rattle.std.specs.Prelude.{◌≡◌, ◌≢◌, ◌<◌, [], true, false, Some, None, IfOk, IfErr, IfSome, IfNone, OnOk};
 ghost use Rattle.city_feature.specs.Choice.{IsChosen};
 ghost use Rattle.tile_stream.specs.Coming.{LinesMayComeTo, GivesText, ComesBack};
-ghost use Rattle.tile_stream.specs.Stream.{with_newline};
 ghost use Rattle.tile_stream.specs.Unread.{EndsFrom, most_left, has_failed, is_read, failed_reads_between};
 
-use crate::line_end::end_line;
 use crate::lines::Lines;
+use crate::spare::emptied;
 use byte_streams::{Fault, Line, LineFault, Source};
 use city_feature::{Choice, feature_line};
 use city_grid::Shift;
 use std::alloc::Global;
 
-/// What the next line of a tile came to: the text of its feature and a newline, or, where that is not
-/// chosen, nothing more than the line had before.
+/// What the next line of a tile came to: the text of its feature, or, where that is not chosen,
+/// nothing.
 #[derive(Debug, Drop)]
 pub struct Passed {
     pub is_chosen: bool,
-    pub line: Line,
+    pub text: Line,
 }
 
-/// Takes the next line, and appends the compact text of its feature, moved by the shift, and a
-/// newline, where it is chosen when it is so moved. None after the last line.
+/// Takes the next line, and gives the compact text of its feature, moved by the shift, where it is
+/// chosen when it is so moved. None after the last line. `spare` is a buffer to reuse.
 ///
 /// # Errors
 ///
@@ -30,20 +29,19 @@ pub(crate) fn pass_line<R: Source>(
     lines: &mut Lines<R>,
     shift: Shift,
     choice: &Choice,
-    text: Line,
+    spare: Line,
 ) -> Result<Option<Passed>, LineFault>
     ensures text { IfOk result (λ taken. IfSome taken (λ passed. passed.is_chosen ≡ true
-        → (given : List ℕ) × (passed.line ≡ text ++ with_newline given)
-        × GivesText (LinesMayComeTo R.gives (IsChosen choice.now) shift lines.old)
-        (LinesMayComeTo R.gives (IsChosen choice.now) shift lines.new) given)) }
+        → GivesText (LinesMayComeTo R.gives (IsChosen choice.now) shift lines.old)
+        (LinesMayComeTo R.gives (IsChosen choice.now) shift lines.new) passed.text)) }
     ensures skipped { IfOk result (λ taken. IfSome taken (λ passed. passed.is_chosen ≡ false
-        → (passed.line ≡ text)
+        → (passed.text ≡ [])
         × ComesBack (LinesMayComeTo R.gives (IsChosen choice.now) shift lines.old)
         (LinesMayComeTo R.gives (IsChosen choice.now) shift lines.new))) }
     ensures over { IfOk result (λ taken. IfNone taken
         (LinesMayComeTo R.gives (IsChosen choice.now) shift lines.old [] None)) }
     ensures refused { IfErr result (λ e. LinesMayComeTo R.gives (IsChosen choice.now) shift
-        lines.old [] (Some (record { number = e.line; fault = e.fault }))) }
+        lines.old [] (Some (record { line = e.line; fault = e.fault }))) }
     ensures not_written { IfErr result (λ e. e.fault ≢ Fault.Write) }
     ensures ended { EndsFrom lines.new.number lines.new.ended }
     ensures fewer { IfOk result (λ taken. IfSome taken (λ passed.
@@ -54,28 +52,14 @@ pub(crate) fn pass_line<R: Source>(
     ensures failures { R.failures lines.new.ahead.reader ≡ failed_reads_between
         (has_failed lines.old) (has_failed lines.new) (R.failures lines.old.ahead.reader) }
 {
-    let mut text = text;
     let line = match lines.next() {
         Ok(Some(line)) => line,
         Ok(None) => return Ok(None),
         Err(at) => return Err(at),
     };
+    let mut text = emptied(spare);
     match feature_line(alloc, line.bytes.items(), shift, choice, &mut text) {
-        Ok(true) => match end_line(text, line.number) {
-            Ok(line) => {
-                return Ok(Some(Passed {
-                    is_chosen: true,
-                    line,
-                }));
-            }
-            Err(at) => return Err(at),
-        },
-        Ok(false) => {
-            return Ok(Some(Passed {
-                is_chosen: false,
-                line: text,
-            }));
-        }
+        Ok(is_chosen) => return Ok(Some(Passed { is_chosen, text })),
         Err(fault) => {
             return Err(LineFault {
                 line: line.number,
@@ -85,8 +69,8 @@ pub(crate) fn pass_line<R: Source>(
     }
 }
 
-/// Takes the lines up to the next feature that is chosen when it is moved by the shift, and appends
-/// its compact text, so moved, and a newline. None after the last line.
+/// Takes the lines up to the next feature that is chosen when it is moved by the shift, and gives
+/// its compact text, so moved. None after the last line. `spare` is a buffer to reuse.
 ///
 /// # Errors
 ///
@@ -97,19 +81,18 @@ pub(crate) fn take_feature<R: Source>(
     lines: &mut Lines<R>,
     shift: Shift,
     choice: &Choice,
-    text: Line,
+    spare: Line,
 ) -> Result<Option<Line>, LineFault>
-    ensures text { IfOk result (λ taken. IfSome taken (λ longer. (given : List ℕ)
-        × (longer ≡ text ++ with_newline given)
-        × GivesText (LinesMayComeTo R.gives (IsChosen choice.now) shift lines.old)
-        (LinesMayComeTo R.gives (IsChosen choice.now) shift lines.new) given)) }
+    ensures text { IfOk result (λ taken. IfSome taken
+        (GivesText (LinesMayComeTo R.gives (IsChosen choice.now) shift lines.old)
+        (LinesMayComeTo R.gives (IsChosen choice.now) shift lines.new))) }
     ensures over { IfOk result (λ taken. IfNone taken
         (LinesMayComeTo R.gives (IsChosen choice.now) shift lines.old [] None)) }
     ensures refused { IfErr result (λ e. LinesMayComeTo R.gives (IsChosen choice.now) shift
-        lines.old [] (Some (record { number = e.line; fault = e.fault }))) }
+        lines.old [] (Some (record { line = e.line; fault = e.fault }))) }
     ensures not_written { IfErr result (λ e. e.fault ≢ Fault.Write) }
     ensures ended { EndsFrom lines.new.number lines.new.ended }
-    ensures fewer { IfOk result (λ taken. IfSome taken (λ longer.
+    ensures fewer { IfOk result (λ taken. IfSome taken (λ text.
         most_left lines.new < most_left lines.old)) }
     ensures had_not_failed { OnOk result (has_failed lines.old ≡ false) }
     ensures not_failed { OnOk result (has_failed lines.new ≡ false) }
@@ -117,17 +100,17 @@ pub(crate) fn take_feature<R: Source>(
     ensures failures { R.failures lines.new.ahead.reader ≡ failed_reads_between
         (has_failed lines.old) (has_failed lines.new) (R.failures lines.old.ahead.reader) }
 {
-    let mut text = text;
+    let mut spare = spare;
     'lines: loop {
-        let passed = match pass_line(alloc, lines, shift, choice, text) {
+        let passed = match pass_line(alloc, lines, shift, choice, spare) {
             Ok(Some(passed)) => passed,
             Ok(None) => return Ok(None),
             Err(at) => return Err(at),
         };
-        let Passed { is_chosen, line } = passed;
+        let Passed { is_chosen, text } = passed;
         if is_chosen {
-            return Ok(Some(line));
+            return Ok(Some(text));
         }
-        text = line;
+        spare = text;
     }
 }

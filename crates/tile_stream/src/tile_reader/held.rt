@@ -1,81 +1,93 @@
-ghost use Rattle.std.specs.Prelude.{◌≡◌, ◌≤◌, ◌++◌, List, ℕ, Option, IfOk, IfErr, OnOk, length, map, option_map, option_to_list};
-ghost use Rattle.city_json.specs.Compact.{compact};
-ghost use Rattle.city_json.specs.Tree.{tree};
+ghost use Rattle.std.specs.Prelude.{◌≡◌, ◌≤◌, ◌<◌, ◌⊎◌, ◌++◌, [], List, ℕ, Option, IfOk, IfErr, OnOk, length, get_or, option_to_list};
+ghost use Rattle.city_cut.specs.HeldTexts.{texts_in};
 ghost use Rattle.city_feature.specs.Choice.{IsChosen};
-ghost use Rattle.city_feature.specs.Feature.{IsMovable, RefusesMove, moved};
-ghost use Rattle.city_feature.specs.FeatureLine.{IsTextOf};
-ghost use Rattle.city_feature.specs.Values.{feature_value};
-ghost use Rattle.tile_stream.specs.Held.{GiveTexts, RefusesHeld};
-ghost use Rattle.tile_stream.specs.Stream.{with_newline};
+ghost use Rattle.city_feature.specs.FeatureLine.{GivesFeature, RefusesFeatureLine};
+ghost use Rattle.tile_stream.specs.Held.{LinesGive, RefusesLines};
 
+use crate::spare::emptied;
 use byte_streams::{Fault, Line};
-use city_feature::{Choice, Feature, line, selects, shifted};
+use city_cut::FeatureTexts;
+use city_feature::{Choice, feature_line};
 use city_grid::Shift;
 use std::alloc::Global;
 use std::collections::VecDeque;
 
-/// The features that the first line of a tile holds itself.
+/// The texts of the features that the first line of a tile holds itself.
 #[derive(Debug, Drop)]
 pub(crate) struct Held {
     /// The number of that line, from 1.
     pub(crate) line: u64,
-    pub(crate) features: Vec<Feature>,
+    pub(crate) texts: FeatureTexts,
 }
 
-/// The lines of the texts of those features that are chosen when they are moved by the shift.
+/// The texts of those features that are chosen when they are moved by the shift.
 ///
 /// # Errors
 ///
 /// [`Fault::VertexRange`] where one of them cannot be moved so, and [`Fault::Memory`].
-pub(crate) fn lines_of(
+pub(crate) fn texts_of(
     alloc: Global,
-    features: Vec<Feature>,
+    held: &FeatureTexts,
     shift: Shift,
     choice: &Choice,
 ) -> Result<VecDeque<Line>, Fault>
-    ensures ok { IfOk result (λ lines. (texts : List (List ℕ))
-        × (lines.items ≡ map with_newline texts)
-        × GiveTexts (IsChosen choice.now) shift (map feature_value features.items) texts) }
-    ensures fewer { IfOk result (λ lines. length lines.items ≤ length features.items) }
-    ensures refused { IfErr result (λ fault.
-        RefusesHeld shift fault (map feature_value features.items)) }
+    ensures ok { IfOk result (λ texts.
+        LinesGive (IsChosen choice.now) shift (texts_in held.now) texts.items) }
+    ensures fewer { IfOk result (λ texts. length texts.items ≤ length (texts_in held.now)) }
+    ensures refused { IfErr result (λ fault. RefusesLines shift fault (texts_in held.now)) }
 {
-    let mut lines = VecDeque::new(alloc);
-    for feature in features {
-        add_line(alloc, feature, shift, choice, &mut lines)?;
+    let mut texts = VecDeque::new(alloc);
+    let mut spare = Line::new(alloc);
+    let mut at = 0usize;
+    'held: while at < held.len() {
+        spare = add_text(alloc, held, at, shift, choice, spare, &mut texts)?;
+        at += 1;
     }
-    Ok(lines)
+    Ok(texts)
 }
 
-/// Adds the line of the text of a feature, where it is chosen when it is moved by the shift.
-fn add_line(
+/// Adds the text of the feature at a place, where it is chosen when it is moved by the shift. `spare`
+/// is a buffer to reuse, and comes back.
+fn add_text(
     alloc: Global,
-    feature: Feature,
+    held: &FeatureTexts,
+    at: usize,
     shift: Shift,
     choice: &Choice,
-    lines: &mut VecDeque<Line>,
-) -> Result<(), Fault>
-    ensures ok { OnOk result ((text : Option (List ℕ))
-        × (lines.new.items ≡ lines.old.items ++ option_to_list (option_map with_newline text))
-        × IsMovable (feature_value feature) shift
-        × IsTextOf (IsChosen choice.now) (moved (feature_value feature) shift) text) }
-    ensures refused { IfErr result (λ fault. RefusesMove fault (feature_value feature) shift) }
+    spare: Line,
+    texts: &mut VecDeque<Line>,
+) -> Result<Line, Fault>
+    requires { at < length held.now.own }
+    ensures ok { OnOk result ((given : Option (List ℕ))
+        × GivesFeature (IsChosen choice.now) shift (get_or (texts_in held.now) at []) given
+        × (texts.new.items ≡ texts.old.items ++ option_to_list given)) }
+    ensures refused { IfErr result (λ fault. (fault ≡ Fault.Memory)
+        ⊎ RefusesFeatureLine shift fault (get_or (texts_in held.now) at [])) }
 {
-    let feature = shifted(alloc, feature, shift)?;
-    if !selects(choice, &feature) {
-        return Ok(());
-    }
-    let text = text_line(alloc, &feature)?;
-    lines.push_back(text)?;
-    Ok(())
+    let mut line = emptied(spare);
+    held.append_to(at, &mut line)?;
+    add_line(alloc, line.items(), shift, choice, texts)?;
+    Ok(line)
 }
 
-/// The line of a feature: its compact text and a newline. The only fault is [`Fault::Memory`].
-fn text_line(alloc: Global, feature: &Feature) -> Result<Line, Fault>
-    ensures ok { IfOk result (λ line. line ≡ with_newline (compact (tree feature.now.json))) }
-    ensures fault { IfErr result (λ fault. fault ≡ Fault.Memory) }
+/// Adds the text of the feature that a line spells, where it is chosen when it is moved by the shift.
+fn add_line(
+    alloc: Global,
+    line: &[u8],
+    shift: Shift,
+    choice: &Choice,
+    texts: &mut VecDeque<Line>,
+) -> Result<(), Fault>
+    ensures ok { OnOk result ((given : Option (List ℕ))
+        × GivesFeature (IsChosen choice.now) shift line.now given
+        × (texts.new.items ≡ texts.old.items ++ option_to_list given)) }
+    ensures refused { IfErr result (λ fault. (fault ≡ Fault.Memory)
+        ⊎ RefusesFeatureLine shift fault line.now) }
 {
-    let mut text = line(alloc, feature)?.into_vec();
-    text.push(b'\n')?;
-    Ok(Line::from_vec(text))
+    let mut text = Line::new(alloc);
+    let is_chosen = feature_line(alloc, line, shift, choice, &mut text)?;
+    if is_chosen {
+        texts.push_back(text)?;
+    }
+    Ok(())
 }

@@ -4,4 +4,5 @@ use Rattle.std.specs.Io.KnownBytes.{Keeps}
 use Rattle.byte_streams.proofs.device.read_through.Given as goal
 
 abbrev pub invariant-tries : goal.invariant-tries
-invariant-tries g l = (length l.to ≡ length l.initial.to) × Keeps (g.R.Read.remaining l.initial.reader) (g.R.Read.remaining l.reader)
+invariant-tries g l = (length l.to ≡ length l.initial.to)
+    × Keeps (g.R.Read.remaining l.initial.reader) (g.R.Read.remaining l.reader)

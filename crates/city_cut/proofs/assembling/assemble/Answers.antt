@@ -18,25 +18,37 @@ returns-in_err-number_chosen-clause-fault c =
 
 pub own_vertices-requires : goal.own_vertices-requires
 own_vertices-requires c =
-    let first : AreNumbered [] c.args.numbering.now.table.items c.clear.new.self.items = rw c.clear.ensures.items (numbered_none c.args.numbering.now.table.items) in
+    let first : AreNumbered [] c.args.numbering.now.table.items c.clear.new.self.items =
+    rw c.clear.ensures.items (numbered_none c.args.numbering.now.table.items) in
     let numbered = c.in_ok-number_chosen.ensures.ok [] first in
-    rw c.deref-2.ensures.value (order_inside (uses (chosen_objects c.args.chosen.now)) _ _ (length c.args.values.now) numbered (c.in_ok-number_chosen.ensures.long ∙ c.requires.long))
+    rw c.deref-2.ensures.value (order_inside (uses (chosen_objects c.args.chosen.now)) _ _ (length c.args.values.now)
+    numbered (c.in_ok-number_chosen.ensures.long ∙ c.requires.long))
 
 pub returns-clause-bounded : goal.returns-clause-bounded
 returns-clause-bounded c = rw (← c.requires.long) c.in_ok-number_chosen.ensures.bounded
 
 pub returns-clause-ok : goal.returns-clause-ok
 returns-clause-ok c = λ points all.
-    let first : AreNumbered [] c.args.numbering.now.table.items c.clear.new.self.items = rw c.clear.ensures.items (numbered_none c.args.numbering.now.table.items) in
+    let first : AreNumbered [] c.args.numbering.now.table.items c.clear.new.self.items =
+    rw c.clear.ensures.items (numbered_none c.args.numbering.now.table.items) in
     let numbered = c.in_ok-number_chosen.ensures.ok [] first in
     let table = c.number_chosen.new.numbering.table.items in
     let order = c.number_chosen.new.numbering.order.items in
-    let bounded : AllByRecursion (λ named. IsBounded (length c.number_chosen.new.numbering.table.items) named.1) (chosen_objects c.args.chosen.now) = rw c.in_ok-number_chosen.ensures.long c.in_ok-number_chosen.ensures.bounded in
-    let small : length c.number_chosen.new.numbering.table.items < 2 ^ 64 = omega (arith, c.number_chosen.new.numbering.table.small) in
-    let copied : map named_tree c.in_ok-objects.objects.items ≡ relabelled_objects (own_text c.number_chosen.new.numbering.table.items) (chosen_objects c.args.chosen.now) = rw c.deref.ensures.value at c.in_ok-objects.ensures.ok in
+    let bounded : AllByRecursion (λ named. IsBounded (length c.number_chosen.new.numbering.table.items) named.1)
+    (chosen_objects c.args.chosen.now) = rw c.in_ok-number_chosen.ensures.long
+    c.in_ok-number_chosen.ensures.bounded in
+    let small : length c.number_chosen.new.numbering.table.items < 2 ^ 64 =
+    omega (arith, c.number_chosen.new.numbering.table.small) in
+    let copied : map named_tree c.in_ok-objects.objects.items
+    ≡ relabelled_objects (own_text c.number_chosen.new.numbering.table.items) (chosen_objects c.args.chosen.now) =
+    rw c.deref.ensures.value at c.in_ok-objects.ensures.ok in
     record {
       own = map (point_at points) order;
-      same_points = assembled_is c.args.values.now points (chosen_objects c.args.chosen.now) _ table order all (c.in_ok-number_chosen.ensures.long ∙ c.requires.long) numbered (copied ∙ objects_same table small (chosen_objects c.args.chosen.now) c.requires.distinct bounded);
-      written = subst (λ o. array (items_tree c.in_ok-vertices.vertices.items) ≡ vertices_tree (map (point_at points) o)) c.deref-2.ensures.value (c.in_ok-vertices.ensures.ok points all);
-      again = subst (λ o. AreReadAgain (map (point_at points) o)) c.deref-2.ensures.value (c.in_ok-vertices.ensures.again points all);
+      same_points = assembled_is c.args.values.now points (chosen_objects c.args.chosen.now) _ table order all
+          (c.in_ok-number_chosen.ensures.long ∙ c.requires.long) numbered
+          (copied ∙ objects_same table small (chosen_objects c.args.chosen.now) c.requires.distinct bounded);
+      written = subst (λ o. array (items_tree c.in_ok-vertices.vertices.items)
+          ≡ vertices_tree (map (point_at points) o)) c.deref-2.ensures.value (c.in_ok-vertices.ensures.ok points all);
+      again = subst (λ o. AreReadAgain (map (point_at points) o)) c.deref-2.ensures.value
+          (c.in_ok-vertices.ensures.again points all);
     }

@@ -9,6 +9,8 @@ use Rattle.city_cut.proofs.assembling.own_vertices.Given as goal
 abbrev pub invariant-loop-at : goal.invariant-loop-at
 invariant-loop-at l =
     record {
-      written : (points : List Triple) → AreVertices (items_tree l.values) points → map tree l.own.items ≡ map (λ k. vertex_tree (point_at points k)) (take l.at-index l.order);
-      again : (points : List Triple) → AreVertices (items_tree l.values) points → AreReadAgain (map (point_at points) (take l.at-index l.order));
+      written : (points : List Triple) → AreVertices (items_tree l.values) points
+          → map tree l.own.items ≡ map (λ k. vertex_tree (point_at points k)) (take l.at-index l.order);
+      again : (points : List Triple) → AreVertices (items_tree l.values) points
+          → AreReadAgain (map (point_at points) (take l.at-index l.order));
     }

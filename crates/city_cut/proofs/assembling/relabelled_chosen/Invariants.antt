@@ -6,4 +6,5 @@ use Rattle.city_cut.specs.Chosen.{chosen_objects}
 use Rattle.city_cut.proofs.assembling.relabelled_chosen.Given as goal
 
 abbrev pub invariant-loop-member : goal.invariant-loop-member
-invariant-loop-member l = map named_tree l.copies.items ≡ relabelled_objects (own_text l.table) (chosen_objects (take l.member-index l.chosen))
+invariant-loop-member l = map named_tree l.copies.items
+    ≡ relabelled_objects (own_text l.table) (chosen_objects (take l.member-index l.chosen))

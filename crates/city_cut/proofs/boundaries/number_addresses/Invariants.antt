@@ -13,5 +13,6 @@ invariant-loop-item l =
       bounded : AllByRecursion (IsAddress (length l.fn.numbering.table.items)) (map tree (take l.item-index l.items));
       numbered : (uses : List ℕ)
           → AreNumbered uses l.fn.numbering.table.items l.fn.numbering.order.items
-          → AreNumbered (uses ++ flat_map leaves (flat_map address_boundary (map tree (take l.item-index l.items)))) l.numbering.table.items l.numbering.order.items;
+          → AreNumbered (uses ++ flat_map leaves (flat_map address_boundary (map tree (take l.item-index l.items))))
+          l.numbering.table.items l.numbering.order.items;
     }

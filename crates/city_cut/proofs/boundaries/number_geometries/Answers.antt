@@ -8,4 +8,12 @@ use Rattle.city_cut.proofs.boundaries.number_geometries.Goals as goal
 pub returns-in_err-number_geometry-clause-fault : goal.returns-in_err-number_geometry-clause-fault
 returns-in_err-number_geometry-clause-fault c =
     let p = err_from_is_err_and c.from_residual.result c.from_residual.ensures.1 in
-    rw (p.1, p.2) (elim c.in_err-number_geometry.ensures.fault [ inl memory ↦ inl memory | inr wrong ↦ inr (wrong.0, λ all. wrong.1 (subst (λ n. IsGeometry n (tree c.item-item.result)) (sym c.loop-item.invariant.long) (at_item (IsGeometry (length c.args.numbering.now.table.items)) c.args.items.now c.loop-item.item-index c.item-item.result all (omega arith) c.item-item.is))) ])
+    rw (p.1, p.2) (elim c.in_err-number_geometry.ensures.fault [
+      | inl memory ↦ inl memory
+      | inr wrong ↦ inr (
+        wrong.0,
+        λ all. wrong.1 (subst (λ n. IsGeometry n (tree c.item-item.result)) (sym c.loop-item.invariant.long)
+            (at_item (IsGeometry (length c.args.numbering.now.table.items)) c.args.items.now c.loop-item.item-index
+            c.item-item.result all (omega arith) c.item-item.is)),
+      )
+    ])

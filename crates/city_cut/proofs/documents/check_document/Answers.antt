@@ -7,4 +7,6 @@ use Rattle.city_cut.proofs.documents.check_document.Goals as goal
 
 pub returns-clause-refusal : goal.returns-clause-refusal
 returns-clause-refusal c =
-    if_err c.check_vertices.result (λ fault refused. vertex_refused (tree c.args.value.now) fault c.in_ok-check_frame.ensures.ok (subst (RefusesFirst fault) c.items_named.ensures.items refused)) c.check_vertices.ensures.refusal
+    if_err c.check_vertices.result (λ fault refused.
+    vertex_refused (tree c.args.value.now) fault c.in_ok-check_frame.ensures.ok
+    (subst (RefusesFirst fault) c.items_named.ensures.items refused)) c.check_vertices.ensures.refusal

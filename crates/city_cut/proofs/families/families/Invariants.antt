@@ -5,4 +5,5 @@ use Rattle.city_cut.specs.Families.{HasSought}
 use Rattle.city_cut.proofs.families.families.Given as goal
 
 abbrev pub invariant-loop-at : goal.invariant-loop-at
-invariant-loop-at l = HasSought (members_tree l.objects) (roots (members_tree (take l.at l.objects))) l.at l.marks.items l.families.items
+invariant-loop-at l = HasSought (members_tree l.objects) (roots (members_tree (take l.at l.objects))) l.at l.marks.items
+    l.families.items

@@ -6,13 +6,21 @@ use Rattle.city_cut.proofs.Kinship.{family_is, graph_in_range, reached_at}
 use Rattle.city_cut.proofs.families.family_of.Goals as goal
 
 pub reached-requires-clause-graph : goal.reached-requires-clause-graph
-reached-requires-clause-graph c = graph_in_range (members_tree c.args.objects.now) c.args.graph.now c.requires.distinct c.requires.graph
+reached-requires-clause-graph c = graph_in_range (members_tree c.args.objects.now) c.args.graph.now c.requires.distinct
+    c.requires.graph
 
 pub returns-clause-family : goal.returns-clause-family
 returns-clause-family c =
-    family_is (members_tree c.args.objects.now) c.args.graph.now c.requires.distinct c.requires.graph c.args.root c.in_ok-places.places.items c.sort_unstable.new.self.items _ c.requires.root c.in_ok-places.ensures.ok c.sort_unstable.ensures.permutation c.sort_unstable.ensures.sorted (dedup_is eqb c.sort_unstable.new.self.items _ c.dedup.ensures.filtered)
+    family_is (members_tree c.args.objects.now) c.args.graph.now c.requires.distinct c.requires.graph c.args.root
+    c.in_ok-places.places.items c.sort_unstable.new.self.items _ c.requires.root c.in_ok-places.ensures.ok
+    c.sort_unstable.ensures.permutation c.sort_unstable.ensures.sorted
+    (dedup_is eqb c.sort_unstable.new.self.items _ c.dedup.ensures.filtered)
 
 pub returns-clause-marks : goal.returns-clause-marks
 returns-clause-marks c = λ k below.
-    let at = reached_at (members_tree c.args.objects.now) c.args.graph.now c.requires.distinct c.requires.graph c.args.root k (omega (arith, c.requires.root, c.requires.graph.long)) (omega (arith, below, c.requires.marks, c.requires.graph.long)) in
-    (λ is. at.0 ((c.in_ok-places.ensures.marks k).0 (omega (arith, below, c.in_ok-places.ensures.long), is)), λ far. ((c.in_ok-places.ensures.marks k).1 (at.1 far)).1)
+    let at = reached_at (members_tree c.args.objects.now) c.args.graph.now c.requires.distinct c.requires.graph
+    c.args.root k (omega (arith, c.requires.root, c.requires.graph.long))
+    (omega (arith, below, c.requires.marks, c.requires.graph.long)) in (
+      λ is. at.0 ((c.in_ok-places.ensures.marks k).0 (omega (arith, below, c.in_ok-places.ensures.long), is)),
+      λ far. ((c.in_ok-places.ensures.marks k).1 (at.1 far)).1,
+    )

@@ -7,4 +7,6 @@ use Rattle.city_cut.proofs.headers.empty_objects.Goals as goal
 
 pub returns-clause-ok : goal.returns-clause-ok
 returns-clause-ok c =
-    set_answer c.set_member.result (codes "CityObjects") (object no_members) _ (tree c.set_member.new.object) (tree c.args.document.now) (search rules) (tree_of_map c.new.result ∙ ap (λ l. object (members_tree l)) c.new.ensures.items) c.set_member.ensures.ok
+    set_answer c.set_member.result (codes "CityObjects") (object no_members) _ (tree c.set_member.new.object)
+    (tree c.args.document.now) (search rules)
+    (tree_of_map c.new.result ∙ ap (λ l. object (members_tree l)) c.new.ensures.items) c.set_member.ensures.ok

@@ -13,5 +13,7 @@ abbrev pub invariant-loop-member : goal.invariant-loop-member
 invariant-loop-member l =
     record {
       long : length l.graph.items ≡ l.member-index;
-      rows : (a : ℕ) (row : Vec ℕ Global) (object : Tree) → slice_get l.graph.items a ≡ Some row → slice_get (values (members_tree l.objects)) a ≡ Some object → ArePlaced (names (members_tree l.objects)) (children object) row.items;
+      rows : (a : ℕ) (row : Vec ℕ Global) (object : Tree) → slice_get l.graph.items a ≡ Some row
+          → slice_get (values (members_tree l.objects)) a ≡ Some object
+          → ArePlaced (names (members_tree l.objects)) (children object) row.items;
     }

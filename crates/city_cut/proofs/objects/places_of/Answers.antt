@@ -5,13 +5,26 @@ use Rattle.city_cut.specs.Places.{ArePlaced}
 use Rattle.city_cut.proofs.objects.places_of.Goals as goal
 
 pub loop-value-preserved-in_default : goal.loop-value-preserved-in_default
-loop-value-preserved-in_default c = λ names table. placed_other names c.args.named.now _ c.loop-value.value-index c.value-item.result (c.loop-value.invariant names table) (omega arith) c.value-item.is c.in_default.ensures.none
+loop-value-preserved-in_default c = λ names table.
+    placed_other names c.args.named.now _ c.loop-value.value-index c.value-item.result
+    (c.loop-value.invariant names table) (omega arith) c.value-item.is c.in_default.ensures.none
 
 pub returns-in_default-place-clause-fault : goal.returns-in_default-place-clause-fault
-returns-in_default-place-clause-fault c = inr (refl, λ names table. (c.in-Some.name.now, among c.args.named.now c.loop-value.value-index c.value-item.result c.in-Some.name.now (omega arith) c.value-item.is c.in-Some.ensures.some, c.in_default-place.ensures names table))
+returns-in_default-place-clause-fault c = inr (
+  refl,
+  λ names table. (
+    c.in-Some.name.now,
+    among c.args.named.now c.loop-value.value-index c.value-item.result c.in-Some.name.now (omega arith) c.value-item.is
+        c.in-Some.ensures.some,
+    c.in_default-place.ensures names table,
+  ),
+)
 
 pub loop-value-preserved : goal.loop-value-preserved
-loop-value-preserved c = λ names table. placed_item names c.args.named.now _ _ c.loop-value.value-index c.in-Some-place.place c.value-item.result c.in-Some.name.now (c.loop-value.invariant names table) (omega arith) c.value-item.is c.in-Some.ensures.some (c.in-Some-place.ensures names table) (search rules)
+loop-value-preserved c = λ names table. placed_item names c.args.named.now _ _ c.loop-value.value-index
+    c.in-Some-place.place c.value-item.result c.in-Some.name.now (c.loop-value.invariant names table) (omega arith)
+    c.value-item.is c.in-Some.ensures.some (c.in-Some-place.ensures names table) (search rules)
 
 pub returns-clause-ok : goal.returns-clause-ok
-returns-clause-ok c = λ names table. subst (λ named. ArePlaced names (map tree named) c.loop-value.places.items) (take_all c.loop-value.value-index c.args.named.now c.loop-value-test.false) (c.loop-value.invariant names table)
+returns-clause-ok c = λ names table. subst (λ named. ArePlaced names (map tree named) c.loop-value.places.items)
+    (take_all c.loop-value.value-index c.args.named.now c.loop-value-test.false) (c.loop-value.invariant names table)

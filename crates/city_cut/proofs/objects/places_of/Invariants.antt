@@ -5,4 +5,5 @@ use Rattle.city_cut.specs.Table.{IsTable}
 use Rattle.city_cut.proofs.objects.places_of.Given as goal
 
 abbrev pub invariant-loop-value : goal.invariant-loop-value
-invariant-loop-value l = (names : List (List ℕ)) → IsTable names l.table → ArePlaced names (map tree (take l.value-index l.named)) l.places.items
+invariant-loop-value l = (names : List (List ℕ)) → IsTable names l.table
+    → ArePlaced names (map tree (take l.value-index l.named)) l.places.items

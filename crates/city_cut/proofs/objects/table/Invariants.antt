@@ -7,4 +7,5 @@ use Rattle.city_cut.proofs.objects.table.Given as goal
 
 abbrev pub invariant-loop-at : goal.invariant-loop-at
 invariant-loop-at l =
-    (vec_len l.pairs ≡ l.at) × (length l.objects ≤ vec_capacity l.pairs) × AreListed (names (members_tree l.objects)) l.pairs.items
+    (vec_len l.pairs ≡ l.at) × (length l.objects ≤ vec_capacity l.pairs)
+    × AreListed (names (members_tree l.objects)) l.pairs.items

@@ -6,7 +6,10 @@ use Rattle.city_cut.proofs.relabelling.+relabel.Goals as goal
 
 pub relabelled_items-loop-item-preserved : goal.relabelled_items-loop-item-preserved
 relabelled_items-loop-item-preserved t c =
-    copied_more (relabelled (own_text c.args.table.now)) c.args.items.now c.loop-item.copies.items _ c.loop-item.item-index c.item-item.result c.in_ok-relabelled.field-0 c.loop-item.invariant (omega arith) c.item-item.is c.in_ok-relabelled.ensures.ok (search rules)
+    copied_more (relabelled (own_text c.args.table.now)) c.args.items.now c.loop-item.copies.items _
+    c.loop-item.item-index c.item-item.result c.in_ok-relabelled.field-0 c.loop-item.invariant (omega arith)
+    c.item-item.is c.in_ok-relabelled.ensures.ok (search rules)
 
 pub relabelled_items-returns-clause-ok : goal.relabelled_items-returns-clause-ok
-relabelled_items-returns-clause-ok t c = relabelled_all (own_text c.args.table.now) c.args.items.now c.loop-item.copies.items c.loop-item.item-index c.loop-item.invariant c.loop-item-test.false
+relabelled_items-returns-clause-ok t c = relabelled_all (own_text c.args.table.now) c.args.items.now
+    c.loop-item.copies.items c.loop-item.item-index c.loop-item.invariant c.loop-item-test.false

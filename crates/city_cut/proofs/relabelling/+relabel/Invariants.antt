@@ -5,4 +5,5 @@ use Rattle.city_cut.specs.Leaves.{relabelled}
 use Rattle.city_cut.proofs.relabelling.+relabel.Given as goal
 
 abbrev pub invariant-relabelled_items-loop-item : goal.invariant-relabelled_items-loop-item
-invariant-relabelled_items-loop-item l = map tree l.copies.items ≡ map (relabelled (own_text l.table)) (map tree (take l.item-index l.items))
+invariant-relabelled_items-loop-item l = map tree l.copies.items
+    ≡ map (relabelled (own_text l.table)) (map tree (take l.item-index l.items))

@@ -7,4 +7,6 @@ use Rattle.city_cut.specs.Leaves.{relabelled}
 use Rattle.city_cut.proofs.relabelling.members_with_boundary.Given as goal
 
 abbrev pub invariant-loop-member : goal.invariant-loop-member
-invariant-loop-member l = map named_tree l.copies.items ≡ map (changed (codes "boundaries") (relabelled (own_text l.table))) (map named_tree (take l.member-index l.members))
+invariant-loop-member l = map named_tree l.copies.items
+    ≡ map (changed (codes "boundaries") (relabelled (own_text l.table)))
+    (map named_tree (take l.member-index l.members))

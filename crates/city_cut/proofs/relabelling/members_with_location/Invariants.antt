@@ -6,4 +6,6 @@ use Rattle.city_cut.specs.Boundaries.{changed, relabelled_boundary}
 use Rattle.city_cut.proofs.relabelling.members_with_location.Given as goal
 
 abbrev pub invariant-loop-member : goal.invariant-loop-member
-invariant-loop-member l = map named_tree l.copies.items ≡ map (changed (codes "location") (relabelled_boundary (own_text l.table))) (map named_tree (take l.member-index l.members))
+invariant-loop-member l = map named_tree l.copies.items
+    ≡ map (changed (codes "location") (relabelled_boundary (own_text l.table)))
+    (map named_tree (take l.member-index l.members))

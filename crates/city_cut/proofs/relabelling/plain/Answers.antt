@@ -8,4 +8,5 @@ use Rattle.city_cut.proofs.relabelling.plain.Goals as goal
 pub returns-clause-fault : goal.returns-clause-fault
 returns-clause-fault c =
     let text : c.as_bytes.result.now ≡ decimal c.args.value = search rules in
-    number_memory _ c.as_bytes.result.now (subst IsNumber (sym text) (decimal_is_number c.args.value (omega arith))) c.read.ensures.fault
+    number_memory _ c.as_bytes.result.now (subst IsNumber (sym text) (decimal_is_number c.args.value (omega arith)))
+    c.read.ensures.fault

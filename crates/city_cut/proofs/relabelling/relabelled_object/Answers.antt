@@ -7,4 +7,6 @@ use Rattle.city_cut.proofs.relabelling.relabelled_object.Goals as goal
 
 pub returns-clause-ok : goal.returns-clause-ok
 returns-clause-ok c =
-    in_parts (own_text c.args.table.now) _ _ c.in-Map.members c.in_ok-members_with_parts.field-0 c.in-Map.is refl (c.in_ok-members_with_parts.ensures.ok ∙ ap (λ ms. map (relabelled_part (own_text c.args.table.now)) (map named_tree ms)) c.deref.ensures.value)
+    in_parts (own_text c.args.table.now) _ _ c.in-Map.members c.in_ok-members_with_parts.field-0 c.in-Map.is refl
+    (c.in_ok-members_with_parts.ensures.ok ∙ ap
+    (λ ms. map (relabelled_part (own_text c.args.table.now)) (map named_tree ms)) c.deref.ensures.value)

@@ -8,4 +8,8 @@ use Rattle.city_cut.proofs.relabelling.with_addresses.Goals as goal
 
 pub returns-clause-ok : goal.returns-clause-ok
 returns-clause-ok c =
-    in_list (in_member (codes "location") (relabelled_boundary (own_text c.args.table.now))) _ _ c.in-List.items c.in_ok-items_with_locations.field-0 c.in-List.is refl (c.in_ok-items_with_locations.ensures.ok ∙ ap (λ l. map (in_member (codes "location") (relabelled_boundary (own_text c.args.table.now))) (map tree l)) c.deref.ensures.value)
+    in_list (in_member (codes "location") (relabelled_boundary (own_text c.args.table.now))) _ _ c.in-List.items
+    c.in_ok-items_with_locations.field-0 c.in-List.is refl
+    (c.in_ok-items_with_locations.ensures.ok
+    ∙ ap (λ l. map (in_member (codes "location") (relabelled_boundary (own_text c.args.table.now))) (map tree l))
+    c.deref.ensures.value)

@@ -9,4 +9,8 @@ use Rattle.city_cut.proofs.relabelling.with_boundaries.Goals as goal
 
 pub returns-clause-ok : goal.returns-clause-ok
 returns-clause-ok c =
-    in_members (codes "boundaries") (relabelled (own_text c.args.table.now)) _ _ c.in-Map.members c.in_ok-members_with_boundary.field-0 c.in-Map.is refl (c.in_ok-members_with_boundary.ensures.ok ∙ ap (λ ms. map (changed (codes "boundaries") (relabelled (own_text c.args.table.now))) (map named_tree ms)) c.deref.ensures.value)
+    in_members (codes "boundaries") (relabelled (own_text c.args.table.now)) _ _ c.in-Map.members
+    c.in_ok-members_with_boundary.field-0 c.in-Map.is refl
+    (c.in_ok-members_with_boundary.ensures.ok
+    ∙ ap (λ ms. map (changed (codes "boundaries") (relabelled (own_text c.args.table.now))) (map named_tree ms))
+    c.deref.ensures.value)

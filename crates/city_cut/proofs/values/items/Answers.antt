@@ -9,4 +9,5 @@ returns-in-List-clause-list c = ap (map tree) c.deref.ensures.value ∙ sym (ite
 
 pub returns-in-List-clause-items : goal.returns-in-List-clause-items
 returns-in-List-clause-items c =
-    ap items_tree c.deref.ensures.value ∙ sym (ap (λ v. items_in (Some (tree v))) c.in-List.is ∙ ap (λ t. items_in (Some t)) (tree_of_list c.in-List.items))
+    ap items_tree c.deref.ensures.value ∙ sym
+    (ap (λ v. items_in (Some (tree v))) c.in-List.is ∙ ap (λ t. items_in (Some t)) (tree_of_list c.in-List.items))

@@ -4,7 +4,7 @@ ghost use Rattle.city_feature.specs.Area.{IsAreaText, IsStepsText};
 ghost use Rattle.city_feature.specs.declared.choices.area.Area as areas;
 
 use crate::choices::area::Area;
-use city_grid::MOST_STEPS;
+use byte_streams::limits::MAX_STEPS;
 
 /// The number of steps that a text writes.
 fn steps(text: &str) -> Option<i64>
@@ -17,7 +17,7 @@ fn steps(text: &str) -> Option<i64>
     let Ok(steps) = text.parse::<i64>() else {
         return None;
     };
-    if steps.unsigned_abs() <= MOST_STEPS {
+    if steps.unsigned_abs() <= MAX_STEPS {
         Some(steps)
     } else {
         None

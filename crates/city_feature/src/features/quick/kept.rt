@@ -58,7 +58,7 @@ fn kept_line(alloc: Global, found: Compacted, types: &Option<Types>) -> Option<K
 }
 
 /// Appends the line of a feature whose vertices stand as they would be written, where it is chosen, and says whether it
-/// is. None says nothing of the line, and leaves the text as before.
+/// is. `None`: undecided; `text` is unchanged.
 pub(super) fn put_kept(
     alloc: Global,
     found: Compacted,

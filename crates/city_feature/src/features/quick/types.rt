@@ -144,7 +144,7 @@ fn is_one_of(types: &Types, name: &[u8]) -> bool
         .any(|each| each.as_str().as_bytes() == name)
 }
 
-/// Whether the feature of a line has one of the types, where there are any. None says nothing of it.
+/// Whether the feature of a line has one of the types, where there are any; `None`: undecided.
 pub fn has_given_type(
     alloc: Global,
     types: &Option<Types>,

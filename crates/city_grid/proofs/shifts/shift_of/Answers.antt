@@ -25,14 +25,19 @@ shift c =
 pub returns-clause-ok : goal.returns-clause-ok
 returns-clause-ok c =
     let at = (goal.at.returns-clause-ok c).After-ok_or in
-    subst (λ answer. IfOk answer (λ k. IsShift c.args.tile.now c.args.base.now k)) (sym c.ok_or.ensures.value) (shift_found c.args.tile.now c.args.base.now (above_zero at) (steps at) (shift at) c.of_steps.result c.of_steps.ensures)
+    subst (λ answer. IfOk answer (λ k. IsShift c.args.tile.now c.args.base.now k)) (sym c.ok_or.ensures.value)
+    (shift_found c.args.tile.now c.args.base.now (above_zero at) (steps at)
+    (shift at) c.of_steps.result c.of_steps.ensures)
 
 pub returns-clause-only : goal.returns-clause-only
 returns-clause-only c = λ k other range.
     let at = (goal.at.returns-clause-only c).After-ok_or in
-    c.ok_or.ensures.value ∙ only_shift c.args.tile.now c.args.base.now (above_zero at) (steps at) (shift at) c.of_steps.result c.of_steps.ensures k other range
+    c.ok_or.ensures.value ∙ only_shift c.args.tile.now c.args.base.now (above_zero at) (steps at)
+    (shift at) c.of_steps.result c.of_steps.ensures k other range
 
 pub returns-clause-refusal : goal.returns-clause-refusal
 returns-clause-refusal c =
     let at = (goal.at.returns-clause-refusal c).After-ok_or in
-    subst (λ answer. IfErr answer (λ fault. RefusesShift fault c.args.tile.now c.args.base.now)) (sym c.ok_or.ensures.value) (shift_refused c.args.tile.now c.args.base.now (above_zero at) (steps at) (shift at) c.of_steps.result c.of_steps.ensures)
+    subst (λ answer. IfErr answer (λ fault. RefusesShift fault c.args.tile.now c.args.base.now))
+    (sym c.ok_or.ensures.value) (shift_refused c.args.tile.now c.args.base.now (above_zero at) (steps at)
+    (shift at) c.of_steps.result c.of_steps.ensures)

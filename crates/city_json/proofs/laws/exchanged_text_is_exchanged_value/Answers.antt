@@ -4,4 +4,5 @@ use Rattle.city_json.proofs.Replacing.{replaced_text}
 use Rattle.city_json.proofs.laws.exchanged_text_is_exchanged_value.Goals as goal
 
 pub returns : goal.returns
-returns c = λ members parts k part value are within. replaced_text members (open_brace ∷ []) (close_brace ∷ []) parts k part value are within
+returns c = λ members parts k part value are within.
+    replaced_text members (open_brace ∷ []) (close_brace ∷ []) parts k part value are within

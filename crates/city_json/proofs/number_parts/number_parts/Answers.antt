@@ -8,11 +8,14 @@ use Rattle.city_json.proofs.number_parts.number_parts.Goals.{After-past_mark}
 abbrev digits_and_rest : List ℕ → List ℕ → List ℕ × List ℕ
 digits_and_rest digits rest = (digits, rest)
 
-whole : (c : After-past_mark) (n : IsNumber c.args.bytes.now) → digits_and_rest c.split_digits.result.0.now c.split_digits.result.1.now ≡ (n.whole, n.fraction ++ n.exponent)
+whole : (c : After-past_mark) (n : IsNumber c.args.bytes.now)
+    → digits_and_rest c.split_digits.result.0.now c.split_digits.result.1.now ≡ (n.whole, n.fraction ++ n.exponent)
 whole c n = whole_found c.args.bytes.now n _ _ c.past_minus-unsigned.ensures c.split_digits.ensures
 
-fraction : (c : After-past_mark) (n : IsNumber c.args.bytes.now) → digits_and_rest c.split_digits-2.result.0.now c.split_digits-2.result.1.now ≡ (drop 1 n.fraction, n.exponent)
-fraction c n = fraction_found c.args.bytes.now n _ _ _ (ap (λ p. p.1) (whole c n)) c.past_point.ensures c.split_digits-2.ensures
+fraction : (c : After-past_mark) (n : IsNumber c.args.bytes.now)
+    → digits_and_rest c.split_digits-2.result.0.now c.split_digits-2.result.1.now ≡ (drop 1 n.fraction, n.exponent)
+fraction c n = fraction_found c.args.bytes.now n _ _ _
+    (ap (λ p. p.1) (whole c n)) c.past_point.ensures c.split_digits-2.ensures
 
 pub returns-clause-whole : goal.returns-clause-whole
 returns-clause-whole c = λ n. ap (λ p. p.0) (whole (goal.at.returns-clause-whole c).After-past_mark n)
@@ -21,7 +24,8 @@ pub returns-clause-fraction : goal.returns-clause-fraction
 returns-clause-fraction c = λ n. ap (λ p. p.0) (fraction (goal.at.returns-clause-fraction c).After-past_mark n)
 
 pub returns-clause-exponent : goal.returns-clause-exponent
-returns-clause-exponent c = λ n. c.past_mark.ensures ∙ ap (λ p. drop 1 p.1) (fraction (goal.at.returns-clause-exponent c).After-past_mark n)
+returns-clause-exponent c = λ n. c.past_mark.ensures
+    ∙ ap (λ p. drop 1 p.1) (fraction (goal.at.returns-clause-exponent c).After-past_mark n)
 
 pub returns-clause-digits : goal.returns-clause-digits
 returns-clause-digits c =

@@ -24,8 +24,10 @@ decreases-read_object l = 4 * l.levels + 3
 
 abbrev pub invariant-read_items-loop : goal.invariant-read_items-loop
 invariant-read_items-loop l =
-    with_items (map tree l.items.items) (items_at (value_at l.levels) (l.end - l.counter) l.rest) ≡ items_at (value_at l.levels) l.end l.bytes
+    with_items (map tree l.items.items) (items_at (value_at l.levels) (l.end - l.counter) l.rest)
+    ≡ items_at (value_at l.levels) l.end l.bytes
 
 abbrev pub invariant-read_members-loop : goal.invariant-read_members-loop
 invariant-read_members-loop l =
-    with_members (map named_tree l.members.items) (members_at (value_at l.levels) (l.end - l.counter) l.rest) ≡ members_at (value_at l.levels) l.end l.bytes
+    with_members (map named_tree l.members.items) (members_at (value_at l.levels) (l.end - l.counter) l.rest)
+    ≡ members_at (value_at l.levels) l.end l.bytes

@@ -4,7 +4,8 @@ use Rattle.citymerge.proofs.answering.answer_merge.Goals as goal
 
 pub run_merge-requires-after_bounds : goal.run_merge-requires-after_bounds
 run_merge-requires-after_bounds g c κs within =
-    let long = AllZip-long (g.O.Opener.may_give c.args.opener.now) c.args.args.now.paths c.in-Ok.readers.items c.in-Ok.ensures.all in
+    let long = AllZip-long (g.O.Opener.may_give c.args.opener.now) c.args.args.now.paths c.in-Ok.readers.items
+    c.in-Ok.ensures.all in
     omega (arith, long, c.requires)
 
 pub returns-in-Ok-clause-done : goal.returns-in-Ok-clause-done

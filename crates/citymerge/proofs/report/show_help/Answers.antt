@@ -6,4 +6,7 @@ use Rattle.citymerge.proofs.report.show_help.Goals as goal
 pub returns-in-Ok-clause-text : goal.returns-in-Ok-clause-text
 returns-in-Ok-clause-text g c =
     let wrote = rw c.items.ensures at c.in-Ok.ensures.all in
-    shown c.args.text.now (g.W.Sink.is_flushed c.flush.new.self) (g.W.Sink.taken c.args.output.now) (g.W.Sink.taken c.write_all.new.sink) (g.W.Sink.taken c.flush.new.self) (g.W.Sink.failures c.args.output.now) (g.W.Sink.failures c.flush.new.self) wrote c.flush.ensures.bytes c.flush.result c.flush.ensures.flushed (c.flush.ensures.failures ∙ ap (after_call c.flush.result) c.in-Ok.ensures.failures)
+    shown c.args.text.now (g.W.Sink.is_flushed c.flush.new.self) (g.W.Sink.taken c.args.output.now)
+    (g.W.Sink.taken c.write_all.new.sink) (g.W.Sink.taken c.flush.new.self) (g.W.Sink.failures c.args.output.now)
+    (g.W.Sink.failures c.flush.new.self) wrote c.flush.ensures.bytes c.flush.result c.flush.ensures.flushed
+    (c.flush.ensures.failures ∙ ap (after_call c.flush.result) c.in-Ok.ensures.failures)

@@ -104,17 +104,17 @@ impl<R: Source + Drop> FedTile<R> {
         let mut count = 0u64;
         let mut spare = Line::new(alloc);
         'lines: loop {
-            let Passed { is_chosen, line } = match reader.pass(alloc, shift, &choice, spare) {
+            let Passed { is_chosen, text } = match reader.pass(alloc, shift, &choice, spare) {
                 Ok(Some(passed)) => passed,
                 Ok(None) => return finish(rt, links, sender, end_note(count, None)),
                 Err(at) => return finish(rt, links, sender, end_note(count, Some(at))),
             };
             if is_chosen {
-                spare = roomy_line(alloc, line.items().len());
-                put(rt, &links, &mut sender, line);
+                spare = roomy_line(alloc, text.items().len());
+                put(rt, &links, &mut sender, text);
                 count += 1;
             } else {
-                spare = line;
+                spare = text;
             }
             if links.cancellation.is_asked() {
                 return finish(rt, links, sender, end_note(count, None));

@@ -1,5 +1,6 @@
 ghost use Rattle.std.specs.Prelude.{◌≡◌, ◌≤◌, ◌<◌, ◌++◌, ℕ, List, Option, Some, None, true, [], IfOk, IfErr, OnOk, IsOk, IsTrue, filter_map};
 ghost use Rattle.byte_streams.specs.Failures.{after_call};
+ghost use Rattle.tile_stream.specs.Stream.{with_newline};
 ghost use Rattle.tile_merge.specs.Threads.{AreFresh, are_all_ended, GoesOn, GoesOnWriting, LinesSoFar, WroteUnless, feds_of};
 
 use crate::merging::threaded::running::RunningTile;
@@ -123,7 +124,7 @@ fn write_unless_failed<W: Sink>(
 ) -> Result<(), Fault>
     ensures written { (bytes : List ℕ) (old : Option (List ℕ))
         → WroteUnless wrote bytes old (W.taken output.old)
-        → WroteUnless result (bytes ++ line) old (W.taken output.new) }
+        → WroteUnless result (bytes ++ with_newline line) old (W.taken output.new) }
     ensures failures { (count : ℕ) → W.failures output.old ≡ after_call wrote count
         → W.failures output.new ≡ after_call result count }
     ensures fault { IfErr wrote (λ fault. fault ≡ Fault.Write)

@@ -1,5 +1,6 @@
 use Rattle.std.proofs.Common.{◌≡◌, ◌++◌, [], ◌∷◌, length, rules}
 use Rattle.city_cut.specs.Numbered.{HasNumber}
+use Rattle.city_cut.proofs.CopiedTexts.{extends_new, extends_same, has_new}
 use Rattle.city_cut.proofs.Numbers.{numbered_again, numbered_new}
 use Rattle.city_cut.proofs.numbering.Numbering.note.Goals as goal
 
@@ -11,4 +12,22 @@ returns-clause-ok c = λ uses all.
     let pushed : c.push.new.self.items ≡ c.args.self.now.order.items ++ c.args.vertex ∷ [] = search rules in
     let count : c.len-number.result ≡ length c.args.self.now.order.items = search rules in
     let hasnt : ¬ HasNumber c.args.self.now.table.items c.args.self.now.order.items c.args.vertex = search rules in
-    rw (pushed, count) (numbered_new uses c.args.self.now.table.items c.args.self.now.order.items c.args.vertex all c.requires hasnt)
+    rw (pushed, count) (numbered_new uses c.args.self.now.table.items c.args.self.now.order.items c.args.vertex all
+    c.requires hasnt)
+
+pub returns-then-has-clause-kept : goal.returns-then-has-clause-kept
+returns-then-has-clause-kept c = extends_same _ _
+
+pub returns-clause-kept : goal.returns-clause-kept
+returns-clause-kept c =
+    let pushed : c.push.new.self.items ≡ c.args.self.now.order.items ++ c.args.vertex ∷ [] = search rules in
+    let count : c.len-number.result ≡ length c.args.self.now.order.items = search rules in
+    let hasnt : ¬ HasNumber c.args.self.now.table.items c.args.self.now.order.items c.args.vertex = search rules in
+    rw (pushed, count) (extends_new c.args.self.now.table.items c.args.self.now.order.items c.args.vertex c.requires
+    hasnt)
+
+pub returns-clause-has : goal.returns-clause-has
+returns-clause-has c =
+    let pushed : c.push.new.self.items ≡ c.args.self.now.order.items ++ c.args.vertex ∷ [] = search rules in
+    let count : c.len-number.result ≡ length c.args.self.now.order.items = search rules in
+    rw (pushed, count) (has_new c.args.self.now.table.items c.args.self.now.order.items c.args.vertex c.requires)

@@ -12,6 +12,9 @@ loop-vertex-preserved c =
     let range = c.steps-steps.ensures.range in
     let x : to_z w64 (of_z w64 steps.x) ≡ steps.x = omega (arith, ints, range.0) in
     let y : to_z w64 (of_z w64 steps.y) ≡ steps.y = omega (arith, ints, range.1) in (
-      range_with_next (λ p. p.x) c.args.first others i c.vertex-item.result steps _ _ _ (omega arith) at x c.loop-vertex.invariant.0 c.widened.ensures.least c.widened.ensures.greatest,
-      range_with_next (λ p. p.y) c.args.first others i c.vertex-item.result steps _ _ _ (omega arith) at y c.loop-vertex.invariant.1 c.widened-in-loop-vertex.ensures.least c.widened-in-loop-vertex.ensures.greatest,
+      range_with_next (λ p. p.x) c.args.first others i c.vertex-item.result steps _ _ _
+          (omega arith) at x c.loop-vertex.invariant.0 c.widened.ensures.least c.widened.ensures.greatest,
+      range_with_next (λ p. p.y) c.args.first others i c.vertex-item.result steps _ _ _
+          (omega arith) at y c.loop-vertex.invariant.1 c.widened-in-loop-vertex.ensures.least
+          c.widened-in-loop-vertex.ensures.greatest,
     )

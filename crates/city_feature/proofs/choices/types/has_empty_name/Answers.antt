@@ -8,5 +8,6 @@ pub returns : goal.returns
 returns c =
     some_is_empty _ _
     (any_from_yields_List (λ name. length name == 0) _ _ _ c.any.ensures.ran
-    (YieldsList-from_str_split 44 c.args.text.now (lit< tt) c.split.ensures.text c.split.ensures.has_more c.split.ensures.pattern)
+    (YieldsList-from_str_split 44 c.args.text.now
+    (lit< tt) c.split.ensures.text c.split.ensures.has_more c.split.ensures.pattern)
     (λ x b q k. search (rules, tests)))

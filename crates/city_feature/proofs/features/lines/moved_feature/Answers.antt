@@ -10,7 +10,8 @@ returns-clause-ok c =
     let is = c.in_ok-feature.ensures.ok in
     let feature = c.in_ok-feature.feature in
     let spells = spells_feature c.args.bytes.now c.in_ok-json.json feature read.0 read.1 is.0 is.1 in
-    IfOk-weaker c.shifted.result _ (λ there. SpellsMoved c.args.shift c.args.bytes.now (feature_value there)) (λ there. spells_moved c.args.shift c.args.bytes.now feature there spells) c.shifted.ensures.ok
+    IfOk-weaker c.shifted.result _ (λ there. SpellsMoved c.args.shift c.args.bytes.now (feature_value there))
+    (λ there. spells_moved c.args.shift c.args.bytes.now feature there spells) c.shifted.ensures.ok
 
 pub returns-clause-refusal : goal.returns-clause-refusal
 returns-clause-refusal c =
@@ -18,4 +19,6 @@ returns-clause-refusal c =
     let is = c.in_ok-feature.ensures.ok in
     let feature = c.in_ok-feature.feature in
     let spells = spells_feature c.args.bytes.now c.in_ok-json.json feature read.0 read.1 is.0 is.1 in
-    IfErr-weaker c.shifted.result _ (λ fault. RefusesFeatureLine c.args.shift fault c.args.bytes.now) (λ fault. refuses_move fault c.args.shift c.args.bytes.now (feature_value feature) spells) c.shifted.ensures.refusal
+    IfErr-weaker c.shifted.result _ (λ fault. RefusesFeatureLine c.args.shift fault c.args.bytes.now)
+    (λ fault. refuses_move fault c.args.shift c.args.bytes.now (feature_value feature) spells)
+    c.shifted.ensures.refusal

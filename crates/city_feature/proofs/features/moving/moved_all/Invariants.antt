@@ -5,5 +5,6 @@ use Rattle.city_feature.proofs.features.moving.moved_all.Given as goal
 
 abbrev pub invariant-loop-vertex : goal.invariant-loop-vertex
 invariant-loop-vertex l =
-    (moved_vertices l.fn.vertices.items l.shift ≡ take l.vertex-index l.vertex-items ++ moved_vertices (drop l.vertex-index l.vertex-items) l.shift)
+    (moved_vertices l.fn.vertices.items l.shift ≡ take l.vertex-index l.vertex-items
+    ++ moved_vertices (drop l.vertex-index l.vertex-items) l.shift)
     × All IsInRange (take l.vertex-index l.vertex-items)

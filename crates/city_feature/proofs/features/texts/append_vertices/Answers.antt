@@ -8,7 +8,9 @@ use Rattle.city_feature.proofs.features.texts.append_vertices.Goals as goal
 pub loop-vertex-preserved : goal.loop-vertex-preserved
 loop-vertex-preserved c =
     let ps = take (length c.args.vertices.now - 1) (drop 1 c.args.vertices.now) in
-    more_written ps c.loop-vertex.vertex-index c.vertex-item.result c.append_vertex.new.to c.loop-vertex.to c.append_vertex-in-loop-vertex.new.to c.loop-vertex-test.true c.vertex-item.is c.loop-vertex.invariant c.in_ok-append_vertex-2.ensures
+    more_written ps c.loop-vertex.vertex-index c.vertex-item.result c.append_vertex.new.to c.loop-vertex.to
+    c.append_vertex-in-loop-vertex.new.to c.loop-vertex-test.true c.vertex-item.is c.loop-vertex.invariant
+    c.in_ok-append_vertex-2.ensures
 
 pub returns : goal.returns
 returns c =
@@ -17,5 +19,7 @@ returns c =
     let ps = take (length vs - 1) (drop 1 vs) in
     let whole = first_and_others vs p (omega (arith, c.in-len1-up.len_at_least)) c.first-item.is in
     IfOk-weaker c.append-2.result _ _
-    (λ _ closed. all_written p ps c.loop-vertex.vertex-index c.args.to.now c.append_vertex.new.to c.loop-vertex.to c.append-2.new.self c.loop-vertex-test.false c.in_ok-append_vertex.ensures c.loop-vertex.invariant closed ∙ ap (λ qs. c.args.to.now ++ compact (vertices_tree qs)) whole)
+    (λ _ closed. all_written p ps c.loop-vertex.vertex-index c.args.to.now c.append_vertex.new.to c.loop-vertex.to
+    c.append-2.new.self c.loop-vertex-test.false c.in_ok-append_vertex.ensures c.loop-vertex.invariant closed
+    ∙ ap (λ qs. c.args.to.now ++ compact (vertices_tree qs)) whole)
     c.append-2.ensures.ok

@@ -5,4 +5,5 @@ use Rattle.city_grid.specs.Vertex.{vertex_tree}
 use Rattle.city_feature.proofs.features.texts.append_vertices.Given as goal
 
 abbrev pub invariant-loop-vertex : goal.invariant-loop-vertex
-invariant-loop-vertex l = l.to ≡ l.initial.to ++ compact_more_items (item_trees (map vertex_tree (take l.vertex-index l.others)))
+invariant-loop-vertex l = l.to ≡ l.initial.to
+    ++ compact_more_items (item_trees (map vertex_tree (take l.vertex-index l.others)))

@@ -8,19 +8,30 @@ pub returns-then-byte_is : goal.returns-then-byte_is
 returns-then-byte_is c = λ _.
     let text = c.args.text.now in
     let closed = c.byte_is-in-vertices.ensures.0 c.if-byte_is.true in
-    let onward : c.vertices.at < c.vertex_end-end.result = omega (arith, c.vertex_end-end.ensures.onward, c.if-end-at.false) in
+    let onward : c.vertices.at < c.vertex_end-end.result =
+    omega (arith, c.vertex_end-end.ensures.onward, c.if-end-at.false) in
     let (v, written, range) = c.vertex_end-end.ensures.is onward in
-    let (read, goes_on, all) = c.vertices.invariant.goes_on in
-    (read ++ v ∷ [], goes_on_last text c.vertices.at c.vertex_end-end.result v onward closed.0 written read (read ++ v ∷ []) closed.1 (omega arith) refl goes_on, All-push IsInRange read v all range)
+    let (read, goes_on, all) = c.vertices.invariant.goes_on in (
+      read ++ v ∷ [],
+      goes_on_last text c.vertices.at c.vertex_end-end.result v onward closed.0 written read
+          (read ++ v ∷ []) closed.1 (omega arith) refl goes_on,
+      All-push IsInRange read v all range,
+    )
 
 pub vertices-preserved : goal.vertices-preserved
 vertices-preserved c =
     let text = c.args.text.now in
     let separated = c.byte_is-in-vertices-2.ensures.0 c.if-not-byte_is-2.false in
-    let onward : c.vertices.at < c.vertex_end-end.result = omega (arith, c.vertex_end-end.ensures.onward, c.if-end-at.false) in
+    let onward : c.vertices.at < c.vertex_end-end.result =
+    omega (arith, c.vertex_end-end.ensures.onward, c.if-end-at.false) in
     let (v, written, range) = c.vertex_end-end.ensures.is onward in
     let (read, goes_on, all) = c.vertices.invariant.goes_on in
     record {
       within = omega (arith, separated.0);
-      goes_on = (read ++ v ∷ [], goes_on_next text c.vertices.at c.vertex_end-end.result v onward separated.0 written read (read ++ v ∷ []) separated.1 refl goes_on, All-push IsInRange read v all range);
+      goes_on = (
+        read ++ v ∷ [],
+        goes_on_next text c.vertices.at c.vertex_end-end.result v onward separated.0 written
+            read (read ++ v ∷ []) separated.1 refl goes_on,
+        All-push IsInRange read v all range,
+      );
     }

@@ -27,18 +27,24 @@ pub returns-then-byte_is-clause-spelled : goal.returns-then-byte_is-clause-spell
 returns-then-byte_is-clause-spelled c =
     let found = c.in_ok-found in
     let closed = c.byte_is-in-vertices.ensures.0 c.if-byte_is.true in
-    spells_last c.args.text.now c.vertices.at found.found.end found.found.vertex found.ensures.onward closed.0 found.ensures.spelled found.ensures.range c.vertices.vertices.items c.push_vertex.new.to.items closed.1 (omega arith) c.in_ok-push_vertex.ensures c.vertices.invariant.spells
+    spells_last c.args.text.now c.vertices.at found.found.end found.found.vertex found.ensures.onward closed.0
+    found.ensures.spelled found.ensures.range c.vertices.vertices.items c.push_vertex.new.to.items closed.1
+    (omega arith) c.in_ok-push_vertex.ensures c.vertices.invariant.spells
 
 pub returns-then-byte_is-clause-written : goal.returns-then-byte_is-clause-written
 returns-then-byte_is-clause-written c = λ yes.
     let found = c.in_ok-found in
     let closed = c.byte_is-in-vertices.ensures.0 c.if-byte_is.true in
     let as_written = c.both-as_written.ensures yes in
-    goes_on_last c.args.text.now c.vertices.at found.found.end found.found.vertex found.ensures.onward closed.0 (found.ensures.written as_written.1) c.vertices.vertices.items c.push_vertex.new.to.items closed.1 (omega arith) c.in_ok-push_vertex.ensures (c.vertices.invariant.written as_written.0)
+    goes_on_last c.args.text.now c.vertices.at found.found.end found.found.vertex found.ensures.onward closed.0
+    (found.ensures.written as_written.1) c.vertices.vertices.items c.push_vertex.new.to.items closed.1
+    (omega arith) c.in_ok-push_vertex.ensures (c.vertices.invariant.written as_written.0)
 
 pub returns-then-byte_is-clause-range : goal.returns-then-byte_is-clause-range
 returns-then-byte_is-clause-range c =
-    subst (All IsInRange) (sym c.in_ok-push_vertex.ensures) (All-push IsInRange c.vertices.vertices.items c.in_ok-found.found.vertex c.vertices.invariant.range c.in_ok-found.ensures.range)
+    subst (All IsInRange) (sym c.in_ok-push_vertex.ensures)
+    (All-push IsInRange c.vertices.vertices.items c.in_ok-found.found.vertex c.vertices.invariant.range
+    c.in_ok-found.ensures.range)
 
 pub vertices-preserved : goal.vertices-preserved
 vertices-preserved c =
@@ -52,9 +58,13 @@ vertices-preserved c =
     let separated = c.byte_is-in-vertices-2.ensures.0 c.if-not-byte_is-2.false in
     record {
       within = omega (arith, separated.0);
-      spells = spells_next text at found.found.end v found.ensures.onward separated.0 found.ensures.spelled found.ensures.range before after separated.1 pushed c.vertices.invariant.spells;
+      spells = spells_next text at found.found.end v found.ensures.onward separated.0 found.ensures.spelled
+          found.ensures.range before after separated.1 pushed c.vertices.invariant.spells;
       written = λ yes.
           let as_written = c.both-as_written.ensures yes in
-          goes_on_next text at found.found.end v found.ensures.onward separated.0 (found.ensures.written as_written.1) before after separated.1 pushed (c.vertices.invariant.written as_written.0);
-      range = subst (All IsInRange) (sym pushed) (All-push IsInRange before v c.vertices.invariant.range found.ensures.range);
+          goes_on_next text at found.found.end v found.ensures.onward separated.0
+          (found.ensures.written as_written.1) before after separated.1 pushed
+          (c.vertices.invariant.written as_written.0);
+      range = subst (All IsInRange) (sym pushed)
+          (All-push IsInRange before v c.vertices.invariant.range found.ensures.range);
     }

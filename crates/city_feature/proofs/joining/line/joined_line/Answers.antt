@@ -9,10 +9,14 @@ use Rattle.city_feature.proofs.joining.line.joined_line.Goals as goal
 pub returns-clause-ok : goal.returns-clause-ok
 returns-clause-ok c =
     let extensions = members_tree c.args.extensions.items in
-    let copied : tree c.in_ok-header.header ≡ tree c.args.first.now.json = c.in_ok-header.ensures.ok ∙ ap tree c.json.ensures.value in
+    let copied : tree c.in_ok-header.header ≡ tree c.args.first.now.json = c.in_ok-header.ensures.ok
+    ∙ ap tree c.json.ensures.value in
     let dropped = c.drop_inner_member.ensures ∙ ap without_extent copied in
     let extended = c.in_ok-set_extensions.ensures.ok ∙ ap (with_extensions extensions) dropped in
     let set = c.in_ok-set_inner_member.ensures.ok
-    ∙ (ap (λ value. changed_member (codes "transform") (with_member (codes "translate") value) (tree c.set_extensions.new.header)) c.in_ok-written.ensures.ok
-    ∙ ap (changed_member (codes "transform") (with_member (codes "translate") (three (texts_of c.args.translation.now)))) extended) in
-    c.in_ok-print.ensures.ok ∙ (ap (λ line. line ++ compact (tree c.set_inner_member.new.object)) c.new-line.ensures ∙ ap compact set)
+    ∙ (ap (λ value. changed_member (codes "transform") (with_member (codes "translate") value)
+    (tree c.set_extensions.new.header)) c.in_ok-written.ensures.ok
+    ∙ ap (changed_member (codes "transform")
+    (with_member (codes "translate") (three (texts_of c.args.translation.now)))) extended) in
+    c.in_ok-print.ensures.ok ∙ (ap (λ line. line ++ compact (tree c.set_inner_member.new.object)) c.new-line.ensures
+    ∙ ap compact set)

@@ -9,4 +9,6 @@ pub returns-clause-ok : goal.returns-clause-ok
 returns-clause-ok c =
     let long : length c.args.extensions.items ≡ vec_len c.args.extensions = search rules in
     let some = ap (λ n. n == 0) long ∙ (sym c.is_empty.ensures ∙ c.if-is_empty.false) in
-    on_ok c.set_member.result (λ set. set ∙ extensions_are_set c.args.extensions.items (tree c.object_json.result) (tree c.args.header.now) some c.object_json.ensures) c.set_member.ensures.ok
+    on_ok c.set_member.result (λ set. set
+    ∙ extensions_are_set c.args.extensions.items (tree c.object_json.result)
+    (tree c.args.header.now) some c.object_json.ensures) c.set_member.ensures.ok

@@ -9,12 +9,17 @@ use Rattle.city_feature.proofs.joining.origin.least_origin.Goals as goal
 
 pub loop-header-init : goal.loop-header-init
 loop-header-init c =
-    own_is_least (header_value c.args.first.now) c.own_origin-origin.result.transform (texts_of c.own_origin-origin.result.translation) c.own_origin-origin.ensures.transform c.own_origin-origin.ensures.translation
+    own_is_least (header_value c.args.first.now) c.own_origin-origin.result.transform
+    (texts_of c.own_origin-origin.result.translation) c.own_origin-origin.ensures.transform
+    c.own_origin-origin.ensures.translation
 
 pub loop-header-preserved : goal.loop-header-preserved
 loop-header-preserved c =
     let header = c.header-item.result in
     let others = c.args.others.now in
     let before = map header_value (take c.loop-header.header-index others) in
-    let more = map_more header_value others c.loop-header.header-index header c.loop-header-test.true ∙ ap (λ h. before ++ header_value h ∷ []) (sym c.header-item.is) in
-    subst (λ tiles. IsOrigin Least (header_value c.args.first.now) tiles c.lowered-origin.result.transform (texts_of c.lowered-origin.result.translation)) (sym more) (c.lowered-origin.ensures (header_value c.args.first.now) before c.loop-header.invariant)
+    let more = map_more header_value others c.loop-header.header-index header c.loop-header-test.true
+    ∙ ap (λ h. before ++ header_value h ∷ []) (sym c.header-item.is) in
+    subst (λ tiles. IsOrigin Least (header_value c.args.first.now) tiles c.lowered-origin.result.transform
+    (texts_of c.lowered-origin.result.translation)) (sym more)
+    (c.lowered-origin.ensures (header_value c.args.first.now) before c.loop-header.invariant)

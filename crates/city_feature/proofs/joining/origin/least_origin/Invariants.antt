@@ -6,4 +6,5 @@ use Rattle.city_feature.specs.declared.base.Base.TheVariants.{Least}
 use Rattle.city_feature.proofs.joining.origin.least_origin.Given as goal
 
 abbrev pub invariant-loop-header : goal.invariant-loop-header
-invariant-loop-header l = IsOrigin Least (header_value l.first) (map header_value (take l.header-index l.others)) l.origin.transform (texts_of l.origin.translation)
+invariant-loop-header l = IsOrigin Least (header_value l.first)
+    (map header_value (take l.header-index l.others)) l.origin.transform (texts_of l.origin.translation)

@@ -14,4 +14,5 @@ pub returns-clause-known : goal.returns-clause-known
 returns-clause-known c =
     let loop = c.loop-header in
     let none = ap (map header_value) (drop_all loop.header-index c.args.headers.now c.loop-header-test.false) in
-    all_known (lent_members c.args.extensions.now) _ (map header_value c.args.headers.now) _ none loop.invariant.extensions
+    all_known (lent_members c.args.extensions.now) _
+    (map header_value c.args.headers.now) _ none loop.invariant.extensions

@@ -14,8 +14,10 @@ invariant-loop-header l =
     let rest = map header_value (drop l.header-index l.headers) in
     let all = map header_value l.headers in
     record {
-      agree : (ks : List Triple) → AllAgree first l.base now rest ks → AllAgree first l.base old all (l.shifts.items ++ ks);
-      misfit : (tile : ℕ) (fault : Fault) → IsFirstMisfit first l.base now (l.tile + 1) rest tile fault → IsFirstMisfit first l.base old 1 all tile fault;
+      agree : (ks : List Triple) → AllAgree first l.base now rest ks
+          → AllAgree first l.base old all (l.shifts.items ++ ks);
+      misfit : (tile : ℕ) (fault : Fault) → IsFirstMisfit first l.base now (l.tile + 1) rest tile fault
+          → IsFirstMisfit first l.base old 1 all tile fault;
       extensions : all_extensions now rest ≡ all_extensions old all;
       count : l.tile ≡ l.header-index;
     }

@@ -10,8 +10,10 @@ returns-then-not-are_zeros-clause-none c = λ n small placed.
     let places = c.args.places.now in
     let kept = c.min-kept.result in
     let more = c.min-more.result in
-    let cut = cut_at whole places c.args.place kept more c.requires.whole c.requires.places c.min-kept.ensures c.min-more.ensures in
-    let zeros = parts_are_zeros (drop kept whole) (drop more places) (all_digits-drop kept whole c.requires.whole) (all_digits-drop more places c.requires.places) (placed_is _ _ _ _ _ n cut placed).0 in
+    let cut = cut_at whole places c.args.place kept more c.requires.whole c.requires.places c.min-kept.ensures
+    c.min-more.ensures in
+    let zeros = parts_are_zeros (drop kept whole) (drop more places) (all_digits-drop kept whole c.requires.whole)
+    (all_digits-drop more places c.requires.places) (placed_is _ _ _ _ _ n cut placed).0 in
     let first = c.if-not-are_zeros.ensures.1 (cut_zeros whole kept zeros.0) in
     grind arith
 
@@ -21,8 +23,10 @@ returns-then-not-are_zeros-2-clause-none c = λ n small placed.
     let places = c.args.places.now in
     let kept = c.min-kept.result in
     let more = c.min-more.result in
-    let cut = cut_at whole places c.args.place kept more c.requires.whole c.requires.places c.min-kept.ensures c.min-more.ensures in
-    let zeros = parts_are_zeros (drop kept whole) (drop more places) (all_digits-drop kept whole c.requires.whole) (all_digits-drop more places c.requires.places) (placed_is _ _ _ _ _ n cut placed).0 in
+    let cut = cut_at whole places c.args.place kept more c.requires.whole c.requires.places c.min-kept.ensures
+    c.min-more.ensures in
+    let zeros = parts_are_zeros (drop kept whole) (drop more places) (all_digits-drop kept whole c.requires.whole)
+    (all_digits-drop more places c.requires.places) (placed_is _ _ _ _ _ n cut placed).0 in
     let first = c.if-not-are_zeros-2.ensures.1 (cut_zeros places more zeros.1) in
     grind arith
 
@@ -38,9 +42,13 @@ returns-clause-some c =
     let places = c.args.places.now in
     let kept = c.min-kept.result in
     let more = c.min-more.result in
-    let cut = cut_at whole places c.args.place kept more c.requires.whole c.requires.places c.min-kept.ensures c.min-more.ensures in
-    let nothing = value_of_zeros (drop kept whole) (drop more places) (zeros_cut whole kept (c.are_zeros.ensures.0 c.if-not-are_zeros.false)) (zeros_cut places more (c.are_zeros-2.ensures.0 c.if-not-are_zeros-2.false)) in
-    if_some_from c.join_digits.result _ _ (IsPlaced (whole ++ places) c.args.place) c.join_digits.ensures (placed_from _ _ _ _ _ _ cut nothing refl)
+    let cut = cut_at whole places c.args.place kept more c.requires.whole c.requires.places c.min-kept.ensures
+    c.min-more.ensures in
+    let nothing = value_of_zeros (drop kept whole) (drop more places)
+    (zeros_cut whole kept (c.are_zeros.ensures.0 c.if-not-are_zeros.false))
+    (zeros_cut places more (c.are_zeros-2.ensures.0 c.if-not-are_zeros-2.false)) in
+    if_some_from c.join_digits.result _ _ (IsPlaced (whole ++ places) c.args.place) c.join_digits.ensures
+    (placed_from _ _ _ _ _ _ cut nothing refl)
 
 pub returns-clause-none : goal.returns-clause-none
 returns-clause-none c =
@@ -48,5 +56,7 @@ returns-clause-none c =
     let places = c.args.places.now in
     let kept = c.min-kept.result in
     let more = c.min-more.result in
-    let cut = cut_at whole places c.args.place kept more c.requires.whole c.requires.places c.min-kept.ensures c.min-more.ensures in
-    if_none_from c.join_digits.result _ _ (IsPlaced (whole ++ places) c.args.place) c.join_digits.ensures (λ n placed. (placed_is _ _ _ _ _ n cut placed).1)
+    let cut = cut_at whole places c.args.place kept more c.requires.whole c.requires.places c.min-kept.ensures
+    c.min-more.ensures in
+    if_none_from c.join_digits.result _ _ (IsPlaced (whole ++ places) c.args.place) c.join_digits.ensures
+    (λ n placed. (placed_is _ _ _ _ _ n cut placed).1)

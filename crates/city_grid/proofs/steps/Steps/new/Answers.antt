@@ -1,18 +1,20 @@
 use Rattle.std.proofs.Common.{◌≡◌, ◌≤◌, ℤ, to_z, of_z, w64, unsigned_abs, arith, subst, sym}
 use Rattle.std.proofs.lemmas.Int.{ints}
 use Rattle.std.specs.Int.{w128}
-use Rattle.city_grid.specs.Axes.{most_steps}
+use Rattle.byte_streams.specs.Limits.{max_steps}
 use Rattle.city_grid.proofs.axes.Triples.{same_triple}
 use Rattle.city_grid.proofs.steps.Steps.new.Goals as goal
 
-narrowed : (z : ℤ) → unsigned_abs z ≤ most_steps → to_z w64 (of_z w64 (to_z w128 (of_z w128 z))) ≡ z
+narrowed : (z : ℤ) → unsigned_abs z ≤ max_steps → to_z w64 (of_z w64 (to_z w128 (of_z w128 z))) ≡ z
 narrowed z few = grind (arith, ints)
 
-still_few : (z : ℤ) → unsigned_abs z ≤ most_steps → unsigned_abs (to_z w64 (of_z w64 (to_z w128 (of_z w128 z)))) ≤ most_steps
-still_few z few = subst (λ n. unsigned_abs n ≤ most_steps) (sym (narrowed z few)) few
+still_few : (z : ℤ) → unsigned_abs z ≤ max_steps
+    → unsigned_abs (to_z w64 (of_z w64 (to_z w128 (of_z w128 z)))) ≤ max_steps
+still_few z few = subst (λ n. unsigned_abs n ≤ max_steps) (sym (narrowed z few)) few
 
-few : (z : ℤ) → to_z w128 (of_z w128 z) ≡ z → unsigned_abs (to_z w128 (of_z w128 z)) ≤ most_steps → unsigned_abs z ≤ most_steps
-few z same small = subst (λ n. unsigned_abs n ≤ most_steps) same small
+few : (z : ℤ) → to_z w128 (of_z w128 z) ≡ z → unsigned_abs (to_z w128 (of_z w128 z)) ≤ max_steps
+    → unsigned_abs z ≤ max_steps
+few z same small = subst (λ n. unsigned_abs n ≤ max_steps) same small
 
 pub invariant_of-result : goal.invariant_of-result
 invariant_of-result c =

@@ -33,17 +33,29 @@ returns-in_default-decimals-2-clause-refusal c =
 pub returns-clause-ok : goal.returns-clause-ok
 returns-clause-ok c =
     let at = (goal.at.returns-clause-ok c).In-Some-numbers_named in
-    subst (λ answer. IfOk answer (IsTransform (tree c.args.value.now))) (sym c.ok_or.ensures.value) (transform_of (tree c.args.value.now) (scale at) (translate at) (grid (goal.at.returns-clause-ok c).After-ok_or) (shape at) (c.in-Some-decimals.ensures.some, c.in-Some-decimals-2.ensures.some) c.new.result c.new.ensures)
+    subst (λ answer. IfOk answer (IsTransform (tree c.args.value.now))) (sym c.ok_or.ensures.value)
+    (transform_of (tree c.args.value.now) (scale at) (translate at) (grid (goal.at.returns-clause-ok c).After-ok_or)
+    (shape at) (c.in-Some-decimals.ensures.some, c.in-Some-decimals-2.ensures.some) c.new.result c.new.ensures)
 
 pub returns-clause-refusal : goal.returns-clause-refusal
 returns-clause-refusal c =
     let at = (goal.at.returns-clause-refusal c).In-Some-numbers_named in
-    subst (λ answer. IfErr answer (λ fault. RefusesTransform fault (tree c.args.value.now))) (sym c.ok_or.ensures.value) (transform_refused (tree c.args.value.now) (scale at) (translate at) (grid (goal.at.returns-clause-refusal c).After-ok_or) (shape at) (c.in-Some-decimals.ensures.some, c.in-Some-decimals-2.ensures.some) c.new.result c.new.ensures)
+    subst (λ answer. IfErr answer (λ fault. RefusesTransform fault (tree c.args.value.now))) (sym c.ok_or.ensures.value)
+    (transform_refused (tree c.args.value.now) (scale at) (translate at)
+    (grid (goal.at.returns-clause-refusal c).After-ok_or) (shape at) (
+      c.in-Some-decimals.ensures.some,
+      c.in-Some-decimals-2.ensures.some,
+    ) c.new.result c.new.ensures)
 
 pub returns-clause-only : goal.returns-clause-only
 returns-clause-only c = λ other is above.
     let at = (goal.at.returns-clause-only c).In-Some-numbers_named in
-    c.ok_or.ensures.value ∙ only_transform (tree c.args.value.now) (scale at) (translate at) (grid (goal.at.returns-clause-only c).After-ok_or) (shape at) (c.in-Some-decimals.ensures.some, c.in-Some-decimals-2.ensures.some) c.in-Some-decimals.ensures.only c.in-Some-decimals-2.ensures.only c.new.result c.new.ensures other is above
+    c.ok_or.ensures.value ∙ only_transform (tree c.args.value.now) (scale at) (translate at)
+    (grid (goal.at.returns-clause-only c).After-ok_or) (shape at) (
+      c.in-Some-decimals.ensures.some,
+      c.in-Some-decimals-2.ensures.some,
+    ) c.in-Some-decimals.ensures.only c.in-Some-decimals-2.ensures.only
+    c.new.result c.new.ensures other is above
 
 pub returns-in_default-decimals-clause-only : goal.returns-in_default-decimals-clause-only
 returns-in_default-decimals-clause-only c = λ other is above.
@@ -55,4 +67,5 @@ pub returns-in_default-decimals-2-clause-only : goal.returns-in_default-decimals
 returns-in_default-decimals-2-clause-only c = λ other is above.
     let at = (goal.at.returns-in_default-decimals-2-clause-only c).In-Some-numbers_named in
     let same = same_texts is.1 (translate at) (some_three is.1 (translate at) (sym is.2.1 ∙ (shape at).1)) in
-    absurd (c.in_default-decimals-2.ensures.none other.translate (subst (λ t. Each IsUnits t other.translate) same is.3.1))
+    absurd (c.in_default-decimals-2.ensures.none other.translate
+    (subst (λ t. Each IsUnits t other.translate) same is.3.1))

@@ -7,10 +7,12 @@ pub returns-in_err-integer-clause-none : goal.returns-in_err-integer-clause-none
 returns-in_err-integer-clause-none c = rw c.from_residual.ensures (λ p each. c.in_err-integer.ensures.none p.x each.0)
 
 pub returns-in_err-integer-2-clause-none : goal.returns-in_err-integer-2-clause-none
-returns-in_err-integer-2-clause-none c = rw c.from_residual-in_err-integer-2.ensures (λ p each. c.in_err-integer-2.ensures.none p.y each.1)
+returns-in_err-integer-2-clause-none c =
+    rw c.from_residual-in_err-integer-2.ensures (λ p each. c.in_err-integer-2.ensures.none p.y each.1)
 
 pub returns-in_err-integer-3-clause-none : goal.returns-in_err-integer-3-clause-none
-returns-in_err-integer-3-clause-none c = rw c.from_residual-in_err-integer-3.ensures (λ p each. c.in_err-integer-3.ensures.none p.z each.2)
+returns-in_err-integer-3-clause-none c =
+    rw c.from_residual-in_err-integer-3.ensures (λ p each. c.in_err-integer-3.ensures.none p.z each.2)
 
 pub returns-clause-some : goal.returns-clause-some
 returns-clause-some c =

@@ -24,28 +24,35 @@ given : (c : After-ok_or) → SomeIff c.new.result (IsInRange (read c)) (read c)
 unfolding read
 given c =
     let r = c.in-Some-all_integers.read in
-    found_at c.new.result (record { x = passed r.x; y = passed r.y; z = passed r.z }) (read c) c.new.ensures (omega (arith, ints)) (omega (arith, ints)) (omega (arith, ints))
+    found_at c.new.result (record { x = passed r.x; y = passed r.y; z = passed r.z }) (read c) c.new.ensures
+    (omega (arith, ints)) (omega (arith, ints)) (omega (arith, ints))
 
 pub returns-clause-ok : goal.returns-clause-ok
 unfolding read texts
 returns-clause-ok c =
     let at = (goal.at.returns-clause-ok c).After-ok_or in
     let written = c.in-Some-all_integers.ensures.some in
-    subst (λ answer. IfOk answer (IsVertex (tree c.args.value.now))) (sym c.ok_or.ensures.value) (vertex_of (tree c.args.value.now) (texts at) (read at) written.0 c.in-Some.ensures.some written.1 written.2 written.3 written.4 c.new.result (given at))
+    subst (λ answer. IfOk answer (IsVertex (tree c.args.value.now))) (sym c.ok_or.ensures.value)
+    (vertex_of (tree c.args.value.now) (texts at)
+    (read at) written.0 c.in-Some.ensures.some written.1 written.2 written.3 written.4 c.new.result (given at))
 
 pub returns-clause-refusal : goal.returns-clause-refusal
 unfolding read texts
 returns-clause-refusal c =
     let at = (goal.at.returns-clause-refusal c).After-ok_or in
     let written = c.in-Some-all_integers.ensures.some in
-    subst (λ answer. IfErr answer (λ fault. RefusesVertex fault (tree c.args.value.now))) (sym c.ok_or.ensures.value) (vertex_refused (tree c.args.value.now) (texts at) (read at) written.0 c.in-Some.ensures.some written.1 written.2 written.3 written.4 c.new.result (given at))
+    subst (λ answer. IfErr answer (λ fault. RefusesVertex fault (tree c.args.value.now))) (sym c.ok_or.ensures.value)
+    (vertex_refused (tree c.args.value.now) (texts at)
+    (read at) written.0 c.in-Some.ensures.some written.1 written.2 written.3 written.4 c.new.result (given at))
 
 pub returns-clause-only : goal.returns-clause-only
 unfolding read texts
 returns-clause-only c = λ p other range.
     let at = (goal.at.returns-clause-only c).After-ok_or in
     let written = c.in-Some-all_integers.ensures.some in
-    c.ok_or.ensures.value ∙ only_vertex (tree c.args.value.now) (texts at) (read at) written.0 c.in-Some.ensures.some written.1 written.2 written.3 written.4 c.new.result (given at) p other range
+    c.ok_or.ensures.value ∙ only_vertex (tree c.args.value.now) (texts at)
+    (read at) written.0 c.in-Some.ensures.some written.1 written.2 written.3 written.4 c.new.result
+    (given at) p other range
 
 pub returns-in_default-all_integers-clause-only : goal.returns-in_default-all_integers-clause-only
 returns-in_default-all_integers-clause-only c = λ p other range.

@@ -18,7 +18,9 @@ returns c =
     let z = kept_z ∙ ap (λ q. q.z) same in
     let text = c.put_byte-start.new.to in
     let start = c.put_byte-start.result in
-    let vertex = put_text [] _ _ _ _ _ _ _ p _ _ _ x y z c.put_byte-opened.ensures.put c.put_integer-x.ensures.put c.put_byte-first.ensures.put c.put_integer-y.ensures.put c.put_byte-second.ensures.put c.put_integer-z.ensures.put c.put_byte-closed.ensures.put refl in
+    let vertex = put_text [] _ _ _ _ _ _ _ p _ _ _ x y z c.put_byte-opened.ensures.put c.put_integer-x.ensures.put
+    c.put_byte-first.ensures.put c.put_integer-y.ensures.put c.put_byte-second.ensures.put
+    c.put_integer-z.ensures.put c.put_byte-closed.ensures.put refl in
     let put = c.put_byte-start.ensures.put ∙ ap (λ l. c.args.before ∷ l) vertex in
     let short : length (drop start text) ≤ 64 - start = omega (arith, length-drop start text) in
     let all : take (64 - start) (drop start text) ≡ drop start text = take_all (64 - start) (drop start text) short in

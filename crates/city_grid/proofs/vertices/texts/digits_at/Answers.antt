@@ -15,7 +15,9 @@ returns-clause-value c =
     let is = c.read_digits-end.ensures in
     let end = c.read_digits-end.result.0 in
     let text = c.args.text.now in
-    let digits : AllDigits 10 (slice_range text c.args.at end) = AllDigits-digits_len (drop c.args.at text) (end - c.args.at) (omega (arith, is.end)) in
+    let digits : AllDigits 10 (slice_range text c.args.at end) =
+    AllDigits-digits_len (drop c.args.at text) (end - c.args.at) (omega (arith, is.end)) in
     let value = digits_value 10 (slice_range text c.args.at end) in
-    let small : value < 10 ^ 16 = few_digits text c.args.at end value 16 is.within (omega (arith, c.if-end-at-gt-MOST_DIGITS.false)) digits refl in
+    let small : value < 10 ^ 16 = few_digits text c.args.at end value 16 is.within
+    (omega (arith, c.if-end-at-gt-MAX_DIGITS.false)) digits refl in
     omega (arith, is.value, small)

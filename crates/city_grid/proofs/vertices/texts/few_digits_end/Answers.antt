@@ -11,5 +11,8 @@ returns-clause-digits c =
     let text = c.args.text.now in
     let at = c.args.at in
     let found = c.not_digits-stops.ensures in
-    let run : prefix_len is_ascii_digit (drop at text) ≡ count_trailing_zeros 64 c.not_digits-stops.result = digits_stop text at (omega arith) (omega (arith, found, c.if-stops-eq0.false)) ∙ ap (count_trailing_zeros 64) (sym found) in
-    AllDigits-digits_len (drop at text) (at + count_trailing_zeros 64 c.not_digits-stops.result - at) (omega (arith, run))
+    let run : prefix_len is_ascii_digit (drop at text) ≡ count_trailing_zeros 64 c.not_digits-stops.result =
+    digits_stop text at (omega arith) (omega (arith, found, c.if-stops-eq0.false))
+    ∙ ap (count_trailing_zeros 64) (sym found) in
+    AllDigits-digits_len (drop at text) (at + count_trailing_zeros 64 c.not_digits-stops.result - at)
+    (omega (arith, run))

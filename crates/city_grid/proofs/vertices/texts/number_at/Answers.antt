@@ -6,7 +6,8 @@ pub returns-then-text-at-eq48-clause-written : goal.returns-then-text-at-eq48-cl
 returns-then-text-at-eq48-clause-written c =
     let digits = c.digits_at-digits.result in
     let is = c.digits_at-digits.ensures in
-    zero_text c.args.text.now c.args.at digits.end digits.size (omega arith) (omega arith) is.within c.if-text-at-eq48.true is.value
+    zero_text c.args.text.now c.args.at digits.end digits.size (omega arith)
+    (omega arith) is.within c.if-text-at-eq48.true is.value
 
 pub returns-clause-small : goal.returns-clause-small
 returns-clause-small c =
@@ -19,4 +20,5 @@ returns-clause-written c =
     let digits = c.digits_at-digits.result in
     let is = c.digits_at-digits.ensures in
     let small = few_digits c.args.text.now c.args.at digits.end digits.size 16 is.within is.few is.digits is.value in
-    digits_text c.args.text.now c.args.at digits.end digits.size (omega arith) is.within c.if-text-at-eq48.false is.digits is.value small
+    digits_text c.args.text.now c.args.at digits.end digits.size
+    (omega arith) is.within c.if-text-at-eq48.false is.digits is.value small

@@ -5,9 +5,12 @@ use Rattle.city_grid.proofs.vertices.texts.number_end.Goals as goal
 pub returns-then-text-at-eq48-clause-is : goal.returns-then-text-at-eq48-clause-is
 returns-then-text-at-eq48-clause-is c = λ onward.
     let end = c.few_digits_end-end.result in
-    short_zero c.args.text.now c.args.at end onward (omega arith) (omega (arith, c.few_digits_end-end.ensures.few)) c.if-text-at-eq48.true
+    short_zero c.args.text.now c.args.at end onward (omega arith)
+    (omega (arith, c.few_digits_end-end.ensures.few)) c.if-text-at-eq48.true
 
 pub returns-clause-is : goal.returns-clause-is
 returns-clause-is c = λ onward.
     let end = c.few_digits_end-end.result in
-    short_number c.args.text.now c.args.at end onward (omega (arith, c.few_digits_end-end.ensures.few)) c.few_digits_end-end.ensures.few c.if-text-at-eq48.false c.few_digits_end-end.ensures.digits
+    short_number c.args.text.now c.args.at end onward
+    (omega (arith, c.few_digits_end-end.ensures.few)) c.few_digits_end-end.ensures.few c.if-text-at-eq48.false
+    c.few_digits_end-end.ensures.digits

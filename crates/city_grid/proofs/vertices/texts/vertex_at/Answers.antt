@@ -20,6 +20,9 @@ returns-clause-written c =
     let kept_z : to_z w64 (of_z w64 z) ≡ z = omega (arith, ints) in
     vertex_text c.args.text.now c.args.at c.in_ok-x.x.end c.in_ok-y.y.end c.in_ok-z.z.end p
     opened.0 opened.1
-    c.in_ok-x.ensures.onward (c.in_ok-x.ensures.written ∙ ap signed_decimal (sym (ap (λ q. q.x) is ∙ kept_x))) first.0 first.1
-    c.in_ok-y.ensures.onward (c.in_ok-y.ensures.written ∙ ap signed_decimal (sym (ap (λ q. q.y) is ∙ kept_y))) second.0 second.1
-    c.in_ok-z.ensures.onward (c.in_ok-z.ensures.written ∙ ap signed_decimal (sym (ap (λ q. q.z) is ∙ kept_z))) closed.0 closed.1
+    c.in_ok-x.ensures.onward (c.in_ok-x.ensures.written
+    ∙ ap signed_decimal (sym (ap (λ q. q.x) is ∙ kept_x))) first.0 first.1
+    c.in_ok-y.ensures.onward (c.in_ok-y.ensures.written
+    ∙ ap signed_decimal (sym (ap (λ q. q.y) is ∙ kept_y))) second.0 second.1
+    c.in_ok-z.ensures.onward (c.in_ok-z.ensures.written
+    ∙ ap signed_decimal (sym (ap (λ q. q.z) is ∙ kept_z))) closed.0 closed.1

@@ -9,11 +9,15 @@ use Rattle.city_json.proofs.compacting.digits.digits_end.Goals as goal
 pub returns-then-stops-ne0-clause-within : goal.returns-then-stops-ne0-clause-within
 returns-then-stops-ne0-clause-within c =
     let found = c.not_digits-stops.ensures in
-    let run = digits_stop c.args.text.now c.args.at (omega arith) (omega (arith, found)) ∙ ap (count_trailing_zeros 64) (sym found) in
+    let run = digits_stop c.args.text.now c.args.at (omega arith) (omega (arith, found))
+    ∙ ap (count_trailing_zeros 64) (sym found) in
     omega (arith, run, digits_within c.args.text.now c.args.at c.requires)
 
 pub returns-then-stops-ne0-clause-passed : goal.returns-then-stops-ne0-clause-passed
 returns-then-stops-ne0-clause-passed c =
     let found = c.not_digits-stops.ensures in
-    let run = digits_stop c.args.text.now c.args.at (omega arith) (omega (arith, found)) ∙ ap (count_trailing_zeros 64) (sym found) in
-    ap (λ n. drop (c.args.at + n) c.args.text.now) (sym run) ∙ (sym (drop-drop (prefix_len is_ascii_digit (drop c.args.at c.args.text.now)) c.args.at c.args.text.now) ∙ past_is (drop c.args.at c.args.text.now))
+    let run = digits_stop c.args.text.now c.args.at (omega arith) (omega (arith, found))
+    ∙ ap (count_trailing_zeros 64) (sym found) in
+    ap (λ n. drop (c.args.at + n) c.args.text.now) (sym run)
+    ∙ (sym (drop-drop (prefix_len is_ascii_digit (drop c.args.at c.args.text.now)) c.args.at c.args.text.now)
+    ∙ past_is (drop c.args.at c.args.text.now))

@@ -3,7 +3,8 @@ use Rattle.city_json.specs.NumberAt.{past_digits}
 use Rattle.city_json.proofs.compacting.digits.digits_end_slowly.Given as goal
 
 abbrev pub invariant-loop-end : goal.invariant-loop-end
-invariant-loop-end l = (l.at ≤ l.end) × (l.end ≤ length l.text) × (past_digits (drop l.end l.text) ≡ past_digits (drop l.at l.text))
+invariant-loop-end l = (l.at ≤ l.end) × (l.end ≤ length l.text)
+    × (past_digits (drop l.end l.text) ≡ past_digits (drop l.at l.text))
 
 abbrev pub decreases-loop-end : goal.decreases-loop-end
 decreases-loop-end l = length l.text - l.end

@@ -9,6 +9,8 @@ returns c =
     let rest = drop c.args.from c.args.text.now in
     let count = c.args.at - c.args.from in
     let most = c.args.from + 16 - c.args.from in
-    let len_is : c.in-Some.len ≡ length old + count = omega (arith, c.in-Some.ensures, ap length c.items-written.ensures) in
+    let len_is : c.in-Some.len ≡ length old + count =
+    omega (arith, c.in-Some.ensures, ap length c.items-written.ensures) in
     c.truncate.ensures ∙ ap (take c.in-Some.len) c.in-Ok.ensures.ok ∙ ap (λ n. take n (old ++ take most rest)) len_is
-    ∙ take-append-add old (take most rest) count ∙ ap (λ l. old ++ l) (take-take count most rest (omega (arith, c.requires.few)))
+    ∙ take-append-add old (take most rest) count
+    ∙ ap (λ l. old ++ l) (take-take count most rest (omega (arith, c.requires.few)))

@@ -25,9 +25,12 @@ closing-preserved c =
       fewer = omega (arith, c.closing.invariant.fewer);
       names = c.skip-place.ensures.names inside ∙ c.closing.invariant.names;
       goes_on = λ total rest after further. c.closing.invariant.goes_on total rest after
-          (one_closes c.closing.left total (drop c.closing.end text) (drop (place + 1) text) rest (shown now.line text now.from c.closing.end) (shown draft.line text draft.from (place + 1)) after some
-          (at_mark text (drop c.closing.end text) place close_bracket (c.skip-place.ensures.skipped inside) inside is_close)
-          (mark_shown draft.line text (shown now.line text now.from c.closing.end) draft.from place close_bracket copied inside is_close (c.skip-place.ensures.is_shown inside)) further);
+          (one_closes c.closing.left total (drop c.closing.end text) (drop (place + 1) text) rest
+          (shown now.line text now.from c.closing.end) (shown draft.line text draft.from (place + 1)) after some
+          (at_mark text (drop c.closing.end text) place close_bracket
+          (c.skip-place.ensures.skipped inside) inside is_close)
+          (mark_shown draft.line text (shown now.line text now.from c.closing.end) draft.from place close_bracket copied
+          inside is_close (c.skip-place.ensures.is_shown inside)) further);
     }
 
 pub returns-then-text-place-eq44-clause-goes_on : goal.returns-then-text-place-eq44-clause-goes_on
@@ -42,11 +45,15 @@ returns-then-text-place-eq44-clause-goes_on c =
     let some : 0 < c.closing.left = c.closing-test.true in
     let copied : draft.from ≤ place = c.skip-place.ensures.copied inside in
     λ total rest after further. c.closing.invariant.goes_on total rest after
-    (one_more c.closing.left total (drop c.closing.end text) (drop (place + 1) text) rest (shown now.line text now.from c.closing.end) (shown draft.line text draft.from (place + 1)) after some
+    (one_more c.closing.left total (drop c.closing.end text) (drop (place + 1) text) rest
+    (shown now.line text now.from c.closing.end) (shown draft.line text draft.from (place + 1)) after some
     (at_mark text (drop c.closing.end text) place comma (c.skip-place.ensures.skipped inside) inside is_comma)
-    (mark_shown draft.line text (shown now.line text now.from c.closing.end) draft.from place comma copied inside is_comma (c.skip-place.ensures.is_shown inside)) further)
+    (mark_shown draft.line text (shown now.line text now.from c.closing.end) draft.from place comma copied inside
+    is_comma (c.skip-place.ensures.is_shown inside)) further)
 
 pub returns-clause-goes_on : goal.returns-clause-goes_on
 returns-clause-goes_on c =
     λ total rest after further. c.closing.invariant.goes_on total rest after
-    (none_open c.closing.left total (drop c.closing.end c.args.text.now) rest (shown c.closing.draft.line c.args.text.now c.closing.draft.from c.closing.end) after (omega (arith, c.closing-test.false)) further)
+    (none_open c.closing.left total (drop c.closing.end c.args.text.now) rest
+    (shown c.closing.draft.line c.args.text.now c.closing.draft.from c.closing.end) after
+    (omega (arith, c.closing-test.false)) further)

@@ -10,7 +10,8 @@ invariant-closing l = record {
   copied : l.draft.from ≤ l.end;
   fewer : l.left ≤ l.depth;
   names : l.draft.names ≡ l.fn.draft.names;
-  goes_on : (total : ℕ) (rest after : List ℕ) → ItemWasTaken l.left total (drop l.end l.text) rest (shown l.draft.line l.text l.draft.from l.end) after
+  goes_on : (total : ℕ) (rest after : List ℕ)
+      → ItemWasTaken l.left total (drop l.end l.text) rest (shown l.draft.line l.text l.draft.from l.end) after
       → ItemWasTaken l.depth total (drop l.at l.text) rest (shown l.fn.draft.line l.text l.fn.draft.from l.at) after;
 }
 

@@ -22,7 +22,9 @@ numbers-preserved c =
       copied = c.in_ok-i.ensures.copied;
       names = c.in_ok-i.ensures.names ∙ c.numbers.invariant.names;
       goes_on = λ levels rest after from. c.numbers.invariant.goes_on levels rest after
-          (integer_more levels text now.line rest after now.from i stop c.numbers.invariant.copied some further (c.integer_end-stop.ensures.is some) (c.integer_end-stop.ensures.clear some) is_comma (c.in_ok-i.ensures.goes_on levels rest after from));
+          (integer_more levels text now.line rest after now.from i stop c.numbers.invariant.copied some further
+          (c.integer_end-stop.ensures.is some) (c.integer_end-stop.ensures.clear some) is_comma
+          (c.in_ok-i.ensures.goes_on levels rest after from));
     }
 
 pub returns-then-text-stop-eq93-clause-closes : goal.returns-then-text-stop-eq93-clause-closes
@@ -36,4 +38,5 @@ returns-then-text-stop-eq93-clause-closes c =
     let last : stop ≤ length text = c.integer_end-stop.ensures.within in
     let further : stop < length text = omega (arith, last, c.if-stop-text.false) in
     λ closed levels. c.numbers.invariant.goes_on levels _ _
-    (integer_stop levels text now.line now.from i stop c.numbers.invariant.copied some further (c.integer_end-stop.ensures.is some) (c.integer_end-stop.ensures.clear some) c.if-text-stop-eq93.true)
+    (integer_stop levels text now.line now.from i stop c.numbers.invariant.copied some further
+    (c.integer_end-stop.ensures.is some) (c.integer_end-stop.ensures.clear some) c.if-text-stop-eq93.true)

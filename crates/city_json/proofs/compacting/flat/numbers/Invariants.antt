@@ -9,8 +9,10 @@ invariant-numbers l = record {
   within : l.i ≤ length l.text;
   copied : l.draft.from ≤ l.i;
   names : l.draft.names ≡ l.fn.draft.names;
-  goes_on : (levels : ℕ) (rest after : List ℕ) → ItemsFrom levels (after_white (drop l.i l.text)) rest (shown l.draft.line l.text l.draft.from l.i) after
-      → ItemsFrom levels (after_white (drop l.at l.text)) rest (shown l.fn.draft.line l.text l.fn.draft.from l.at) after;
+  goes_on : (levels : ℕ) (rest after : List ℕ)
+      → ItemsFrom levels (after_white (drop l.i l.text)) rest (shown l.draft.line l.text l.draft.from l.i) after
+      → ItemsFrom levels (after_white (drop l.at l.text)) rest
+      (shown l.fn.draft.line l.text l.fn.draft.from l.at) after;
 }
 
 abbrev pub decreases-numbers : goal.decreases-numbers

@@ -10,4 +10,5 @@ returns-clause-goes_on c =
     let draft = c.copy_to.new.draft in
     let inside : c.args.at < length text = omega (arith, c.requires.within, c.if-at-text.false) in
     let blank : get_or text c.args.at 0 ≡ space = omega (arith, c.if-text-at-ne32.false) in
-    λ levels rest after from. blank_more levels text now.line draft.line rest after now.from draft.from c.args.at inside blank c.in_ok-copy_to.ensures.line c.in_ok-copy_to.ensures.from from
+    λ levels rest after from. blank_more levels text now.line draft.line rest after now.from draft.from c.args.at inside
+    blank c.in_ok-copy_to.ensures.line c.in_ok-copy_to.ensures.from from

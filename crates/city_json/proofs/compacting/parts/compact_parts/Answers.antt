@@ -10,5 +10,10 @@ returns c =
     let before_end : c.in_ok-at.at ≤ length text = c.in_ok-at.ensures.within in
     let inside : c.in_ok-at.at < length text = omega (arith, c.if-at-text.false) in
     let opens : get_or text c.in_ok-at.at 0 ≡ open_brace = omega (arith, c.if-text-at-ne123.false) in
-    whole_parts text _ c.in_ok-at.at c.in_ok-end.end c.in_ok-last.last _ _ _ c.members.new.parts.items (c.if-not-is_utf8.ensures.0 refl) (c.in_ok-at.ensures.is_shown ∙ nothing_shown c.begun-draft.result.line text c.begun-draft.result.from c.begun-draft.ensures.line c.begun-draft.ensures.from) c.in_ok-at.ensures.skipped (drop_one text c.in_ok-at.at open_brace inside opens)
-    (shown_one c.skip_white.new.draft.line text c.skip_white.new.draft.from c.in_ok-at.at open_brace c.in_ok-at.ensures.copied inside opens) c.in_ok-end.ensures.taken c.in_ok-last.ensures.skipped (omega arith) (c.in_ok-copy_to.ensures.line ∙ c.in_ok-last.ensures.is_shown)
+    whole_parts text _ c.in_ok-at.at c.in_ok-end.end c.in_ok-last.last _ _ _ c.members.new.parts.items
+    (c.if-not-is_utf8.ensures.0 refl) (c.in_ok-at.ensures.is_shown
+    ∙ nothing_shown c.begun-draft.result.line text c.begun-draft.result.from c.begun-draft.ensures.line
+    c.begun-draft.ensures.from) c.in_ok-at.ensures.skipped (drop_one text c.in_ok-at.at open_brace inside opens)
+    (shown_one c.skip_white.new.draft.line text c.skip_white.new.draft.from c.in_ok-at.at open_brace
+    c.in_ok-at.ensures.copied inside opens) c.in_ok-end.ensures.taken c.in_ok-last.ensures.skipped (omega arith)
+    (c.in_ok-copy_to.ensures.line ∙ c.in_ok-last.ensures.is_shown)

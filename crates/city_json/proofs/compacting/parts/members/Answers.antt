@@ -12,8 +12,10 @@ returns-then-text-i-eq125-clause-taken c =
     let before_end : c.skip-i.result ≤ length text = c.skip-i.ensures.within in
     let inside : c.skip-i.result < length text = omega (arith, c.if-i-text.false) in
     parts_none c.args.levels (drop c.args.at text) (drop (c.skip-i.result + 1) text) _ _ _ c.requires.no_parts
-    (at_mark text (drop c.args.at text) c.skip-i.result close_brace (c.skip-i.ensures.skipped inside) inside c.if-text-i-eq125.true)
-    (mark_shown c.skip-i.new.draft.line text _ c.skip-i.new.draft.from c.skip-i.result close_brace (c.skip-i.ensures.copied inside) inside c.if-text-i-eq125.true (c.skip-i.ensures.is_shown inside))
+    (at_mark text (drop c.args.at text) c.skip-i.result close_brace
+    (c.skip-i.ensures.skipped inside) inside c.if-text-i-eq125.true)
+    (mark_shown c.skip-i.new.draft.line text _ c.skip-i.new.draft.from c.skip-i.result close_brace
+    (c.skip-i.ensures.copied inside) inside c.if-text-i-eq125.true (c.skip-i.ensures.is_shown inside))
 
 pub members-init : goal.members-init
 members-init c =
@@ -24,7 +26,10 @@ members-init c =
       onward = c.skip-i.ensures.onward inside;
       within = before_end;
       copied = c.skip-i.ensures.copied inside;
-      goes_on = λ rest after listed parts from. parts_start c.args.levels (drop c.args.at text) (drop c.skip-i.result text) rest _ _ after c.skip-i.new.draft.names listed c.args.parts.now.items parts (c.skip-i.ensures.skipped inside) (c.skip-i.ensures.is_shown inside)
+      goes_on = λ rest after listed parts from.
+          parts_start c.args.levels (drop c.args.at text)
+          (drop c.skip-i.result text) rest _ _ after c.skip-i.new.draft.names listed c.args.parts.now.items parts
+          (c.skip-i.ensures.skipped inside) (c.skip-i.ensures.is_shown inside)
           (c.skip-i.ensures.names inside ∙ c.requires.none) c.requires.no_parts from;
     }
 
@@ -41,20 +46,32 @@ members-preserved c =
     let is_comma : get_or text c.skip-place.result 0 ≡ comma = omega (arith, c.if-text-place-ne44.false) in
     let so_far : c.args.at ≤ c.members.i = c.members.invariant.onward in
     let draft = c.skip-place.new.draft in
-    let same : c.skip-i-in-members.new.draft.names ≡ c.member.new.draft.names = c.skip-i-in-members.ensures.names inside₂ ∙ c.skip-place.ensures.names inside in
+    let same : c.skip-i-in-members.new.draft.names ≡ c.member.new.draft.names =
+    c.skip-i-in-members.ensures.names inside₂ ∙ c.skip-place.ensures.names inside in
     let t = c.in_ok-end.ensures.taken in
     record {
       onward = omega (arith, onward, further, so_far, behind);
       within = before_end₂;
       copied = c.skip-i-in-members.ensures.copied inside₂;
-      goes_on = λ rest after listed parts from. subst (λ l. PartsWhole c.args.levels (drop c.args.at text) rest (shown c.args.draft.now.line text c.args.draft.now.from c.args.at) after l (c.member.new.parts.items ++ parts))
-          (names_more 0 c.members.draft.names c.member.new.draft.names c.skip-i-in-members.new.draft.names t.taken.name listed (omega arith) t.taken.names_are same)
-          (subst (λ l. PartsWhole c.args.levels (drop c.args.at text) rest (shown c.args.draft.now.line text c.args.draft.now.from c.args.at) after (c.members.draft.names ++ (t.taken.name ∷ listed)) l)
+      goes_on = λ rest after listed parts from.
+          subst (λ l. PartsWhole c.args.levels (drop c.args.at text) rest
+          (shown c.args.draft.now.line text c.args.draft.now.from c.args.at) after l
+          (c.member.new.parts.items ++ parts))
+          (names_more 0 c.members.draft.names c.member.new.draft.names c.skip-i-in-members.new.draft.names t.taken.name
+          listed (omega arith) t.taken.names_are same)
+          (subst (λ l. PartsWhole c.args.levels (drop c.args.at text) rest
+          (shown c.args.draft.now.line text c.args.draft.now.from c.args.at) after
+          (c.members.draft.names ++ (t.taken.name ∷ listed)) l)
           (parts_more c.members.parts.items c.member.new.parts.items t.part parts t.parts_are)
           (c.members.invariant.goes_on rest after (t.taken.name ∷ listed) (t.part ∷ parts)
-          (parts_step c.args.levels (drop c.members.i text) (drop c.in_ok-end.end text) (drop (c.skip-place.result + 1) text) (drop c.skip-i-in-members.result text) rest _ _ _ (shown draft.line text draft.from (c.skip-place.result + 1)) _ after _ _ _ _ listed parts t
-          (at_mark text (drop c.in_ok-end.end text) c.skip-place.result comma (c.skip-place.ensures.skipped inside) inside is_comma) (c.skip-place.ensures.is_shown inside)
-          (mark_shown draft.line text _ draft.from c.skip-place.result comma (c.skip-place.ensures.copied inside) inside is_comma refl) (c.skip-i-in-members.ensures.skipped inside₂) (c.skip-i-in-members.ensures.is_shown inside₂) from)));
+          (parts_step c.args.levels (drop c.members.i text) (drop c.in_ok-end.end text)
+          (drop (c.skip-place.result + 1) text) (drop c.skip-i-in-members.result text) rest _ _ _
+          (shown draft.line text draft.from (c.skip-place.result + 1)) _ after _ _ _ _ listed parts t
+          (at_mark text (drop c.in_ok-end.end text) c.skip-place.result comma
+          (c.skip-place.ensures.skipped inside) inside is_comma) (c.skip-place.ensures.is_shown inside)
+          (mark_shown draft.line text _ draft.from c.skip-place.result comma
+          (c.skip-place.ensures.copied inside) inside is_comma refl) (c.skip-i-in-members.ensures.skipped inside₂)
+          (c.skip-i-in-members.ensures.is_shown inside₂) from)));
     }
 
 pub returns-then-text-place-eq125-clause-taken : goal.returns-then-text-place-eq125-clause-taken
@@ -65,9 +82,17 @@ returns-then-text-place-eq125-clause-taken c =
     let draft = c.skip-place.new.draft in
     let t = c.in_ok-end.ensures.taken in
     let all = c.members.invariant.goes_on _ _ (t.taken.name ∷ []) (t.part ∷ [])
-    (parts_stop c.args.levels (drop c.members.i text) (drop c.in_ok-end.end text) (drop (c.skip-place.result + 1) text) _ _ _ (shown draft.line text draft.from (c.skip-place.result + 1)) _ _ _ _ t
-    (at_mark text (drop c.in_ok-end.end text) c.skip-place.result close_brace (c.skip-place.ensures.skipped inside) inside c.if-text-place-eq125.true) (c.skip-place.ensures.is_shown inside)
-    (mark_shown draft.line text _ draft.from c.skip-place.result close_brace (c.skip-place.ensures.copied inside) inside c.if-text-place-eq125.true refl)) in
-    let listed = names_more 0 c.members.draft.names c.member.new.draft.names draft.names t.taken.name [] (omega arith) t.taken.names_are (c.skip-place.ensures.names inside) in
+    (parts_stop c.args.levels (drop c.members.i text) (drop c.in_ok-end.end text)
+    (drop (c.skip-place.result + 1) text) _ _ _
+    (shown draft.line text draft.from (c.skip-place.result + 1)) _ _ _ _ t
+    (at_mark text (drop c.in_ok-end.end text) c.skip-place.result close_brace
+    (c.skip-place.ensures.skipped inside) inside c.if-text-place-eq125.true) (c.skip-place.ensures.is_shown inside)
+    (mark_shown draft.line text _ draft.from c.skip-place.result close_brace
+    (c.skip-place.ensures.copied inside) inside c.if-text-place-eq125.true refl)) in
+    let listed = names_more 0 c.members.draft.names c.member.new.draft.names draft.names t.taken.name []
+    (omega arith) t.taken.names_are (c.skip-place.ensures.names inside) in
     let all_listed = all.names_are ∙ (listed ∙ append-nil draft.names) in
-    subst (λ l. TakenParts c.args.levels (drop c.args.at text) (drop (c.skip-place.result + 1) text) (shown c.args.draft.now.line text c.args.draft.now.from c.args.at) (shown draft.line text draft.from (c.skip-place.result + 1)) l) (sym t.parts_are) (all.whole (c.are_apart_from.ensures c.if-not-are_apart_from.false all.members all_listed))
+    subst (λ l. TakenParts c.args.levels (drop c.args.at text) (drop (c.skip-place.result + 1) text)
+    (shown c.args.draft.now.line text c.args.draft.now.from c.args.at)
+    (shown draft.line text draft.from (c.skip-place.result + 1)) l) (sym t.parts_are)
+    (all.whole (c.are_apart_from.ensures c.if-not-are_apart_from.false all.members all_listed))

@@ -7,10 +7,14 @@ pub returns-then-text-at-eq48-clause-is : goal.returns-then-text-at-eq48-clause-
 returns-then-text-at-eq48-clause-is c = λ some. zero_is c.args.text.now c.args.at (omega arith) c.if-text-at-eq48.true
 
 pub returns-clause-is : goal.returns-clause-is
-returns-clause-is c = digits_are c.args.text.now c.args.at c.digits_end.result (omega arith) c.if-text-at-eq48.false c.digits_end.ensures.onward c.digits_end.ensures.within c.digits_end.ensures.passed
+returns-clause-is c = digits_are c.args.text.now c.args.at c.digits_end.result
+    (omega arith) c.if-text-at-eq48.false c.digits_end.ensures.onward c.digits_end.ensures.within
+    c.digits_end.ensures.passed
 
 pub returns-then-text-at-eq48-clause-clear : goal.returns-then-text-at-eq48-clause-clear
-returns-then-text-at-eq48-clause-clear c = λ some. zero_clear c.args.text.now c.args.at (omega arith) c.if-text-at-eq48.true
+returns-then-text-at-eq48-clause-clear c =
+    λ some. zero_clear c.args.text.now c.args.at (omega arith) c.if-text-at-eq48.true
 
 pub returns-clause-clear : goal.returns-clause-clear
-returns-clause-clear c = digits_clear c.args.text.now c.args.at c.digits_end.result (omega arith) c.digits_end.ensures.onward c.digits_end.ensures.within c.digits_end.ensures.passed
+returns-clause-clear c = digits_clear c.args.text.now c.args.at c.digits_end.result
+    (omega arith) c.digits_end.ensures.onward c.digits_end.ensures.within c.digits_end.ensures.passed

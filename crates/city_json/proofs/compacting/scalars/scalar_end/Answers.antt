@@ -5,7 +5,9 @@ pub returns-in-110-clause-is : goal.returns-in-110-clause-is
 returns-in-110-clause-is c = if_some _ _ c.word_end.result (null_is c.args.text.now c.args.at) c.word_end.ensures.is
 
 pub returns-in-116-clause-is : goal.returns-in-116-clause-is
-returns-in-116-clause-is c = if_some _ _ c.word_end-in-116.result (true_is c.args.text.now c.args.at) c.word_end-in-116.ensures.is
+returns-in-116-clause-is c = if_some _ _ c.word_end-in-116.result
+    (true_is c.args.text.now c.args.at) c.word_end-in-116.ensures.is
 
 pub returns-in-102-clause-is : goal.returns-in-102-clause-is
-returns-in-102-clause-is c = if_some _ _ c.word_end-in-102.result (false_is c.args.text.now c.args.at) c.word_end-in-102.ensures.is
+returns-in-102-clause-is c = if_some _ _ c.word_end-in-102.result
+    (false_is c.args.text.now c.args.at) c.word_end-in-102.ensures.is

@@ -3,4 +3,6 @@ use Rattle.city_json.proofs.compacting.strings.name.Goals as goal
 
 pub returns-in_ok-push-in-Some-clause-taken : goal.returns-in_ok-push-in-Some-clause-taken
 returns-in_ok-push-in-Some-clause-taken c =
-    name_taken _ _ _ _ _ _ _ (plain_taken c.args.text.now c.args.draft.now.line c.args.draft.now.from c.args.at c.in-Some.close c.requires.copied c.requires.within c.requires.opened c.in-Some.ensures.onward c.in-Some.ensures.within c.in-Some.ensures.plain) c.in_ok-push-in-Some.ensures
+    name_taken _ _ _ _ _ _ _ (plain_taken c.args.text.now c.args.draft.now.line c.args.draft.now.from c.args.at
+    c.in-Some.close c.requires.copied c.requires.within c.requires.opened c.in-Some.ensures.onward
+    c.in-Some.ensures.within c.in-Some.ensures.plain) c.in_ok-push-in-Some.ensures

@@ -14,7 +14,13 @@ returns-clause-taken c =
     let start_end : c.skip-start.result ≤ length text = c.skip-start.ensures.within in
     let start_inside : c.skip-start.result < length text = omega (arith, c.if-start-text.false) in
     let draft = c.skip-colon.new.draft in
-    start_taken (drop c.args.at text) (drop c.in_ok-end.end text) (drop (c.skip-colon.result + 1) text) (drop c.skip-start.result text) _ _ (shown draft.line text draft.from c.skip-colon.result) (shown draft.line text draft.from (c.skip-colon.result + 1)) _ c.args.draft.now.names c.name.new.draft.names c.skip-start.new.draft.names
-    c.in_ok-end.ensures.taken (at_mark text (drop c.in_ok-end.end text) c.skip-colon.result colon (c.skip-colon.ensures.skipped colon_inside) colon_inside is_colon) (c.skip-colon.ensures.is_shown colon_inside)
-    (mark_shown draft.line text _ draft.from c.skip-colon.result colon (c.skip-colon.ensures.copied colon_inside) colon_inside is_colon refl)
-    (c.skip-start.ensures.skipped start_inside) (c.skip-start.ensures.is_shown start_inside) (c.skip-start.ensures.names start_inside ∙ c.skip-colon.ensures.names colon_inside)
+    start_taken (drop c.args.at text) (drop c.in_ok-end.end text) (drop (c.skip-colon.result + 1) text)
+    (drop c.skip-start.result text) _ _ (shown draft.line text draft.from c.skip-colon.result)
+    (shown draft.line text draft.from (c.skip-colon.result + 1)) _ c.args.draft.now.names c.name.new.draft.names
+    c.skip-start.new.draft.names
+    c.in_ok-end.ensures.taken (at_mark text (drop c.in_ok-end.end text) c.skip-colon.result colon
+    (c.skip-colon.ensures.skipped colon_inside) colon_inside is_colon) (c.skip-colon.ensures.is_shown colon_inside)
+    (mark_shown draft.line text _ draft.from c.skip-colon.result colon
+    (c.skip-colon.ensures.copied colon_inside) colon_inside is_colon refl)
+    (c.skip-start.ensures.skipped start_inside) (c.skip-start.ensures.is_shown start_inside)
+    (c.skip-start.ensures.names start_inside ∙ c.skip-colon.ensures.names colon_inside)

@@ -9,7 +9,8 @@ invariant-pieces l = record {
   within : l.i ≤ length l.text;
   copied : l.draft.from ≤ l.i;
   names : l.draft.names ≡ l.fn.draft.names;
-  taken : TakenPieces (drop (l.at + 1) l.text) (drop l.i l.text) (shown l.fn.draft.line l.text l.fn.draft.from (l.at + 1)) (shown l.draft.line l.text l.draft.from l.i);
+  taken : TakenPieces (drop (l.at + 1) l.text) (drop l.i l.text)
+      (shown l.fn.draft.line l.text l.fn.draft.from (l.at + 1)) (shown l.draft.line l.text l.draft.from l.i);
 }
 
 abbrev pub decreases-pieces : goal.decreases-pieces

@@ -12,7 +12,9 @@ use Rattle.city_json.proofs.compacting.values.+value.Goals as goal
 
 pub array-returns-then-at-whole-clause-taken : goal.array-returns-then-at-whole-clause-taken
 array-returns-then-at-whole-clause-taken t c =
-    whole_taken c.args.levels c.args.draft.now.line c.args.text.now c.args.draft.now.from c.args.at c.whole_from-whole.result c.requires.copied c.if-at-whole.true (c.whole_from-whole.ensures.is c.if-at-whole.true)
+    whole_taken c.args.levels c.args.draft.now.line c.args.text.now c.args.draft.now.from c.args.at
+    c.whole_from-whole.result c.requires.copied c.if-at-whole.true
+    (c.whole_from-whole.ensures.is c.if-at-whole.true)
 
 pub array-returns-then-text-first-eq93-clause-taken : goal.array-returns-then-text-first-eq93-clause-taken
 array-returns-then-text-first-eq93-clause-taken t c =
@@ -20,19 +22,25 @@ array-returns-then-text-first-eq93-clause-taken t c =
     let before_end : c.skip-first.result ≤ length text = c.skip-first.ensures.within in
     let inside : c.skip-first.result < length text = omega (arith, c.if-first-text.false) in
     items_none c.args.levels (drop c.args.at text) (drop (c.skip-first.result + 1) text) _ _
-    (at_mark text (drop c.args.at text) c.skip-first.result close_bracket (c.skip-first.ensures.skipped inside) inside c.if-text-first-eq93.true)
-    (mark_shown c.skip-first.new.draft.line text _ c.skip-first.new.draft.from c.skip-first.result close_bracket (c.skip-first.ensures.copied inside) inside c.if-text-first-eq93.true (c.skip-first.ensures.is_shown inside))
+    (at_mark text (drop c.args.at text) c.skip-first.result close_bracket
+    (c.skip-first.ensures.skipped inside) inside c.if-text-first-eq93.true)
+    (mark_shown c.skip-first.new.draft.line text _ c.skip-first.new.draft.from c.skip-first.result close_bracket
+    (c.skip-first.ensures.copied inside) inside c.if-text-first-eq93.true (c.skip-first.ensures.is_shown inside))
 
 pub array-returns-clause-taken : goal.array-returns-clause-taken
 array-returns-clause-taken t c =
     let text = c.args.text.now in
     let before_end : c.skip-first.result ≤ length text = c.skip-first.ensures.within in
     let inside : c.skip-first.result < length text = omega (arith, c.if-first-text.false) in
-    if_some _ _ c.items.result (λ end from. items_start c.args.levels (drop c.args.at text) (drop c.skip-first.result text) (drop end text) _ _ _ (c.skip-first.ensures.skipped inside) (c.skip-first.ensures.is_shown inside) from) c.items.ensures.taken
+    if_some _ _ c.items.result (λ end from.
+    items_start c.args.levels (drop c.args.at text) (drop c.skip-first.result text) (drop end text) _ _ _
+    (c.skip-first.ensures.skipped inside) (c.skip-first.ensures.is_shown inside) from) c.items.ensures.taken
 
 pub member-returns-clause-taken : goal.member-returns-clause-taken
 member-returns-clause-taken t c =
-    member_taken c.args.levels (drop c.args.at c.args.text.now) (drop c.in_ok-start.start c.args.text.now) (drop c.in_ok-end.end c.args.text.now) _ _ _ c.args.draft.now.names c.name_and_colon.new.draft.names c.member_value.new.draft.names
+    member_taken c.args.levels (drop c.args.at c.args.text.now) (drop c.in_ok-start.start c.args.text.now)
+    (drop c.in_ok-end.end c.args.text.now) _ _ _ c.args.draft.now.names c.name_and_colon.new.draft.names
+    c.member_value.new.draft.names
     c.in_ok-start.ensures.taken c.in_ok-end.ensures.taken c.in_ok-end.ensures.names
 
 pub value-returns-else-levels-eq0-clause-taken : goal.value-returns-else-levels-eq0-clause-taken
@@ -40,20 +48,27 @@ value-returns-else-levels-eq0-clause-taken t c =
     let text = c.args.text.now in
     let at_end : c.args.at ≤ length text = c.requires.within in
     let inside : c.args.at < length text = omega (arith, c.if-at-text.false) in
-    if_some _ _ c.array.result (λ end taken. array_taken c.args.levels (drop c.args.at text) (drop (c.args.at + 1) text) (drop end text) _ _ _ c.if-levels-eq0.false (drop_one text c.args.at open_bracket inside c.in-91.is)
-    (shown_one c.args.draft.now.line text c.args.draft.now.from c.args.at open_bracket c.requires.copied inside c.in-91.is) taken) c.array.ensures.taken
+    if_some _ _ c.array.result (λ end taken. array_taken c.args.levels (drop c.args.at text) (drop (c.args.at + 1) text)
+    (drop end text) _ _ _ c.if-levels-eq0.false (drop_one text c.args.at open_bracket inside c.in-91.is)
+    (shown_one c.args.draft.now.line text c.args.draft.now.from c.args.at open_bracket c.requires.copied inside
+    c.in-91.is) taken) c.array.ensures.taken
 
 pub value-returns-else-levels-eq0-2-clause-taken : goal.value-returns-else-levels-eq0-2-clause-taken
 value-returns-else-levels-eq0-2-clause-taken t c =
     let text = c.args.text.now in
     let at_end : c.args.at ≤ length text = c.requires.within in
     let inside : c.args.at < length text = omega (arith, c.if-at-text.false) in
-    if_some _ _ c.object.result (λ end taken. object_taken c.args.levels (drop c.args.at text) (drop (c.args.at + 1) text) (drop end text) _ _ _ c.if-levels-eq0-2.false (drop_one text c.args.at open_brace inside c.in-123.is)
-    (shown_one c.args.draft.now.line text c.args.draft.now.from c.args.at open_brace c.requires.copied inside c.in-123.is) taken) c.object.ensures.taken
+    if_some _ _ c.object.result (λ end taken.
+    object_taken c.args.levels (drop c.args.at text) (drop (c.args.at + 1) text)
+    (drop end text) _ _ _ c.if-levels-eq0-2.false (drop_one text c.args.at open_brace inside c.in-123.is)
+    (shown_one c.args.draft.now.line text c.args.draft.now.from c.args.at open_brace c.requires.copied inside
+    c.in-123.is) taken) c.object.ensures.taken
 
 pub value-returns-in_default-clause-taken : goal.value-returns-in_default-clause-taken
 value-returns-in_default-clause-taken t c =
-    if_some_both _ _ _ c.scalar_end.result (λ end onward is. scalar_taken c.args.levels c.args.draft.now.line c.args.text.now c.args.draft.now.from c.args.at end c.requires.copied onward is) c.scalar_end.ensures.onward c.scalar_end.ensures.is
+    if_some_both _ _ _ c.scalar_end.result
+    (λ end onward is. scalar_taken c.args.levels c.args.draft.now.line c.args.text.now c.args.draft.now.from
+    c.args.at end c.requires.copied onward is) c.scalar_end.ensures.onward c.scalar_end.ensures.is
 
 pub object-returns-then-text-i-eq125-clause-taken : goal.object-returns-then-text-i-eq125-clause-taken
 object-returns-then-text-i-eq125-clause-taken t c =
@@ -61,8 +76,10 @@ object-returns-then-text-i-eq125-clause-taken t c =
     let before_end : c.skip-i.result ≤ length text = c.skip-i.ensures.within in
     let inside : c.skip-i.result < length text = omega (arith, c.if-i-text.false) in
     members_none c.args.levels (drop c.args.at text) (drop (c.skip-i.result + 1) text) _ _
-    (at_mark text (drop c.args.at text) c.skip-i.result close_brace (c.skip-i.ensures.skipped inside) inside c.if-text-i-eq125.true)
-    (mark_shown c.skip-i.new.draft.line text _ c.skip-i.new.draft.from c.skip-i.result close_brace (c.skip-i.ensures.copied inside) inside c.if-text-i-eq125.true (c.skip-i.ensures.is_shown inside))
+    (at_mark text (drop c.args.at text) c.skip-i.result close_brace
+    (c.skip-i.ensures.skipped inside) inside c.if-text-i-eq125.true)
+    (mark_shown c.skip-i.new.draft.line text _ c.skip-i.new.draft.from c.skip-i.result close_brace
+    (c.skip-i.ensures.copied inside) inside c.if-text-i-eq125.true (c.skip-i.ensures.is_shown inside))
 
 pub object-members-init : goal.object-members-init
 object-members-init t c =
@@ -78,7 +95,10 @@ object-members-init t c =
       copied = (c.skip-i.ensures.copied inside);
       few = omega (arith, count, long);
       names = take_all c.len-base.result c.skip-i.new.draft.names (omega (arith, count, long)) ∙ same;
-      goes_on = λ rest after listed from. members_start c.args.levels (drop c.args.at text) (drop c.skip-i.result text) rest _ _ after (drop c.len-base.result c.skip-i.new.draft.names) listed (c.skip-i.ensures.skipped inside) (c.skip-i.ensures.is_shown inside)
+      goes_on = λ rest after listed from.
+          members_start c.args.levels (drop c.args.at text) (drop c.skip-i.result text) rest _ _ after
+          (drop c.len-base.result c.skip-i.new.draft.names) listed (c.skip-i.ensures.skipped inside)
+          (c.skip-i.ensures.is_shown inside)
           (drop_all c.len-base.result c.skip-i.new.draft.names (omega (arith, count, long))) from;
     }
 
@@ -94,24 +114,36 @@ object-members-preserved t c =
     let behind : c.skip-place.result + 1 ≤ c.skip-i-in-members.result = (c.skip-i-in-members.ensures.onward inside₂) in
     let is_comma : get_or text c.skip-place.result 0 ≡ comma = omega arith in
     let draft = c.skip-place.new.draft in
-    let same : c.skip-i-in-members.new.draft.names ≡ c.member.new.draft.names = (c.skip-i-in-members.ensures.names inside₂) ∙ (c.skip-place.ensures.names inside) in
+    let same : c.skip-i-in-members.new.draft.names ≡ c.member.new.draft.names =
+    (c.skip-i-in-members.ensures.names inside₂) ∙ (c.skip-place.ensures.names inside) in
     let one = c.members.draft.names in
     let taken = c.in_ok-end.ensures.taken in
     let few : c.len-base.result ≤ length one = c.members.invariant.few in
-    let grown : length c.member.new.draft.names ≡ length one + 1 = ap length taken.names_are ∙ length_push one taken.name in
+    let grown : length c.member.new.draft.names ≡ length one + 1 = ap length taken.names_are
+    ∙ length_push one taken.name in
     let long : length c.skip-i-in-members.new.draft.names ≡ length c.member.new.draft.names = ap length same in
     record {
       onward = omega (arith, onward, further, c.members.invariant.onward, behind);
       within = c.skip-i-in-members.ensures.within;
       copied = (c.skip-i-in-members.ensures.copied inside₂);
       few = omega (arith, few, grown, long);
-      names = names_kept c.len-base.result one c.member.new.draft.names c.skip-i-in-members.new.draft.names taken.name few taken.names_are same ∙ c.members.invariant.names;
-      goes_on = λ rest after listed from. subst (λ l. MembersWhole c.args.levels (drop c.args.at text) rest (shown c.args.draft.now.line text c.args.draft.now.from c.args.at) after l)
-          (names_more c.len-base.result one c.member.new.draft.names c.skip-i-in-members.new.draft.names taken.name listed few taken.names_are same)
+      names = names_kept c.len-base.result one c.member.new.draft.names c.skip-i-in-members.new.draft.names taken.name
+          few taken.names_are same ∙ c.members.invariant.names;
+      goes_on = λ rest after listed from.
+          subst (λ l. MembersWhole c.args.levels (drop c.args.at text) rest
+          (shown c.args.draft.now.line text c.args.draft.now.from c.args.at) after l)
+          (names_more c.len-base.result one c.member.new.draft.names c.skip-i-in-members.new.draft.names taken.name
+          listed few taken.names_are same)
           (c.members.invariant.goes_on rest after (taken.name ∷ listed)
-          (members_step c.args.levels (drop c.members.i text) (drop c.in_ok-end.end text) (drop (c.skip-place.result + 1) text) (drop c.skip-i-in-members.result text) rest _ _ _ (shown draft.line text draft.from (c.skip-place.result + 1)) _ after one c.member.new.draft.names listed taken
-          (at_mark text (drop c.in_ok-end.end text) c.skip-place.result comma (c.skip-place.ensures.skipped inside) inside is_comma) (c.skip-place.ensures.is_shown inside)
-          (mark_shown draft.line text _ draft.from c.skip-place.result comma (c.skip-place.ensures.copied inside) inside is_comma refl) (c.skip-i-in-members.ensures.skipped inside₂) (c.skip-i-in-members.ensures.is_shown inside₂) from));
+          (members_step c.args.levels (drop c.members.i text) (drop c.in_ok-end.end text)
+          (drop (c.skip-place.result + 1) text) (drop c.skip-i-in-members.result text) rest _ _ _
+          (shown draft.line text draft.from (c.skip-place.result + 1)) _ after one c.member.new.draft.names listed
+          taken
+          (at_mark text (drop c.in_ok-end.end text) c.skip-place.result comma
+          (c.skip-place.ensures.skipped inside) inside is_comma) (c.skip-place.ensures.is_shown inside)
+          (mark_shown draft.line text _ draft.from c.skip-place.result comma
+          (c.skip-place.ensures.copied inside) inside is_comma refl) (c.skip-i-in-members.ensures.skipped inside₂)
+          (c.skip-i-in-members.ensures.is_shown inside₂) from));
     }
 
 pub object-returns-then-text-place-eq125-clause-taken : goal.object-returns-then-text-place-eq125-clause-taken
@@ -124,15 +156,22 @@ object-returns-then-text-place-eq125-clause-taken t c =
     let taken = c.in_ok-end.ensures.taken in
     let few : c.len-base.result ≤ length one = c.members.invariant.few in
     let all = c.members.invariant.goes_on _ _ (taken.name ∷ [])
-    (members_stop c.args.levels (drop c.members.i text) (drop c.in_ok-end.end text) (drop (c.skip-place.result + 1) text) _ _ _ (shown draft.line text draft.from (c.skip-place.result + 1)) one c.member.new.draft.names taken
-    (at_mark text (drop c.in_ok-end.end text) c.skip-place.result close_brace (c.skip-place.ensures.skipped inside) inside c.if-text-place-eq125.true) (c.skip-place.ensures.is_shown inside)
-    (mark_shown draft.line text _ draft.from c.skip-place.result close_brace (c.skip-place.ensures.copied inside) inside c.if-text-place-eq125.true refl)) in
-    let listed = names_more c.len-base.result one c.member.new.draft.names draft.names taken.name [] few taken.names_are (c.skip-place.ensures.names inside) in
-    all.whole (c.are_apart_from.ensures c.if-not-are_apart_from.false all.members (all.names_are ∙ (listed ∙ append-nil (drop c.len-base.result draft.names))))
+    (members_stop c.args.levels (drop c.members.i text) (drop c.in_ok-end.end text)
+    (drop (c.skip-place.result + 1) text) _ _ _
+    (shown draft.line text draft.from (c.skip-place.result + 1)) one c.member.new.draft.names taken
+    (at_mark text (drop c.in_ok-end.end text) c.skip-place.result close_brace
+    (c.skip-place.ensures.skipped inside) inside c.if-text-place-eq125.true) (c.skip-place.ensures.is_shown inside)
+    (mark_shown draft.line text _ draft.from c.skip-place.result close_brace
+    (c.skip-place.ensures.copied inside) inside c.if-text-place-eq125.true refl)) in
+    let listed = names_more c.len-base.result one c.member.new.draft.names draft.names taken.name [] few taken.names_are
+    (c.skip-place.ensures.names inside) in
+    all.whole (c.are_apart_from.ensures c.if-not-are_apart_from.false all.members (all.names_are
+    ∙ (listed ∙ append-nil (drop c.len-base.result draft.names))))
 
 pub member_value-returns-then-may_end-clause-taken : goal.member_value-returns-then-may_end-clause-taken
 member_value-returns-then-may_end-clause-taken t c =
-    scalar_taken c.args.levels c.args.draft.now.line c.args.text.now c.args.draft.now.from c.args.at c.integer_end-end.result c.requires.copied c.if-at-end.true (c.integer_end-end.ensures.is c.if-at-end.true)
+    scalar_taken c.args.levels c.args.draft.now.line c.args.text.now c.args.draft.now.from c.args.at
+    c.integer_end-end.result c.requires.copied c.if-at-end.true (c.integer_end-end.ensures.is c.if-at-end.true)
 
 pub items-items-init : goal.items-items-init
 items-items-init t c = record {
@@ -142,12 +181,14 @@ items-items-init t c = record {
   names = refl;
   some = omega arith;
   few = omega arith;
-  goes_on = λ rest after all. one_open c.args.levels (drop c.args.at c.args.text.now) rest (shown c.args.draft.now.line c.args.text.now c.args.draft.now.from c.args.at) after all;
+  goes_on = λ rest after all. one_open c.args.levels (drop c.args.at c.args.text.now) rest
+      (shown c.args.draft.now.line c.args.text.now c.args.draft.now.from c.args.at) after all;
 }
 
 pub items-returns-then-next-eq0-clause-taken : goal.items-returns-then-next-eq0-clause-taken
 items-returns-then-next-eq0-clause-taken t c =
-    c.items.invariant.goes_on _ _ (c.in_ok-next.ensures.goes_on _ _ (all_taken c.in_ok-next.next.depth (c.args.levels + 1) _ _ c.if-next-eq0.true))
+    c.items.invariant.goes_on _ _ (c.in_ok-next.ensures.goes_on _ _
+    (all_taken c.in_ok-next.next.depth (c.args.levels + 1) _ _ c.if-next-eq0.true))
 
 pub items-items-preserved : goal.items-items-preserved
 items-items-preserved t c =
@@ -160,7 +201,8 @@ items-items-preserved t c =
       names = c.in_ok-next.ensures.names ∙ c.items.invariant.names;
       some = omega (arith, c.if-next-eq0.false);
       few = c.in_ok-next.ensures.few;
-      goes_on = λ rest after further. c.items.invariant.goes_on rest after (c.in_ok-next.ensures.goes_on rest after further);
+      goes_on = λ rest after further.
+          c.items.invariant.goes_on rest after (c.in_ok-next.ensures.goes_on rest after further);
     }
 
 pub next_item-returns-then-run-clause-goes_on : goal.next_item-returns-then-run-clause-goes_on
@@ -173,8 +215,13 @@ next_item-returns-then-run-clause-goes_on t c =
     let begun = c.skip-start.new.draft in
     let run = c.in_ok-run.run' in
     let now = c.numbers.new.draft in
-    if_some _ _ c.after_item.result (λ next goes_on rest after further. next_skip c.args.depth total (drop c.args.at text) (drop start text) rest _ (shown begun.line text begun.from start) after c.requires.some (c.skip-start.ensures.skipped inside) (c.skip-start.ensures.is_shown inside)
-    (next_closed c.args.depth total (drop start text) (drop run.at text) rest (shown begun.line text begun.from start) (shown now.line text now.from run.at) after c.requires.some (c.in_ok-run.ensures.closes c.if-run.true) (goes_on total rest after further))) c.after_item.ensures.goes_on
+    if_some _ _ c.after_item.result
+    (λ next goes_on rest after further. next_skip c.args.depth total (drop c.args.at text) (drop start text) rest _
+    (shown begun.line text begun.from start) after c.requires.some (c.skip-start.ensures.skipped inside)
+    (c.skip-start.ensures.is_shown inside)
+    (next_closed c.args.depth total (drop start text) (drop run.at text) rest (shown begun.line text begun.from start)
+    (shown now.line text now.from run.at) after c.requires.some (c.in_ok-run.ensures.closes c.if-run.true)
+    (goes_on total rest after further))) c.after_item.ensures.goes_on
 
 pub next_item-returns-then-opens_array-clause-goes_on : goal.next_item-returns-then-opens_array-clause-goes_on
 next_item-returns-then-opens_array-clause-goes_on t c =
@@ -192,10 +239,16 @@ next_item-returns-then-opens_array-clause-goes_on t c =
     let draft = c.skip-item.new.draft in
     let opens : get_or text item 0 ≡ open_bracket = c.opens_array.ensures c.if-opens_array.true in
     let room : c.args.depth < total = omega (arith, c.if-depth-levels.true) in
-    λ rest after further. next_skip c.args.depth total (drop c.args.at text) (drop start text) rest _ (shown begun.line text begun.from start) after c.requires.some (c.skip-start.ensures.skipped inside) (c.skip-start.ensures.is_shown inside)
-    (next_run c.args.depth total (drop start text) (drop run.at text) rest (shown begun.line text begun.from start) (shown now.line text now.from run.at) after c.requires.some (c.in_ok-run.ensures.goes_on c.if-run.false)
-    (next_array c.args.depth total (drop run.at text) (drop item text) (drop (item + 1) text) rest (shown now.line text now.from run.at) (shown draft.line text draft.from (item + 1)) after c.requires.some room (c.skip-item.ensures.skipped inside₂) (drop_one text item open_bracket inside₂ opens)
-    (mark_shown draft.line text (shown now.line text now.from run.at) draft.from item open_bracket (c.skip-item.ensures.copied inside₂) inside₂ opens (c.skip-item.ensures.is_shown inside₂)) further))
+    λ rest after further. next_skip c.args.depth total (drop c.args.at text) (drop start text) rest _
+    (shown begun.line text begun.from start) after c.requires.some (c.skip-start.ensures.skipped inside)
+    (c.skip-start.ensures.is_shown inside)
+    (next_run c.args.depth total (drop start text) (drop run.at text) rest (shown begun.line text begun.from start)
+    (shown now.line text now.from run.at) after c.requires.some (c.in_ok-run.ensures.goes_on c.if-run.false)
+    (next_array c.args.depth total (drop run.at text) (drop item text) (drop (item + 1) text) rest
+    (shown now.line text now.from run.at) (shown draft.line text draft.from (item + 1)) after c.requires.some room
+    (c.skip-item.ensures.skipped inside₂) (drop_one text item open_bracket inside₂ opens)
+    (mark_shown draft.line text (shown now.line text now.from run.at) draft.from item open_bracket
+    (c.skip-item.ensures.copied inside₂) inside₂ opens (c.skip-item.ensures.is_shown inside₂)) further))
 
 pub next_item-returns-clause-goes_on : goal.next_item-returns-clause-goes_on
 next_item-returns-clause-goes_on t c =
@@ -215,7 +268,16 @@ next_item-returns-clause-goes_on t c =
     let ended = c.value.new.draft in
     let some : 0 < c.args.depth = c.requires.some in
     let room : c.args.levels - (c.args.depth - 1) ≡ total - c.args.depth = omega (arith, some) in
-    let taken = subst (λ n. Taken n (drop item text) (drop end text) (shown draft.line text draft.from item) (shown ended.line text ended.from end)) room c.in_ok-end.ensures.taken in
-    if_some _ _ c.after_item-2.result (λ next goes_on rest after further. next_skip c.args.depth total (drop c.args.at text) (drop start text) rest _ (shown begun.line text begun.from start) after c.requires.some (c.skip-start.ensures.skipped inside) (c.skip-start.ensures.is_shown inside)
-    (next_run c.args.depth total (drop start text) (drop run.at text) rest (shown begun.line text begun.from start) (shown now.line text now.from run.at) after c.requires.some (c.in_ok-run.ensures.goes_on c.if-run.false)
-    (next_value c.args.depth total (drop run.at text) (drop item text) (drop end text) rest (shown now.line text now.from run.at) (shown draft.line text draft.from item) (shown ended.line text ended.from end) after some (c.skip-item.ensures.skipped inside₂) (c.skip-item.ensures.is_shown inside₂) taken (goes_on total rest after further)))) c.after_item-2.ensures.goes_on
+    let taken = subst (λ n. Taken n (drop item text) (drop end text) (shown draft.line text draft.from item)
+    (shown ended.line text ended.from end)) room c.in_ok-end.ensures.taken in
+    if_some _ _ c.after_item-2.result
+    (λ next goes_on rest after further. next_skip c.args.depth total (drop c.args.at text) (drop start text) rest _
+    (shown begun.line text begun.from start) after c.requires.some (c.skip-start.ensures.skipped inside)
+    (c.skip-start.ensures.is_shown inside)
+    (next_run c.args.depth total (drop start text) (drop run.at text) rest (shown begun.line text begun.from start)
+    (shown now.line text now.from run.at) after c.requires.some (c.in_ok-run.ensures.goes_on c.if-run.false)
+    (next_value c.args.depth total (drop run.at text) (drop item text) (drop end text) rest
+    (shown now.line text now.from run.at) (shown draft.line text draft.from item)
+    (shown ended.line text ended.from end) after some (c.skip-item.ensures.skipped inside₂)
+    (c.skip-item.ensures.is_shown inside₂) taken (goes_on total rest after further))))
+    c.after_item-2.ensures.goes_on

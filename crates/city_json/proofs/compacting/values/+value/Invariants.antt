@@ -34,8 +34,10 @@ invariant-items-items l = record {
   names : l.draft.names ≡ l.fn.draft.names;
   some : 0 < l.depth;
   few : l.depth ≤ l.levels + 1;
-  goes_on : (rest after : List ℕ) → ItemIsNext l.depth (l.levels + 1) (drop l.i l.text) rest (shown l.draft.line l.text l.draft.from l.i) after
-      → ItemsFrom l.levels (after_white (drop l.at l.text)) rest (shown l.fn.draft.line l.text l.fn.draft.from l.at) after;
+  goes_on : (rest after : List ℕ)
+      → ItemIsNext l.depth (l.levels + 1) (drop l.i l.text) rest (shown l.draft.line l.text l.draft.from l.i) after
+      → ItemsFrom l.levels (after_white (drop l.at l.text)) rest
+      (shown l.fn.draft.line l.text l.fn.draft.from l.at) after;
 }
 
 abbrev pub decreases-items-items : goal.decreases-items-items
@@ -48,8 +50,10 @@ invariant-object-members l = record {
   copied : l.draft.from ≤ l.i;
   few : l.base ≤ length l.draft.names;
   names : take l.base l.draft.names ≡ l.fn.draft.names;
-  goes_on : (rest after : List ℕ) (listed : List (List ℕ)) → MembersFrom l.levels (drop l.i l.text) rest (shown l.draft.line l.text l.draft.from l.i) after listed
-      → MembersWhole l.levels (drop l.at l.text) rest (shown l.fn.draft.line l.text l.fn.draft.from l.at) after (drop l.base l.draft.names ++ listed);
+  goes_on : (rest after : List ℕ) (listed : List (List ℕ))
+      → MembersFrom l.levels (drop l.i l.text) rest (shown l.draft.line l.text l.draft.from l.i) after listed
+      → MembersWhole l.levels (drop l.at l.text) rest (shown l.fn.draft.line l.text l.fn.draft.from l.at) after
+      (drop l.base l.draft.names ++ listed);
 }
 
 abbrev pub decreases-object-members : goal.decreases-object-members

@@ -8,4 +8,6 @@ returns-clause-closes c = λ more.
     let text = c.args.text.now in
     let at = c.args.at in
     let len = c.closing_len.result in
-    subst (Closes c.args.from.depth c.args.from.room (stage_of (get_or text (at - 1) 0) c.args.from.zeroed)) (front_of_chunk text at len (omega (arith, c.if-text-at-lt64.false, c.requires.within)) c.closing_len.ensures.within) (c.closing_len.ensures.closes (omega (arith, more)))
+    subst (Closes c.args.from.depth c.args.from.room (stage_of (get_or text (at - 1) 0) c.args.from.zeroed))
+    (front_of_chunk text at len (omega (arith, c.if-text-at-lt64.false, c.requires.within))
+    c.closing_len.ensures.within) (c.closing_len.ensures.closes (omega (arith, more)))

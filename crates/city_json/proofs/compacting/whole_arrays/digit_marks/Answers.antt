@@ -1,4 +1,4 @@
-use Rattle.city_json.proofs.WholeArrays.{digit_marks_are}
+use Rattle.city_json.proofs.WholeMasks.{digit_marks_are}
 use Rattle.city_json.proofs.compacting.whole_arrays.digit_marks.Goals as goal
 
 pub returns : goal.returns

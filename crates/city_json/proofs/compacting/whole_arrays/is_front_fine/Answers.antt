@@ -1,11 +1,13 @@
 use Rattle.city_json.proofs.ArrayEnds.{front_fine}
-use Rattle.city_json.proofs.WholeArrays.{lag_as}
+use Rattle.city_json.proofs.WholeMasks.{lag_as}
 use Rattle.city_json.proofs.compacting.whole_arrays.is_front_fine.Goals as goal
 
 pub returns : goal.returns
 returns c = λ _.
     let marks = c.args.marks in
-    front_fine c.args.before c.args.zeroed c.args.block c.fits-block.0 marks.digits marks.commas marks.opens marks.closes c.marks_of.result c.lag.result c.lag-2.result c.lag-3.result c.lag-4.result c.lag-5.result c.lag-6.result
+    front_fine c.args.before c.args.zeroed c.args.block c.fits-block.0 marks.digits marks.commas marks.opens
+    marks.closes c.marks_of.result c.lag.result c.lag-2.result c.lag-3.result c.lag-4.result c.lag-5.result
+    c.lag-6.result
     c.requires.digits c.requires.commas c.requires.opens c.requires.closes c.marks_of.ensures
     (lag_as _ _ _ _ c.leads_item.ensures c.lag.ensures)
     c.args.len c.requires.few

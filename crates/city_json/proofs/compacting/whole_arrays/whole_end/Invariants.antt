@@ -9,7 +9,8 @@ invariant-bytes l = record {
   depth : 0 < l.place.depth;
   sum : l.place.depth + l.place.room ≡ 1 + l.levels;
   placed : is_place (get_or l.text (l.i - 1) 0) ≡ true;
-  goes_on : (further : List ℕ) → Closes l.place.depth l.place.room (stage_of (get_or l.text (l.i - 1) 0) l.place.zeroed) further
+  goes_on : (further : List ℕ) → Closes l.place.depth l.place.room
+      (stage_of (get_or l.text (l.i - 1) 0) l.place.zeroed) further
       → Closes 1 l.levels at_start (slice_range l.text l.at l.i ++ further);
 }
 

@@ -6,7 +6,8 @@ use Rattle.city_json.proofs.reading.depth.is_deep.Given as goal
 
 abbrev pub invariant-loop-opened : goal.invariant-loop-opened
 invariant-loop-opened l = record {
-  so_far : deep_from l.opened l.closed (unquoted (place_of l.in_string) l.rest) ≡ deep_from 0 0 (unquoted outside l.bytes);
+  so_far : deep_from l.opened l.closed (unquoted (place_of l.in_string) l.rest)
+      ≡ deep_from 0 0 (unquoted outside l.bytes);
   few_opened : l.opened + length l.rest ≤ length l.bytes;
   few_closed : l.closed + length l.rest ≤ length l.bytes;
 }

@@ -6,13 +6,15 @@ use Rattle.city_json.proofs.reading.plain.plain_len.Goals as goal
 pub returns-then-stops-ne0-clause-value : goal.returns-then-stops-ne0-clause-value
 returns-then-stops-ne0-clause-value c =
     let found = c.stops-stops.ensures in
-    let run = run_stops c.args.bytes.now c.loop-at.at (omega arith) (omega (arith, found)) ∙ ap (count_trailing_zeros 64) (sym found) in
+    let run = run_stops c.args.bytes.now c.loop-at.at (omega arith) (omega (arith, found))
+    ∙ ap (count_trailing_zeros 64) (sym found) in
     omega (arith, run, c.loop-at.invariant.1)
 
 pub returns-then-stops-ne0-clause-within : goal.returns-then-stops-ne0-clause-within
 returns-then-stops-ne0-clause-within c =
     let found = c.stops-stops.ensures in
-    let run = run_stops c.args.bytes.now c.loop-at.at (omega arith) (omega (arith, found)) ∙ ap (count_trailing_zeros 64) (sym found) in
+    let run = run_stops c.args.bytes.now c.loop-at.at (omega arith) (omega (arith, found))
+    ∙ ap (count_trailing_zeros 64) (sym found) in
     omega (arith, run, run_within c.args.bytes.now c.loop-at.at c.loop-at.invariant.0)
 
 pub loop-at-preserved : goal.loop-at-preserved

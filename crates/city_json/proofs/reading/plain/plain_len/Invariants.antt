@@ -4,7 +4,8 @@ use Rattle.city_json.specs.ReadString.{is_plain}
 use Rattle.city_json.proofs.reading.plain.plain_len.Given as goal
 
 abbrev pub invariant-loop-at : goal.invariant-loop-at
-invariant-loop-at l = (l.at ≤ length l.bytes) × (prefix_len is_plain l.bytes ≡ l.at + prefix_len is_plain (drop l.at l.bytes))
+invariant-loop-at l = (l.at ≤ length l.bytes)
+    × (prefix_len is_plain l.bytes ≡ l.at + prefix_len is_plain (drop l.at l.bytes))
 
 abbrev pub decreases-loop-at : goal.decreases-loop-at
 decreases-loop-at l = length l.bytes - l.at

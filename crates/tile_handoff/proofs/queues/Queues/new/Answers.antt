@@ -6,4 +6,6 @@ use Rattle.tile_handoff.proofs.queues.Queues.new.Goals as goal
 pub returns-clause-empty : goal.returns-clause-empty
 returns-clause-empty c =
     let made = c.loop-tile.invariant in
-    ap (λ x. record { capacity = c.args.capacity; tiles = x }) (map-empty c.loop-tile.queues.items c.args.tiles (omega arith) (λ t default within. ap queue_in (made.fresh t default (omega arith))))
+    ap (λ x. record { capacity = c.args.capacity; tiles = x })
+    (map-empty c.loop-tile.queues.items c.args.tiles (omega arith)
+    (λ t default within. ap queue_in (made.fresh t default (omega arith))))

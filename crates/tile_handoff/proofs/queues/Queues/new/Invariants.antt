@@ -8,5 +8,6 @@ abbrev pub invariant-loop-tile : goal.invariant-loop-tile
 invariant-loop-tile l = record {
   made : length l.queues.items ≡ l._tile;
   room : l.tiles ≤ l.queues.cap;
-  fresh : (t : ℕ) (default : Tile) → t < l._tile → get_or l.queues.items t default ≡ record { ring = buffer [] l.capacity; closed = false };
+  fresh : (t : ℕ) (default : Tile) → t < l._tile
+      → get_or l.queues.items t default ≡ record { ring = buffer [] l.capacity; closed = false };
 }

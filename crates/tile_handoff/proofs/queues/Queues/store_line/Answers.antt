@@ -6,4 +6,5 @@ use Rattle.tile_handoff.specs.KeptQueues.{queue_in}
 use Rattle.tile_handoff.proofs.queues.Queues.store_line.Goals as goal
 
 pub returns : goal.returns
-returns c = change_seen (λ queue. longer queue (Line c.args.line)) c.self.inside _ c.args.t c.index_mut.result.now _ c.self.view_is c.requires.within c.index_mut.ensures.value (ap queue_in c.store.ensures)
+returns c = change_seen (λ queue. longer queue (Line c.args.line)) c.self.inside _ c.args.t c.index_mut.result.now _
+    c.self.view_is c.requires.within c.index_mut.ensures.value (ap queue_in c.store.ensures)

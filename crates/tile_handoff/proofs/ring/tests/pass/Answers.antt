@@ -17,6 +17,7 @@ returns g c =
     let put = ap (λ p. notes_put p.sender.value) c.in-Ok.ensures.ok ∙ ap notes_put c.of-2.ensures ∙ empty.0 in
     let lines = ap (λ p. p.lines.value.items) c.in-Ok.ensures.ok ∙ ap (λ l. l.items) c.of.ensures in
     let all = c.in_ok-whole.ensures.whole none_left in (
-      passed_are passed promise.lines.value.items c.args.lines.items before (notes_put promise.sender.value) after (notes_carried c.join.result) taken.0 END taken.1 empty.1 c.join.ensures.1 put lines all,
+      passed_are passed promise.lines.value.items c.args.lines.items before (notes_put promise.sender.value) after
+          (notes_carried c.join.result) taken.0 END taken.1 empty.1 c.join.ensures.1 put lines all,
       none_left,
     )

@@ -16,8 +16,10 @@ pub bounds-shifts-len : goal.bounds-shifts-len
 bounds-shifts-len g c =
     let loop = c.loop-tile in
     let tiles = c.args.tiles.items in
-    let long = all_three_long (IsFeedOf c.args.capacity) loop.yielded (take (length loop.yielded) c.args.shifts.now) loop.feeds.items loop.invariant.fed in
-    let within = is_longer tiles loop.yielded c.in-Some.tile _ (goes_on tiles loop.yielded _ c.in-Some.tile _ loop.invariant.left c.in-Some.ensures.steps.0) in
+    let long = all_three_long (IsFeedOf c.args.capacity) loop.yielded (take (length loop.yielded) c.args.shifts.now)
+    loop.feeds.items loop.invariant.fed in
+    let within = is_longer tiles loop.yielded c.in-Some.tile _
+    (goes_on tiles loop.yielded _ c.in-Some.tile _ loop.invariant.left c.in-Some.ensures.steps.0) in
     omega (arith, long.1, within, c.len-in-loop-tile.ensures, loop.feeds.ok.0, c.requires.shifts)
 
 pub offset_bounds-shifts-len : goal.offset_bounds-shifts-len
@@ -28,7 +30,8 @@ new-requires-in-loop-tile-clause-most g c =
     let loop = c.loop-tile in
     let tiles = c.args.tiles.items in
     let Few : OpenState g.row.R.Denot → Type 0 = λ tile. most_to_come tile.unread ≤ most_texts in
-    let few = all_at Few tiles loop.yielded c.in-Some.tile _ (goes_on tiles loop.yielded _ c.in-Some.tile _ loop.invariant.left c.in-Some.ensures.steps.0) c.requires.most in
+    let few = all_at Few tiles loop.yielded c.in-Some.tile _
+    (goes_on tiles loop.yielded _ c.in-Some.tile _ loop.invariant.left c.in-Some.ensures.steps.0) c.requires.most in
     subst Few (sym c.tile.view_is) few
 
 pub loop-tile-preserved : goal.loop-tile-preserved
@@ -36,8 +39,10 @@ loop-tile-preserved g c =
     let loop = c.loop-tile in
     let tile = c.in-Some.tile in
     let are = goes_on c.args.tiles.items loop.yielded _ tile _ loop.invariant.left c.in-Some.ensures.steps.0 in
-    let long = all_three_long (IsFeedOf c.args.capacity) loop.yielded (take (length loop.yielded) c.args.shifts.now) loop.feeds.items loop.invariant.fed in
-    let is_shift = subst (λ n. c.index-shifts-len.result ≡ get_or c.args.shifts.now n c.index-shifts-len.result) (c.len-in-loop-tile.ensures ∙ loop.feeds.ok.0 ∙ long.1) c.index-shifts-len.is in
+    let long = all_three_long (IsFeedOf c.args.capacity) loop.yielded (take (length loop.yielded) c.args.shifts.now)
+    loop.feeds.items loop.invariant.fed in
+    let is_shift = subst (λ n. c.index-shifts-len.result ≡ get_or c.args.shifts.now n c.index-shifts-len.result)
+    (c.len-in-loop-tile.ensures ∙ loop.feeds.ok.0 ∙ long.1) c.index-shifts-len.is in
     let shift = c.index-shifts-len.result in
     let is_feed =
     c.new-in-loop-tile.ensures
@@ -46,12 +51,19 @@ loop-tile-preserved g c =
     record {
       can_next = tt;
       is_finite = tt;
-      fed = feed_more c.args.capacity loop.yielded c.args.shifts.now loop.feeds.items c.push.new.self.items tile c.index-shifts-len.result c.new-in-loop-tile.result loop.invariant.fed (omega (arith, is_longer c.args.tiles.items loop.yielded tile _ are, c.requires.shifts)) is_shift is_feed c.in_ok-push.ensures.items;
+      fed = feed_more c.args.capacity loop.yielded c.args.shifts.now loop.feeds.items c.push.new.self.items tile
+          c.index-shifts-len.result c.new-in-loop-tile.result loop.invariant.fed
+          (omega (arith, is_longer c.args.tiles.items loop.yielded tile _ are, c.requires.shifts)) is_shift is_feed
+          c.in_ok-push.ensures.items;
       left = are ∙ sym (append_assoc loop.yielded (tile ∷ []) c.next.new.self.rest.items);
     }
 
 pub returns-clause-ok : goal.returns-clause-ok
 returns-clause-ok g c =
     let loop = c.loop-tile in
-    let end = YieldsList-end (YieldsList-from_vec {s = c.into_iter-tile-iterator.result} c.args.tiles.items c.into_iter-tile-iterator.ensures.into_iter_gives.0 (c.into_iter-tile-iterator.ensures.into_iter_gives.1 ∙ c.args.tiles.ok.0)) loop.yielded loop.tile-iterator loop.yielded_by c.next.result c.next.new.self c.in-None.is c.next.ensures.steps in
-    feeds_all c.args.capacity c.args.tiles.items loop.yielded c.args.shifts.now loop.feeds.items (sym (map-id loop.yielded) ∙ end.0) c.requires.shifts loop.invariant.fed
+    let end = YieldsList-end (YieldsList-from_vec {s = c.into_iter-tile-iterator.result} c.args.tiles.items
+    c.into_iter-tile-iterator.ensures.into_iter_gives.0
+    (c.into_iter-tile-iterator.ensures.into_iter_gives.1 ∙ c.args.tiles.ok.0)) loop.yielded loop.tile-iterator
+    loop.yielded_by c.next.result c.next.new.self c.in-None.is c.next.ensures.steps in
+    feeds_all c.args.capacity c.args.tiles.items loop.yielded c.args.shifts.now loop.feeds.items
+    (sym (map-id loop.yielded) ∙ end.0) c.requires.shifts loop.invariant.fed

@@ -5,29 +5,38 @@ use Rattle.tile_merge.proofs.merging.in_turn.write_turns.Goals as goal
 
 pub rounds-init : goal.rounds-init
 rounds-init g c = record {
-  so_far = turns_start g.R.Source.gives (IsChosen c.args.choice.now) c.args.feeds.now (g.W.Sink.taken c.args.output.now) c.requires;
+  so_far = turns_start g.R.Source.gives (IsChosen c.args.choice.now) c.args.feeds.now (g.W.Sink.taken c.args.output.now)
+      c.requires;
   failures = refl;
 }
 
 pub rounds-smaller : goal.rounds-smaller
 rounds-smaller g c =
     let old = g.W.Sink.taken c.args.output.now in
-    turns_smaller g.R.Source.gives (IsChosen c.args.choice.now) c.args.feeds.now old c.rounds.feeds (g.W.Sink.taken c.rounds.output) c.rounds.invariant.so_far c.write_round.new.feeds c.in-Ok-true.field-0 (g.W.Sink.taken c.write_round.new.output) c.in-Ok-true.ensures.ok c.in-Ok-true.field-0-test
+    turns_smaller g.R.Source.gives (IsChosen c.args.choice.now) c.args.feeds.now old c.rounds.feeds
+    (g.W.Sink.taken c.rounds.output) c.rounds.invariant.so_far c.write_round.new.feeds c.in-Ok-true.field-0
+    (g.W.Sink.taken c.write_round.new.output) c.in-Ok-true.ensures.ok c.in-Ok-true.field-0-test
 
 pub rounds-preserved : goal.rounds-preserved
 rounds-preserved g c =
     let old = g.W.Sink.taken c.args.output.now in
     record {
-      so_far = turns_on g.R.Source.gives (IsChosen c.args.choice.now) c.args.feeds.now old c.rounds.feeds (g.W.Sink.taken c.rounds.output) c.rounds.invariant.so_far c.write_round.new.feeds c.in-Ok-true.field-0 (g.W.Sink.taken c.write_round.new.output) c.in-Ok-true.ensures.ok;
+      so_far = turns_on g.R.Source.gives (IsChosen c.args.choice.now) c.args.feeds.now old c.rounds.feeds
+          (g.W.Sink.taken c.rounds.output) c.rounds.invariant.so_far c.write_round.new.feeds c.in-Ok-true.field-0
+          (g.W.Sink.taken c.write_round.new.output) c.in-Ok-true.ensures.ok;
       failures = c.in-Ok-true.ensures.failures ∙ c.rounds.invariant.failures;
     }
 
 pub returns-in-Ok-false-clause-ok : goal.returns-in-Ok-false-clause-ok
 returns-in-Ok-false-clause-ok g c =
     let old = g.W.Sink.taken c.args.output.now in
-    turns_over g.R.Source.gives (IsChosen c.args.choice.now) c.args.feeds.now old c.rounds.feeds (g.W.Sink.taken c.rounds.output) c.rounds.invariant.so_far c.write_round.new.feeds c.in-Ok-false.field-0 (g.W.Sink.taken c.write_round.new.output) c.in-Ok-false.ensures.ok c.in-Ok-false.field-0-test
+    turns_over g.R.Source.gives (IsChosen c.args.choice.now) c.args.feeds.now old c.rounds.feeds
+    (g.W.Sink.taken c.rounds.output) c.rounds.invariant.so_far c.write_round.new.feeds c.in-Ok-false.field-0
+    (g.W.Sink.taken c.write_round.new.output) c.in-Ok-false.ensures.ok c.in-Ok-false.field-0-test
 
 pub returns-in-Err-clause-failed : goal.returns-in-Err-clause-failed
 returns-in-Err-clause-failed g c =
     let old = g.W.Sink.taken c.args.output.now in
-    turns_failed g.R.Source.gives (IsChosen c.args.choice.now) c.args.feeds.now old c.rounds.feeds (g.W.Sink.taken c.rounds.output) c.rounds.invariant.so_far (g.W.Sink.taken c.write_round.new.output) c.in-Err.ensures.failed
+    turns_failed g.R.Source.gives (IsChosen c.args.choice.now) c.args.feeds.now old c.rounds.feeds
+    (g.W.Sink.taken c.rounds.output) c.rounds.invariant.so_far (g.W.Sink.taken c.write_round.new.output)
+    c.in-Err.ensures.failed

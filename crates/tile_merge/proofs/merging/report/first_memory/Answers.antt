@@ -8,7 +8,8 @@ pub returns-then-eq : goal.returns-then-eq
 returns-then-eq c =
     let at = c.in-Some.at in
     let holds = sym (c.if-eq.ensures ∙ same_memory at.fault) in
-    tells_this is_memory (c.loop-end.tile + 1) c.args.ends.now c.loop-end.end-index c.loop-end.invariant.told c.loop-end-test.true c.stop_of.result c.stop_of.ensures at c.in-Some.is holds c.of_tile.result c.of_tile.ensures
+    tells_this is_memory (c.loop-end.tile + 1) c.args.ends.now c.loop-end.end-index c.loop-end.invariant.told
+    c.loop-end-test.true c.stop_of.result c.stop_of.ensures at c.in-Some.is holds c.of_tile.result c.of_tile.ensures
 
 pub loop-end-preserved : goal.loop-end-preserved
 loop-end-preserved c =
@@ -22,10 +23,19 @@ loop-end-preserved c =
       | in-Some+else-eq w ↦
           (let at = w.in-Some.at in
           let fails = sym (w.if-eq.ensures ∙ same_memory at.fault) in
-          record { counted = counted; told = tells_on_other is_memory next ends index told within c.stop_of.result c.stop_of.ensures at w.in-Some.is fails })
+          record {
+            counted = counted;
+            told = tells_on_other is_memory next ends index told within c.stop_of.result
+                c.stop_of.ensures at w.in-Some.is fails;
+          })
       | in_default w ↦
-          record { counted = counted; told = tells_on is_memory next ends index told within c.stop_of.result c.stop_of.ensures w.in_default.is }
+          record {
+            counted = counted;
+            told = tells_on is_memory next ends index told within c.stop_of.result
+                c.stop_of.ensures w.in_default.is;
+          }
     ]
 
 pub returns : goal.returns
-returns c = tells_none is_memory (c.loop-end.tile + 1) c.args.ends.now c.loop-end.end-index c.loop-end.invariant.told c.loop-end-test.false
+returns c = tells_none is_memory (c.loop-end.tile + 1) c.args.ends.now c.loop-end.end-index c.loop-end.invariant.told
+    c.loop-end-test.false

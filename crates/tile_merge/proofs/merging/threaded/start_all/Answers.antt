@@ -15,8 +15,10 @@ pub bounds-shifts-len : goal.bounds-shifts-len
 bounds-shifts-len g c =
     let loop = c.loop-tile in
     let tiles = c.args.tiles.items in
-    let long = all_three_long (IsRunOf c.args.choice.now) loop.yielded (take (length loop.yielded) c.args.shifts.now) loop.running.items loop.invariant.runs in
-    let within = is_longer tiles loop.yielded c.in-Some.tile _ (goes_on tiles loop.yielded _ c.in-Some.tile _ loop.invariant.left c.in-Some.ensures.steps.0) in
+    let long = all_three_long (IsRunOf c.args.choice.now) loop.yielded (take (length loop.yielded) c.args.shifts.now)
+    loop.running.items loop.invariant.runs in
+    let within = is_longer tiles loop.yielded c.in-Some.tile _
+    (goes_on tiles loop.yielded _ c.in-Some.tile _ loop.invariant.left c.in-Some.ensures.steps.0) in
     omega (arith, long.1, within, c.len-in-loop-tile.ensures, loop.running.ok.0, c.requires.shifts)
 
 pub start_tile-requires-clause-most : goal.start_tile-requires-clause-most
@@ -24,14 +26,17 @@ start_tile-requires-clause-most g c κs within =
     let loop = c.loop-tile in
     let tiles = c.args.tiles.items in
     let Few : OpenState g.row.R.Denot → Type 0 = λ tile. most_to_come tile.unread ≤ most_texts in
-    all_at Few tiles loop.yielded c.in-Some.tile _ (goes_on tiles loop.yielded _ c.in-Some.tile _ loop.invariant.left c.in-Some.ensures.steps.0) c.requires.most
+    all_at Few tiles loop.yielded c.in-Some.tile _
+    (goes_on tiles loop.yielded _ c.in-Some.tile _ loop.invariant.left c.in-Some.ensures.steps.0) c.requires.most
 
 pub push_reserved-requires : goal.push_reserved-requires
 push_reserved-requires g c =
     let loop = c.loop-tile in
     let tiles = c.args.tiles.items in
-    let long = all_three_long (IsRunOf c.args.choice.now) loop.yielded (take (length loop.yielded) c.args.shifts.now) loop.running.items loop.invariant.runs in
-    let within = is_longer tiles loop.yielded c.in-Some.tile _ (goes_on tiles loop.yielded _ c.in-Some.tile _ loop.invariant.left c.in-Some.ensures.steps.0) in
+    let long = all_three_long (IsRunOf c.args.choice.now) loop.yielded (take (length loop.yielded) c.args.shifts.now)
+    loop.running.items loop.invariant.runs in
+    let within = is_longer tiles loop.yielded c.in-Some.tile _
+    (goes_on tiles loop.yielded _ c.in-Some.tile _ loop.invariant.left c.in-Some.ensures.steps.0) in
     omega (arith, long.1, within, loop.running.ok.0, loop.invariant.room)
 
 pub loop-tile-preserved : goal.loop-tile-preserved
@@ -39,12 +44,17 @@ loop-tile-preserved g c =
     let loop = c.loop-tile in
     let tile = c.in-Some.tile in
     let are = goes_on c.args.tiles.items loop.yielded _ tile _ loop.invariant.left c.in-Some.ensures.steps.0 in
-    let long = all_three_long (IsRunOf c.args.choice.now) loop.yielded (take (length loop.yielded) c.args.shifts.now) loop.running.items loop.invariant.runs in
-    let is_shift = subst (λ n. c.index-shifts-len.result ≡ get_or c.args.shifts.now n c.index-shifts-len.result) (c.len-in-loop-tile.ensures ∙ loop.running.ok.0 ∙ long.1) c.index-shifts-len.is in
+    let long = all_three_long (IsRunOf c.args.choice.now) loop.yielded (take (length loop.yielded) c.args.shifts.now)
+    loop.running.items loop.invariant.runs in
+    let is_shift = subst (λ n. c.index-shifts-len.result ≡ get_or c.args.shifts.now n c.index-shifts-len.result)
+    (c.len-in-loop-tile.ensures ∙ loop.running.ok.0 ∙ long.1) c.index-shifts-len.is in
     record {
       can_next = tt;
       is_finite = tt;
-      runs = threes_more (IsRunOf c.args.choice.now) loop.yielded c.args.shifts.now loop.running.items c.push_reserved.new.self.items tile c.index-shifts-len.result c.in-Ok.started loop.invariant.runs (omega (arith, is_longer c.args.tiles.items loop.yielded tile _ are, c.requires.shifts)) is_shift c.in-Ok.ensures.ok c.push_reserved.ensures.items;
+      runs = threes_more (IsRunOf c.args.choice.now) loop.yielded c.args.shifts.now loop.running.items
+          c.push_reserved.new.self.items tile c.index-shifts-len.result c.in-Ok.started loop.invariant.runs
+          (omega (arith, is_longer c.args.tiles.items loop.yielded tile _ are, c.requires.shifts)) is_shift
+          c.in-Ok.ensures.ok c.push_reserved.ensures.items;
       room = c.push_reserved.ensures.capacity ∙ loop.invariant.room;
       left = are ∙ sym (append_assoc loop.yielded (tile ∷ []) c.next.new.self.rest.items);
     }
@@ -53,13 +63,21 @@ pub returns-in-Err-clause-refused : goal.returns-in-Err-clause-refused
 returns-in-Err-clause-refused g c =
     let loop = c.loop-tile in
     let tiles = c.args.tiles.items in
-    let long = all_three_long (IsRunOf c.args.choice.now) loop.yielded (take (length loop.yielded) c.args.shifts.now) loop.running.items loop.invariant.runs in
-    let within = is_longer tiles loop.yielded c.in-Some.tile _ (goes_on tiles loop.yielded _ c.in-Some.tile _ loop.invariant.left c.in-Some.ensures.steps.0) in
+    let long = all_three_long (IsRunOf c.args.choice.now) loop.yielded (take (length loop.yielded) c.args.shifts.now)
+    loop.running.items loop.invariant.runs in
+    let within = is_longer tiles loop.yielded c.in-Some.tile _
+    (goes_on tiles loop.yielded _ c.in-Some.tile _ loop.invariant.left c.in-Some.ensures.steps.0) in
     let told = c.refusal_at_start-refusal in
-    unstarted (length tiles) (c.len-in-Err.result + 1) (omega arith) (omega (arith, long.1, within, c.len-in-Err.ensures, loop.running.ok.0)) c.in-Err.fault c.in-Err.ensures.refused told.result told.ensures.thread told.ensures.memory
+    unstarted (length tiles) (c.len-in-Err.result + 1) (omega arith)
+    (omega (arith, long.1, within, c.len-in-Err.ensures, loop.running.ok.0)) c.in-Err.fault c.in-Err.ensures.refused
+    told.result told.ensures.thread told.ensures.memory
 
 pub returns-clause-ok : goal.returns-clause-ok
 returns-clause-ok g c =
     let loop = c.loop-tile in
-    let end = YieldsList-end (YieldsList-from_vec {s = c.into_iter-tile-iterator.result} c.args.tiles.items c.into_iter-tile-iterator.ensures.into_iter_gives.0 (c.into_iter-tile-iterator.ensures.into_iter_gives.1 ∙ c.args.tiles.ok.0)) loop.yielded loop.tile-iterator loop.yielded_by c.next.result c.next.new.self c.in-None.is c.next.ensures.steps in
-    threes_all (IsRunOf c.args.choice.now) c.args.tiles.items loop.yielded c.args.shifts.now loop.running.items (sym (map-id loop.yielded) ∙ end.0) c.requires.shifts loop.invariant.runs
+    let end = YieldsList-end (YieldsList-from_vec {s = c.into_iter-tile-iterator.result} c.args.tiles.items
+    c.into_iter-tile-iterator.ensures.into_iter_gives.0
+    (c.into_iter-tile-iterator.ensures.into_iter_gives.1 ∙ c.args.tiles.ok.0)) loop.yielded loop.tile-iterator
+    loop.yielded_by c.next.result c.next.new.self c.in-None.is c.next.ensures.steps in
+    threes_all (IsRunOf c.args.choice.now) c.args.tiles.items loop.yielded c.args.shifts.now loop.running.items
+    (sym (map-id loop.yielded) ∙ end.0) c.requires.shifts loop.invariant.runs

@@ -11,7 +11,8 @@ returns-clause-ok g c =
       line = head.ensures.line;
       none_ready = head.ensures.none_ready;
       later = head.ensures.later;
-      head = head_given (Leaves gives c.new-reader.result.lines) (IsOfTile (gives c.args.reader) stream_limits) (λ (tile : TileLines). (c.new-reader.ensures.tile tile).0) _ _ _ head.ensures.head;
+      head = head_given (Leaves gives c.new-reader.result.lines) (IsOfTile (gives c.args.reader) stream_limits)
+          (λ (tile : TileLines). (c.new-reader.ensures.tile tile).0) _ _ _ head.ensures.head;
       some = c.take_head.ensures.some;
       most = head.ensures.most;
     }

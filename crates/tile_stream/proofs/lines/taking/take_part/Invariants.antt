@@ -8,7 +8,8 @@ abbrev pub invariant-pieces : goal.invariant-pieces
 invariant-pieces g l = record {
   begun : HasNoNewline l.line.items;
   fine : IsFineFront l.limits l.start l.line.items;
-  follows : (bytes : List ℕ) (fails : Bool) → MayCome g.R.Source.gives l.ahead bytes fails → MayCome g.R.Source.gives l.initial.ahead (l.line.items ++ bytes) fails;
+  follows : (bytes : List ℕ) (fails : Bool) → MayCome g.R.Source.gives l.ahead bytes fails
+      → MayCome g.R.Source.gives l.initial.ahead (l.line.items ++ bytes) fails;
   none_failed : g.R.Source.failures l.ahead.reader ≡ g.R.Source.failures l.initial.ahead.reader;
 }
 

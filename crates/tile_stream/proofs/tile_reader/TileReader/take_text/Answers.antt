@@ -1,38 +1,69 @@
 use Rattle.std.proofs.Common.{sym, subst}
+use Rattle.city_cut.specs.HeldTexts.{texts_in}
 use Rattle.city_feature.specs.Choice.{IsChosen}
 use Rattle.tile_stream.specs.Coming.{MayComeTo, ComesBack}
 use Rattle.tile_stream.specs.TileState.{TileState, IsPassed}
-use Rattle.tile_stream.proofs.HeldFirst.{something, line_given, lines_over, lines_refused}
+use Rattle.tile_stream.proofs.HeldFirst.{something, text_given, lines_over, lines_refused}
 use Rattle.tile_stream.proofs.Leaving.{something_left}
 use Rattle.tile_stream.proofs.tile_reader.TileReader.take_text.Goals as goal
 
 pub returns-in-None-clause-text : goal.returns-in-None-clause-text
 returns-in-None-clause-text g c =
     let s = c.self.inside in
-    let now : TileState g.row.R.Denot = record { ready = s.ready.items; held = record { line = s.held.line; features = s.held.features.items }; lines = s.lines } in
-    let Over : TileState g.row.R.Denot → Type 0 = λ tile. IsPassed tile × ComesBack (MayComeTo g.R.Source.gives (IsChosen c.args.choice.now) c.args.shift c.args.self.now) (MayComeTo g.R.Source.gives (IsChosen c.args.choice.now) c.args.shift tile) in
-    let over = subst Over (sym c.self.view_is) (rw c.in-None.is at c.in_ok-line.ensures.over) in
-    line_given g.R.Source.gives (IsChosen c.args.choice.now) c.args.shift c.args.self.now now over.1 over.0 c.take_feature.new.lines c.emptied.result c.emptied.ensures c.take_feature.result c.take_feature.ensures.text
+    let now : TileState g.row.R.Denot = record {
+      ready = s.ready.items;
+      held = record { line = s.held.line; texts = texts_in s.held.texts };
+      lines =
+          s.lines;
+    } in
+    let Over : TileState g.row.R.Denot → Type 0 = λ tile. IsPassed tile
+    × ComesBack (MayComeTo g.R.Source.gives (IsChosen c.args.choice.now) c.args.shift c.args.self.now)
+    (MayComeTo g.R.Source.gives (IsChosen c.args.choice.now) c.args.shift tile) in
+    let over = subst Over (sym c.self.view_is) (rw c.in-None.is at c.in_ok-text.ensures.over) in
+    text_given g.R.Source.gives (IsChosen c.args.choice.now) c.args.shift c.args.self.now now over.1 over.0
+    c.take_feature.new.lines c.take_feature.result c.take_feature.ensures.text
 
 pub returns-in-None-clause-over : goal.returns-in-None-clause-over
 returns-in-None-clause-over g c =
     let s = c.self.inside in
-    let now : TileState g.row.R.Denot = record { ready = s.ready.items; held = record { line = s.held.line; features = s.held.features.items }; lines = s.lines } in
-    let Over : TileState g.row.R.Denot → Type 0 = λ tile. IsPassed tile × ComesBack (MayComeTo g.R.Source.gives (IsChosen c.args.choice.now) c.args.shift c.args.self.now) (MayComeTo g.R.Source.gives (IsChosen c.args.choice.now) c.args.shift tile) in
-    let over = subst Over (sym c.self.view_is) (rw c.in-None.is at c.in_ok-line.ensures.over) in
-    lines_over g.R.Source.gives (IsChosen c.args.choice.now) c.args.shift c.args.self.now now over.1 over.0 c.take_feature.result c.take_feature.ensures.over
+    let now : TileState g.row.R.Denot = record {
+      ready = s.ready.items;
+      held = record { line = s.held.line; texts = texts_in s.held.texts };
+      lines =
+          s.lines;
+    } in
+    let Over : TileState g.row.R.Denot → Type 0 = λ tile. IsPassed tile
+    × ComesBack (MayComeTo g.R.Source.gives (IsChosen c.args.choice.now) c.args.shift c.args.self.now)
+    (MayComeTo g.R.Source.gives (IsChosen c.args.choice.now) c.args.shift tile) in
+    let over = subst Over (sym c.self.view_is) (rw c.in-None.is at c.in_ok-text.ensures.over) in
+    lines_over g.R.Source.gives (IsChosen c.args.choice.now) c.args.shift c.args.self.now now over.1 over.0
+    c.take_feature.result c.take_feature.ensures.over
 
 pub returns-in-None-clause-refused : goal.returns-in-None-clause-refused
 returns-in-None-clause-refused g c =
     let s = c.self.inside in
-    let now : TileState g.row.R.Denot = record { ready = s.ready.items; held = record { line = s.held.line; features = s.held.features.items }; lines = s.lines } in
-    let Over : TileState g.row.R.Denot → Type 0 = λ tile. IsPassed tile × ComesBack (MayComeTo g.R.Source.gives (IsChosen c.args.choice.now) c.args.shift c.args.self.now) (MayComeTo g.R.Source.gives (IsChosen c.args.choice.now) c.args.shift tile) in
-    let over = subst Over (sym c.self.view_is) (rw c.in-None.is at c.in_ok-line.ensures.over) in
-    lines_refused g.R.Source.gives (IsChosen c.args.choice.now) c.args.shift c.args.self.now now over.1 over.0 c.take_feature.result c.take_feature.ensures.refused
+    let now : TileState g.row.R.Denot = record {
+      ready = s.ready.items;
+      held = record { line = s.held.line; texts = texts_in s.held.texts };
+      lines =
+          s.lines;
+    } in
+    let Over : TileState g.row.R.Denot → Type 0 = λ tile. IsPassed tile
+    × ComesBack (MayComeTo g.R.Source.gives (IsChosen c.args.choice.now) c.args.shift c.args.self.now)
+    (MayComeTo g.R.Source.gives (IsChosen c.args.choice.now) c.args.shift tile) in
+    let over = subst Over (sym c.self.view_is) (rw c.in-None.is at c.in_ok-text.ensures.over) in
+    lines_refused g.R.Source.gives (IsChosen c.args.choice.now) c.args.shift c.args.self.now now over.1 over.0
+    c.take_feature.result c.take_feature.ensures.refused
 
 pub returns-in-None-clause-some : goal.returns-in-None-clause-some
 returns-in-None-clause-some g c =
     let s = c.self.inside in
-    let after : TileState g.row.R.Denot = record { ready = s.ready.items; held = record { line = s.held.line; features = s.held.features.items }; lines = c.take_feature.new.lines } in
-    let some = something_left g.R.Source.gives g.met.R.Source.gives_something c.take_feature.new.lines c.take_feature.ensures.ended in
-    something g.R.Source.gives (IsChosen c.args.choice.now) c.args.shift after c.self.invariant.0 (some.0, (some.1, some.2))
+    let after : TileState g.row.R.Denot = record {
+      ready = s.ready.items;
+      held = record { line = s.held.line; texts = texts_in s.held.texts };
+      lines =
+          c.take_feature.new.lines;
+    } in
+    let some = something_left g.R.Source.gives g.met.R.Source.gives_something c.take_feature.new.lines
+    c.take_feature.ensures.ended in
+    something g.R.Source.gives (IsChosen c.args.choice.now) c.args.shift after (some.0, (some.1, some.2))

@@ -1,5 +1,4 @@
-use Rattle.std.proofs.Common.{◌++◌, ◌∷◌, ◌∙◌, ap, sym, arith}
-use Rattle.tile_stream.specs.Stream.{with_newline}
+use Rattle.std.proofs.Common.{◌∷◌, ◌∙◌, sym, arith}
 use Rattle.tile_stream.proofs.tile_reader.feature_lines.take_feature.Goals as goal
 
 pub returns-in-Ok-None-clause-over : goal.returns-in-Ok-None-clause-over
@@ -12,11 +11,8 @@ returns-in-Err-clause-refused g c = c.lines.invariant.back _ _ c.in-Err.ensures.
 
 pub returns-then-is_chosen-clause-text : goal.returns-then-is_chosen-clause-text
 returns-then-is_chosen-clause-text g c =
-    let text = (rw c.in-Ok-Some.field-0-is at c.in-Ok-Some.ensures.text) c.if-is_chosen.true in (
-      text.0,
-      text.1 ∙ ap (λ l. l ++ with_newline text.0) c.lines.invariant.text,
-      λ texts outcome comes. c.lines.invariant.back (text.0 ∷ texts) outcome (text.2 texts outcome comes),
-    )
+    let text = (rw c.in-Ok-Some.field-0-is at c.in-Ok-Some.ensures.text) c.if-is_chosen.true in
+    λ texts outcome comes. c.lines.invariant.back (c.in-Ok-Some.passed.text ∷ texts) outcome (text texts outcome comes)
 
 pub lines-preserved : goal.lines-preserved
 lines-preserved g c =
@@ -25,8 +21,8 @@ lines-preserved g c =
     let still = c.in-Ok-Some.ensures.not_failed ∙ sym c.in-Ok-Some.ensures.had_not_failed in
     record {
       back = λ texts outcome comes. c.lines.invariant.back texts outcome (skipped.1 texts outcome comes);
-      text = skipped.0 ∙ c.lines.invariant.text;
       fewer = omega (arith, fewer, c.lines.invariant.fewer);
       failed = still ∙ c.lines.invariant.failed;
-      failures = rw (c.in-Ok-Some.ensures.had_not_failed, c.in-Ok-Some.ensures.not_failed) at c.pass_line.ensures.failures ∙ c.lines.invariant.failures;
+      failures = rw (c.in-Ok-Some.ensures.had_not_failed, c.in-Ok-Some.ensures.not_failed) at
+          c.pass_line.ensures.failures ∙ c.lines.invariant.failures;
     }

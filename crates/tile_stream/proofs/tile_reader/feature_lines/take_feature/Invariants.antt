@@ -11,7 +11,6 @@ invariant-lines g l = record {
   back : (texts : List (List ℕ)) (outcome : Outcome)
       → LinesMayComeTo g.R.Source.gives (IsChosen l.choice) l.shift l.lines texts outcome
       → LinesMayComeTo g.R.Source.gives (IsChosen l.choice) l.shift l.initial.lines texts outcome;
-  text : l.text ≡ l.fn.text;
   fewer : most_left l.lines ≤ most_left l.initial.lines;
   failed : has_failed l.lines ≡ has_failed l.initial.lines;
   failures : g.R.Source.failures l.lines.ahead.reader ≡ g.R.Source.failures l.initial.lines.ahead.reader;

@@ -1,7 +1,7 @@
 use Rattle.std.proofs.Common.{◌∙◌, sym}
 use Rattle.city_json.specs.Compact.{compact}
 use Rattle.city_feature.specs.Feature.{vertices_tree}
-use Rattle.city_feature.proofs.features.QuickLines.{feature_at, written_vertices}
+use Rattle.city_feature.proofs.QuickLines.{feature_at, written_vertices}
 use Rattle.city_feature.proofs.features.QuickMoves.{kept}
 use Rattle.city_feature.proofs.features.quick.kept.has_vertices.Goals as goal
 
@@ -15,5 +15,7 @@ returns c = λ yes.
       ps,
       range,
       kept line (compact (vertices_tree ps)) part c.in-Some-between.ensures.ordered lies,
-      λ members is. feature_at line c.args.parts.now members part ps is (c.has_other_members.ensures c.if-not-has_other_members.false members is) c.in-Some.ensures (written_vertices _ ps lies range),
+      λ members is. feature_at line c.args.parts.now members part ps is
+          (c.has_other_members.ensures c.if-not-has_other_members.false members is) c.in-Some.ensures
+          (written_vertices _ ps lies range),
     )

@@ -9,6 +9,10 @@ returns c = λ bytes compacted.
     let line = c.items.result.now in
     let parts = c.as_slice.result.now in
     let (members, spells, fits, written, are_parts) = compacted in
-    let here : IsAsWritten line parts = subst (λ l. IsAsWritten l parts) (sym c.items.ensures) (subst (IsAsWritten found.line) (sym c.as_slice.ensures.value) c.requires) in
+    let here : IsAsWritten line parts =
+    subst (λ l. IsAsWritten l parts) (sym c.items.ensures)
+    (subst (IsAsWritten found.line) (sym c.as_slice.ensures.value) c.requires) in
     let (part, ps, range, stays, placed) = here in
-    kept_there bytes found.line line found.parts.items parts members part ps c.args.types.now c.in_ok-has_type.has_type spells fits written are_parts c.items.ensures c.as_slice.ensures.value (placed members) (c.in_ok-has_type.ensures members) range stays
+    kept_there bytes found.line line found.parts.items parts members part ps c.args.types.now c.in_ok-has_type.has_type
+    spells fits written are_parts c.items.ensures c.as_slice.ensures.value (placed members)
+    (c.in_ok-has_type.ensures members) range stays

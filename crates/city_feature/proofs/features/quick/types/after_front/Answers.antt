@@ -7,4 +7,5 @@ pub returns-then-starts_with : goal.returns-then-starts_with
 returns-then-starts_with c =
     let text = c.args.text.now in
     let front = c.args.front.now in
-    starts_with-splits text front (sym c.starts_with.ensures.value ∙ c.if-starts_with.true) ∙ ap (λ l. front ++ l) (sym (take_rest text (length front)))
+    starts_with-splits text front (sym c.starts_with.ensures.value ∙ c.if-starts_with.true)
+    ∙ ap (λ l. front ++ l) (sym (take_rest text (length front)))

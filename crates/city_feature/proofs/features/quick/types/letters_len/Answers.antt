@@ -5,5 +5,6 @@ use Rattle.city_feature.proofs.features.quick.types.letters_len.Goals as goal
 pub loop-end-preserved : goal.loop-end-preserved
 loop-end-preserved c = record {
   within = omega (arith, c.loop-end-test.true);
-  letters = letters_more c.args.text.now c.loop-end.end c.loop-end-test.true c.loop-end.invariant.letters (c.is_letter.ensures c.if-is_letter.true);
+  letters = letters_more c.args.text.now c.loop-end.end c.loop-end-test.true c.loop-end.invariant.letters
+      (c.is_letter.ensures c.if-is_letter.true);
 }

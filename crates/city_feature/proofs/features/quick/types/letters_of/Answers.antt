@@ -10,5 +10,8 @@ returns c =
     let end = c.letters_len-end.result in (
       c.letters_len-end.ensures.letters,
       drop (end + 1) text,
-      sym (take-append-drop end text) ∙ ap (λ l. take end text ++ l) (drop_one text end quotation_mark (omega (arith, c.if-end-text.false, c.letters_len-end.ensures.within)) (omega (arith, c.if-text-end-ne34.false))),
+      sym (take-append-drop end text)
+          ∙ ap (λ l. take end text ++ l)
+          (drop_one text end quotation_mark (omega (arith, c.if-end-text.false, c.letters_len-end.ensures.within))
+          (omega (arith, c.if-text-end-ne34.false))),
     )

@@ -11,7 +11,8 @@ returns-in-Some c =
     let name = c.args.name.now in
     let first = c.self.inside.first.entries in
     let later = c.self.inside.later in
-    found_in_both name first later _ (ap (λ found. option_or found (lookup (λ key. bytes_eq name key.now) later)) c.in-Some.ensures.value)
+    found_in_both name first later _
+    (ap (λ found. option_or found (lookup (λ key. bytes_eq name key.now) later)) c.in-Some.ensures.value)
     ∙ ap (λ pairs. first_named name (lent_members pairs)) c.self.view_is
 
 pub returns : goal.returns
@@ -19,5 +20,6 @@ returns c =
     let name = c.args.name.now in
     let first = c.self.inside.first.entries in
     let later = c.self.inside.later in
-    found_in_both name first later _ (c.value_of.ensures ∙ ap (λ found. option_or found (lookup (λ key. bytes_eq name key.now) later)) c.in_default.ensures.value)
+    found_in_both name first later _ (c.value_of.ensures
+    ∙ ap (λ found. option_or found (lookup (λ key. bytes_eq name key.now) later)) c.in_default.ensures.value)
     ∙ ap (λ pairs. first_named name (lent_members pairs)) c.self.view_is

@@ -5,14 +5,21 @@ use Rattle.city_json.specs.declared.compacting.name.Name.{Name}
 use Rattle.city_json.proofs.compacting.names.Names.are_apart_from.Goals as goal
 
 -- the names from `base` on, as the slice of what is held
-from_base : (names : List (List ℕ)) (held slice : List Name) (base : ℕ) → names ≡ map name_bytes held → slice ≡ held → drop base names ≡ map name_bytes (take (length slice - base) (drop base slice))
+from_base : (names : List (List ℕ)) (held slice : List Name) (base : ℕ) → names ≡ map name_bytes held → slice ≡ held
+    → drop base names ≡ map name_bytes (take (length slice - base) (drop base slice))
 from_base names held slice base seen same =
-    ap (drop base) seen ∙ (drop-map name_bytes base held ∙ (ap (map name_bytes) (sym (take_rest held base)) ∙ ap (λ l. map name_bytes (take (length l - base) (drop base l))) (sym same)))
+    ap (drop base) seen ∙ (drop-map name_bytes base held
+    ∙ (ap (map name_bytes) (sym (take_rest held base))
+    ∙ ap (λ l. map name_bytes (take (length l - base) (drop base l))) (sym same)))
 
-pub returns-then-listed-le-MOST_COMPARED : goal.returns-then-listed-le-MOST_COMPARED
-returns-then-listed-le-MOST_COMPARED c = λ so members is.
-    c.few_are_apart.ensures so members (is ∙ from_base c.args.self.now c.self.inside.listed.items c.deref.result.now c.args.base (sym c.self.view_is) c.deref.ensures.value)
+pub returns-then-listed-le-MAX_COMPARED : goal.returns-then-listed-le-MAX_COMPARED
+returns-then-listed-le-MAX_COMPARED c = λ so members is.
+    c.few_are_apart.ensures so members (is
+    ∙ from_base c.args.self.now c.self.inside.listed.items c.deref.result.now c.args.base
+    (sym c.self.view_is) c.deref.ensures.value)
 
-pub returns-else-listed-le-MOST_COMPARED : goal.returns-else-listed-le-MOST_COMPARED
-returns-else-listed-le-MOST_COMPARED c = λ so members is.
-    c.many_are_apart.ensures so members (is ∙ from_base c.args.self.now c.self.inside.listed.items c.deref.result.now c.args.base (sym c.self.view_is) c.deref.ensures.value)
+pub returns-else-listed-le-MAX_COMPARED : goal.returns-else-listed-le-MAX_COMPARED
+returns-else-listed-le-MAX_COMPARED c = λ so members is.
+    c.many_are_apart.ensures so members (is
+    ∙ from_base c.args.self.now c.self.inside.listed.items c.deref.result.now c.args.base
+    (sym c.self.view_is) c.deref.ensures.value)

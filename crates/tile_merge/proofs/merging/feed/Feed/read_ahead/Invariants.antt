@@ -6,7 +6,8 @@ use Rattle.tile_merge.proofs.merging.feed.Feed.read_ahead.Given as goal
 
 abbrev pub invariant-lines : goal.invariant-lines
 invariant-lines g l = record {
-  none : TakesNone (MayTake g.R.Source.gives (IsChosen l.choice) l.initial.self) (MayTake g.R.Source.gives (IsChosen l.choice) l.self);
+  none : TakesNone (MayTake g.R.Source.gives (IsChosen l.choice) l.initial.self)
+      (MayTake g.R.Source.gives (IsChosen l.choice) l.self);
   some : SomeCourse (MayTake g.R.Source.gives (IsChosen l.choice) l.self);
   fewer : most_ahead l.self ≤ most_ahead l.initial.self;
   bytes : Keeps (g.W.Sink.taken l.initial.output) (g.W.Sink.taken l.output);

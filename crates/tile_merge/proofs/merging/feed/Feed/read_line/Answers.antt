@@ -9,7 +9,9 @@ returns-then-not-is_chosen-clause-none g c =
     let inside = c.self.inside in
     let is_open = ap (λ feed. feed.notes.closed) c.self.view_is ∙ c.requires.room.0 in
     let skipped = (rw c.in-Ok-Some.field-0-is at c.in-Ok-Some.ensures.skipped) c.if-not-is_chosen.true in
-    rw (← c.self.view_is) (nothing_taken g.R.Source.gives (IsChosen c.args.choice.now) inside.shift inside.notes.capacity inside.notes.capacity inside.count inside.last inside.reader c.pass.new.self (queue_of inside.notes 0) is_open skipped.1)
+    rw (← c.self.view_is) (nothing_taken g.R.Source.gives (IsChosen c.args.choice.now) inside.shift
+    inside.notes.capacity inside.notes.capacity inside.count inside.last inside.reader c.pass.new.self
+    (queue_of inside.notes 0) is_open skipped.1)
 
 pub returns-then-not-is_chosen-clause-some : goal.returns-then-not-is_chosen-clause-some
 returns-then-not-is_chosen-clause-some g c =
@@ -17,7 +19,9 @@ returns-then-not-is_chosen-clause-some g c =
     let is_open = ap (λ feed. feed.notes.closed) c.self.view_is ∙ c.requires.room.0 in
     let skipped = (rw c.in-Ok-Some.field-0-is at c.in-Ok-Some.ensures.skipped) c.if-not-is_chosen.true in
     let was = rw (← c.self.view_is) at c.requires.some in
-    nothing_some g.R.Source.gives (IsChosen c.args.choice.now) inside.shift inside.notes.capacity inside.notes.capacity inside.count inside.last inside.reader c.pass.new.self (queue_of inside.notes 0) is_open skipped.1 (c.self.invariant.3 is_open).1 c.pass.ensures.some was
+    nothing_some g.R.Source.gives (IsChosen c.args.choice.now) inside.shift inside.notes.capacity inside.notes.capacity
+    inside.count inside.last inside.reader c.pass.new.self (queue_of inside.notes 0) is_open skipped.1
+    (c.self.invariant.3 is_open).1 c.pass.ensures.some was
 
 pub returns-clause-none : goal.returns-clause-none
 returns-clause-none g c =
@@ -25,7 +29,9 @@ returns-clause-none g c =
     let is_open = ap (λ feed. feed.notes.closed) c.self.view_is ∙ c.requires.room.0 in
     let text = (rw c.in-Ok-Some.field-0-is at c.in-Ok-Some.ensures.text) c.if-not-is_chosen.false in
     let is_new = ap (λ queues. queue_of queues 0) c.store_line.ensures ∙ set_there inside.notes _ c.self.invariant.1 in
-    rw (← c.self.view_is) (line_taken g.R.Source.gives (IsChosen c.args.choice.now) inside.shift inside.notes.capacity (c.store_line.new.self).capacity inside.count inside.last inside.reader c.pass.new.self (queue_of inside.notes 0) is_open text.0 c.in-Ok-Some.passed.line text.1 text.2 (queue_of c.store_line.new.self 0) is_new)
+    rw (← c.self.view_is) (line_taken g.R.Source.gives (IsChosen c.args.choice.now) inside.shift inside.notes.capacity
+    (c.store_line.new.self).capacity inside.count inside.last inside.reader c.pass.new.self
+    (queue_of inside.notes 0) is_open c.in-Ok-Some.passed.text text (queue_of c.store_line.new.self 0) is_new)
 
 pub returns-clause-some : goal.returns-clause-some
 returns-clause-some g c =
@@ -34,7 +40,10 @@ returns-clause-some g c =
     let text = (rw c.in-Ok-Some.field-0-is at c.in-Ok-Some.ensures.text) c.if-not-is_chosen.false in
     let is_new = ap (λ queues. queue_of queues 0) c.store_line.ensures ∙ set_there inside.notes _ c.self.invariant.1 in
     let was = rw (← c.self.view_is) at c.requires.some in
-    line_some g.R.Source.gives (IsChosen c.args.choice.now) inside.shift inside.notes.capacity (c.store_line.new.self).capacity inside.count inside.last inside.reader c.pass.new.self (queue_of inside.notes 0) is_open text.0 c.in-Ok-Some.passed.line text.1 text.2 (queue_of c.store_line.new.self 0) is_new (c.self.invariant.3 is_open).1 c.pass.ensures.some was
+    line_some g.R.Source.gives (IsChosen c.args.choice.now) inside.shift inside.notes.capacity
+    (c.store_line.new.self).capacity inside.count inside.last inside.reader c.pass.new.self
+    (queue_of inside.notes 0) is_open c.in-Ok-Some.passed.text text (queue_of c.store_line.new.self 0) is_new
+    (c.self.invariant.3 is_open).1 c.pass.ensures.some was
 
 pub returns-in-Ok-None-clause-none : goal.returns-in-Ok-None-clause-none
 returns-in-Ok-None-clause-none g c =
@@ -42,7 +51,9 @@ returns-in-Ok-None-clause-none g c =
     let is_open = ap (λ feed. feed.notes.closed) c.self.view_is ∙ c.requires.room.0 in
     let over = rw c.in-Ok-None.field-0-is at c.in-Ok-None.ensures.over in
     let is_new = ap (λ queues. queue_of queues 0) c.store_end.ensures ∙ set_there inside.notes _ c.self.invariant.1 in
-    rw (← c.self.view_is) (end_taken g.R.Source.gives (IsChosen c.args.choice.now) inside.shift inside.notes.capacity (c.store_end.new.self).capacity inside.count inside.last inside.reader c.pass.new.self (queue_of inside.notes 0) is_open None over c.end_note.result c.end_note.ensures (queue_of c.store_end.new.self 0) is_new)
+    rw (← c.self.view_is) (end_taken g.R.Source.gives (IsChosen c.args.choice.now) inside.shift inside.notes.capacity
+    (c.store_end.new.self).capacity inside.count inside.last inside.reader c.pass.new.self (queue_of inside.notes 0)
+    is_open None over c.end_note.result c.end_note.ensures (queue_of c.store_end.new.self 0) is_new)
 
 pub returns-in-Ok-None-clause-some : goal.returns-in-Ok-None-clause-some
 returns-in-Ok-None-clause-some g c =
@@ -51,21 +62,33 @@ returns-in-Ok-None-clause-some g c =
     let over = rw c.in-Ok-None.field-0-is at c.in-Ok-None.ensures.over in
     let is_new = ap (λ queues. queue_of queues 0) c.store_end.ensures ∙ set_there inside.notes _ c.self.invariant.1 in
     let was = rw (← c.self.view_is) at c.requires.some in
-    end_some g.R.Source.gives (IsChosen c.args.choice.now) inside.shift inside.notes.capacity (c.store_end.new.self).capacity inside.count inside.last inside.reader c.pass.new.self (queue_of inside.notes 0) is_open None over c.end_note.result c.end_note.ensures (queue_of c.store_end.new.self 0) is_new (c.self.invariant.3 is_open).1 was
+    end_some g.R.Source.gives (IsChosen c.args.choice.now) inside.shift inside.notes.capacity
+    (c.store_end.new.self).capacity inside.count inside.last inside.reader c.pass.new.self (queue_of inside.notes 0)
+    is_open None over c.end_note.result c.end_note.ensures (queue_of c.store_end.new.self 0) is_new
+    (c.self.invariant.3 is_open).1 was
 
 pub returns-in-Err-clause-none : goal.returns-in-Err-clause-none
 returns-in-Err-clause-none g c =
     let inside = c.self.inside in
     let is_open = ap (λ feed. feed.notes.closed) c.self.view_is ∙ c.requires.room.0 in
     let over = c.in-Err.ensures.refused in
-    let is_new = ap (λ queues. queue_of queues 0) c.store_end-in-Err.ensures ∙ set_there inside.notes _ c.self.invariant.1 in
-    rw (← c.self.view_is) (end_taken g.R.Source.gives (IsChosen c.args.choice.now) inside.shift inside.notes.capacity (c.store_end-in-Err.new.self).capacity inside.count inside.last inside.reader c.pass.new.self (queue_of inside.notes 0) is_open (Some (record { number = c.in-Err.at.line; fault = c.in-Err.at.fault })) over c.end_note-in-Err.result c.end_note-in-Err.ensures (queue_of c.store_end-in-Err.new.self 0) is_new)
+    let is_new = ap (λ queues. queue_of queues 0) c.store_end-in-Err.ensures
+    ∙ set_there inside.notes _ c.self.invariant.1 in
+    rw (← c.self.view_is) (end_taken g.R.Source.gives (IsChosen c.args.choice.now) inside.shift inside.notes.capacity
+    (c.store_end-in-Err.new.self).capacity inside.count inside.last inside.reader c.pass.new.self
+    (queue_of inside.notes 0) is_open (Some (record { line = c.in-Err.at.line; fault = c.in-Err.at.fault })) over
+    c.end_note-in-Err.result c.end_note-in-Err.ensures (queue_of c.store_end-in-Err.new.self 0) is_new)
 
 pub returns-in-Err-clause-some : goal.returns-in-Err-clause-some
 returns-in-Err-clause-some g c =
     let inside = c.self.inside in
     let is_open = ap (λ feed. feed.notes.closed) c.self.view_is ∙ c.requires.room.0 in
     let over = c.in-Err.ensures.refused in
-    let is_new = ap (λ queues. queue_of queues 0) c.store_end-in-Err.ensures ∙ set_there inside.notes _ c.self.invariant.1 in
+    let is_new = ap (λ queues. queue_of queues 0) c.store_end-in-Err.ensures
+    ∙ set_there inside.notes _ c.self.invariant.1 in
     let was = rw (← c.self.view_is) at c.requires.some in
-    end_some g.R.Source.gives (IsChosen c.args.choice.now) inside.shift inside.notes.capacity (c.store_end-in-Err.new.self).capacity inside.count inside.last inside.reader c.pass.new.self (queue_of inside.notes 0) is_open (Some (record { number = c.in-Err.at.line; fault = c.in-Err.at.fault })) over c.end_note-in-Err.result c.end_note-in-Err.ensures (queue_of c.store_end-in-Err.new.self 0) is_new (c.self.invariant.3 is_open).1 was
+    end_some g.R.Source.gives (IsChosen c.args.choice.now) inside.shift inside.notes.capacity
+    (c.store_end-in-Err.new.self).capacity inside.count inside.last inside.reader c.pass.new.self
+    (queue_of inside.notes 0) is_open (Some (record { line = c.in-Err.at.line; fault = c.in-Err.at.fault })) over
+    c.end_note-in-Err.result c.end_note-in-Err.ensures (queue_of c.store_end-in-Err.new.self 0) is_new
+    (c.self.invariant.3 is_open).1 was

@@ -5,4 +5,5 @@ use Rattle.tile_merge.proofs.merging.threaded.feeder.put.Given as goal
 -- nothing was put yet
 abbrev pub invariant-full : goal.invariant-full
 invariant-full g l =
-    IsSameSender l.initial.sender l.sender × (notes_put l.sender ≡ notes_put l.initial.sender) × (l.line ≡ l.initial.line)
+    IsSameSender l.initial.sender l.sender × (notes_put l.sender ≡ notes_put l.initial.sender)
+    × (l.line ≡ l.initial.line)

@@ -5,4 +5,5 @@ use Rattle.city_feature.proofs.joining.extensions.ordered.Ordered.value_of.Goals
 pub returns : goal.returns
 returns c =
     let name = c.args.name.now in
-    c.copied.ensures ∙ (c.get.ensures.value ∙ (c.self.invariant name ∙ ap (lookup (λ key. bytes_eq name key.now)) c.self.view_is))
+    c.copied.ensures ∙ (c.get.ensures.value
+    ∙ (c.self.invariant name ∙ ap (lookup (λ key. bytes_eq name key.now)) c.self.view_is))

@@ -11,9 +11,11 @@ use Rattle.tile_merge.proofs.merging.threaded.feeder.FedTile.feed.Goals.{then-is
 
 pub lines-init : goal.lines-init
 lines-init g c =
-    let most = subst (λ (fed : Fed g.row.R.Denot). most_to_come fed.unread ≤ most_texts) (sym c.self.view_is) c.requires.most in
+    let most = subst (λ (fed : Fed g.row.R.Denot). most_to_come fed.unread ≤ most_texts) (sym c.self.view_is)
+    c.requires.most in
     record {
-      so_far = fed_start (MayComeTo g.R.Source.gives (IsChosen c.self.inside.choice) c.self.inside.shift c.self.inside.reader) (notes_put c.args.sender);
+      so_far = fed_start (MayComeTo g.R.Source.gives (IsChosen c.self.inside.choice) c.self.inside.shift
+          c.self.inside.reader) (notes_put c.args.sender);
       own = search rules;
       same = search rules;
       unseen = refl;
@@ -25,16 +27,24 @@ returns-in-Ok-None-clause-fed g c =
     let over = rw c.in-Ok-None.field-0-is at c.in-Ok-None.ensures.over in
     let comes = MayComeTo g.R.Source.gives (IsChosen c.self.inside.choice) c.self.inside.shift in
     let Unasked = received c.finish.result.cancellation.consumer ≡ received c.args.links.cancellation.consumer in
-    let fed = fed_whole g.R.Source.gives (record { unread = c.self.inside.reader; shift = c.self.inside.shift; choice = c.self.inside.choice }) Unasked (notes_put c.args.sender) (comes c.lines.reader) c.lines.count (notes_put c.lines.sender) c.lines.invariant.so_far c.end_note.result (notes_carried c.finish.result.closed) c.finish.ensures.put None over c.end_note.ensures in
+    let fed = fed_whole g.R.Source.gives (record
+    { unread = c.self.inside.reader; shift = c.self.inside.shift; choice = c.self.inside.choice }) Unasked
+    (notes_put c.args.sender) (comes c.lines.reader) c.lines.count (notes_put c.lines.sender)
+    c.lines.invariant.so_far c.end_note.result (notes_carried c.finish.result.closed) c.finish.ensures.put None over
+    c.end_note.ensures in
     rw (← c.self.view_is) fed
 
 pub returns-in-Err-clause-fed : goal.returns-in-Err-clause-fed
 returns-in-Err-clause-fed g c =
     let comes = MayComeTo g.R.Source.gives (IsChosen c.self.inside.choice) c.self.inside.shift in
-    let outcome = Some (record { number = c.in-Err.at.line; fault = c.in-Err.at.fault }) in
+    let outcome = Some (record { line = c.in-Err.at.line; fault = c.in-Err.at.fault }) in
     let finish = c.finish-in-Err in
     let Unasked = received finish.result.cancellation.consumer ≡ received c.args.links.cancellation.consumer in
-    let fed = fed_whole g.R.Source.gives (record { unread = c.self.inside.reader; shift = c.self.inside.shift; choice = c.self.inside.choice }) Unasked (notes_put c.args.sender) (comes c.lines.reader) c.lines.count (notes_put c.lines.sender) c.lines.invariant.so_far c.end_note-in-Err.result (notes_carried finish.result.closed) finish.ensures.put outcome c.in-Err.ensures.refused c.end_note-in-Err.ensures in
+    let fed = fed_whole g.R.Source.gives (record
+    { unread = c.self.inside.reader; shift = c.self.inside.shift; choice = c.self.inside.choice }) Unasked
+    (notes_put c.args.sender) (comes c.lines.reader) c.lines.count (notes_put c.lines.sender)
+    c.lines.invariant.so_far c.end_note-in-Err.result (notes_carried finish.result.closed) finish.ensures.put
+    outcome c.in-Err.ensures.refused c.end_note-in-Err.ensures in
     rw (← c.self.view_is) fed
 
 pub returns-then-is_asked-clause-fed : goal.returns-then-is_asked-clause-fed
@@ -52,15 +62,22 @@ returns-then-is_asked-clause-fed g c =
       | then-is_chosen w ↦
           let given = text w.if-is_chosen.true in
           subst (λ n. FedSoFar before after n old (notes_put c.if-is_chosen.sender)) (sym w.count-is)
-          (fed_text before old now c.lines.count (notes_put c.lines.sender) so_far after given.0 c.in-Ok-Some.passed.line given.1 given.2 (notes_put c.if-is_chosen.sender) (ap notes_put w.sender-is ∙ w.put.ensures.put))
-      | else-is_chosen w ↦ rw (w.count-is, w.sender-is) (fed_nothing before old now c.lines.count (notes_put c.lines.sender) so_far after (skipped w.if-is_chosen.false).1)
+          (fed_text before old now c.lines.count (notes_put c.lines.sender) so_far after c.in-Ok-Some.passed.text given
+          (notes_put c.if-is_chosen.sender) (ap notes_put w.sender-is ∙ w.put.ensures.put))
+      | else-is_chosen w ↦ rw (w.count-is, w.sender-is)
+          (fed_nothing before old now c.lines.count (notes_put c.lines.sender) so_far after
+          (skipped w.if-is_chosen.false).1)
     ] in
     let finish = c.finish-then-is_asked in
     let Unasked = received finish.result.cancellation.consumer ≡ received c.args.links.cancellation.consumer in
     let one_more = c.is_asked.ensures.yes c.if-is_asked.true in
     let unseen = ap length c.lines.invariant.unseen in
     let kept = ap received finish.ensures.asked in
-    let fed = fed_front g.R.Source.gives (record { unread = c.self.inside.reader; shift = c.self.inside.shift; choice = c.self.inside.choice }) Unasked old after c.if-is_chosen.count (notes_put c.if-is_chosen.sender) passed c.end_note-then-is_asked.result (notes_carried finish.result.closed) finish.ensures.put c.pass.ensures.some (λ unasked. omega (arith, one_more, unseen, ap length (sym kept ∙ unasked))) in
+    let fed = fed_front g.R.Source.gives (record
+    { unread = c.self.inside.reader; shift = c.self.inside.shift; choice = c.self.inside.choice }) Unasked old after
+    c.if-is_chosen.count (notes_put c.if-is_chosen.sender) passed c.end_note-then-is_asked.result
+    (notes_carried finish.result.closed) finish.ensures.put c.pass.ensures.some
+    (λ unasked. omega (arith, one_more, unseen, ap length (sym kept ∙ unasked))) in
     rw (← c.self.view_is) fed
 
 pub lines-preserved : goal.lines-preserved
@@ -79,8 +96,11 @@ lines-preserved g c =
       | then-is_chosen w ↦
           let given = text w.if-is_chosen.true in
           subst (λ n. FedSoFar before after n old (notes_put c.if-is_chosen.sender)) (sym w.count-is)
-          (fed_text before old now c.lines.count (notes_put c.lines.sender) so_far after given.0 c.in-Ok-Some.passed.line given.1 given.2 (notes_put c.if-is_chosen.sender) (ap notes_put w.sender-is ∙ w.put.ensures.put))
-      | else-is_chosen w ↦ rw (w.count-is, w.sender-is) (fed_nothing before old now c.lines.count (notes_put c.lines.sender) so_far after (skipped w.if-is_chosen.false).1)
+          (fed_text before old now c.lines.count (notes_put c.lines.sender) so_far after c.in-Ok-Some.passed.text given
+          (notes_put c.if-is_chosen.sender) (ap notes_put w.sender-is ∙ w.put.ensures.put))
+      | else-is_chosen w ↦ rw (w.count-is, w.sender-is)
+          (fed_nothing before old now c.lines.count (notes_put c.lines.sender) so_far after
+          (skipped w.if-is_chosen.false).1)
     ] in
     let bound : c.if-is_chosen.count + most_to_come c.pass.new.self ≤ most_texts =
     elim c.if-is_chosen.branch [

@@ -8,10 +8,12 @@ pub returns-in-Some-Line-clause-line : goal.returns-in-Some-Line-clause-line
 returns-in-Some-Line-clause-line g c =
     let line = c.in-Some-Line.line in
     let taken = rw c.in-Some-Line.field-0-is at c.in-Some-Line.ensures.taken in
-    ap lines_in taken ∙ lines_more (notes_taken c.self.inside.receiver) line ∙ ap (λ (tile : RunningState g.row.R.Denot). tile.lines ++ line ∷ []) c.self.view_is
+    ap lines_in taken ∙ lines_more (notes_taken c.self.inside.receiver) line
+    ∙ ap (λ (tile : RunningState g.row.R.Denot). tile.lines ++ line ∷ []) c.self.view_is
 
 pub returns-in-Some-End-clause-none : goal.returns-in-Some-End-clause-none
 returns-in-Some-End-clause-none g c =
     let end = c.in-Some-End.end in
     let taken = rw c.in-Some-End.field-0-is at c.in-Some-End.ensures.taken in
-    ap lines_in taken ∙ lines_ended (notes_taken c.self.inside.receiver) end ∙ ap (λ (tile : RunningState g.row.R.Denot). tile.lines) c.self.view_is
+    ap lines_in taken ∙ lines_ended (notes_taken c.self.inside.receiver) end
+    ∙ ap (λ (tile : RunningState g.row.R.Denot). tile.lines) c.self.view_is

@@ -1,0 +1,136 @@
+"""How much memory do the worst inputs take, in times of their size? Valid ones and refused ones apart, and documents that
+are cut on their text and those that are cut by their value."""
+
+import os
+import typing
+
+from documents import (
+    apart, deep_boundaries, document, listed, one_child, one_line_down, one_vertex, points, vertices, wide_boundary,
+)
+from running import Run
+from shapes import holding, joined, vertices as feature_of_vertices
+from streams import HEADER
+
+MEGA = 1_000_000
+
+
+class Worst(typing.NamedTuple):
+    name: str
+    command: str
+    # how many items there are, and the bytes of an input of so many
+    count: int
+    make: typing.Callable
+    # the peak memory is at most so many times the input
+    most: float
+    # a part of the fault that has to be told, if any
+    fault: str = ""
+
+
+def escaped(pieces):
+    """A feature with a name in a spelling that is rare, so that its line is read as a value."""
+    yield HEADER
+    yield b'{"type":"CityJSONFeature","i\\u0064":"a","CityObjects":{},"vertices":[],"holds":['
+    yield from pieces
+    yield b"]}\n"
+
+
+def items(piece, count):
+    return joined(b"", piece, count, b"")
+
+
+def minus_zeros(count):
+    yield HEADER
+    yield b'{"type":"CityJSONFeature","id":"a","CityObjects":{},"vertices":['
+    yield from items(b"[-0,-0,-0]", count)
+    yield b"]}\n"
+
+
+def refused(piece, count):
+    """A line of such items whose last bracket is missing."""
+    return holding(b"[" + b",".join([piece] * count))
+
+
+def with_appearance(count, size):
+    """A document of so many buildings, and an appearance of so many bytes."""
+    objects = ('"%d":{"type":"Building",%s}' % (at, points(at)) for at in range(count))
+    whole = b"".join(document(listed(objects), vertices(count))).rstrip()
+    yield whole[:-1] + b',"appearance":{"textures":["' + b"a" * size + b'"]}}\n'
+
+
+def nested_leaf(count):
+    """A boundary of so many arrays of one leaf."""
+    return document(listed(('"a":{%s}' % points(",".join(["[0]"] * count)),)), vertices(1))
+
+
+def orphan(make):
+    """The document with an object of no feature at its front."""
+
+    def made(count):
+        whole = b"".join(make(count))
+        return iter((whole.replace(b'"CityObjects":{', b'"CityObjects":{"none":{"parents":["x"]},', 1),))
+
+    return made
+
+
+def by_value(make):
+    """The document with a -0 among its vertices: the cut on the text does not decide it."""
+
+    def made(count):
+        whole = b"".join(make(count))
+        return iter((whole.replace(b'"vertices":[[0', b'"vertices":[[-0', 1),))
+
+    return made
+
+
+ORPHAN = "a city object belongs to no feature"
+
+WORST = (
+    Worst("a line of vertices of -0", "filter", 400_000, minus_zeros, 6),
+    Worst("a line in a rare spelling: arrays of one item", "filter", 5_000_000, lambda n: escaped(items(b"[1]", n)), 6),
+    Worst("a line in a rare spelling: short texts", "filter", 5_000_000, lambda n: escaped(items(b'"a"', n)), 6),
+    Worst("a line in a rare spelling: numbers", "filter", 5_000_000, lambda n: escaped(items(b"1", n)), 6),
+    Worst("a refused line: arrays of one item", "filter", 1_000_000, lambda n: refused(b"[1]", n), 23, "not a JSON text"),
+    Worst("a refused line: empty objects", "filter", 1_000_000, lambda n: refused(b"{}", n), 23, "not a JSON text"),
+    Worst("a refused line: short texts", "filter", 1_000_000, lambda n: refused(b'"a"', n), 23, "not a JSON text"),
+    Worst("a refused line: vertices", "filter", 400_000, lambda n: feature_of_vertices(n, b",[0.5,0,0]]"), 23, "not written as a whole"),
+    Worst("cat: small objects", "cat", 60_000, apart, 22),
+    Worst("cat: boundaries 100 deep", "cat", 20_000, deep_boundaries, 22),
+    Worst("cat: an index named often", "cat", 1_000_000, one_vertex, 22),
+    Worst("cat: arrays of one index", "cat", 1_000_000, nested_leaf, 22),
+    Worst("cat: a child named often", "cat", 1_000_000, one_child, 22),
+    Worst("cat: objects, each the child of another", "cat", 100_000, one_line_down, 22),
+    Worst("cat: indices and vertices", "cat", 200_000, wide_boundary, 22),
+    Worst("cat: vertices that none names", "cat", 400_000, lambda n: document(listed(('"a":{}',)), vertices(n)), 22),
+    Worst("cat: 200 buildings with a large appearance", "cat", 200, lambda n: with_appearance(n, MEGA), 22),
+    Worst("cat by value: small objects", "cat", 60_000, by_value(apart), 45),
+    Worst("cat by value: boundaries 100 deep", "cat", 20_000, by_value(deep_boundaries), 45),
+    Worst("cat by value: arrays of one index", "cat", 1_000_000, by_value(nested_leaf), 45),
+    Worst("cat by value: a child named often", "cat", 1_000_000, by_value(one_child), 45),
+    Worst("cat refused: arrays of one index", "cat", 1_000_000, orphan(nested_leaf), 23, ORPHAN),
+    Worst("cat refused: small objects", "cat", 60_000, orphan(apart), 23, ORPHAN),
+    Worst("a document on the first line: small objects", "filter", 60_000, apart, 22),
+    Worst("a document on the first line: arrays of one index", "filter", 1_000_000, nested_leaf, 22),
+    Worst("a document on the first line, by value: arrays of one index", "filter", 1_000_000, by_value(nested_leaf), 45),
+    Worst("a document on the first line: 20 buildings, a large appearance", "filter", 20, lambda n: with_appearance(n, MEGA), 45),
+    Worst("a document on the first line, refused: small objects", "filter", 60_000, orphan(apart), 23, ORPHAN),
+)
+
+
+def measure(bench, worst):
+    path = bench.write("worst", worst.make(worst.count))
+    size = os.path.getsize(path)
+    run = Run([bench.program, worst.command], path)
+    os.remove(path)
+    if (run.status, worst.fault in run.errors) != (1 if worst.fault else 0, True):
+        bench.fail("%s: %s" % (worst.name, run.trouble()))
+        return
+    times = run.peak / size
+    bench.say("  %-62s %6.1f MB: peak memory %7.1f MB, %5.1f times" % (worst.name, size / MEGA, run.peak / MEGA, times))
+    if times > worst.most:
+        bench.fail("%s: %.1f times its size, at most %g are wanted" % (worst.name, times, worst.most))
+
+
+def worst_memory(bench):
+    bench.say("How much memory do the worst inputs take?")
+    for worst in WORST:
+        measure(bench, worst)

@@ -1,0 +1,429 @@
+-- Boundaries, geometries and objects that are copied from their compact texts.
+use Rattle.std.proofs.Common.{◌≡◌, ◌∙◌, ◌++◌, ◌<◌, ◌≤◌, ◌+◌, ℕ, true, false, List, [], ◌∷◌, None, length, take, drop, get_or, slice_range, refl, sym, ap, subst, arith, append_assoc, append-nil, length-drop, inl, inr, codes}
+use Rattle.std.proofs.lemmas.Grind.{flat_map-append}
+use Rattle.std.specs.List.{flat_map, AllByRecursion}
+use Rattle.city_json.proofs.CompactEnds.{items_some}
+use Rattle.city_json.proofs.Places.{drop_one, shown_one}
+use Rattle.city_json.specs.Bytes.{colon, comma, open_bracket, close_bracket, open_brace, quotation_mark}
+use Rattle.city_json.specs.Compact.{compact, compact_items, compact_more_items, quoted}
+use Rattle.city_json.specs.CompactEnds.{IsStopped, LeavesValue}
+use Rattle.city_json.specs.Compacting.{shown}
+use Rattle.city_json.specs.Fits.{AreDistinctItems, depth, items_depth}
+use Rattle.byte_streams.specs.Limits.{max_depth}
+use Rattle.city_json.specs.Members.{first_named}
+use Rattle.city_json.specs.Parts.{AreParts}
+use Rattle.city_json.specs.Tree.{Tree, null, boolean, number, string, array, object, ItemTrees, no_items, item, MemberTrees}
+use Rattle.city_json.specs.Writable.{AreWritableItems, IsWritable}
+use Rattle.city_json.specs.declared.compacting.parts.Part.{Part}
+use Rattle.city_feature.proofs.QuickLines.{utf8}
+use Rattle.city_feature.specs.Quick.{IsPartNamed}
+use Rattle.city_cut.specs.Boundaries.{IsAddress, IsBounded, IsGeometry, address_boundary, boundaries, changed_items, changed_members, in_member, own_boundary, relabelled_boundary, relabelled_object}
+use Rattle.city_cut.specs.Copied.{Copies, CopiesItems}
+use Rattle.city_cut.specs.Holders.{AreHeld, IsHeld, IsShaped, boundary_in, held_uses, relabelled_held, relabelled_in}
+use Rattle.city_cut.specs.declared.quick.holders.Holder.{Holder}
+use Rattle.city_cut.specs.declared.quick.holders.Holder.TheVariants.{Geometry, Address}
+use Rattle.city_cut.specs.Items.{item_list}
+use Rattle.city_cut.specs.Leaves.{IsBoundary, IsNested, leaves, relabelled}
+use Rattle.city_cut.specs.Texts.{IsCompactOf}
+use Rattle.city_cut.proofs.CopiedTexts.{copies_both, copies_so, copies_text, first_of, number_not_array, other_first, others_of, part_array, shown_here}
+use Rattle.city_cut.proofs.QuickTexts.{changed_absent, copies_exchanged, member_there, slice_first}
+
+part_boundary : (count : ℕ) (value : Tree) (tail : List ℕ) → IsWritable value
+    → compact value ++ [] ≡ open_bracket ∷ tail → IsNested count value → IsBoundary count value
+part_boundary count null tail w is part = absurd part
+part_boundary count (boolean b) tail w is part = absurd part
+part_boundary count (number text) tail w is part = absurd (number_not_array text [] tail w is)
+part_boundary count (string text) tail w is part = absurd part
+part_boundary count (array items) tail w is part = part
+part_boundary count (object members) tail w is part = absurd part
+
+pub boundary_made : (count : ℕ) (text t o line t' o' line' line₃ : List ℕ) (from end : ℕ) → 0 < length text
+    → get_or text 0 0 ≡ open_bracket
+    → CopiesItems count (drop 1 text) (drop end text)
+    (Copies t o (shown line text 0 1) t' o' (shown line' text from end)) → length text ≤ end
+    → line₃ ≡ line' ++ slice_range text from end
+    → (value : Tree) → IsWritable value → text ≡ compact value → IsBoundary count value
+    × Copies t o line t' o' line₃ (leaves value) (λ change. compact (relabelled change value))
+boundary_made count text t o line t' o' line' line₃ from end some here items past last value writable is =
+    let begins : text ≡ open_bracket ∷ drop 1 text = drop_one text 0 open_bracket some here in
+    let opened : shown line text 0 1 ≡ line ++ open_bracket ∷ [] =
+    shown_one line text 0 0 open_bracket (omega arith) some here
+    ∙ ap (λ l. l ++ open_bracket ∷ []) (shown_here line text 0 0 refl) in
+    let made = part_array count t o line (shown line text 0 1) t' o' (shown line' text from end) text (drop 1 text)
+    (drop end text) begins opened items value [] writable tt (is ∙ sym (append-nil (compact value))) in (
+      part_boundary count value (drop 1 text) writable (append-nil (compact value) ∙ (sym is ∙ begins)) made.1,
+      subst (λ l. Copies t o line t' o' l (leaves value) (λ change. compact (relabelled change value))) (sym last)
+          made.2,
+    )
+
+-- ---- a geometry
+pub geometry_absent : (count : ℕ) (text t o line line' : List ℕ) (members : MemberTrees)
+    → text ≡ compact (object members) → first_named (codes "boundaries") members ≡ None → line' ≡ line ++ text
+    → IsGeometry count (object members) × Copies t o line t o line' (flat_map leaves (own_boundary (object members)))
+    (λ change. compact (relabelled_boundary change (object members)))
+geometry_absent count text t o line line' members is none appended =
+    let none_there : own_boundary (object members) ≡ [] = rw none refl in (
+      (tt, subst (AllByRecursion (IsBoundary count)) (sym none_there) tt),
+      copies_so t o line t o line' [] (flat_map leaves (own_boundary (object members))) (λ change. text)
+          (λ change. compact (relabelled_boundary change (object members))) (copies_text t o line line' text appended)
+          (sym (ap (flat_map leaves) none_there))
+          (λ change. is ∙ ap (λ m. compact (object m))
+          (sym (changed_absent (codes "boundaries") (relabelled change) members none))),
+    )
+
+pub geometry_made : (count : ℕ) (text given t o line line₁ t' o' line₂ line₃ : List ℕ) (parts : List Part) (part : Part)
+    (members : MemberTrees) → IsCompactOf text (object members) → AreParts 1 parts members
+    → IsPartNamed text parts (quoted (codes "boundaries") ++ colon ∷ []) part
+    → given ≡ slice_range text part.value part.end
+    → line₁ ≡ line ++ take part.value text
+    → ((value : Tree) → IsWritable value → given ≡ compact value → IsBoundary count value
+    × Copies t o line₁ t' o' line₂ (leaves value) (λ change. compact (relabelled change value)))
+    → line₃ ≡ line₂ ++ drop part.end text
+    → IsGeometry count (object members) × Copies t o line t' o' line₃ (flat_map leaves (own_boundary (object members)))
+    (λ change. compact (relabelled_boundary change (object members)))
+geometry_made count text given t o line line₁ t' o' line₂ line₃ parts part members of are named lies front made back =
+    let found = member_there text parts members (codes "boundaries") part given (utf8 (codes "boundaries") refl) of are
+    named lies in
+    let inner = made found.value found.of.writable found.of.is in
+    let there : own_boundary (object members) ≡ found.value ∷ [] = rw found.is refl in
+    let all = copies_exchanged t o line line₁ t' o' line₂ line₃ text part members (codes "boundaries") found.value
+    (leaves found.value) relabelled of.distinct.0 found.is found.exchanged front inner.1 back in (
+      (tt, subst (AllByRecursion (IsBoundary count)) (sym there) (inner.0, tt)),
+      copies_so t o line t' o' line₃ (leaves found.value) (flat_map leaves (own_boundary (object members)))
+          (λ change. compact (object (changed_members (codes "boundaries") (relabelled change) members)))
+          (λ change. compact (relabelled_boundary change (object members))) all
+          (sym (append-nil (leaves found.value)) ∙ sym (ap (flat_map leaves) there)) (λ change. refl),
+    )
+
+-- ---- an address
+pub address_absent : (count : ℕ) (text t o line line' : List ℕ) (members : MemberTrees)
+    → text ≡ compact (object members) → first_named (codes "location") members ≡ None → line' ≡ line ++ text
+    → IsAddress count (object members) × Copies t o line t o line' (flat_map leaves (address_boundary (object members)))
+    (λ change. compact (in_member (codes "location") (relabelled_boundary change) (object members)))
+address_absent count text t o line line' members is none appended =
+    let none_there : address_boundary (object members) ≡ [] = rw none refl in (
+      subst (AllByRecursion (IsBoundary count)) (sym none_there) tt,
+      copies_so t o line t o line' [] (flat_map leaves (address_boundary (object members))) (λ change. text)
+          (λ change. compact (in_member (codes "location") (relabelled_boundary change) (object members)))
+          (copies_text t o line line' text appended) (sym (ap (flat_map leaves) none_there))
+          (λ change. is ∙ ap (λ m. compact (object m))
+          (sym (changed_absent (codes "location") (relabelled_boundary change) members none))),
+    )
+
+pub address_made : (count : ℕ) (text given t o line line₁ t' o' line₂ line₃ : List ℕ) (parts : List Part) (part : Part)
+    (members : MemberTrees) → IsCompactOf text (object members) → AreParts 1 parts members
+    → IsPartNamed text parts (quoted (codes "location") ++ colon ∷ []) part
+    → given ≡ slice_range text part.value part.end
+    → line₁ ≡ line ++ take part.value text
+    → ((value : Tree) → IsCompactOf given value → IsGeometry count value
+    × Copies t o line₁ t' o' line₂ (flat_map leaves (own_boundary value))
+    (λ change. compact (relabelled_boundary change value)))
+    → line₃ ≡ line₂ ++ drop part.end text
+    → IsAddress count (object members) × Copies t o line t' o' line₃
+    (flat_map leaves (address_boundary (object members)))
+    (λ change. compact (in_member (codes "location") (relabelled_boundary change) (object members)))
+address_made count text given t o line line₁ t' o' line₂ line₃ parts part members of are named lies front made back =
+    let found = member_there text parts members (codes "location") part given (utf8 (codes "location") refl) of are
+    named lies in
+    let inner = made found.value found.of in
+    let there : address_boundary (object members) ≡ own_boundary found.value = rw found.is refl in
+    let all = copies_exchanged t o line line₁ t' o' line₂ line₃ text part members (codes "location") found.value
+    (flat_map leaves (own_boundary found.value)) relabelled_boundary of.distinct.0 found.is found.exchanged front
+    inner.1 back in (
+      subst (AllByRecursion (IsBoundary count)) (sym there) inner.0.1,
+      copies_so t o line t' o' line₃ (flat_map leaves (own_boundary found.value))
+          (flat_map leaves (address_boundary (object members)))
+          (λ change. compact (object (changed_members (codes "location") (relabelled_boundary change) members)))
+          (λ change. compact (in_member (codes "location") (relabelled_boundary change) (object members))) all
+          (sym (ap (flat_map leaves) there)) (λ change. refl),
+    )
+
+-- ---- what is made of values
+abbrev pub GeometryMade : ℕ → List ℕ → List ℕ → List ℕ → List ℕ → List ℕ → List ℕ → Tree → Type 0
+GeometryMade count t o line t' o' line' value = IsGeometry count value
+    × Copies t o line t' o' line' (flat_map leaves (own_boundary value))
+    (λ change. compact (relabelled_boundary change value))
+
+abbrev pub AddressMade : ℕ → List ℕ → List ℕ → List ℕ → List ℕ → List ℕ → List ℕ → Tree → Type 0
+AddressMade count t o line t' o' line' value = IsAddress count value
+    × Copies t o line t' o' line' (flat_map leaves (address_boundary value))
+    (λ change. compact (in_member (codes "location") (relabelled_boundary change) value))
+
+abbrev pub ItemMade : Holder → ℕ → List ℕ → List ℕ → List ℕ → List ℕ → List ℕ → List ℕ → Tree → Type 0
+ItemMade holder count t o line t' o' line' value = IsHeld holder count value
+    × Copies t o line t' o' line' (flat_map leaves (boundary_in holder value))
+    (λ change. compact (relabelled_in holder change value))
+
+abbrev pub HeldMade : Holder → ℕ → List ℕ → List ℕ → List ℕ → List ℕ → List ℕ → List ℕ → Tree → Type 0
+HeldMade holder count t o line t' o' line' value = AreHeld holder count value
+    × Copies t o line t' o' line' (held_uses holder value) (λ change. compact (relabelled_held holder change value))
+
+abbrev pub ObjectMade : ℕ → List ℕ → List ℕ → List ℕ → List ℕ → List ℕ → List ℕ → Tree → Type 0
+ObjectMade count t o line t' o' line' value = IsBounded count value
+    × Copies t o line t' o' line' (flat_map leaves (boundaries value))
+    (λ change. compact (relabelled_object change value))
+
+shaped : (holder : Holder) (items : ItemTrees) → IsShaped holder (array items)
+shaped Geometry items = tt
+shaped Address items = tt
+
+-- ---- geometries or addresses, one after another
+array_here : (value : Tree) (tail : List ℕ) → IsWritable value → compact value ≡ open_bracket ∷ tail
+    → (items : ItemTrees) × (value ≡ array items)
+array_here null tail w is = absurd (other_first 110 open_bracket _ tail (omega arith) is)
+array_here (boolean true) tail w is = absurd (other_first 116 open_bracket _ tail (omega arith) is)
+array_here (boolean false) tail w is = absurd (other_first 102 open_bracket _ tail (omega arith) is)
+array_here (number text) tail w is = absurd (number_not_array text [] tail w (append-nil text ∙ is))
+array_here (string text) tail w is = absurd (other_first quotation_mark open_bracket _ tail (omega arith) is)
+array_here (array items) tail w is = (items, refl)
+array_here (object members) tail w is = absurd (other_first open_brace open_bracket _ tail (omega arith) is)
+
+-- for each array, it is enough to know what is made of it
+pub of_array : (P : Tree → Type 0) (text : List ℕ) → 0 < length text → get_or text 0 0 ≡ open_bracket
+    → ((items : ItemTrees) → IsCompactOf text (array items) → P (array items)) → (value : Tree) → IsCompactOf text value
+    → P value
+of_array P text some here made value of =
+    let there = array_here value (drop 1 text) of.writable (sym of.is ∙ drop_one text 0 open_bracket some here) in
+    subst P (sym there.1) (made there.0 (subst (IsCompactOf text) there.1 of))
+
+items_there : (text : List ℕ) (items : ItemTrees) → 0 < length text → get_or text 0 0 ≡ open_bracket
+    → IsCompactOf text (array items) → drop 1 text ≡ compact_items items ++ close_bracket ∷ []
+items_there text items some here of = others_of _ _ _ _ (sym (drop_one text 0 open_bracket some here) ∙ of.is)
+
+pub items_made_none : (holder : Holder) (count : ℕ) (text t o line line' : List ℕ) → 0 < length text
+    → get_or text 0 0 ≡ open_bracket → 1 < length text → get_or text 1 0 ≡ close_bracket → line' ≡ line ++ text
+    → (items : ItemTrees) → IsCompactOf text (array items) → HeldMade holder count t o line t o line' (array items)
+items_made_none holder count text t o line line' some here more closes appended no_items of = (
+  (shaped holder no_items, tt),
+  copies_so t o line t o line' [] [] (λ change. text)
+      (λ change. compact (array no_items)) (copies_text t o line line' text appended) refl (λ change. of.is),
+)
+items_made_none holder count text t o line line' some here more closes appended (item first others) of =
+    absurd (items_some text [] 1 first others more closes of.writable
+    (items_there text (item first others) some here of))
+
+-- the items up to the one that stands first in `b` were copied
+pub record ItemsMade (holder : Holder) (count : ℕ) (items : ItemTrees) (b t o line t' o' line' : List ℕ) : Type 0 where
+  pub first : Tree
+  pub others : ItemTrees
+  pub writable : AreWritableItems (item first others)
+  pub distinct : AreDistinctItems (item first others)
+  pub within : items_depth (item first others) ≤ max_depth
+  pub is : b ≡ compact_items (item first others) ++ close_bracket ∷ []
+  pub uses : List ℕ
+  pub own : (List ℕ → List ℕ) → List ℕ
+  pub copies : Copies t o line t' o' line' uses own
+  pub leaves_are : held_uses holder (array items) ≡ uses ++ held_uses holder (array (item first others))
+  pub own_is : (change : List ℕ → List ℕ) → open_bracket ∷ compact_items
+      (changed_items (relabelled_in holder change) items) ≡ own change
+      ++ compact_items (changed_items (relabelled_in holder change) (item first others))
+  pub parts : AllByRecursion (IsHeld holder count) (item_list (item first others))
+      → AllByRecursion (IsHeld holder count) (item_list items)
+
+pub items_begin : (holder : Holder) (count : ℕ) (text t o line line' : List ℕ) → 0 < length text
+    → get_or text 0 0 ≡ open_bracket → (1 < length text → get_or text 1 0 ≡ close_bracket → ⊥)
+    → line' ≡ line ++ open_bracket ∷ [] → (items : ItemTrees) → IsCompactOf text (array items)
+    → ItemsMade holder count items (drop 1 text) t o line t o line'
+items_begin holder count text t o line line' some here other opened no_items of =
+    let is = items_there text no_items some here of in
+    let inside : 1 < length text = omega (arith, ap length is, length-drop 1 text) in
+    absurd (other inside (first_of _ _ _ _ (sym (drop_one text 1 (get_or text 1 0) inside refl) ∙ is)))
+items_begin holder count text t o line line' some here other opened (item first others) of = record {
+  first = first;
+  others = others;
+  writable = of.writable;
+  distinct = of.distinct;
+  within = omega (arith, of.within);
+  is = items_there text (item first others) some here of;
+  uses = [];
+  own = λ change. open_bracket ∷ [];
+  copies = copies_text t o line line' (open_bracket ∷ []) opened;
+  leaves_are = refl;
+  own_is = λ change. refl;
+  parts = λ p. p;
+}
+
+more_ends : (others : ItemTrees) → IsStopped (compact_more_items others ++ close_bracket ∷ [])
+more_ends no_items = inr (inl refl)
+more_ends (item first others) = inl refl
+
+first_within : (first : Tree) (others : ItemTrees) → items_depth (item first others) ≤ max_depth
+    → depth first ≤ max_depth
+first_within first others within = omega (arith, within)
+
+others_within : (first : Tree) (others : ItemTrees) → items_depth (item first others) ≤ max_depth
+    → items_depth others ≤ max_depth
+others_within first others within = omega (arith, within)
+
+module _ (holder : Holder) (count : ℕ) (items : ItemTrees) (text given t o line t₁ o₁ line₁ t₂ o₂ line₂ : List ℕ)
+    (i end : ℕ) (so_far : ItemsMade holder count items (drop i text) t o line t₁ o₁ line₁)
+    (leaves_value : LeavesValue 128 (drop i text) (drop end text)) (onward : i ≤ end) (within : end ≤ length text)
+    (lies : given ≡ slice_range text i end) (made : (value : Tree) → IsCompactOf given value
+    → ItemMade holder count t₁ o₁ line₁ t₂ o₂ line₂ value) where
+  left : drop end text ≡ compact_more_items so_far.others ++ close_bracket ∷ []
+  left =
+      leaves_value so_far.first (compact_more_items so_far.others ++ close_bracket ∷ []) so_far.writable.0
+      (first_within so_far.first so_far.others so_far.within) (more_ends so_far.others)
+      (so_far.is ∙ append_assoc (compact so_far.first) (compact_more_items so_far.others) (close_bracket ∷ []))
+
+  here_is : given ≡ compact so_far.first
+  here_is =
+      lies ∙ slice_first text (compact so_far.first) i end onward within
+      (so_far.is ∙ (append_assoc (compact so_far.first) (compact_more_items so_far.others) (close_bracket ∷ [])
+      ∙ ap (λ l. compact so_far.first ++ l) (sym left)))
+
+  one : ItemMade holder count t₁ o₁ line₁ t₂ o₂ line₂ so_far.first
+  one = made so_far.first (record {
+    is = here_is;
+    writable = so_far.writable.0;
+    distinct = so_far.distinct.0;
+    within = first_within so_far.first so_far.others so_far.within;
+  })
+
+  uses_of : List ℕ
+  uses_of = flat_map leaves (boundary_in holder so_far.first)
+
+  both : Copies t o line t₂ o₂ line₂ (so_far.uses ++ flat_map leaves (boundary_in holder so_far.first))
+      (λ change. so_far.own change ++ compact (relabelled_in holder change so_far.first))
+  both = copies_both t o line t₁ o₁ line₁ t₂ o₂ line₂ so_far.uses (flat_map leaves (boundary_in holder so_far.first))
+      so_far.own (λ change. compact (relabelled_in holder change so_far.first)) so_far.copies one.1
+
+  split_uses : (others : ItemTrees) → held_uses holder (array (item so_far.first others))
+      ≡ flat_map leaves (boundary_in holder so_far.first) ++ held_uses holder (array others)
+  split_uses others = flat_map-append leaves (boundary_in holder so_far.first)
+      (flat_map (boundary_in holder) (item_list others))
+
+  pub items_stop : (line₃ : List ℕ) → end < length text → get_or text end 0 ≡ close_bracket
+      → line₃ ≡ line₂ ++ close_bracket ∷ [] → HeldMade holder count t o line t₂ o₂ line₃ (array items)
+  items_stop line₃ inside here closed = by_others so_far.others refl left
+    where
+      by_others : (others : ItemTrees) → others ≡ so_far.others
+          → drop end text ≡ compact_more_items so_far.others ++ close_bracket ∷ []
+          → HeldMade holder count t o line t₂ o₂ line₃ (array items)
+      by_others (item next others) same rest =
+          absurd (other_first comma close_bracket _ (drop (end + 1) text) (omega arith)
+          (ap (λ l. compact_more_items l ++ close_bracket ∷ []) same
+          ∙ (sym rest ∙ drop_one text end close_bracket inside here)))
+      by_others no_items same rest =
+          let closing = copies_both t o line t₂ o₂ line₂ t₂ o₂ line₃
+          (so_far.uses ++ flat_map leaves (boundary_in holder so_far.first)) []
+          (λ change. so_far.own change ++ compact (relabelled_in holder change so_far.first))
+          (λ change. close_bracket ∷ []) both (copies_text t₂ o₂ line₂ line₃ (close_bracket ∷ []) closed) in
+          let uses : (so_far.uses ++ flat_map leaves (boundary_in holder so_far.first)) ++ []
+          ≡ held_uses holder (array items) =
+          append-nil (so_far.uses ++ flat_map leaves (boundary_in holder so_far.first))
+          ∙ (ap (λ l. so_far.uses ++ l) (sym (append-nil (flat_map leaves (boundary_in holder so_far.first)))
+          ∙ (sym (split_uses no_items) ∙ ap (λ l. held_uses holder (array (item so_far.first l))) same))
+          ∙ sym so_far.leaves_are) in (
+            (
+              shaped holder items,
+              so_far.parts (
+                one.0,
+                subst (λ l. AllByRecursion (IsHeld holder count) (item_list l)) same tt,
+              ),
+            ),
+            copies_so t o line t₂ o₂ line₃ ((so_far.uses ++ flat_map leaves (boundary_in holder so_far.first)) ++ [])
+                (held_uses holder (array items)) (λ change.
+                (so_far.own change ++ compact (relabelled_in holder change so_far.first)) ++ close_bracket ∷ [])
+                (λ change. compact (relabelled_held holder change (array items))) closing uses
+                (λ change. ap (λ l. l ++ close_bracket ∷ [])
+                (ap (λ l. so_far.own change ++ l) (sym
+                (append-nil (compact (relabelled_in holder change so_far.first)))
+                ∙ ap (λ l. compact (relabelled_in holder change so_far.first)
+                ++ compact_more_items (changed_items (relabelled_in holder change) l)) same)
+                ∙ sym (so_far.own_is change))),
+          )
+
+  pub items_more : (line₃ : List ℕ) → end < length text → get_or text end 0 ≡ comma → line₃ ≡ line₂ ++ comma ∷ []
+      → ItemsMade holder count items (drop (end + 1) text) t o line t₂ o₂ line₃
+  items_more line₃ inside here more = by_others so_far.others refl left
+    where
+      by_others : (others : ItemTrees) → others ≡ so_far.others
+          → drop end text ≡ compact_more_items so_far.others ++ close_bracket ∷ []
+          → ItemsMade holder count items (drop (end + 1) text) t o line t₂ o₂ line₃
+      by_others no_items same rest = absurd (other_first close_bracket comma [] (drop (end + 1) text) (omega arith)
+          (ap (λ l. compact_more_items l ++ close_bracket ∷ []) same
+          ∙ (sym rest ∙ drop_one text end comma inside here)))
+      by_others (item next others) same rest =
+          let on = copies_both t o line t₂ o₂ line₂ t₂ o₂ line₃
+          (so_far.uses ++ flat_map leaves (boundary_in holder so_far.first)) []
+          (λ change. so_far.own change ++ compact (relabelled_in holder change so_far.first)) (λ change. comma ∷ [])
+          both (copies_text t₂ o₂ line₂ line₃ (comma ∷ []) more) in
+          record {
+            first = next;
+            others = others;
+            writable = subst AreWritableItems (sym same) so_far.writable.1;
+            distinct = subst AreDistinctItems (sym same) so_far.distinct.1;
+            within = subst (λ l. items_depth l ≤ max_depth) (sym same)
+                (others_within so_far.first so_far.others so_far.within);
+            is = others_of _ _ _ _ (sym (drop_one text end comma inside here)
+                ∙ (rest ∙ ap (λ l. compact_more_items l ++ close_bracket ∷ []) (sym same)));
+            uses = (so_far.uses ++ flat_map leaves (boundary_in holder so_far.first)) ++ [];
+            own = λ change. (so_far.own change ++ compact (relabelled_in holder change so_far.first)) ++ comma ∷ [];
+            copies = on;
+            leaves_are = so_far.leaves_are ∙ (ap (λ l. so_far.uses ++ held_uses holder (array (item so_far.first l)))
+                (sym same) ∙ (ap (λ l. so_far.uses ++ l) (split_uses (item next others))
+                ∙ (sym (append_assoc so_far.uses (flat_map leaves (boundary_in holder so_far.first))
+                (held_uses holder (array (item next others))))
+                ∙ ap (λ l. l ++ held_uses holder (array (item next others)))
+                (sym (append-nil (so_far.uses ++ flat_map leaves (boundary_in holder so_far.first)))))));
+            own_is = λ change. so_far.own_is change
+                ∙ (ap (λ l. so_far.own change ++ (compact (relabelled_in holder change so_far.first)
+                ++ compact_more_items (changed_items (relabelled_in holder change) l))) (sym same)
+                ∙ regroup (so_far.own change) (compact (relabelled_in holder change so_far.first))
+                (compact_items (changed_items (relabelled_in holder change) (item next others))));
+            parts = λ p. so_far.parts (one.0, subst (λ l. AllByRecursion (IsHeld holder count) (item_list l)) same p);
+          }
+        where
+          regroup : (a b c : List ℕ) → a ++ (b ++ comma ∷ c) ≡ ((a ++ b) ++ comma ∷ []) ++ c
+          regroup a b c = simp append_assoc
+
+-- what is no array has no items, and stays
+pub not_array_made : (count : ℕ) (text t o line line' : List ℕ) → (0 < length text → get_or text 0 0 ≡ open_bracket → ⊥)
+    → line' ≡ line ++ text → (value : Tree) → IsCompactOf text value → HeldMade Address count t o line t o line' value
+not_array_made count text t o line line' other appended (array items) of =
+    absurd (other (omega (arith, ap length of.is)) (ap (λ l. get_or l 0 0) of.is))
+not_array_made count text t o line line' other appended null of = (
+  (tt, tt),
+  copies_so t o line t o line' [] [] (λ change. text) (λ change. compact null)
+      (copies_text t o line line' text appended) refl (λ change. of.is),
+)
+not_array_made count text t o line line' other appended (boolean b) of = (
+  (tt, tt),
+  copies_so t o line t o line' [] [] (λ change. text) (λ change. compact (boolean b))
+      (copies_text t o line line' text appended) refl (λ change. of.is),
+)
+not_array_made count text t o line line' other appended (number text₂) of = (
+  (tt, tt),
+  copies_so t o line t o line' [] [] (λ change. text) (λ change. compact (number text₂))
+      (copies_text t o line line' text appended) refl (λ change. of.is),
+)
+not_array_made count text t o line line' other appended (string text₂) of = (
+  (tt, tt),
+  copies_so t o line t o line' [] [] (λ change. text) (λ change. compact (string text₂))
+      (copies_text t o line line' text appended) refl (λ change. of.is),
+)
+not_array_made count text t o line line' other appended (object members) of = (
+  (tt, tt),
+  copies_so t o line t o line' [] [] (λ change. text) (λ change. compact (object members))
+      (copies_text t o line line' text appended) refl (λ change. of.is),
+)
+
+-- ---- of the member that is meant
+pub item_as : (holder known : Holder) (count : ℕ) (t o line t' o' line' : List ℕ) (value : Tree) → holder ≡ known
+    → ItemMade known count t o line t' o' line' value → ItemMade holder count t o line t' o' line' value
+item_as holder known count t o line t' o' line' value is made =
+    subst (λ h. ItemMade h count t o line t' o' line' value) (sym is) made
+
+pub held_as : (holder known : Holder) (count : ℕ) (t o line t' o' line' : List ℕ) (value : Tree) → holder ≡ known
+    → HeldMade known count t o line t' o' line' value → HeldMade holder count t o line t' o' line' value
+held_as holder known count t o line t' o' line' value is made =
+    subst (λ h. HeldMade h count t o line t' o' line' value) (sym is) made
+
+pub held_again : (given : List ℕ) (holder other : Holder) (count count₂ : ℕ) (t o line t' o' line' : List ℕ)
+    → other ≡ holder → count₂ ≡ count → ((value : Tree) → IsCompactOf given value
+    → HeldMade other count₂ t o line t' o' line' value) → (value : Tree) → IsCompactOf given value
+    → HeldMade holder count t o line t' o' line' value
+held_again given holder other count count₂ t o line t' o' line' same long made value of =
+    held_as holder other count t o line t' o' line' value (sym same)
+    (subst (λ n. HeldMade other n t o line t' o' line' value) long (made value of))

@@ -1,0 +1,170 @@
+-- A whole document, cut on its compact text.
+use Rattle.std.proofs.Common.{◌≡◌, ◌≢◌, ◌∙◌, ◌++◌, ◌<◌, ◌≤◌, ℕ, List, [], ◌∷◌, Option, Some, None, Result, Ok, Err, IfOk, IfSome, length, map, slice_range, refl, sym, ap, subst, codes, append-nil, append_assoc, arith}
+use Rattle.std.specs.List.{AllZip, Contains}
+use Rattle.city_json.proofs.CompactLaws.{compact-tells}
+use Rattle.city_json.proofs.SpelledWritable.{spelled_writable}
+use Rattle.city_json.specs.Bytes.{colon, comma, close_brace}
+use Rattle.city_json.specs.Compact.{compact, quoted}
+use Rattle.city_json.specs.Depth.{IsDeep}
+use Rattle.city_json.specs.Fits.{Fits, IsDistinct}
+use Rattle.city_json.specs.Grammar.{Spells}
+use Rattle.city_json.specs.Members.{first_named, member_of}
+use Rattle.city_json.specs.Parts.{AreParts}
+use Rattle.city_json.specs.Tree.{Tree, null, boolean, number, string, array, object, ItemTrees, no_items, item, MemberTrees, no_members, member, member_trees}
+use Rattle.city_json.specs.declared.compacting.parts.Part.{Part}
+use Rattle.city_grid.specs.Axes.{Triple}
+use Rattle.city_grid.specs.Transform.{Grid}
+use Rattle.city_feature.proofs.QuickLines.{utf8}
+use Rattle.city_feature.specs.Feature.{AreVertices, FeatureValue, item_count}
+use Rattle.city_feature.specs.Header.{HasGrid, HeaderValue, IsHeader}
+use Rattle.city_feature.specs.Quick.{IsPartNamed, SpellsVertices}
+use Rattle.city_feature.specs.Shapes.{IsArray, IsObject, WhereThere}
+use Rattle.city_cut.specs.Boundaries.{IsBounded}
+use Rattle.city_cut.specs.CityObjects.{AllBelong, AreCityObjects, IsReached, LacksChild, objects_of, roots, vertices_of}
+use Rattle.city_cut.specs.Cut.{AreFeatures, HasFrame, IsCut, IsCuttable}
+use Rattle.city_cut.specs.FeatureText.{tail_text}
+use Rattle.city_cut.specs.HeaderText.{HasHeader}
+use Rattle.city_cut.specs.Items.{items_in, members_in}
+use Rattle.city_cut.specs.Texts.{IsCompactOf}
+use Rattle.city_cut.proofs.HeaderMembers.{header_grid, other_member}
+use Rattle.city_cut.proofs.QuickTexts.{member_there, three}
+use Rattle.city_cut.proofs.WholeDocument.{Bounds, cuttable}
+
+pub points_there : (text given : List ℕ) (parts : List Part) (part : Part) (members : MemberTrees) (ps : List Triple)
+    → IsCompactOf text (object members) → AreParts 1 parts members
+    → IsPartNamed text parts (quoted (codes "vertices") ++ colon ∷ []) part
+    → given ≡ slice_range text part.value part.end → SpellsVertices given ps
+    → (items : ItemTrees) × (first_named (codes "vertices") members ≡ Some (array items)) × AreVertices items ps
+points_there text given parts part members ps of are named lies (items, written, writable, vertices) =
+    let found = member_there text parts members (codes "vertices") part given (utf8 (codes "vertices") refl) of are
+    named lies in (
+      items,
+      found.is ∙ ap Some (compact-tells found.value (array items) found.of.writable writable
+          (sym found.of.is ∙ written)),
+      vertices,
+    )
+
+-- what stands after the vertices
+tail_regroup : (a v b : List ℕ) → (comma ∷ ((a ++ colon ∷ v) ++ [])) ++ b ≡ (comma ∷ (a ++ colon ∷ [])) ++ (v ++ b)
+tail_regroup a v b = ap (λ l. (comma ∷ l) ++ b) (append-nil (a ++ colon ∷ v)) ∙ simp append_assoc
+
+pub tail_there : (text given : List ℕ) (parts : List Part) (part : Part) (members : MemberTrees)
+    (none line₁ line₂ line₃ : List ℕ) → IsCompactOf text (object members) → AreParts 1 parts members
+    → IsPartNamed text parts (quoted (codes "appearance") ++ colon ∷ []) part
+    → given ≡ slice_range text part.value part.end
+    → none ≡ [] → line₁ ≡ none ++ (comma ∷ (quoted (codes "appearance") ++ colon ∷ [])) → line₂ ≡ line₁ ++ given
+    → line₃ ≡ line₂ ++ (close_brace ∷ []) → line₃ ≡ tail_text (first_named (codes "appearance") members)
+tail_there text given parts part members none line₁ line₂ line₃ of are named lies empty first second third =
+    let found = member_there text parts members (codes "appearance") part given (utf8 (codes "appearance") refl) of are
+    named lies in
+    three none line₁ line₂ line₃ (comma ∷ (quoted (codes "appearance") ++ colon ∷ [])) given (close_brace ∷ []) first
+    second third
+    ∙ (ap (λ l. l ++ ((comma ∷ (quoted (codes "appearance") ++ colon ∷ [])) ++ (given ++ (close_brace ∷ [])))) empty
+    ∙ (ap (λ l. (comma ∷ (quoted (codes "appearance") ++ colon ∷ [])) ++ (l ++ (close_brace ∷ []))) found.of.is
+    ∙ (sym (tail_regroup (quoted (codes "appearance")) (compact found.value) (close_brace ∷ []))
+    ∙ ap tail_text (sym found.is))))
+
+-- ---- the frame and the header
+pub frame : (document value : Tree) (grid : Grid) (objects : MemberTrees) (items : ItemTrees)
+    → HasHeader document value grid → member_of (codes "CityObjects") document ≡ Some (object objects)
+    → member_of (codes "vertices") document ≡ Some (array items) → AreCityObjects objects → HasFrame document
+frame document value grid objects items has objects_are vertices_are are =
+    let (city_json, version, has_grid) = subst (λ v. IsHeader v grid) has.is has.header in (
+      (
+        (
+          sym (other_member (codes "type") document refl refl refl) ∙ city_json.0,
+          subst (WhereThere IsObject) (other_member (codes "metadata") document refl refl refl) city_json.1,
+          subst (WhereThere IsObject) (other_member (codes "extensions") document refl refl refl) city_json.2,
+          subst (WhereThere IsObject) (sym objects_are) tt,
+          subst (WhereThere IsArray) (sym vertices_are) tt,
+        ),
+        subst AreCityObjects (sym (ap members_in objects_are)) are,
+      ),
+      sym (other_member (codes "version") document refl refl refl) ∙ version,
+      (grid, header_grid document grid has_grid),
+    )
+
+abbrev pub pairs_of : MemberTrees → List (List ℕ × Tree)
+pairs_of no_members = []
+pairs_of (member name value others) = (name, value) ∷ pairs_of others
+
+pub pairs_are : (members : MemberTrees) → member_trees (pairs_of members) ≡ members
+pairs_are no_members = refl
+pairs_are (member name value others) = ap (member name value) (pairs_are others)
+
+as_many : (items : ItemTrees) (ps : List Triple) → AreVertices items ps → length ps ≡ item_count items
+as_many no_items [] all = refl
+as_many no_items (p ∷ ps) all = absurd all
+as_many (item value others) [] all = absurd all
+as_many (item value others) (p ∷ ps) all = let e = as_many others ps all.2 in omega (arith, e)
+
+-- ---- the whole cut
+pub whole : (document value : Tree) (grid : Grid) (objects : MemberTrees) (items : ItemTrees) (points : List Triple)
+    (appearance : Option Tree) (features : List FeatureValue) → IsDistinct document → HasHeader document value grid
+    → member_of (codes "CityObjects") document ≡ Some (object objects)
+    → member_of (codes "vertices") document ≡ Some (array items)
+    → appearance ≡ member_of (codes "appearance") document → AreCityObjects objects → AreVertices items points
+    → (LacksChild objects → ⊥) → AllBelong objects → AreFeatures objects appearance points features
+    → ((id name : List ℕ) (value : Tree) → Contains (roots objects) id → IsReached objects id name
+    → first_named name objects ≡ Some value → IsBounded (length points) value)
+    → IsCuttable document × IsCut document (record { value = value; grid = grid }) features
+whole document value grid objects items points appearance features distinct has objects_are vertices_are look
+    are_objects are_points lacks belong made bounded =
+    let same : objects_of document ≡ objects = ap members_in objects_are in
+    let same_items : vertices_of document ≡ items = ap items_in vertices_are in
+    let framed = frame document value grid objects items has objects_are vertices_are are_objects in
+    let points_here : AreVertices (vertices_of document) points =
+    subst (λ i. AreVertices i points) (sym same_items) are_points in
+    let count : length points ≡ item_count (vertices_of document) = as_many (vertices_of document) points points_here in
+    let belong_here : AllBelong (objects_of document) = subst AllBelong (sym same) belong in (
+      cuttable document distinct (framed, (points, points_here)) (subst (λ o. LacksChild o → ⊥) (sym same) lacks)
+          belong_here
+          (subst (λ n. Bounds n (objects_of document)) count (subst (Bounds (length points)) (sym same) bounded)),
+      (
+        (
+          (
+            points,
+            points_here,
+            subst (λ o. AreFeatures o (member_of (codes "appearance") document) points features)
+                (sym same) (subst (λ a. AreFeatures objects a points features) look made),
+          ),
+          belong_here,
+        ),
+        has.is,
+        header_grid document grid (subst (λ v. HasGrid v grid) has.is has.header.2),
+      ),
+    )
+
+-- ---- the city objects
+pub record ObjectsThere (objects : List ℕ) (places : List Part) (members : MemberTrees) : Type 0 where
+  pub pairs : List (List ℕ × Tree)
+  pub is : first_named (codes "CityObjects") members ≡ Some (object (member_trees pairs))
+  pub of : IsCompactOf objects (object (member_trees pairs))
+  pub are : AreParts 1 places (member_trees pairs)
+
+pub objects_there : (line objects : List ℕ) (parts places : List Part) (part : Part) (members : MemberTrees)
+    → IsCompactOf line (object members) → AreParts 1 parts members
+    → IsPartNamed line parts (quoted (codes "CityObjects") ++ colon ∷ []) part
+    → objects ≡ slice_range line part.value part.end
+    → ((value : Tree) → IsCompactOf objects value → (found : MemberTrees) × (value ≡ object found)
+    × AreParts 1 places found) → ObjectsThere objects places members
+objects_there line objects parts places part members of are named lies listed =
+    let found = member_there line parts members (codes "CityObjects") part objects (utf8 (codes "CityObjects") refl) of
+    are named lies in
+    let (inner, is_object, placed) = listed found.value found.of in
+    record {
+      pairs = pairs_of inner;
+      is = found.is ∙ (ap Some is_object ∙ ap (λ m. Some (object m)) (sym (pairs_are inner)));
+      of = subst (λ m. IsCompactOf objects (object m)) (sym (pairs_are inner))
+          (subst (IsCompactOf objects) is_object found.of);
+      are = subst (AreParts 1 places) (sym (pairs_are inner)) placed;
+    }
+
+pub compact_of : (text line given : List ℕ) (members : MemberTrees) → Spells text (object members)
+    → Fits (object members) → line ≡ compact (object members) → given ≡ line → IsCompactOf given (object members)
+compact_of text line given members spells fits written same = record {
+  is = same ∙ written;
+  writable = spelled_writable text (object members) spells;
+  distinct = fits.1;
+  within = fits.0;
+}

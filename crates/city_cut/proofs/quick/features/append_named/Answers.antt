@@ -1,0 +1,10 @@
+use Rattle.std.proofs.Common.{arith, refl}
+use Rattle.city_cut.proofs.QuickFeatures.{named_made}
+use Rattle.city_cut.proofs.QuickTexts.{on_some_more}
+use Rattle.city_cut.proofs.quick.features.append_named.Goals as goal
+
+pub returns-clause-made : goal.returns-clause-made
+returns-clause-made c = on_some_more c.append_object.result (λ made pairs of are.
+    named_made _ c.args.text.now c.in_ok-name.name.now c.in_ok-value.value.now _ _ _ _ _ _ _ c.args.parts.now c.args.at
+    _ _ pairs (omega (arith, c.if-at-parts.false)) refl c.in_ok-name.ensures.some c.in_ok-value.ensures.some
+    c.in_ok-append_text.ensures made of are) c.append_object.ensures.made

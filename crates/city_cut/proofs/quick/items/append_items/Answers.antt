@@ -1,0 +1,59 @@
+use Rattle.std.proofs.Common.{◌≡◌, ◌<◌, ◌∙◌, subst, refl, length, get_or}
+use Rattle.city_json.specs.Bytes.{comma, open_bracket, close_bracket}
+use Rattle.city_cut.proofs.CopiedTexts.{not_both}
+use Rattle.city_cut.proofs.QuickCopies.{HeldMade, ItemMade, items_begin, items_made_none, items_more, items_stop, of_array}
+use Rattle.city_cut.proofs.QuickTexts.{on_some_more}
+use Rattle.city_cut.proofs.quick.items.append_items.Goals as goal
+
+pub returns-then-byte_is-clause-made : goal.returns-then-byte_is-clause-made
+returns-then-byte_is-clause-made c = on_some_more c.append_text.result (λ appended.
+    let text = c.args.text.now in
+    let opens : (0 < length text) × (get_or text 0 0 ≡ open_bracket) = c.byte_is.ensures.0 c.if-not-byte_is.false in
+    let closes : (1 < length text) × (get_or text 1 0 ≡ close_bracket) = c.byte_is-2.ensures.0 c.if-byte_is.true in
+    of_array (HeldMade c.args.holder _ _ _ _ _ _ _) text opens.0 opens.1
+    (items_made_none c.args.holder _ text _ _ _ _ opens.0 opens.1 closes.0 closes.1 appended)) c.append_text.ensures
+
+pub items-init : goal.items-init
+items-init c =
+    let text = c.args.text.now in
+    let opens : (0 < length text) × (get_or text 0 0 ≡ open_bracket) = c.byte_is.ensures.0 c.if-not-byte_is.false in
+    record {
+      long = refl;
+      goes_on = items_begin c.args.holder _ text _ _ _ _ opens.0 opens.1
+          (λ inside here. not_both _ (c.byte_is-2.ensures.1 (inside, here)) c.if-byte_is.false)
+          c.in_ok-append_text.ensures;
+    }
+
+pub returns-then-byte_is-2-clause-made : goal.returns-then-byte_is-2-clause-made
+returns-then-byte_is-2-clause-made c = on_some_more c.append_text-then-byte_is-2.result (λ appended.
+    let text = c.args.text.now in
+    let end = c.value_end-end.result in
+    let opens : (0 < length text) × (get_or text 0 0 ≡ open_bracket) = c.byte_is.ensures.0 c.if-not-byte_is.false in
+    let closes : (end < length text) × (get_or text end 0 ≡ close_bracket) =
+    c.byte_is-in-items.ensures.0 c.if-byte_is-2.true in
+    of_array (HeldMade c.args.holder _ _ _ _ _ _ _) text opens.0 opens.1 (λ items of.
+    items_stop c.args.holder _ items text c.in_ok-found.found.now _ _ _ _ _ _ _ _ _ c.items.at end
+    (c.items.invariant.goes_on items of) c.value_end-end.ensures.is c.value_end-end.ensures.onward
+    c.value_end-end.ensures.within c.in_ok-found.ensures.some
+    (λ value given. subst (λ n. ItemMade c.args.holder n c.items.numbering.table.items c.items.numbering.order.items
+    c.items.draft.line c.append_item.new.numbering.table.items c.append_item.new.numbering.order.items
+    c.append_item.new.draft.line value) c.items.invariant.long (c.in_ok-append_item.ensures.made value given)) _
+    closes.0 closes.1 appended)) c.append_text-then-byte_is-2.ensures
+
+pub items-preserved : goal.items-preserved
+items-preserved c =
+    let text = c.args.text.now in
+    let end = c.value_end-end.result in
+    let next : (end < length text) × (get_or text end 0 ≡ comma) =
+    c.byte_is-in-items-2.ensures.0 c.if-not-byte_is-2.false in
+    record {
+      long = c.in_ok-append_item.ensures.long ∙ c.items.invariant.long;
+      goes_on = λ items of.
+          items_more c.args.holder _ items text c.in_ok-found.found.now _ _ _ _ _ _ _ _ _ c.items.at end
+          (c.items.invariant.goes_on items of) c.value_end-end.ensures.is c.value_end-end.ensures.onward
+          c.value_end-end.ensures.within c.in_ok-found.ensures.some
+          (λ value given. subst (λ n. ItemMade c.args.holder n c.items.numbering.table.items
+          c.items.numbering.order.items c.items.draft.line c.append_item.new.numbering.table.items
+          c.append_item.new.numbering.order.items c.append_item.new.draft.line value) c.items.invariant.long
+          (c.in_ok-append_item.ensures.made value given)) _ next.0 next.1 c.in_ok-append_text-2.ensures;
+    }

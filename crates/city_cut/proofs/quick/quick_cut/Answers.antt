@@ -1,0 +1,23 @@
+use Rattle.std.proofs.Common.{subst, sym}
+use Rattle.city_json.specs.Parts.{AreParts}
+use Rattle.city_json.specs.Tree.{object}
+use Rattle.city_cut.proofs.QuickDocuments.{compact_of}
+use Rattle.city_cut.proofs.QuickTexts.{if_some_more}
+use Rattle.city_cut.proofs.quick.quick_cut.Goals as goal
+
+pub cut_compacted-requires : goal.cut_compacted-requires
+cut_compacted-requires c =
+    let (members, spells, fits, shallow, written, are) = c.in_ok-found.ensures in (
+      members,
+      compact_of c.args.text.now c.in_ok-found.found.line c.items.result.now members spells fits written
+          c.items.ensures,
+      subst (λ p. AreParts 1 p members) (sym c.deref.ensures.value) are,
+    )
+
+pub returns : goal.returns
+returns c = if_some_more c.cut_compacted.result (λ cut holds.
+    let (members, spells, fits, shallow, written, are) = c.in_ok-found.ensures in
+    let (cuttable, features, is_cut, texts) =
+    holds members (compact_of c.args.text.now c.in_ok-found.found.line c.items.result.now members spells fits
+    written c.items.ensures) (subst (λ p. AreParts 1 p members) (sym c.deref.ensures.value) are) in
+    (object members, spells, fits, shallow, cuttable, features, is_cut, texts)) c.cut_compacted.ensures

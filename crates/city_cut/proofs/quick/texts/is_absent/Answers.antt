@@ -1,0 +1,16 @@
+use Rattle.std.proofs.Common.{◌≡◌, ◌≤◌, ap, arith, length, rules, slice_range}
+use Rattle.city_cut.proofs.CopiedTexts.{not_both}
+use Rattle.city_cut.proofs.QuickTexts.{absent_there, not_named_more}
+use Rattle.city_cut.proofs.quick.texts.is_absent.Goals as goal
+
+pub loop-part-init : goal.loop-part-init
+loop-part-init c = λ i d below. absurd (omega (arith, below))
+
+pub loop-part-preserved : goal.loop-part-preserved
+loop-part-preserved c = not_named_more c.args.text.now c.args.parts.now c.args.name.now c.loop-part.part-index _
+    c.loop-part.invariant c.loop-part-test.true (λ there. not_both _ (c.may_stand.ensures there) c.if-may_stand.false)
+
+pub returns : goal.returns
+returns c = λ yes members of are other named.
+    absent_there c.args.text.now c.args.parts.now members c.args.name.now other of are named
+    (λ i d below inside. c.loop-part.invariant i d (omega (arith, inside, c.loop-part-test.false)) inside)

@@ -1,0 +1,25 @@
+-- Texts that are held with what all of them end in once.
+use Rattle.std.specs.Prelude.{◌≡◌, ◌++◌, ◌≤◌, ℕ, List, [], ◌∷◌, map, slice_range}
+
+-- texts: what each begins with, and what all of them end in
+pub record HeldTexts : Type 0 where
+  pub own : List (List ℕ)
+  pub common : List ℕ
+
+-- the texts themselves
+abbrev pub texts_in : HeldTexts → List (List ℕ)
+texts_in held = map (λ own. own ++ held.common) held.own
+
+-- the pieces of bytes that end at these places, the first from `from` on
+abbrev pub pieces : List ℕ → ℕ → List ℕ → List (List ℕ)
+pieces bytes from [] = []
+pieces bytes from (end ∷ ends) = slice_range bytes from end ∷ pieces bytes end ends
+
+-- no piece ends before it begins, and the last one ends here
+abbrev pub AreEnds : ℕ → List ℕ → ℕ → Type 0
+AreEnds from [] last = from ≡ last
+AreEnds from (end ∷ ends) last = (from ≤ end) × AreEnds end ends last
+
+-- What was appended makes with this tail the whole text.
+abbrev pub HasGrown : List ℕ → List ℕ → List ℕ → List ℕ → Type 0
+HasGrown line line' tail text = (own : List ℕ) × (line' ≡ line ++ own) × (own ++ tail ≡ text)

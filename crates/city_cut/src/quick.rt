@@ -1,0 +1,123 @@
+//! A document cut on its compact text, with no tree of its objects.
+//!
+//! It decides only the common spellings, and no refusal; for any other document its caller goes on with the plain cut.
+
+mod drafts;
+mod features;
+mod headers;
+mod holders;
+mod items;
+mod kin;
+mod numbers;
+mod objects;
+mod points;
+mod texts;
+
+ghost use Rattle.std.specs.Prelude.{◌≡◌, ◌++◌, ◌∷◌, [], ℕ, List, IfSome, OnSome, All, Some, codes, length, map};
+ghost use Rattle.std.specs.List.{AllZip};
+ghost use Rattle.city_json.specs.Compact.{compact};
+ghost use Rattle.city_json.specs.Depth.{IsDeep};
+ghost use Rattle.city_json.specs.Fits.{Fits};
+ghost use Rattle.city_json.specs.Grammar.{Spells};
+ghost use Rattle.city_json.specs.Members.{first_named};
+ghost use Rattle.city_json.specs.Parts.{AreParts};
+ghost use Rattle.city_json.specs.Tree.{MemberTrees, Tree, array, items_tree, ItemTrees, member_trees, object, tree};
+ghost use Rattle.city_grid.specs.Axes.{Triple};
+ghost use Rattle.city_feature.specs.Feature.{AreVertices, FeatureValue};
+ghost use Rattle.city_feature.specs.Values.{header_value};
+ghost use Rattle.city_cut.specs.CityObjects.{AllBelong, AreCityObjects, LacksChild, roots};
+ghost use Rattle.city_cut.specs.Cut.{IsCut, IsCuttable};
+ghost use Rattle.city_cut.specs.Families.{Begins};
+ghost use Rattle.city_cut.specs.FeatureText.{tail_text};
+ghost use Rattle.city_cut.specs.HeldTexts.{texts_in};
+ghost use Rattle.city_cut.specs.Lines.{texts_of};
+ghost use Rattle.city_cut.specs.Texts.{IsCompactOf};
+ghost use Rattle.city_cut.specs.VertexTexts.{StandAt};
+
+use crate::cuts::CutTexts;
+use crate::documents::are_city_objects;
+use crate::families::{Family, families};
+use byte_streams::Line;
+use city_feature::{between, part_named};
+use city_json::{Members, Part, compact_parts};
+use features::feature_texts;
+use headers::header_of;
+use kin::kin_members;
+use points::{VertexTexts, starts_of};
+use std::alloc::Global;
+use texts::{append_text, is_absent, parts_of};
+
+/// What stands after the vertices of each feature.
+fn tail_of(alloc: Global, text: &[u8], parts: &[Part]) -> Option<Line>
+    ensures { IfSome result (λ tail. (members : MemberTrees) → IsCompactOf text.now (object members)
+        → AreParts 1 parts.now members → tail ≡ tail_text (first_named (codes "appearance") members)) }
+{
+    let mut tail = Line::new(alloc);
+    let Some(part) = part_named(text, parts, b"\"appearance\":") else {
+        if !is_absent(text, parts, b"\"appearance\":") {
+            return None;
+        }
+        append_text(b"}", &mut tail)?;
+        return Some(tail);
+    };
+    let value = between(text, part.value, part.end)?;
+    append_text(b",\"appearance\":", &mut tail)?;
+    append_text(value, &mut tail)?;
+    append_text(b"}", &mut tail)?;
+    Some(tail)
+}
+
+/// The vertices of the document.
+fn points_of<'a>(alloc: Global, text: &'a [u8], parts: &[Part]) -> Option<VertexTexts<'a>>
+    ensures { IfSome result (λ found. (members : MemberTrees) → IsCompactOf text.now (object members)
+        → AreParts 1 parts.now members → (items : ItemTrees) × (points : List Triple)
+        × (first_named (codes "vertices") members ≡ Some (array items)) × AreVertices items points
+        × StandAt found.text.now found.starts.items points) }
+{
+    let part = part_named(text, parts, b"\"vertices\":")?;
+    let found = between(text, part.value, part.end)?;
+    let starts = starts_of(alloc, found)?;
+    Some(VertexTexts {
+        text: found,
+        starts,
+    })
+}
+
+/// Cuts the document whose compact text this is, and whose members lie in these parts, as [`compact_parts`] gives them.
+/// `None`: undecided, or out of memory; [`crate::cut_texts`] decides.
+pub fn cut_compacted(alloc: Global, line: &[u8], parts: &[Part]) -> Option<CutTexts>
+    requires { (members : MemberTrees) × IsCompactOf line.now (object members) × AreParts 1 parts.now members }
+    ensures { IfSome result (λ cut. (members : MemberTrees) → IsCompactOf line.now (object members)
+        → AreParts 1 parts.now members
+        → IsCuttable (object members)
+        × (features : List FeatureValue) × IsCut (object members) (header_value cut.header) features
+        × (texts_in cut.texts ≡ texts_of features)) }
+{
+    let header = header_of(alloc, line, parts)?;
+    let points = points_of(alloc, line, parts)?;
+    let tail = tail_of(alloc, line, parts)?;
+    let part = part_named(line, parts, b"\"CityObjects\":")?;
+    let objects = between(line, part.value, part.end)?;
+    let places = parts_of(alloc, objects)?;
+    let kin = kin_members(alloc, objects, &places)?;
+    if !are_city_objects(&kin) {
+        return None;
+    }
+    let Ok(families) = families(alloc, &kin) else {
+        return None;
+    };
+    let texts = feature_texts(alloc, objects, &places, &points, tail, &families)?;
+    Some(CutTexts { header, texts })
+}
+
+/// Cuts the document that a text spells into a header and the texts of its features. `None`: undecided, or out of
+/// memory; [`crate::cut_texts`] decides.
+pub fn quick_cut(alloc: Global, text: &[u8]) -> Option<CutTexts>
+    ensures { IfSome result (λ cut. (document : Tree) × Spells text.now document × Fits document
+        × (¬ IsDeep text.now) × IsCuttable document
+        × (features : List FeatureValue) × IsCut document (header_value cut.header) features
+        × (texts_in cut.texts ≡ texts_of features)) }
+{
+    let found = compact_parts(alloc, text, Line::new(alloc))?;
+    cut_compacted(alloc, found.line.items(), &found.parts)
+}

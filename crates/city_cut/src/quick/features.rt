@@ -1,0 +1,261 @@
+//! The texts of features, written from the compact texts of a document's parts.
+ghost use Rattle.std.specs.Prelude.{◌≡◌, ◌++◌, ◌∷◌, [], ◌<◌, ◌≤◌, ◌+◌, ℕ, List, Option, Some, Contains, length, map, IfSome, OnSome, IsUtf8};
+ghost use Rattle.std.specs.List.{flat_map, AllByRecursion, AllZip};
+ghost use Rattle.city_json.specs.Bytes.{colon};
+ghost use Rattle.city_json.specs.Compact.{compact, compact_members, compact_more_members, quoted};
+ghost use Rattle.city_json.specs.Members.{first_named};
+ghost use Rattle.city_json.specs.Parts.{AreParts};
+ghost use Rattle.city_json.specs.Tree.{Tree, member_trees, object};
+ghost use Rattle.city_grid.specs.Axes.{Triple};
+ghost use Rattle.city_feature.specs.Feature.{FeatureValue, vertices_tree};
+ghost use Rattle.city_cut.specs.Boundaries.{IsBounded, boundaries, relabelled_object, relabelled_objects, uses};
+ghost use Rattle.city_cut.specs.Chosen.{pair_at, point_at};
+ghost use Rattle.city_cut.specs.CityObjects.{IsReached, roots};
+ghost use Rattle.city_cut.specs.Copied.{Copies};
+ghost use Rattle.city_cut.specs.Cut.{AreFeatures, IsFeatureOf};
+ghost use Rattle.city_cut.specs.Families.{Begins};
+ghost use Rattle.city_cut.specs.FeatureText.{head_text, middle_text, tail_text};
+ghost use Rattle.city_cut.specs.Leaves.{leaves};
+ghost use Rattle.city_cut.specs.HeldTexts.{HasGrown, texts_in};
+ghost use Rattle.city_cut.specs.Lines.{texts_of};
+ghost use Rattle.city_cut.specs.Places.{IsFamily, name_at};
+ghost use Rattle.city_cut.specs.Texts.{IsCompactOf};
+ghost use Rattle.city_cut.specs.VertexTexts.{StandAt};
+
+use super::drafts::Draft;
+use super::objects::append_object;
+use super::points::{VertexTexts, append_points};
+use super::texts::append_text;
+use crate::families::Family;
+use crate::held::FeatureTexts;
+use crate::numbering::Numbering;
+use byte_streams::Line;
+use city_feature::between;
+use city_json::Part;
+use std::alloc::Global;
+
+/// Copies the object at a place, with its name.
+fn append_named(
+    alloc: Global,
+    text: &[u8],
+    parts: &[Part],
+    at: usize,
+    numbering: &mut Numbering,
+    draft: &mut Draft,
+) -> Option<()>
+    ensures long { OnSome result (length numbering.new.table.items ≡ length numbering.old.table.items) }
+    ensures made { OnSome result ((pairs : List (List ℕ × Tree))
+        → IsCompactOf text.now (object (member_trees pairs)) → AreParts 1 parts.now (member_trees pairs)
+        → (at < length pairs)
+        × IsBounded (length numbering.old.table.items) (pair_at pairs at).1
+        × Copies numbering.old.table.items numbering.old.order.items draft.old.line
+        numbering.new.table.items numbering.new.order.items draft.new.line
+        (flat_map leaves (boundaries (pair_at pairs at).1))
+        (λ change. quoted (pair_at pairs at).0 ++ colon ∷ compact (relabelled_object change (pair_at pairs at).1))) }
+{
+    if at >= parts.len() {
+        return None;
+    }
+    let part = parts[at];
+    let name = between(text, part.at, part.value)?;
+    let value = between(text, part.value, part.end)?;
+    append_text(name, &mut draft.line)?;
+    append_object(alloc, value, numbering, draft)
+}
+
+/// Copies the objects at these places, with a comma before each.
+fn append_others(
+    alloc: Global,
+    text: &[u8],
+    parts: &[Part],
+    places: &[usize],
+    numbering: &mut Numbering,
+    draft: &mut Draft,
+) -> Option<()>
+    ensures long { OnSome result (length numbering.new.table.items ≡ length numbering.old.table.items) }
+    ensures made { OnSome result ((pairs : List (List ℕ × Tree))
+        → IsCompactOf text.now (object (member_trees pairs)) → AreParts 1 parts.now (member_trees pairs)
+        → AllByRecursion (λ named. IsBounded (length numbering.old.table.items) named.1) (map (pair_at pairs) places.now)
+        × Copies numbering.old.table.items numbering.old.order.items draft.old.line
+        numbering.new.table.items numbering.new.order.items draft.new.line
+        (uses (map (pair_at pairs) places.now))
+        (λ change. compact_more_members (member_trees (relabelled_objects change (map (pair_at pairs) places.now))))) }
+{
+    for at in places {
+        append_text(b",", &mut draft.line)?;
+        append_named(alloc, text, parts, *at, numbering, draft)?;
+    }
+    Some(())
+}
+
+/// Copies the objects at these places.
+fn append_objects(
+    alloc: Global,
+    text: &[u8],
+    parts: &[Part],
+    places: &[usize],
+    numbering: &mut Numbering,
+    draft: &mut Draft,
+) -> Option<()>
+    ensures long { OnSome result (length numbering.new.table.items ≡ length numbering.old.table.items) }
+    ensures made { OnSome result ((pairs : List (List ℕ × Tree))
+        → IsCompactOf text.now (object (member_trees pairs)) → AreParts 1 parts.now (member_trees pairs)
+        → AllByRecursion (λ named. IsBounded (length numbering.old.table.items) named.1) (map (pair_at pairs) places.now)
+        × Copies numbering.old.table.items numbering.old.order.items draft.old.line
+        numbering.new.table.items numbering.new.order.items draft.new.line
+        (uses (map (pair_at pairs) places.now))
+        (λ change. compact_members (member_trees (relabelled_objects change (map (pair_at pairs) places.now))))) }
+{
+    let [first, others @ ..] = places else {
+        return None;
+    };
+    append_named(alloc, text, parts, *first, numbering, draft)?;
+    append_others(alloc, text, parts, others, numbering, draft)
+}
+
+/// The text of the name that stands in a member's name and its colon.
+fn without_colon(name: &[u8]) -> Option<&[u8]>
+    ensures { IfSome result (λ found. (text : List ℕ) → name.now ≡ text ++ colon ∷ [] → found.now ≡ text) }
+{
+    if name.is_empty() {
+        return None;
+    }
+    between(name, 0, name.len() - 1)
+}
+
+/// The name of the object at a place, with its marks.
+pub(super) fn id_of<'a>(text: &'a [u8], parts: &[Part], at: usize) -> Option<&'a [u8]>
+    ensures { IfSome result (λ found. (pairs : List (List ℕ × Tree))
+        → IsCompactOf text.now (object (member_trees pairs)) → AreParts 1 parts.now (member_trees pairs)
+        → found.now ≡ quoted (pair_at pairs at).0) }
+{
+    if at >= parts.len() {
+        return None;
+    }
+    let part = parts[at];
+    let name = between(text, part.at, part.value)?;
+    without_colon(name)
+}
+
+/// The value of the object at a place.
+pub(super) fn value_at<'a>(text: &'a [u8], parts: &[Part], at: usize) -> Option<&'a [u8]>
+    ensures { IfSome result (λ found. (pairs : List (List ℕ × Tree))
+        → IsCompactOf text.now (object (member_trees pairs)) → AreParts 1 parts.now (member_trees pairs)
+        → (at < length pairs) × IsUtf8 (pair_at pairs at).0 × IsCompactOf found.now (pair_at pairs at).1) }
+{
+    if at >= parts.len() {
+        return None;
+    }
+    let part = parts[at];
+    between(text, part.value, part.end)
+}
+
+/// Appends what stands before the objects of a feature. The name is given with its marks.
+fn append_head(id: &[u8], line: &mut Line) -> Option<()>
+    ensures { OnSome result ((name : List ℕ) → id.now ≡ quoted name → line.new ≡ line.old ++ head_text name) }
+{
+    append_text(b"{\"type\":\"CityJSONFeature\",\"id\":", line)?;
+    append_text(id, line)?;
+    append_text(b",\"CityObjects\":{", line)
+}
+
+/// Appends the vertices of these numbers, and what stands before them.
+fn append_rest(vertices: &VertexTexts<'_>, numbers: &[usize], line: &mut Line) -> Option<()>
+    ensures { OnSome result ((points : List Triple) → StandAt vertices.now.text.now vertices.now.starts.items points
+        → line.new ≡ line.old ++ (middle_text ++ compact (vertices_tree (map (point_at points) numbers.now)))) }
+{
+    append_text(b"},\"vertices\":", line)?;
+    append_points(vertices, numbers, line)
+}
+
+/// Appends the text of the feature that a family is, up to its vertices.
+fn append_feature(
+    alloc: Global,
+    text: &[u8],
+    parts: &[Part],
+    vertices: &VertexTexts<'_>,
+    family: &Family,
+    numbering: &mut Numbering,
+    draft: &mut Draft,
+) -> Option<()>
+    requires { length numbering.old.table.items + 1 ≡ length vertices.now.starts.items }
+    ensures long { OnSome result (length numbering.new.table.items + 1 ≡ length vertices.now.starts.items) }
+    ensures made { OnSome result ((pairs : List (List ℕ × Tree)) (appearance : Option Tree) (points : List Triple)
+        → StandAt vertices.now.text.now vertices.now.starts.items points
+        → IsCompactOf text.now (object (member_trees pairs)) → AreParts 1 parts.now (member_trees pairs)
+        → IsFamily (member_trees pairs) family.now.root family.now.places.items
+        → (feature : FeatureValue)
+        × IsFeatureOf (member_trees pairs) appearance points (name_at (member_trees pairs) family.now.root) feature
+        × HasGrown draft.old.line draft.new.line (tail_text appearance) (compact feature.value)
+        × ((k : ℕ) → Contains family.now.places.items k → IsBounded (length points) (pair_at pairs k).1)) }
+{
+    let id = id_of(text, parts, family.root)?;
+    append_head(id, &mut draft.line)?;
+    numbering.order.clear();
+    append_objects(alloc, text, parts, &family.places, numbering, draft)?;
+    append_rest(vertices, &numbering.order, &mut draft.line)
+}
+
+/// Notes that a text ends where a line ends that had this length before it.
+fn note_end(before: usize, line: &Line, ends: &mut Vec<usize>) -> Option<()>
+    ensures onward { OnSome result (before ≤ length line.now) }
+    ensures noted { OnSome result (ends.new.items ≡ ends.old.items ++ length line.now ∷ []) }
+{
+    let end = line.items().len();
+    if end < before {
+        return None;
+    }
+    let Ok(_) = ends.push(end) else {
+        return None;
+    };
+    Some(())
+}
+
+/// The texts of the features that the families are. Each ends in `tail`.
+pub(super) fn feature_texts(
+    alloc: Global,
+    text: &[u8],
+    parts: &[Part],
+    vertices: &VertexTexts<'_>,
+    tail: Line,
+    families: &[Family],
+) -> Option<FeatureTexts>
+    ensures { IfSome result (λ texts. (pairs : List (List ℕ × Tree)) (appearance : Option Tree) (points : List Triple)
+        → StandAt vertices.now.text.now vertices.now.starts.items points
+        → IsCompactOf text.now (object (member_trees pairs)) → AreParts 1 parts.now (member_trees pairs)
+        → AllZip (Begins (member_trees pairs)) (roots (member_trees pairs)) families.now
+        → tail ≡ tail_text appearance
+        → (features : List FeatureValue)
+        × (texts_in texts ≡ texts_of features)
+        × AreFeatures (member_trees pairs) appearance points features
+        × ((id name : List ℕ) (value : Tree) → Contains (roots (member_trees pairs)) id
+        → IsReached (member_trees pairs) id name → first_named name (member_trees pairs) ≡ Some value
+        → IsBounded (length points) value)) }
+{
+    if vertices.starts.is_empty() {
+        return None;
+    }
+    let mut numbering = Numbering {
+        table: vec![in alloc; 0usize; vertices.starts.len() - 1].ok()?,
+        order: Vec::new(alloc),
+    };
+    let mut draft = Draft {
+        line: Line::from_vec(Vec::with_capacity(alloc, text.len()).ok()?),
+        from: 0,
+    };
+    let mut ends = Vec::with_capacity(alloc, families.len()).ok()?;
+    for family in families {
+        let before = draft.line.items().len();
+        append_feature(
+            alloc,
+            text,
+            parts,
+            vertices,
+            family,
+            &mut numbering,
+            &mut draft,
+        )?;
+        note_end(before, &draft.line, &mut ends)?;
+    }
+    Some(FeatureTexts::new(draft.line, ends, tail))
+}

@@ -1,0 +1,187 @@
+//! Geometries and addresses, copied with numbers of their own at the leaves of their boundaries.
+ghost use Rattle.std.specs.Prelude.{◌≡◌, ◌++◌, ℕ, List, length, OnSome, codes};
+ghost use Rattle.std.specs.List.{flat_map};
+ghost use Rattle.city_json.specs.Compact.{compact};
+ghost use Rattle.city_json.specs.Tree.{Tree};
+ghost use Rattle.city_json.specs.Writable.{IsWritable};
+ghost use Rattle.city_cut.specs.Boundaries.{IsAddress, IsGeometry, address_boundary, in_member, own_boundary};
+ghost use Rattle.city_cut.specs.Boundaries.{relabelled_boundary};
+ghost use Rattle.city_cut.specs.Copied.{Copies};
+ghost use Rattle.city_cut.specs.Holders.{AreHeld, IsHeld, boundary_in, held_uses, relabelled_held, relabelled_in};
+ghost use Rattle.city_cut.specs.Leaves.{IsBoundary, leaves, relabelled};
+ghost use Rattle.city_cut.specs.Texts.{IsCompactOf};
+
+use super::drafts::{Draft, copy_items};
+use super::holders::Holder;
+use super::texts::{append_back, append_front, append_text, is_absent, parts_of};
+use crate::numbering::Numbering;
+use city_feature::{between, part_named};
+use city_grid::byte_is;
+use city_json::value_end;
+use std::alloc::Global;
+
+/// Brackets nest no deeper than this in the brackets of a boundary.
+const MAX_LEVELS: usize = 127;
+
+/// Copies a boundary.
+fn append_boundary(text: &[u8], numbering: &mut Numbering, draft: &mut Draft) -> Option<()>
+    ensures long { OnSome result (length numbering.new.table.items ≡ length numbering.old.table.items) }
+    ensures made { OnSome result ((value : Tree) → IsWritable value → text.now ≡ compact value
+        → IsBoundary (length numbering.old.table.items) value
+        × Copies numbering.old.table.items numbering.old.order.items draft.old.line
+        numbering.new.table.items numbering.new.order.items draft.new.line
+        (leaves value) (λ change. compact (relabelled change value))) }
+{
+    if !byte_is(text, 0, b'[') {
+        return None;
+    }
+    draft.from = 0;
+    let end = copy_items(text, 1, MAX_LEVELS, numbering, draft)?;
+    if end < text.len() {
+        return None;
+    }
+    let last = between(text, draft.from, end)?;
+    append_text(last, &mut draft.line)
+}
+
+/// Copies a geometry.
+fn append_geometry(
+    alloc: Global,
+    text: &[u8],
+    numbering: &mut Numbering,
+    draft: &mut Draft,
+) -> Option<()>
+    ensures long { OnSome result (length numbering.new.table.items ≡ length numbering.old.table.items) }
+    ensures made { OnSome result ((value : Tree) → IsCompactOf text.now value
+        → IsGeometry (length numbering.old.table.items) value
+        × Copies numbering.old.table.items numbering.old.order.items draft.old.line
+        numbering.new.table.items numbering.new.order.items draft.new.line
+        (flat_map leaves (own_boundary value)) (λ change. compact (relabelled_boundary change value))) }
+{
+    let parts = parts_of(alloc, text)?;
+    let Some(part) = part_named(text, &parts, b"\"boundaries\":") else {
+        if !is_absent(text, &parts, b"\"boundaries\":") {
+            return None;
+        }
+        return append_text(text, &mut draft.line);
+    };
+    let boundary = between(text, part.value, part.end)?;
+    append_front(text, &part, &mut draft.line)?;
+    append_boundary(boundary, numbering, draft)?;
+    append_back(text, &part, &mut draft.line)
+}
+
+/// Copies an address.
+fn append_address(
+    alloc: Global,
+    text: &[u8],
+    numbering: &mut Numbering,
+    draft: &mut Draft,
+) -> Option<()>
+    ensures long { OnSome result (length numbering.new.table.items ≡ length numbering.old.table.items) }
+    ensures made { OnSome result ((value : Tree) → IsCompactOf text.now value
+        → IsAddress (length numbering.old.table.items) value
+        × Copies numbering.old.table.items numbering.old.order.items draft.old.line
+        numbering.new.table.items numbering.new.order.items draft.new.line
+        (flat_map leaves (address_boundary value))
+        (λ change. compact (in_member (codes "location") (relabelled_boundary change) value))) }
+{
+    let parts = parts_of(alloc, text)?;
+    let Some(part) = part_named(text, &parts, b"\"location\":") else {
+        if !is_absent(text, &parts, b"\"location\":") {
+            return None;
+        }
+        return append_text(text, &mut draft.line);
+    };
+    let location = between(text, part.value, part.end)?;
+    append_front(text, &part, &mut draft.line)?;
+    append_geometry(alloc, location, numbering, draft)?;
+    append_back(text, &part, &mut draft.line)
+}
+
+/// Copies a geometry or an address.
+fn append_item(
+    alloc: Global,
+    text: &[u8],
+    holder: Holder,
+    numbering: &mut Numbering,
+    draft: &mut Draft,
+) -> Option<()>
+    ensures long { OnSome result (length numbering.new.table.items ≡ length numbering.old.table.items) }
+    ensures made { OnSome result ((value : Tree) → IsCompactOf text.now value
+        → IsHeld holder (length numbering.old.table.items) value
+        × Copies numbering.old.table.items numbering.old.order.items draft.old.line
+        numbering.new.table.items numbering.new.order.items draft.new.line
+        (flat_map leaves (boundary_in holder value)) (λ change. compact (relabelled_in holder change value))) }
+{
+    match holder {
+        Holder::Geometry => append_geometry(alloc, text, numbering, draft),
+        Holder::Address => append_address(alloc, text, numbering, draft),
+    }
+}
+
+/// Copies an array of geometries or of addresses.
+fn append_items(
+    alloc: Global,
+    text: &[u8],
+    holder: Holder,
+    numbering: &mut Numbering,
+    draft: &mut Draft,
+) -> Option<()>
+    ensures long { OnSome result (length numbering.new.table.items ≡ length numbering.old.table.items) }
+    ensures made { OnSome result ((value : Tree) → IsCompactOf text.now value
+        → AreHeld holder (length numbering.old.table.items) value
+        × Copies numbering.old.table.items numbering.old.order.items draft.old.line
+        numbering.new.table.items numbering.new.order.items draft.new.line
+        (held_uses holder value) (λ change. compact (relabelled_held holder change value))) }
+{
+    if !byte_is(text, 0, b'[') {
+        return None;
+    }
+    if byte_is(text, 1, b']') {
+        return append_text(text, &mut draft.line);
+    }
+    append_text(b"[", &mut draft.line)?;
+    let mut at = 1usize;
+    'items: loop {
+        if at >= text.len() {
+            return None;
+        }
+        let end = value_end(text, at);
+        let found = between(text, at, end)?;
+        append_item(alloc, found, holder, numbering, draft)?;
+        if byte_is(text, end, b']') {
+            return append_text(b"]", &mut draft.line);
+        }
+        if !byte_is(text, end, b',') {
+            return None;
+        }
+        append_text(b",", &mut draft.line)?;
+        at = end + 1;
+    }
+}
+
+/// Copies what stands in the member `geometry` or `address` of a city object. An address may be no array: it has no
+/// boundary.
+pub(super) fn append_held(
+    alloc: Global,
+    text: &[u8],
+    holder: Holder,
+    numbering: &mut Numbering,
+    draft: &mut Draft,
+) -> Option<()>
+    ensures long { OnSome result (length numbering.new.table.items ≡ length numbering.old.table.items) }
+    ensures made { OnSome result ((value : Tree) → IsCompactOf text.now value
+        → AreHeld holder (length numbering.old.table.items) value
+        × Copies numbering.old.table.items numbering.old.order.items draft.old.line
+        numbering.new.table.items numbering.new.order.items draft.new.line
+        (held_uses holder value) (λ change. compact (relabelled_held holder change value))) }
+{
+    if byte_is(text, 0, b'[') {
+        return append_items(alloc, text, holder, numbering, draft);
+    }
+    let Holder::Address = holder else {
+        return None;
+    };
+    append_text(text, &mut draft.line)
+}

@@ -1,0 +1,125 @@
+//! The city objects of a document with their parents and children alone.
+ghost use Rattle.std.specs.Prelude.{◌≡◌, ◌++◌, ◌∷◌, [], ℕ, List, IsUtf8, IfSome, OnSome, map, option_map};
+ghost use Rattle.std.specs.List.{AllZip};
+ghost use Rattle.city_json.specs.Bytes.{colon};
+ghost use Rattle.city_json.specs.Compact.{quoted};
+ghost use Rattle.city_json.specs.Members.{first_named};
+ghost use Rattle.city_json.specs.Parts.{AreParts};
+ghost use Rattle.city_json.specs.Tree.{MemberTrees, Tree, member_trees, named_tree, object, tree};
+ghost use Rattle.city_cut.specs.Chosen.{pair_at};
+ghost use Rattle.city_cut.specs.Kin.{IsKin, IsSameObject, with_there};
+ghost use Rattle.city_cut.specs.Texts.{IsCompactOf};
+
+use super::features::{id_of, value_at};
+use super::texts::{is_absent, parts_of};
+use crate::values::text_of;
+use city_feature::{between, part_named, set_member};
+use city_json::{Json, Member, Members, Part, Str, read};
+use std::alloc::Global;
+
+/// The member of a name, which is given with its marks and its colon, if there is one.
+fn member_json(alloc: Global, text: &[u8], parts: &[Part], name: &[u8]) -> Option<Option<Json>>
+    ensures { IfSome result (λ found. (members : MemberTrees) → IsCompactOf text.now (object members)
+        → AreParts 1 parts.now members → (other : List ℕ) → IsUtf8 other → name.now ≡ quoted other ++ colon ∷ []
+        → option_map tree found ≡ first_named other members) }
+{
+    let Some(part) = part_named(text, parts, name) else {
+        if !is_absent(text, parts, name) {
+            return None;
+        }
+        return Some(None);
+    };
+    let value = between(text, part.value, part.end)?;
+    let Ok(json) = read(alloc, value) else {
+        return None;
+    };
+    Some(Some(json))
+}
+
+/// Gives an object a member, if there is one.
+fn set_there(alloc: Global, object: &mut Json, name: &str, value: Option<Json>) -> Option<()>
+    ensures { OnSome result (tree object.new ≡ with_there name.now (option_map tree value) (tree object.old)) }
+{
+    let Some(value) = value else {
+        return Some(());
+    };
+    let Ok(_) = set_member(alloc, object, name, value) else {
+        return None;
+    };
+    Some(())
+}
+
+fn no_json(alloc: Global) -> Json
+    ensures { tree result ≡ object (member_trees []) }
+{
+    Json::Map(Vec::new(alloc))
+}
+
+/// A city object with its parents and children alone.
+fn kin_of(alloc: Global, text: &[u8]) -> Option<Json>
+    ensures { IfSome result (λ json. (value : Tree) → IsCompactOf text.now value → IsKin (tree json) value) }
+{
+    let parts = parts_of(alloc, text)?;
+    let parents = member_json(alloc, text, &parts, b"\"parents\":")?;
+    let children = member_json(alloc, text, &parts, b"\"children\":")?;
+    let mut json = no_json(alloc);
+    set_there(alloc, &mut json, "parents", parents)?;
+    set_there(alloc, &mut json, "children", children)?;
+    Some(json)
+}
+
+/// The text that stands in its marks.
+fn text_named(alloc: Global, id: &[u8]) -> Option<Str>
+    ensures { IfSome result (λ name. (text : List ℕ) → IsUtf8 text → id.now ≡ quoted text → name ≡ text) }
+{
+    let Ok(json) = read(alloc, id) else {
+        return None;
+    };
+    let found = text_of(&json)?;
+    let Ok(name) = Str::read(alloc, found) else {
+        return None;
+    };
+    Some(name)
+}
+
+fn member_of(name: Str, value: Json) -> Member
+    ensures { named_tree result ≡ (name, tree value) }
+{
+    Member { name, value }
+}
+
+/// The city object at a place, with its parents and children alone.
+fn named_kin(alloc: Global, text: &[u8], parts: &[Part], at: usize) -> Option<Member>
+    ensures { IfSome result (λ member. (pairs : List (List ℕ × Tree))
+        → IsCompactOf text.now (object (member_trees pairs)) → AreParts 1 parts.now (member_trees pairs)
+        → IsSameObject (named_tree member) (pair_at pairs at)) }
+{
+    let id = id_of(text, parts, at)?;
+    let name = text_named(alloc, id)?;
+    let value = value_at(text, parts, at)?;
+    let kin = kin_of(alloc, value)?;
+    Some(member_of(name, kin))
+}
+
+fn push_member(member: Member, to: &mut Members) -> Option<()>
+    ensures { OnSome result (map named_tree to.new.items ≡ map named_tree to.old.items ++ named_tree member ∷ []) }
+{
+    let Ok(_) = to.push(member) else {
+        return None;
+    };
+    Some(())
+}
+
+/// The city objects, with their parents and children alone.
+pub(super) fn kin_members(alloc: Global, text: &[u8], parts: &[Part]) -> Option<Members>
+    ensures { IfSome result (λ kin. (pairs : List (List ℕ × Tree))
+        → IsCompactOf text.now (object (member_trees pairs)) → AreParts 1 parts.now (member_trees pairs)
+        → AllZip IsSameObject (map named_tree kin.items) pairs) }
+{
+    let mut kin = Vec::with_capacity(alloc, parts.len()).ok()?;
+    for at in 0..parts.len() {
+        let member = named_kin(alloc, text, parts, at)?;
+        push_member(member, &mut kin)?;
+    }
+    Some(kin)
+}

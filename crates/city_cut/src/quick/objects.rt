@@ -1,0 +1,198 @@
+//! The objects of a feature, copied with numbers of their own at the leaves of their boundaries.
+ghost use Rattle.std.specs.Prelude.{◌≡◌, ◌++◌, ◌∷◌, [], ℕ, List, None, Some, IfSome, MatchOption, length, OnSome};
+ghost use Rattle.std.specs.List.{flat_map};
+ghost use Rattle.city_json.specs.Bytes.{colon};
+ghost use Rattle.city_json.specs.Compact.{compact, quoted};
+ghost use Rattle.city_json.specs.Members.{first_named};
+ghost use Rattle.city_json.specs.Parts.{AreParts};
+ghost use Rattle.city_json.specs.Tree.{MemberTrees, Tree, object};
+ghost use Rattle.city_json.specs.declared.compacting.parts.Part.{Part};
+ghost use Rattle.city_feature.specs.Quick.{IsPartNamed};
+ghost use Rattle.city_cut.specs.Boundaries.{IsBounded, boundaries, changed_members, relabelled_object};
+ghost use Rattle.city_cut.specs.Copied.{Copies, Numbers};
+ghost use Rattle.city_cut.specs.Holders.{AreHeld, held_uses, name_of, other_than, relabelled_held};
+ghost use Rattle.city_cut.specs.Leaves.{leaves};
+ghost use Rattle.city_cut.specs.Texts.{IsCompactOf};
+
+use super::drafts::Draft;
+use super::holders::Holder;
+use super::items::append_held;
+use super::texts::{append_back, append_front, append_text, is_absent, parts_of};
+use crate::numbering::Numbering;
+use city_feature::{between, part_named};
+use city_json::Part;
+use std::alloc::Global;
+
+/// Copies an object in which boundaries stand in one member.
+fn append_one(
+    alloc: Global,
+    text: &[u8],
+    part: &Part,
+    holder: Holder,
+    numbering: &mut Numbering,
+    draft: &mut Draft,
+) -> Option<()>
+    ensures long { OnSome result (length numbering.new.table.items ≡ length numbering.old.table.items) }
+    ensures made { OnSome result ((parts : List Part) (members : MemberTrees)
+        → IsCompactOf text.now (object members) → AreParts 1 parts members
+        → IsPartNamed text.now parts (quoted (name_of holder) ++ colon ∷ []) part.now
+        → (value : Tree) × (first_named (name_of holder) members ≡ Some value)
+        × AreHeld holder (length numbering.old.table.items) value
+        × Copies numbering.old.table.items numbering.old.order.items draft.old.line
+        numbering.new.table.items numbering.new.order.items draft.new.line
+        (held_uses holder value)
+        (λ change. compact (object (changed_members (name_of holder) (relabelled_held holder change) members)))) }
+{
+    let held = between(text, part.value, part.end)?;
+    append_front(text, part, &mut draft.line)?;
+    append_held(alloc, held, holder, numbering, draft)?;
+    append_back(text, part, &mut draft.line)
+}
+
+/// Copies an object in which boundaries may stand in two members. The first part is that of `holder`.
+fn append_two(
+    alloc: Global,
+    text: &[u8],
+    first: &Part,
+    second: &Part,
+    holder: Holder,
+    numbering: &mut Numbering,
+    draft: &mut Draft,
+) -> Option<()>
+    ensures long { OnSome result (length numbering.new.table.items ≡ length numbering.old.table.items) }
+    ensures made { OnSome result ((parts : List Part) (members : MemberTrees)
+        → IsCompactOf text.now (object members) → AreParts 1 parts members
+        → IsPartNamed text.now parts (quoted (name_of holder) ++ colon ∷ []) first.now
+        → IsPartNamed text.now parts (quoted (name_of (other_than holder)) ++ colon ∷ []) second.now
+        → (value other : Tree) × (first_named (name_of holder) members ≡ Some value)
+        × (first_named (name_of (other_than holder)) members ≡ Some other)
+        × AreHeld holder (length numbering.old.table.items) value
+        × AreHeld (other_than holder) (length numbering.old.table.items) other
+        × Copies numbering.old.table.items numbering.old.order.items draft.old.line
+        numbering.new.table.items numbering.new.order.items draft.new.line
+        (held_uses holder value ++ held_uses (other_than holder) other)
+        (λ change. compact (object (changed_members (name_of holder) (relabelled_held holder change)
+        (changed_members (name_of (other_than holder)) (relabelled_held (other_than holder) change) members))))) }
+{
+    let held = between(text, first.value, first.end)?;
+    let middle = between(text, first.end, second.value)?;
+    let others = between(text, second.value, second.end)?;
+    append_front(text, first, &mut draft.line)?;
+    append_held(alloc, held, holder, numbering, draft)?;
+    append_text(middle, &mut draft.line)?;
+    append_held(alloc, others, holder.other(), numbering, draft)?;
+    append_back(text, second, &mut draft.line)
+}
+
+/// Numbers the vertices that stand in a member, and writes nothing.
+fn number_held(
+    alloc: Global,
+    text: &[u8],
+    part: &Part,
+    holder: Holder,
+    numbering: &mut Numbering,
+    draft: &mut Draft,
+) -> Option<()>
+    ensures long { OnSome result (length numbering.new.table.items ≡ length numbering.old.table.items) }
+    ensures made { OnSome result ((parts : List Part) (members : MemberTrees)
+        → IsCompactOf text.now (object members) → AreParts 1 parts members
+        → IsPartNamed text.now parts (quoted (name_of holder) ++ colon ∷ []) part.now
+        → (draft.new.line ≡ draft.old.line)
+        × ((value : Tree) → first_named (name_of holder) members ≡ Some value
+        → Numbers numbering.old.table.items numbering.old.order.items
+        numbering.new.table.items numbering.new.order.items (held_uses holder value))) }
+{
+    let held = between(text, part.value, part.end)?;
+    let len = draft.line.items().len();
+    append_held(alloc, held, holder, numbering, draft)?;
+    draft.line.truncate(len);
+    Some(())
+}
+
+/// The part of the member in which these boundaries stand, if it is there.
+fn part_of(text: &[u8], parts: &[Part], holder: Holder) -> Option<Option<Part>>
+    ensures { IfSome result (λ found. MatchOption found
+        ((members : MemberTrees) → IsCompactOf text.now (object members) → AreParts 1 parts.now members
+        → first_named (name_of holder) members ≡ None)
+        (λ part. IsPartNamed text.now parts.now (quoted (name_of holder) ++ colon ∷ []) part)) }
+{
+    let Some(part) = part_named(text, parts, holder.mark()) else {
+        if !is_absent(text, parts, holder.mark()) {
+            return None;
+        }
+        return Some(None);
+    };
+    Some(Some(part))
+}
+
+/// Copies an object with geometries and addresses. The vertices of the geometries are numbered first, wherever they
+/// stand.
+fn append_both(
+    alloc: Global,
+    text: &[u8],
+    geometry: &Part,
+    address: &Part,
+    numbering: &mut Numbering,
+    draft: &mut Draft,
+) -> Option<()>
+    ensures long { OnSome result (length numbering.new.table.items ≡ length numbering.old.table.items) }
+    ensures made { OnSome result ((parts : List Part) (members : MemberTrees)
+        → IsCompactOf text.now (object members) → AreParts 1 parts members
+        → IsPartNamed text.now parts (quoted (name_of Holder.Geometry) ++ colon ∷ []) geometry.now
+        → IsPartNamed text.now parts (quoted (name_of Holder.Address) ++ colon ∷ []) address.now
+        → IsBounded (length numbering.old.table.items) (object members)
+        × Copies numbering.old.table.items numbering.old.order.items draft.old.line
+        numbering.new.table.items numbering.new.order.items draft.new.line
+        (flat_map leaves (boundaries (object members))) (λ change. compact (relabelled_object change (object members)))) }
+{
+    if geometry.at < address.at {
+        return append_two(
+            alloc,
+            text,
+            geometry,
+            address,
+            Holder::Geometry,
+            numbering,
+            draft,
+        );
+    }
+    number_held(alloc, text, geometry, Holder::Geometry, numbering, draft)?;
+    append_two(
+        alloc,
+        text,
+        address,
+        geometry,
+        Holder::Address,
+        numbering,
+        draft,
+    )
+}
+
+/// Copies a city object.
+pub(super) fn append_object(
+    alloc: Global,
+    text: &[u8],
+    numbering: &mut Numbering,
+    draft: &mut Draft,
+) -> Option<()>
+    ensures long { OnSome result (length numbering.new.table.items ≡ length numbering.old.table.items) }
+    ensures made { OnSome result ((value : Tree) → IsCompactOf text.now value
+        → IsBounded (length numbering.old.table.items) value
+        × Copies numbering.old.table.items numbering.old.order.items draft.old.line
+        numbering.new.table.items numbering.new.order.items draft.new.line
+        (flat_map leaves (boundaries value)) (λ change. compact (relabelled_object change value))) }
+{
+    let parts = parts_of(alloc, text)?;
+    let geometry = part_of(text, &parts, Holder::Geometry)?;
+    let address = part_of(text, &parts, Holder::Address)?;
+    let Some(address) = address else {
+        let Some(geometry) = geometry else {
+            return append_text(text, &mut draft.line);
+        };
+        return append_one(alloc, text, &geometry, Holder::Geometry, numbering, draft);
+    };
+    let Some(geometry) = geometry else {
+        return append_one(alloc, text, &address, Holder::Address, numbering, draft);
+    };
+    append_both(alloc, text, &geometry, &address, numbering, draft)
+}

@@ -1,0 +1,263 @@
+-- A feature that is found on the compact text of its line.
+use Rattle.std.proofs.Common.{◌≡◌, ◌≢◌, ◌∙◌, ◌++◌, ◌-◌, ◌<◌, ◌≤◌, ℕ, zero, suc, sym, ap, refl, subst, Bool, true, false, if◌then◌else◌, List, [], ◌∷◌, length, take, drop, get_or, slice_range, map, All, Some, codes, bytes_eq, IsUtf8, arith, inl, inr, ⊎_elim, cond, nat_lt}
+use Rattle.std.proofs.lemmas.Bool.Decides.{nat_tests}
+use Rattle.std.proofs.lemmas.List.{append_cancel_right}
+use Rattle.std.proofs.lemmas.List.Elements.{All-tail}
+use Rattle.std.proofs.lemmas.Slice.Eq.{bytes_eq-Decides}
+use Rattle.std.proofs.lemmas.Str.{IsUtf8-from_ascii}
+use Rattle.city_json.proofs.CompactLaws.{compact-tells}
+use Rattle.city_json.proofs.MemberPlaces.{member_in_part}
+use Rattle.city_json.proofs.Places.{drop_one}
+use Rattle.city_json.proofs.Replacing.{replaced_text}
+use Rattle.city_json.specs.Bytes.{colon, minus, quotation_mark, open_bracket, open_brace, close_brace}
+use Rattle.city_json.specs.Compact.{quoted, compact}
+use Rattle.city_json.specs.Fits.{HasDistinctNames, IsNewName}
+use Rattle.city_json.specs.Members.{first_named, member_of}
+use Rattle.city_json.specs.Number.{IsMinus, IsNumber, IsWhole}
+use Rattle.city_json.specs.Parts.{HasMember, IsMemberText, replaced, with_value}
+use Rattle.city_json.specs.Tree.{Tree, null, boolean, number, string, array, object, item_trees, MemberTrees, no_members, member}
+use Rattle.city_json.specs.Writable.{IsWritable, AreWritableMembers, AreWritableItems}
+use Rattle.city_json.specs.declared.compacting.parts.Part.{Part}
+use Rattle.city_grid.proofs.VertexLaws.{vertex_is_read, vertex_is_writable}
+use Rattle.city_grid.specs.Axes.{Triple, IsInRange}
+use Rattle.city_grid.specs.Vertex.{vertex_tree}
+use Rattle.city_feature.specs.Changes.{with_named}
+use Rattle.city_feature.specs.Feature.{AreReadAgain, HasFeatureShape, IsFeature, vertices_tree}
+use Rattle.city_feature.specs.Quick.{HasOtherMembers, IsLine, IsPartNamed, IsPlaceOf, SpellsVertices}
+use Rattle.city_feature.specs.Shapes.{IsArray, IsObject, IsText, IsThere}
+
+pub equal_names : (other name : List ℕ) → other ≡ name → bytes_eq other name ≡ true
+equal_names other name same = (bytes_eq-Decides other name).1 same
+
+other_names : (other name : List ℕ) → other ≢ name → bytes_eq other name ≡ false
+other_names other name apart = told (bytes_eq other name) (bytes_eq-Decides other name).0
+  where
+    told : (b : Bool) → (b ≡ true → other ≡ name) → b ≡ false
+    told true is = absurd (apart (is refl))
+    told false is = refl
+
+-- the member at a place, where names differ
+new_name : (k : ℕ) (another name : List ℕ) (value : Tree) (members : MemberTrees) → IsNewName another members
+    → HasMember k name value members → another ≢ name
+new_name k another name value no_members new has = absurd has
+new_name zero another name value (member other v others) new has = λ same. new.0 (same ∙ sym has.0)
+new_name (suc k) another name value (member other v others) new has = new_name k another name value others new.1 has
+
+pub first_at : (k : ℕ) (name : List ℕ) (value : Tree) (members : MemberTrees) → HasDistinctNames members
+    → HasMember k name value members → first_named name members ≡ Some value
+first_at k name value no_members differ has = absurd has
+first_at zero name value (member other v others) differ has =
+    ap (λ b. if b then Some v else first_named name others) (equal_names other name has.0) ∙ ap Some has.1
+first_at (suc k) name value (member other v others) differ has =
+    ap (λ b. if b then Some v else first_named name others)
+    (other_names other name (new_name k other name value others differ.0 has))
+    ∙ first_at k name value others differ.1 has
+
+pub replaced_at : (k : ℕ) (name : List ℕ) (value new : Tree) (members : MemberTrees) → HasDistinctNames members
+    → HasMember k name value members → replaced k new members ≡ with_named name new members
+replaced_at k name value new no_members differ has = absurd has
+replaced_at zero name value new (member other v others) differ has =
+    sym (ap (λ b. if b then member other new others else member other v (with_named name new others))
+    (equal_names other name has.0))
+replaced_at (suc k) name value new (member other v others) differ has =
+    ap (member other v) (replaced_at k name value new others differ.1 has)
+    ∙ sym (ap (λ b. if b then member other new others else member other v (with_named name new others))
+    (other_names other name (new_name k other name value others differ.0 has)))
+
+writable_at : (k : ℕ) (name : List ℕ) (value : Tree) (members : MemberTrees) → AreWritableMembers members
+    → HasMember k name value members → IsUtf8 name × IsWritable value
+writable_at k name value no_members writable has = absurd has
+writable_at zero name value (member other v others) writable has =
+    (subst IsUtf8 has.0 writable.0, subst IsWritable has.1 writable.1)
+writable_at (suc k) name value (member other v others) writable has = writable_at k name value others writable.2 has
+
+-- what a part of a line says of the member of its name
+pub record IsFound (line : List ℕ) (members : MemberTrees) (name : List ℕ) (part : Part) : Type 0 where
+  pub value : Tree
+  pub is : first_named name members ≡ Some value
+  pub writable : IsWritable value
+  pub valued : slice_range line part.value part.end ≡ compact value
+  pub exchanged : (new : Tree) → compact (object (with_named name new members)) ≡ with_value line part (compact new)
+
+same_name : (other name : List ℕ) → IsUtf8 other → IsUtf8 name → quoted other ++ colon ∷ [] ≡ quoted name ++ colon ∷ []
+    → other ≡ name
+same_name other name utf8 also same =
+    same_text (compact-tells (string other) (string name) utf8 also
+    (append_cancel_right (quoted other) (quoted name) (colon ∷ []) same))
+  where
+    content : Tree → List ℕ
+    content (string text) = text
+    content other = []
+
+    same_text : {a b : List ℕ} → string a ≡ string b → a ≡ b
+    same_text same = ap content same
+
+pub found_at : (line : List ℕ) (parts : List Part) (members : MemberTrees) (name : List ℕ) (part : Part) → IsUtf8 name
+    → IsLine line parts members → IsPartNamed line parts (quoted name ++ colon ∷ []) part
+    → IsFound line members name part
+found_at line parts members name part utf8 is here =
+    let k = here.place in
+    let at = member_in_part members (open_brace ∷ []) (close_brace ∷ []) parts k part is.are_parts here.within in
+    let text = compact (object members) in
+    let lies : IsMemberText text part k members = subst (λ p. IsMemberText text p k members) here.is at in
+    let can = writable_at k lies.name lies.value members is.writable lies.has in
+    let named : quoted lies.name ++ colon ∷ [] ≡ quoted name ++ colon ∷ [] = sym lies.named
+    ∙ ap (λ l. slice_range l part.at part.value) (sym is.written) ∙ here.named in
+    let same = same_name lies.name name can.0 utf8 named in
+    let has : HasMember k name lies.value members = subst (λ n. HasMember k n lies.value members) same lies.has in
+    record {
+      value = lies.value;
+      is = first_at k name lies.value members is.names_differ has;
+      writable = can.1;
+      valued = ap (λ l. slice_range l part.value part.end) is.written ∙ lies.valued;
+      exchanged = λ new.
+          ap (λ m. compact (object m)) (sym (replaced_at k name lies.value new members is.names_differ has))
+          ∙ sym (replaced_text members (open_brace ∷ []) (close_brace ∷ []) parts k part new is.are_parts here.within)
+          ∙ ap (λ p. with_value text p (compact new)) here.is
+          ∙ ap (λ l. with_value l part (compact new)) (sym is.written);
+    }
+
+-- what the value of a member is, by its text
+pub says_at : (line : List ℕ) (all : MemberTrees) (name : List ℕ) (part : Part) (value : Tree) → IsWritable value
+    → IsFound line all name part → slice_range line part.value part.end ≡ compact value
+    → first_named name all ≡ Some value
+says_at line all name part value writable found written =
+    found.is ∙ ap Some (compact-tells found.value value found.writable writable (sym found.valued ∙ written))
+
+front_of : (n : ℕ) (xs : List ℕ) (c : ℕ) (rest : List ℕ) → take n xs ≡ c ∷ rest → get_or xs 0 0 ≡ c
+front_of zero xs c rest is = absurd (omega (arith, ap length is))
+front_of (suc n) [] c rest is = absurd (omega (arith, ap length is))
+front_of (suc n) (x ∷ xs) c rest is = ap (λ l. get_or l 0 0) is
+
+-- the first byte between two places
+first_byte : (line : List ℕ) (from to c mark : ℕ) (rest : List ℕ) → from < length line → get_or line from 0 ≡ mark
+    → slice_range line from to ≡ c ∷ rest → c ≡ mark
+first_byte line from to c mark rest within marked is =
+    sym (front_of (to - from) (drop from line) c rest is)
+    ∙ ap (λ l. get_or l 0 0) (drop_one line from mark within marked)
+
+pub number_begins : (text : List ℕ) → IsNumber text → (c : ℕ) × (rest : List ℕ) × (text ≡ c ∷ rest) × (45 ≤ c)
+    × (c ≤ 57)
+number_begins text n = told n.minus_sign n.whole n.is_minus n.is_whole n.spelled
+  where
+    told : (m w : List ℕ) → IsMinus m → IsWhole w → text ≡ m ++ (w ++ (n.fraction ++ n.exponent)) → (c : ℕ)
+        × (rest : List ℕ) × (text ≡ c ∷ rest) × (45 ≤ c) × (c ≤ 57)
+    told m [] is_minus is_whole is = absurd is_whole
+    told m (d ∷ ds) (inl none) is_whole is = (
+      d,
+      ds ++ (n.fraction ++ n.exponent),
+      is ∙ ap (λ l. l ++ (d ∷ ds ++ (n.fraction ++ n.exponent))) none,
+      ⊎_elim (λ zero. omega (arith, zero.0)) (λ other. omega (arith, other.0)) is_whole,
+      ⊎_elim (λ zero. omega (arith, zero.0)) (λ other. omega (arith, other.1)) is_whole,
+    )
+    told m (d ∷ ds) (inr one) is_whole is = (
+      minus,
+      d ∷ ds ++ (n.fraction ++ n.exponent),
+      is ∙ ap (λ l. l ++ (d ∷ ds ++ (n.fraction ++ n.exponent))) one,
+      omega arith,
+      omega arith,
+    )
+
+module _ (line : List ℕ) (from to mark : ℕ) (within : from < length line) (marked : get_or line from 0 ≡ mark) where
+  text_here : mark ≡ quotation_mark → (value : Tree) → IsWritable value → slice_range line from to ≡ compact value
+      → IsText value
+  text_here is null writable written =
+      absurd (omega (arith, first_byte line from to 110 mark _ within marked written, is))
+  text_here is (boolean true) writable written =
+      absurd (omega (arith, first_byte line from to 116 mark _ within marked written, is))
+  text_here is (boolean false) writable written =
+      absurd (omega (arith, first_byte line from to 102 mark _ within marked written, is))
+  text_here is (number text) writable written =
+      let begins = number_begins text writable in
+      absurd (number_is_none begins.0 begins.1 (written ∙ begins.2) begins.3 begins.4)
+    where
+      number_is_none : (c : ℕ) (rest : List ℕ) → slice_range line from to ≡ c ∷ rest → 45 ≤ c → c ≤ 57 → ⊥
+      number_is_none c rest here low high =
+          omega (arith, first_byte line from to c mark rest within marked here, is, low, high)
+  text_here is (string text) writable written = tt
+  text_here is (array items) writable written =
+      absurd (omega (arith, first_byte line from to open_bracket mark _ within marked written, is))
+  text_here is (object all) writable written =
+      absurd (omega (arith, first_byte line from to open_brace mark _ within marked written, is))
+
+  object_here : mark ≡ open_brace → (value : Tree) → IsWritable value → slice_range line from to ≡ compact value
+      → IsObject value
+  object_here is null writable written =
+      absurd (omega (arith, first_byte line from to 110 mark _ within marked written, is))
+  object_here is (boolean true) writable written =
+      absurd (omega (arith, first_byte line from to 116 mark _ within marked written, is))
+  object_here is (boolean false) writable written =
+      absurd (omega (arith, first_byte line from to 102 mark _ within marked written, is))
+  object_here is (number text) writable written =
+      let begins = number_begins text writable in
+      absurd (number_is_none begins.0 begins.1 (written ∙ begins.2) begins.3 begins.4)
+    where
+      number_is_none : (c : ℕ) (rest : List ℕ) → slice_range line from to ≡ c ∷ rest → 45 ≤ c → c ≤ 57 → ⊥
+      number_is_none c rest here low high =
+          omega (arith, first_byte line from to c mark rest within marked here, is, low, high)
+  object_here is (string text) writable written =
+      absurd (omega (arith, first_byte line from to quotation_mark mark _ within marked written, is))
+  object_here is (array items) writable written =
+      absurd (omega (arith, first_byte line from to open_bracket mark _ within marked written, is))
+  object_here is (object all) writable written = tt
+
+module _ (line : List ℕ) (members : MemberTrees) (name : List ℕ) (part : Part) (within : part.value < length line)
+    (found : IsFound line members name part) where
+  pub text_at : get_or line part.value 0 ≡ quotation_mark → IsThere IsText (first_named name members)
+  text_at marked = subst (IsThere IsText) (sym found.is)
+      (text_here line part.value part.end quotation_mark within marked refl found.value found.writable found.valued)
+
+  pub object_at : get_or line part.value 0 ≡ open_brace → IsThere IsObject (first_named name members)
+  object_at marked = subst (IsThere IsObject) (sym found.is)
+      (object_here line part.value part.end open_brace within marked refl found.value found.writable found.valued)
+
+-- names and texts of ASCII
+abbrev pub are_small : List ℕ → Bool
+are_small [] = true
+are_small (b ∷ bs) = cond (nat_lt b 128) (are_small bs) false
+
+small_and : (t : Bool) (b : ℕ) (rest : Bool) → nat_lt b 128 ≡ t → cond t rest false ≡ true → (b < 128) × (rest ≡ true)
+small_and true b rest is all = (grind (arith, nat_tests), all)
+small_and false b rest is all = cc
+
+small_at : (bs : List ℕ) → are_small bs ≡ true → (i : ℕ) → get_or bs i 0 < 128
+small_at [] small i = omega arith
+small_at (b ∷ bs) small zero = (small_and (nat_lt b 128) b (are_small bs) refl small).0
+small_at (b ∷ bs) small (suc i) = small_at bs (small_and (nat_lt b 128) b (are_small bs) refl small).1 i
+
+pub utf8 : (bs : List ℕ) → are_small bs ≡ true → IsUtf8 bs
+utf8 bs small = IsUtf8-from_ascii bs (small_at bs small)
+
+-- the vertices of a feature
+are_vertices : (ps : List Triple) → All IsInRange ps → AreReadAgain ps
+are_vertices [] range = tt
+are_vertices (p ∷ ps) range =
+    let here = range 0 p (omega arith) in
+    (vertex_is_read p here, here, are_vertices ps (All-tail IsInRange p ps range))
+
+are_writable : (ps : List Triple) → All IsInRange ps → AreWritableItems (item_trees (map vertex_tree ps))
+are_writable [] range = tt
+are_writable (p ∷ ps) range = (
+  vertex_is_writable p (range 0 p (omega arith)),
+  are_writable ps (All-tail IsInRange p ps range),
+)
+
+-- what is written for vertices in range spells them
+pub written_vertices : (text : List ℕ) (ps : List Triple) → text ≡ compact (vertices_tree ps) → All IsInRange ps
+    → SpellsVertices text ps
+written_vertices text ps written range =
+    (item_trees (map vertex_tree ps), written, are_writable ps range, are_vertices ps range)
+
+pub feature_at : (line : List ℕ) (parts : List Part) (members : MemberTrees) (part : Part) (ps : List Triple)
+    → IsLine line parts members → HasOtherMembers (object members)
+    → IsPartNamed line parts (quoted (codes "vertices") ++ colon ∷ []) part
+    → SpellsVertices (slice_range line part.value part.end) ps
+    → IsFeature (object members) ps × IsPlaceOf (codes "vertices") members line part
+feature_at line parts members part ps is others named (items, written, writable, vertices) =
+    let name = codes "vertices" in
+    let found = found_at line parts members name part (utf8 name refl) is named in
+    let here : member_of name (object members) ≡ Some (array items) =
+    says_at line members name part (array items) writable found written in
+    let shape : HasFeatureShape (object members) =
+    (others.0, others.1, others.2, subst (IsThere IsArray) (sym here) tt) in
+    ((shape, (items, here, vertices)), found.exchanged)

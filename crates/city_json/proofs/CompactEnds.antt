@@ -1,0 +1,618 @@
+-- Where values end in a compact text.
+use Rattle.std.proofs.Common.{◌≡◌, ◌≢◌, ◌⊎◌, ◌++◌, ◌∙◌, ◌≤◌, ◌<◌, ◌+◌, ◌-◌, ◌/◌, ◌%◌, ℕ, List, [], ◌∷◌, Bool, true, false, length, drop, get_or, inl, inr, refl, ap, sym, subst, arith, append_assoc, take, length-append, length-drop, Option, Some, None, slice_range}
+use Rattle.std.proofs.lemmas.List.Folds.{drop_split}
+use Rattle.city_json.specs.Reading.{value_at}
+use Rattle.city_json.specs.Whole.{IsItemsText}
+use Rattle.city_json.proofs.CompactLaws.{spelled}
+use Rattle.city_json.proofs.Complete.{array_complete}
+use Rattle.std.proofs.lemmas.List.{drop-drop}
+use Rattle.std.proofs.lemmas.Bool.{cases_eq}
+use Rattle.std.proofs.lemmas.Bool.Decides.{nat_tests}
+use Rattle.std.proofs.lemmas.Grind.{flat_map-append}
+use Rattle.std.specs.Char.{digit_char}
+use Rattle.std.specs.List.{flat_map, prefix_len, AllByRecursion}
+use Rattle.city_json.specs.Number.{IsNumber}
+use Rattle.city_json.specs.NumberAt.{is_number_byte}
+use Rattle.city_json.proofs.NumberLaws.{IsNumber-bytes, number_starts}
+use Rattle.city_json.specs.Bytes.{quotation_mark, backslash, backspace, form_feed, newline, carriage_return, tab, space, small_b, small_f, small_n, small_r, small_t, small_u, digit_zero, comma, colon, open_bracket, close_bracket, open_brace, close_brace}
+use Rattle.city_json.specs.Compact.{written, quoted, compact, compact_items, compact_more_items, compact_members, compact_more_members}
+use Rattle.city_json.specs.CompactEnds.{IsStopped, is_stop, LeavesRun, LeavesItems, LeavesMembers, LeavesString, LeavesValue}
+use Rattle.city_json.specs.Fits.{depth, items_depth, members_depth}
+use Rattle.city_json.specs.ReadString.{is_plain}
+use Rattle.city_json.specs.Tree.{Tree, null, boolean, number, string, array, object, ItemTrees, no_items, item, MemberTrees, no_members, member}
+use Rattle.city_json.specs.Writable.{IsWritable, AreWritableItems, AreWritableMembers}
+use Rattle.city_json.proofs.PassScalars.{rest_is}
+use Rattle.city_json.proofs.Places.{drop_one}
+
+pub first_same : (x y : ℕ) (xs ys : List ℕ) → x ∷ xs ≡ y ∷ ys → x ≡ y
+first_same x y xs ys e = cc
+
+pub others_same : (x y : ℕ) (xs ys : List ℕ) → x ∷ xs ≡ y ∷ ys → xs ≡ ys
+others_same x y xs ys e = cc
+
+-- what is written for a byte
+
+plain_itself : (c : ℕ) → is_plain c ≡ true → written c ≡ c ∷ []
+plain_itself c plain = grind (arith, nat_tests)
+
+-- an escape: two bytes, and then bytes that stand for themselves
+record IsEscaped (c : ℕ) : Type 0 where
+  pub letter : ℕ
+  pub more : List ℕ
+  pub is : written c ≡ backslash ∷ letter ∷ more
+  pub again : flat_map written more ≡ more
+
+plain_digit : (d : ℕ) → d < 16 → is_plain (digit_char d) ≡ true
+plain_digit d low = grind (arith, nat_tests)
+
+low_written : (c : ℕ) → c ≢ quotation_mark → c ≢ backslash → c ≢ backspace → c ≢ form_feed → c ≢ newline
+    → c ≢ carriage_return → c ≢ tab → c < space
+    → written c ≡ backslash ∷ small_u ∷ digit_zero ∷ digit_zero ∷ digit_char (c / 16) ∷ digit_char (c % 16) ∷ []
+low_written c a b d e f g h low = grind (arith, nat_tests)
+
+digits_again : (x y : ℕ) → x < 16 → y < 16
+    → flat_map written (digit_zero ∷ digit_zero ∷ digit_char x ∷ digit_char y ∷ [])
+    ≡ digit_zero ∷ digit_zero ∷ digit_char x ∷ digit_char y ∷ []
+digits_again x y a b = rw (plain_itself (digit_char x) (plain_digit x a), plain_itself (digit_char y) (plain_digit y b))
+
+one_letter : (letter c m : ℕ) → written m ≡ backslash ∷ letter ∷ [] → c ≡ m → IsEscaped c
+one_letter letter c m is same = record { letter = letter; more = []; is = ap written same ∙ is; again = refl }
+
+not_plain : (c : ℕ) → is_plain c ≡ false → c ≢ quotation_mark → c ≢ backslash → c < space
+not_plain c unplain mark slash = grind (arith, nat_tests)
+
+escaped : (c : ℕ) → is_plain c ≡ false → IsEscaped c
+escaped c unplain =
+    elim (cases_eq c quotation_mark) [
+      | inl is ↦ one_letter quotation_mark c quotation_mark refl is
+      | inr mark ↦ elim (cases_eq c backslash) [
+        | inl is ↦ one_letter backslash c backslash refl is
+        | inr slash ↦ elim (cases_eq c backspace) [
+          | inl is ↦ one_letter small_b c backspace refl is
+          | inr back ↦ elim (cases_eq c form_feed) [
+            | inl is ↦ one_letter small_f c form_feed refl is
+            | inr feed ↦ elim (cases_eq c newline) [
+              | inl is ↦ one_letter small_n c newline refl is
+              | inr line ↦ elim (cases_eq c carriage_return) [
+                | inl is ↦ one_letter small_r c carriage_return refl is
+                | inr carriage ↦ elim (cases_eq c tab) [
+                  | inl is ↦ one_letter small_t c tab refl is
+                  | inr stop ↦
+                      let low = not_plain c unplain mark slash in
+                      record {
+                        letter = small_u;
+                        more = digit_zero ∷ digit_zero ∷ digit_char (c / 16) ∷ digit_char
+                            (c % 16) ∷ [];
+                        is = low_written c mark slash back feed line carriage stop low;
+                        again =
+                            digits_again (c / 16) (c % 16) (omega arith) (omega arith);
+                      }
+                ]
+              ]
+            ]
+          ]
+        ]
+      ]
+    ]
+
+-- after a run of plain bytes: the closing mark, or an escape
+abbrev IsNext : List ℕ → List ℕ → Type 0
+IsNext [] rest = Unit {0}
+IsNext (c ∷ left) rest = is_plain c ≡ false
+
+pub record AfterRun (b rest : List ℕ) : Type 0 where
+  pub left : List ℕ
+  pub is : drop (prefix_len is_plain b) b ≡ flat_map written left ++ quotation_mark ∷ rest
+  pub next : IsNext left rest
+
+run_more : (c : ℕ) (b rest : List ℕ) → is_plain c ≡ true → AfterRun b rest → AfterRun (c ∷ b) rest
+run_more c b rest plain run = record {
+  left = run.left;
+  is =
+      rw plain (sym (drop-drop (prefix_len is_plain b) 1 (c ∷ b)) ∙ run.is);
+  next = run.next;
+}
+
+run_stops : (c : ℕ) (content b rest : List ℕ) → is_plain c ≡ false
+    → b ≡ flat_map written (c ∷ content) ++ quotation_mark ∷ rest → AfterRun b rest
+run_stops c content b rest unplain is =
+    let escape = escaped c unplain in
+    let begins : b ≡ backslash ∷ (escape.letter ∷ escape.more ++ flat_map written content) ++ quotation_mark ∷ rest =
+    is ∙ ap (λ w. (w ++ flat_map written content) ++ quotation_mark ∷ rest) escape.is in
+    record {
+      left = c ∷ content;
+      is = ap (λ l. drop (prefix_len is_plain l) l) begins ∙ (sym begins ∙ is);
+      next =
+          unplain;
+    }
+
+run_step : (c : ℕ) (content rest : List ℕ) (plain : Bool) → is_plain c ≡ plain
+    → AfterRun (flat_map written content ++ quotation_mark ∷ rest) rest
+    → AfterRun (flat_map written (c ∷ content) ++ quotation_mark ∷ rest) rest
+run_step c content rest true plain run = subst
+    (λ w. AfterRun ((w ++ flat_map written content) ++ quotation_mark ∷ rest) rest) (sym (plain_itself c plain))
+    (run_more c (flat_map written content ++ quotation_mark ∷ rest) rest plain run)
+run_step c content rest false unplain run =
+    run_stops c content (flat_map written (c ∷ content) ++ quotation_mark ∷ rest) rest unplain refl
+
+run_of : (content rest : List ℕ) → AfterRun (flat_map written content ++ quotation_mark ∷ rest) rest
+run_of [] rest = record { left = []; is = refl; next = tt }
+run_of (c ∷ content) rest = run_step c content rest (is_plain c) refl (run_of content rest)
+
+pub after_run : (content b rest : List ℕ) → b ≡ flat_map written content ++ quotation_mark ∷ rest → AfterRun b rest
+after_run content b rest is = subst (λ l. AfterRun l rest) (sym is) (run_of content rest)
+
+-- the byte after the run is the closing mark, and then the rest
+pub run_closes : (left rest tail : List ℕ) → flat_map written left ++ quotation_mark ∷ rest ≡ quotation_mark ∷ tail
+    → IsNext left rest → tail ≡ rest
+run_closes [] rest tail is next = cc
+run_closes (c ∷ left) rest tail is unplain =
+    let escape = escaped c unplain in
+    let begins : flat_map written (c ∷ left) ++ quotation_mark ∷ rest
+    ≡ backslash ∷ (escape.letter ∷ escape.more ++ flat_map written left) ++ quotation_mark ∷ rest =
+    ap (λ w. (w ++ flat_map written left) ++ quotation_mark ∷ rest) escape.is in
+    absurd (differ _ _ (sym begins ∙ is))
+  where
+    differ : (x y : List ℕ) → backslash ∷ x ≡ quotation_mark ∷ y → ⊥
+    differ x y e = cc
+
+-- or an escape, after which the string goes on
+pub run_escapes : (left rest tail : List ℕ) (b : ℕ) → b ≢ quotation_mark
+    → flat_map written left ++ quotation_mark ∷ rest ≡ b ∷ tail → IsNext left rest → (more : List ℕ)
+    × (drop 1 tail ≡ flat_map written more ++ quotation_mark ∷ rest) × (0 < length tail)
+run_escapes [] rest tail b other is next = absurd (other cc)
+run_escapes (c ∷ left) rest tail b other is unplain =
+    let escape = escaped c unplain in
+    let begins : flat_map written (c ∷ left) ++ quotation_mark ∷ rest
+    ≡ backslash ∷ escape.letter ∷ ((escape.more ++ flat_map written left) ++ quotation_mark ∷ rest) =
+    ap (λ w. (w ++ flat_map written left) ++ quotation_mark ∷ rest) escape.is in
+    let tail_is : tail ≡ escape.letter ∷ ((escape.more ++ flat_map written left) ++ quotation_mark ∷ rest) =
+    after_first _ _ _ _ (sym is ∙ begins) in
+    let more : flat_map written (escape.more ++ left) ≡ escape.more ++ flat_map written left =
+    flat_map-append written escape.more left ∙ ap (λ l. l ++ flat_map written left) escape.again in (
+      escape.more ++ left,
+      ap (drop 1) tail_is ∙ ap (λ l. l ++ quotation_mark ∷ rest) (sym more),
+      rw tail_is (omega arith),
+    )
+  where
+    after_first : (x y : ℕ) (xs ys : List ℕ) → x ∷ xs ≡ y ∷ ys → xs ≡ ys
+    after_first x y xs ys e = cc
+
+-- the same in a text
+
+nonempty : (l m : List ℕ) (c : ℕ) → l ≡ m ++ c ∷ [] → 0 < length l
+nonempty l m c is = omega (arith, ap length is, length-append m (c ∷ []))
+
+-- more bytes stand before the text's end
+pub not_at_end : (text content rest : List ℕ) (i : ℕ) → drop i text ≡ flat_map written content ++ quotation_mark ∷ rest
+    → i < length text
+not_at_end text content rest i is = omega (
+  arith,
+  ap length is,
+  length-append (flat_map written content) (quotation_mark ∷ rest),
+  length-drop i text,
+)
+
+pub run_at : (text content rest : List ℕ) (i n : ℕ) → n ≡ prefix_len is_plain (take (length text - i) (drop i text))
+    → drop i text ≡ flat_map written content ++ quotation_mark ∷ rest
+    → (left : List ℕ) × (drop (i + n) text ≡ flat_map written left ++ quotation_mark ∷ rest) × IsNext left rest
+run_at text content rest i n count is =
+    let run = after_run content (drop i text) rest is in
+    let same : n ≡ prefix_len is_plain (drop i text) = count ∙ ap (prefix_len is_plain) (rest_is text i) in
+    (run.left, sym (drop-drop n i text) ∙ (ap (λ k. drop k (drop i text)) same ∙ run.is), run.next)
+
+pub string_closes : (text content rest : List ℕ) (i n : ℕ)
+    → n ≡ prefix_len is_plain (take (length text - i) (drop i text))
+    → drop i text ≡ flat_map written content ++ quotation_mark ∷ rest
+    → i + n < length text → get_or text (i + n) 0 ≡ quotation_mark → drop (i + n + 1) text ≡ rest
+string_closes text content rest i n count is within mark =
+    let run = run_at text content rest i n count is in
+    run_closes run.0 rest (drop (i + n + 1) text) (sym run.1 ∙ drop_one text (i + n) quotation_mark within mark) run.2
+
+pub string_goes_on : (text content rest : List ℕ) (i n : ℕ)
+    → n ≡ prefix_len is_plain (take (length text - i) (drop i text))
+    → drop i text ≡ flat_map written content ++ quotation_mark ∷ rest
+    → i + n < length text → get_or text (i + n) 0 ≢ quotation_mark → (more : List ℕ)
+    × (drop (i + n + 2) text ≡ flat_map written more ++ quotation_mark ∷ rest) × (i + n + 1 < length text)
+string_goes_on text content rest i n count is within other =
+    let run = run_at text content rest i n count is in
+    let next = run_escapes run.0 rest (drop (i + n + 1) text) (get_or text (i + n) 0) other
+    (sym run.1 ∙ drop_one text (i + n) (get_or text (i + n) 0) within refl) run.2 in
+    let two : i + n + 2 ≡ i + n + 1 + 1 = omega arith in (
+      next.0,
+      ap (λ k. drop k text) two ∙ (sym (drop-drop 1 (i + n + 1) text) ∙ next.1),
+      omega (arith, next.2, length-drop (i + n + 1) text),
+    )
+
+-- a run of bytes that end nothing
+
+pub run_there : (text run rest : List ℕ) (i : ℕ) → i < length text → AllByRecursion (λ c. is_stop c ≡ false) run
+    → IsStopped rest → drop i text ≡ run ++ rest → is_stop (get_or text i 0) ≡ false
+    → (left : List ℕ) × AllByRecursion (λ c. is_stop c ≡ false) left × (drop (i + 1) text ≡ left ++ rest)
+run_there text [] [] i within all stopped is here = absurd (omega (arith, ap length is, length-drop i text))
+run_there text [] (c ∷ rest) i within all stopped is here =
+    let same : get_or text i 0 ≡ c = first_same _ _ _ _ (sym (drop_one text i (get_or text i 0) within refl) ∙ is) in
+    absurd (stop_apart c stopped (ap is_stop (sym same) ∙ here))
+  where
+    stop_apart : (c : ℕ) → (c ≡ comma) ⊎ ((c ≡ close_bracket) ⊎ (c ≡ close_brace)) → is_stop c ≡ false → ⊥
+    stop_apart c stopped here = grind (arith, nat_tests)
+run_there text (c ∷ run) rest i within all stopped is here =
+    (run, all.1, others_same _ _ _ _ (sym (drop_one text i (get_or text i 0) within refl) ∙ is))
+
+pub run_stop : (text run rest : List ℕ) (i : ℕ) → i < length text → AllByRecursion (λ c. is_stop c ≡ false) run
+    → drop i text ≡ run ++ rest → is_stop (get_or text i 0) ≡ true → drop i text ≡ rest
+run_stop text [] rest i within all is here = is
+run_stop text (c ∷ run) rest i within all is here =
+    let same : get_or text i 0 ≡ c = first_same _ _ _ _ (sym (drop_one text i (get_or text i 0) within refl) ∙ is) in
+    absurd (true_false (sym here ∙ (ap is_stop same ∙ all.0)))
+  where
+    true_false : true ≡ false → ⊥
+    true_false e = cc
+
+pub run_past : (text run rest : List ℕ) (i : ℕ) → length text ≤ i → drop i text ≡ run ++ rest → drop i text ≡ rest
+run_past text [] rest i past is = is
+run_past text (c ∷ run) rest i past is = absurd (omega (arith, ap length is, length-drop i text))
+
+-- how a value begins
+
+number_head : (text rest tail : List ℕ) (c : ℕ) → IsNumber text → text ++ rest ≡ c ∷ tail → is_number_byte c ≡ true
+number_head [] rest tail c w is = absurd (number_starts [] w)
+number_head (d ∷ text) rest tail c w is = ap is_number_byte (first_same _ _ _ _ (sym is))
+    ∙ (IsNumber-bytes (d ∷ text) w).0
+
+-- no value begins with such a byte
+abbrev IsHead : ℕ → Type 0
+IsHead c = (c ≢ comma) × (c ≢ close_bracket) × (c ≢ close_brace) × (0 < c)
+
+number_is_head : (c : ℕ) → is_number_byte c ≡ true → IsHead c
+number_is_head c is = (
+  grind (arith, nat_tests),
+  grind (arith, nat_tests),
+  grind (arith, nat_tests),
+  grind (arith, nat_tests),
+)
+
+literal_head : (d c : ℕ) (xs tail : List ℕ) → IsHead d → d ∷ xs ≡ c ∷ tail → IsHead c
+literal_head d c xs tail head is = subst IsHead (first_same _ _ _ _ is) head
+
+head_of : (value : Tree) (rest tail : List ℕ) (c : ℕ) → IsWritable value → compact value ++ rest ≡ c ∷ tail → IsHead c
+head_of null rest tail c w is = literal_head 110 c _ tail (omega arith, omega arith, omega arith, omega arith) is
+head_of (boolean true) rest tail c w is = literal_head 116 c _ tail (omega arith, omega arith, omega arith, omega arith)
+    is
+head_of (boolean false) rest tail c w is =
+    literal_head 102 c _ tail (omega arith, omega arith, omega arith, omega arith) is
+head_of (number text) rest tail c w is = number_is_head c (number_head text rest tail c w is)
+head_of (string text) rest tail c w is = literal_head quotation_mark c _ tail
+    (omega arith, omega arith, omega arith, omega arith) is
+head_of (array items) rest tail c w is = literal_head open_bracket c _ tail
+    (omega arith, omega arith, omega arith, omega arith) is
+head_of (object all) rest tail c w is = literal_head open_brace c _ tail
+    (omega arith, omega arith, omega arith, omega arith) is
+
+-- bytes of which a value is the front are some
+value_some : (value : Tree) (rest : List ℕ) → IsWritable value → 0 < length (compact value ++ rest)
+value_some null rest w = omega arith
+value_some (boolean true) rest w = omega arith
+value_some (boolean false) rest w = omega arith
+value_some (number []) rest w = absurd (number_starts [] w)
+value_some (number (c ∷ text)) rest w = omega arith
+value_some (string text) rest w = omega arith
+value_some (array items) rest w = omega arith
+value_some (object all) rest w = omega arith
+
+-- the values, by their first byte
+
+pub other_head : (d c : ℕ) (xs tail : List ℕ) → d ≢ c → d ∷ xs ≡ c ∷ tail → ⊥
+other_head d c xs tail apart is = apart (first_same _ _ _ _ is)
+
+pub number_other : (text rest tail : List ℕ) (c : ℕ) → IsNumber text → is_number_byte c ≡ false
+    → text ++ rest ≡ c ∷ tail → ⊥
+number_other text rest tail c w other is = true_is_false (sym (number_head text rest tail c w is) ∙ other)
+  where
+    true_is_false : true ≡ false → ⊥
+    true_is_false e = cc
+
+pub string_leaves : (levels : ℕ) (b tail after : List ℕ) → b ≡ quotation_mark ∷ tail → LeavesString tail after
+    → LeavesValue levels b after
+string_leaves levels b tail after begins leaves null rest w within stopped is =
+    absurd (other_head 110 quotation_mark _ tail (omega arith) (sym is ∙ begins))
+string_leaves levels b tail after begins leaves (boolean true) rest w within stopped is =
+    absurd (other_head 116 quotation_mark _ tail (omega arith) (sym is ∙ begins))
+string_leaves levels b tail after begins leaves (boolean false) rest w within stopped is =
+    absurd (other_head 102 quotation_mark _ tail (omega arith) (sym is ∙ begins))
+string_leaves levels b tail after begins leaves (number text) rest w within stopped is =
+    absurd (number_other text rest tail quotation_mark w refl (sym is ∙ begins))
+string_leaves levels b tail after begins leaves (string text) rest w within stopped is =
+    leaves text rest (others_same _ _ _ _ (sym begins ∙ is)
+    ∙ append_assoc (flat_map written text) (quotation_mark ∷ []) rest)
+string_leaves levels b tail after begins leaves (array items) rest w within stopped is =
+    absurd (other_head open_bracket quotation_mark _ tail (omega arith) (sym is ∙ begins))
+string_leaves levels b tail after begins leaves (object all) rest w within stopped is =
+    absurd (other_head open_brace quotation_mark _ tail (omega arith) (sym is ∙ begins))
+
+pub array_leaves : (levels : ℕ) (b tail after : List ℕ) → b ≡ open_bracket ∷ tail → LeavesItems levels tail after
+    → LeavesValue (levels + 1) b after
+array_leaves levels b tail after begins leaves null rest w within stopped is =
+    absurd (other_head 110 open_bracket _ tail (omega arith) (sym is ∙ begins))
+array_leaves levels b tail after begins leaves (boolean true) rest w within stopped is =
+    absurd (other_head 116 open_bracket _ tail (omega arith) (sym is ∙ begins))
+array_leaves levels b tail after begins leaves (boolean false) rest w within stopped is =
+    absurd (other_head 102 open_bracket _ tail (omega arith) (sym is ∙ begins))
+array_leaves levels b tail after begins leaves (number text) rest w within stopped is =
+    absurd (number_other text rest tail open_bracket w refl (sym is ∙ begins))
+array_leaves levels b tail after begins leaves (string text) rest w within stopped is =
+    absurd (other_head quotation_mark open_bracket _ tail (omega arith) (sym is ∙ begins))
+array_leaves levels b tail after begins leaves (array items) rest w within stopped is =
+    leaves items rest w (omega (arith, within))
+    (others_same _ _ _ _ (sym begins ∙ is) ∙ append_assoc (compact_items items) (close_bracket ∷ []) rest)
+array_leaves levels b tail after begins leaves (object all) rest w within stopped is =
+    absurd (other_head open_brace open_bracket _ tail (omega arith) (sym is ∙ begins))
+
+pub object_leaves : (levels : ℕ) (b tail after : List ℕ) → b ≡ open_brace ∷ tail → LeavesMembers levels tail after
+    → LeavesValue (levels + 1) b after
+object_leaves levels b tail after begins leaves null rest w within stopped is =
+    absurd (other_head 110 open_brace _ tail (omega arith) (sym is ∙ begins))
+object_leaves levels b tail after begins leaves (boolean true) rest w within stopped is =
+    absurd (other_head 116 open_brace _ tail (omega arith) (sym is ∙ begins))
+object_leaves levels b tail after begins leaves (boolean false) rest w within stopped is =
+    absurd (other_head 102 open_brace _ tail (omega arith) (sym is ∙ begins))
+object_leaves levels b tail after begins leaves (number text) rest w within stopped is =
+    absurd (number_other text rest tail open_brace w refl (sym is ∙ begins))
+object_leaves levels b tail after begins leaves (string text) rest w within stopped is =
+    absurd (other_head quotation_mark open_brace _ tail (omega arith) (sym is ∙ begins))
+object_leaves levels b tail after begins leaves (array items) rest w within stopped is =
+    absurd (other_head open_bracket open_brace _ tail (omega arith) (sym is ∙ begins))
+object_leaves levels b tail after begins leaves (object all) rest w within stopped is =
+    leaves all rest w (omega (arith, within))
+    (others_same _ _ _ _ (sym begins ∙ is) ∙ append_assoc (compact_members all) (close_brace ∷ []) rest)
+
+-- where nothing may nest, no array and no object stands
+pub no_array : (b tail after : List ℕ) → b ≡ open_bracket ∷ tail → LeavesValue 0 b after
+no_array b tail after begins value rest w within stopped is = absurd (flat value w within (sym is ∙ begins))
+  where
+    flat : (value : Tree) → IsWritable value → depth value ≤ 0 → compact value ++ rest ≡ open_bracket ∷ tail → ⊥
+    flat null w within e = other_head 110 open_bracket _ tail (omega arith) e
+    flat (boolean true) w within e = other_head 116 open_bracket _ tail (omega arith) e
+    flat (boolean false) w within e = other_head 102 open_bracket _ tail (omega arith) e
+    flat (number text) w within e = number_other text rest tail open_bracket w refl e
+    flat (string text) w within e = other_head quotation_mark open_bracket _ tail (omega arith) e
+    flat (array items) w within e = absurd (omega (arith, within))
+    flat (object all) w within e = absurd (omega (arith, within))
+
+pub no_object : (b tail after : List ℕ) → b ≡ open_brace ∷ tail → LeavesValue 0 b after
+no_object b tail after begins value rest w within stopped is = absurd (flat value w within (sym is ∙ begins))
+  where
+    flat : (value : Tree) → IsWritable value → depth value ≤ 0 → compact value ++ rest ≡ open_brace ∷ tail → ⊥
+    flat null w within e = other_head 110 open_brace _ tail (omega arith) e
+    flat (boolean true) w within e = other_head 116 open_brace _ tail (omega arith) e
+    flat (boolean false) w within e = other_head 102 open_brace _ tail (omega arith) e
+    flat (number text) w within e = number_other text rest tail open_brace w refl e
+    flat (string text) w within e = other_head quotation_mark open_brace _ tail (omega arith) e
+    flat (array items) w within e = absurd (omega (arith, within))
+    flat (object all) w within e = absurd (omega (arith, within))
+
+pub number_runs : (text : List ℕ) → AllByRecursion (λ c. is_number_byte c ≡ true) text
+    → AllByRecursion (λ c. is_stop c ≡ false) text
+number_runs [] all = tt
+number_runs (c ∷ text) all = (stops_not c all.0, number_runs text all.1)
+  where
+    stops_not : (c : ℕ) → is_number_byte c ≡ true → is_stop c ≡ false
+    stops_not c is = grind (arith, nat_tests)
+
+pub scalar_leaves : (levels : ℕ) (b tail after : List ℕ) (c : ℕ) → b ≡ c ∷ tail → c ≢ quotation_mark → c ≢ open_bracket
+    → c ≢ open_brace → LeavesRun b after → LeavesValue levels b after
+scalar_leaves levels b tail after c begins mark bracket brace leaves null rest w within stopped is =
+    leaves (compact null) rest (refl, (refl, (refl, (refl, tt)))) stopped is
+scalar_leaves levels b tail after c begins mark bracket brace leaves (boolean true) rest w within stopped is =
+    leaves (compact (boolean true)) rest (refl, (refl, (refl, (refl, tt)))) stopped is
+scalar_leaves levels b tail after c begins mark bracket brace leaves (boolean false) rest w within stopped is =
+    leaves (compact (boolean false)) rest (refl, (refl, (refl, (refl, (refl, tt))))) stopped is
+scalar_leaves levels b tail after c begins mark bracket brace leaves (number text) rest w within stopped is =
+    leaves text rest (number_runs text (IsNumber-bytes text w)) stopped is
+scalar_leaves levels b tail after c begins mark bracket brace leaves (string text) rest w within stopped is =
+    absurd (mark (first_same _ _ _ _ (sym begins ∙ is)))
+scalar_leaves levels b tail after c begins mark bracket brace leaves (array items) rest w within stopped is =
+    absurd (bracket (first_same _ _ _ _ (sym begins ∙ is)))
+scalar_leaves levels b tail after c begins mark bracket brace leaves (object all) rest w within stopped is =
+    absurd (brace (first_same _ _ _ _ (sym begins ∙ is)))
+
+pub nothing_leaves : (levels : ℕ) (text after : List ℕ) (at : ℕ) → length text ≤ at
+    → LeavesValue levels (drop at text) after
+nothing_leaves levels text after at past value rest w within stopped is =
+    absurd (omega (arith, ap length is, value_some value rest w, length-drop at text))
+
+-- items
+
+pub record ItemsLeft (levels : ℕ) (b rest : List ℕ) : Type 0 where
+  pub first : Tree
+  pub others : ItemTrees
+  pub writable : AreWritableItems (item first others)
+  pub within : items_depth (item first others) ≤ levels
+  pub is : b ≡ compact_items (item first others) ++ close_bracket ∷ rest
+
+pub items_begin : (levels : ℕ) (text rest : List ℕ) (at : ℕ) (items : ItemTrees) → at < length text
+    → get_or text at 0 ≢ close_bracket
+    → AreWritableItems items → items_depth items ≤ levels → drop at text ≡ compact_items items ++ close_bracket ∷ rest
+    → ItemsLeft levels (drop at text) rest
+items_begin levels text rest at no_items inside other w within is =
+    absurd (other (first_same _ _ _ _ (sym (drop_one text at (get_or text at 0) inside refl) ∙ is)))
+items_begin levels text rest at (item first others) inside other w within is =
+    record { first = first; others = others; writable = w; within = within; is = is }
+
+pub items_none : (text rest : List ℕ) (at : ℕ) (items : ItemTrees) → at < length text → get_or text at 0 ≡ close_bracket
+    → AreWritableItems items → drop at text ≡ compact_items items ++ close_bracket ∷ rest → drop (at + 1) text ≡ rest
+items_none text rest at no_items inside here w is =
+    others_same _ _ _ _ (sym (drop_one text at close_bracket inside here) ∙ is)
+items_none text rest at (item first others) inside here w is =
+    let head = head_of first (compact_more_items others ++ close_bracket ∷ rest) (drop (at + 1) text) close_bracket w.0
+    (sym (append_assoc (compact first) (compact_more_items others) (close_bracket ∷ rest))
+    ∙ (sym is ∙ drop_one text at close_bracket inside here)) in
+    absurd (head.1 refl)
+
+-- no item begins with the closing bracket
+pub items_some : (text rest : List ℕ) (at : ℕ) (first : Tree) (others : ItemTrees) → at < length text
+    → get_or text at 0 ≡ close_bracket
+    → AreWritableItems (item first others) → drop at text ≡ compact_items (item first others) ++ close_bracket ∷ rest
+    → ⊥
+items_some text rest at first others inside here w is =
+    let head = head_of first (compact_more_items others ++ close_bracket ∷ rest) (drop (at + 1) text) close_bracket w.0
+    (sym (append_assoc (compact first) (compact_more_items others) (close_bracket ∷ rest))
+    ∙ (sym is ∙ drop_one text at close_bracket inside here)) in
+    head.1 refl
+
+more_stopped : (others : ItemTrees) (rest : List ℕ) → IsStopped (compact_more_items others ++ close_bracket ∷ rest)
+more_stopped no_items rest = inr (inl refl)
+more_stopped (item first others) rest = inl refl
+
+pub item_left : (levels : ℕ) (b after rest : List ℕ) (left : ItemsLeft levels b rest) → LeavesValue levels b after
+    → after ≡ compact_more_items left.others ++ close_bracket ∷ rest
+item_left levels b after rest left leaves =
+    leaves left.first (compact_more_items left.others ++ close_bracket ∷ rest) left.writable.0
+    (omega (arith, left.within)) (more_stopped left.others rest)
+    (left.is ∙ append_assoc (compact left.first) (compact_more_items left.others) (close_bracket ∷ rest))
+
+pub array_past : (text rest : List ℕ) (at : ℕ) (items : ItemTrees) → length text ≤ at
+    → drop at text ≡ compact_items items ++ close_bracket ∷ rest → ⊥
+array_past text rest at items past is = omega
+    (arith, ap length is, length-append (compact_items items) (close_bracket ∷ rest), length-drop at text)
+
+pub items_past : (text rest : List ℕ) (end : ℕ) (others : ItemTrees) → length text ≤ end
+    → drop end text ≡ compact_more_items others ++ close_bracket ∷ rest → ⊥
+items_past text rest end others past is = omega
+    (arith, ap length is, length-append (compact_more_items others) (close_bracket ∷ rest), length-drop end text)
+
+pub items_stop : (text rest : List ℕ) (end : ℕ) (others : ItemTrees) → end < length text
+    → get_or text end 0 ≡ close_bracket → drop end text ≡ compact_more_items others ++ close_bracket ∷ rest
+    → drop (end + 1) text ≡ rest
+items_stop text rest end no_items inside here is =
+    others_same _ _ _ _ (sym (drop_one text end close_bracket inside here) ∙ is)
+items_stop text rest end (item first others) inside here is =
+    absurd (other_head comma close_bracket _ _ (omega arith) (sym is ∙ drop_one text end close_bracket inside here))
+
+pub items_more : (levels : ℕ) (text rest : List ℕ) (end : ℕ) (first : Tree) (others : ItemTrees) → end < length text
+    → get_or text end 0 ≢ close_bracket → AreWritableItems (item first others)
+    → items_depth (item first others) ≤ levels
+    → drop end text ≡ compact_more_items others ++ close_bracket ∷ rest → ItemsLeft levels (drop (end + 1) text) rest
+items_more levels text rest end first no_items inside other w within is =
+    absurd (other (first_same _ _ _ _ (sym (drop_one text end (get_or text end 0) inside refl) ∙ is)))
+items_more levels text rest end first (item next others) inside other w within is = record {
+  first = next;
+  others = others;
+  writable = w.1;
+  within = omega (arith, within);
+  is = others_same _ _ _ _ (sym (drop_one text end (get_or text end 0) inside refl) ∙ is);
+}
+
+-- an array of whole numbers that was gone through in blocks
+pub whole_leaves : (levels : ℕ) (text : List ℕ) (at end : ℕ) → at < end → IsItemsText levels text at end
+    → LeavesItems levels (drop at text) (drop end text)
+whole_leaves levels text at end onward whole items rest w within is =
+    let split : drop at text ≡ slice_range text at end ++ drop end text =
+    drop_split text at end (omega (arith, onward)) in
+    let one : value_at (levels + 1) (compact (array whole.items) ++ drop end text)
+    ≡ Some (array whole.items, drop end text) =
+    array_complete (levels + 1) whole.items (compact (array whole.items)) (drop end text)
+    (spelled (array whole.items) whole.writable) (omega (arith, whole.within)) in
+    let two : value_at (levels + 1) (compact (array items) ++ rest) ≡ Some (array items, rest) =
+    array_complete (levels + 1) items (compact (array items)) rest (spelled (array items) w)
+    (omega (arith, within)) in
+    let same : compact (array whole.items) ++ drop end text ≡ compact (array items) ++ rest =
+    ap (λ l. open_bracket ∷ l) (ap (λ l. l ++ drop end text) (sym whole.written)
+    ∙ (sym split ∙ (is ∙ sym (append_assoc (compact_items items) (close_bracket ∷ []) rest)))) in
+    second_same (array whole.items, drop end text) (array items, rest)
+    (sym one ∙ (ap (value_at (levels + 1)) same ∙ two))
+  where
+    second : Option (Tree × List ℕ) → List ℕ
+    second (Some p) = p.1
+    second None = []
+
+    second_same : (p q : Tree × List ℕ) → Some p ≡ Some q → p.1 ≡ q.1
+    second_same p q e = ap second e
+
+-- members
+
+pub record MembersLeft (levels : ℕ) (b rest : List ℕ) : Type 0 where
+  pub name : List ℕ
+  pub first : Tree
+  pub others : MemberTrees
+  pub writable : AreWritableMembers (member name first others)
+  pub within : members_depth (member name first others) ≤ levels
+  pub is : b ≡ compact_members (member name first others) ++ close_brace ∷ rest
+
+pub members_begin : (levels : ℕ) (text rest : List ℕ) (at : ℕ) (members : MemberTrees) → at < length text
+    → get_or text at 0 ≢ close_brace
+    → AreWritableMembers members → members_depth members ≤ levels
+    → drop at text ≡ compact_members members ++ close_brace ∷ rest → MembersLeft levels (drop at text) rest
+members_begin levels text rest at no_members inside other w within is =
+    absurd (other (first_same _ _ _ _ (sym (drop_one text at (get_or text at 0) inside refl) ∙ is)))
+members_begin levels text rest at (member name first others) inside other w within is =
+    record { name = name; first = first; others = others; writable = w; within = within; is = is }
+
+pub members_none : (text rest : List ℕ) (at : ℕ) (members : MemberTrees) → at < length text
+    → get_or text at 0 ≡ close_brace
+    → drop at text ≡ compact_members members ++ close_brace ∷ rest → drop (at + 1) text ≡ rest
+members_none text rest at no_members inside here is =
+    others_same _ _ _ _ (sym (drop_one text at close_brace inside here) ∙ is)
+members_none text rest at (member name first others) inside here is =
+    absurd (other_head quotation_mark close_brace _ _ (omega arith) (sym is ∙ drop_one text at close_brace inside here))
+
+split_name : (name value others back : List ℕ)
+    → ((quoted name ++ colon ∷ value) ++ others) ++ back
+    ≡ quotation_mark ∷ (flat_map written name ++ quotation_mark ∷ (colon ∷ (value ++ (others ++ back))))
+split_name name value others back = simp append_assoc
+
+-- after its name stands a colon, and then its value
+pub name_left : (levels : ℕ) (text rest : List ℕ) (i colon_at : ℕ) → i < length text
+    → (left : MembersLeft levels (drop i text) rest) → LeavesString (drop (i + 1) text) (drop colon_at text)
+    → drop colon_at text ≡ colon ∷ (compact left.first ++ (compact_more_members left.others ++ close_brace ∷ rest))
+name_left levels text rest i colon_at inside left leaves =
+    leaves left.name (colon ∷ (compact left.first ++ (compact_more_members left.others ++ close_brace ∷ rest)))
+    (others_same _ _ _ _ (sym (drop_one text i (get_or text i 0) inside refl)
+    ∙ (left.is ∙ split_name left.name (compact left.first) (compact_more_members left.others)
+    (close_brace ∷ rest))))
+
+pub more_members_stopped : (others : MemberTrees) (rest : List ℕ)
+    → IsStopped (compact_more_members others ++ close_brace ∷ rest)
+more_members_stopped no_members rest = inr (inr refl)
+more_members_stopped (member name first others) rest = inl refl
+
+pub member_left : (levels : ℕ) (text after rest : List ℕ) (i colon_at : ℕ) → i < length text → colon_at < length text
+    → (left : MembersLeft levels (drop i text) rest) → LeavesString (drop (i + 1) text) (drop colon_at text)
+    → LeavesValue levels (drop (colon_at + 1) text) after
+    → after ≡ compact_more_members left.others ++ close_brace ∷ rest
+member_left levels text after rest i colon_at inside inside₂ left named_so leaves =
+    let named = name_left levels text rest i colon_at inside left named_so in
+    leaves left.first (compact_more_members left.others ++ close_brace ∷ rest) left.writable.1
+    (omega (arith, left.within)) (more_members_stopped left.others rest)
+    (others_same _ _ _ _ (sym (drop_one text colon_at (get_or text colon_at 0) inside₂ refl) ∙ named))
+
+pub name_past : (text tail : List ℕ) (c at : ℕ) → length text ≤ at → drop at text ≡ c ∷ tail → ⊥
+name_past text tail c at past is = omega (arith, ap length is, length-drop at text)
+
+pub members_past : (text rest : List ℕ) (end : ℕ) (others : MemberTrees) → length text ≤ end
+    → drop end text ≡ compact_more_members others ++ close_brace ∷ rest → ⊥
+members_past text rest end others past is =
+    omega (arith, ap length is, length-append (compact_more_members others) (close_brace ∷ rest), length-drop end text)
+
+pub members_stop : (text rest : List ℕ) (end : ℕ) (others : MemberTrees) → end < length text
+    → get_or text end 0 ≡ close_brace → drop end text ≡ compact_more_members others ++ close_brace ∷ rest
+    → drop (end + 1) text ≡ rest
+members_stop text rest end no_members inside here is =
+    others_same _ _ _ _ (sym (drop_one text end close_brace inside here) ∙ is)
+members_stop text rest end (member name first others) inside here is =
+    absurd (other_head comma close_brace _ _ (omega arith) (sym is ∙ drop_one text end close_brace inside here))
+
+pub members_more : (levels : ℕ) (text rest name : List ℕ) (end : ℕ) (first : Tree) (others : MemberTrees)
+    → end < length text → get_or text end 0 ≢ close_brace → AreWritableMembers (member name first others)
+    → members_depth (member name first others) ≤ levels
+    → drop end text ≡ compact_more_members others ++ close_brace ∷ rest → MembersLeft levels (drop (end + 1) text) rest
+members_more levels text rest name end first no_members inside other w within is =
+    absurd (other (first_same _ _ _ _ (sym (drop_one text end (get_or text end 0) inside refl) ∙ is)))
+members_more levels text rest name end first (member name₂ next others) inside other w within is = record {
+  name = name₂;
+  first = next;
+  others = others;
+  writable = w.2;
+  within = omega (arith, within);
+  is = others_same _ _ _ _ (sym (drop_one text end (get_or text end 0) inside refl) ∙ is);
+}

@@ -1,0 +1,16 @@
+use Rattle.std.proofs.Common.{◌≤◌, ◌-◌, length, take}
+use Rattle.city_cut.specs.HeldTexts.{texts_in}
+use Rattle.city_feature.specs.Choice.{IsChosen}
+use Rattle.tile_stream.proofs.HeldTexts.{MadeSoFar}
+use Rattle.tile_stream.proofs.tile_reader.held.texts_of.Given as goal
+
+-- the texts of the features so far were made
+abbrev pub invariant-held : goal.invariant-held
+invariant-held l =
+    record {
+      within : l.at ≤ length (texts_in l.held);
+      made : MadeSoFar (IsChosen l.choice) l.shift (take l.at (texts_in l.held)) l.texts.items;
+    }
+
+abbrev pub decreases-held : goal.decreases-held
+decreases-held l = length (texts_in l.held) - l.at
