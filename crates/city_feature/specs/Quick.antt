@@ -1,6 +1,6 @@
 -- What is found on the compact text of a feature's line, whose members lie in known parts.
 use Rattle.std.specs.Prelude.{◌≡◌, ◌≢◌, ◌<◌, ◌≤◌, ℕ, List, [], ◌∷◌, length, get_or, slice_range, codes, pos, All}
-use Rattle.city_json.specs.Bytes.{backslash}
+use Rattle.city_json.specs.Bytes.{backslash, plus}
 use Rattle.city_json.specs.Compact.{compact}
 use Rattle.city_json.specs.Fits.{Fits, HasDistinctNames}
 use Rattle.city_json.specs.Grammar.{Spells}
@@ -44,9 +44,6 @@ HasOtherMembers value =
 -- the shift after which all vertices stand where they stood
 abbrev pub no_steps : Triple
 no_steps = triple (pos 0) (pos 0) (pos 0)
-
-abbrev plus : ℕ
-plus = 43
 
 abbrev small_z : ℕ
 small_z = 122

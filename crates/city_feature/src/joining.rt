@@ -1,7 +1,7 @@
 ghost use Rattle.std.specs.Prelude.{◌≡◌, ◌<◌, ◌^◌, All, length, map, IfOk, IfErr};
 ghost use Rattle.city_json.specs.Compact.{compact};
 ghost use Rattle.city_json.specs.Tree.{tree};
-ghost use Rattle.city_grid.specs.Axes.{texts_of};
+ghost use Rattle.city_grid.specs.Axes.{number_texts};
 ghost use Rattle.city_feature.specs.Joined.{IsForward, IsJoined, RefusesJoin, joined_value};
 ghost use Rattle.city_feature.specs.Values.{header_value, lent_members};
 
@@ -83,7 +83,7 @@ fn line_of(
     origin: &Origin<'_>,
 ) -> Result<Line, Fault>
     ensures ok { IfOk result (λ line. line ≡ compact (joined_value (tree first.now.json)
-        (lent_members extensions.now) (texts_of origin.now.translation))) }
+        (lent_members extensions.now) (number_texts origin.now.translation))) }
     ensures fault { IfErr result (λ fault. fault ≡ Fault.Memory) }
 {
     joined_line(alloc, first, extensions.copy(alloc)?, &origin.translation)

@@ -18,8 +18,8 @@ abbrev pub Texts : Type 0
 Texts = Axes (List ℕ)
 
 -- what three numbers of the code have written
-abbrev pub texts_of : Axes (Bor (List ℕ)) → Texts
-texts_of numbers = record { x = numbers.x.now; y = numbers.y.now; z = numbers.z.now }
+abbrev pub number_texts : Axes (Bor (List ℕ)) → Texts
+number_texts numbers = record { x = numbers.x.now; y = numbers.y.now; z = numbers.z.now }
 
 -- the array of three numbers
 abbrev pub three : Texts → Tree

@@ -1,6 +1,6 @@
 ghost use Rattle.std.specs.Prelude.{◌≡◌, ◌≢◌, ℕ, List, IfSome, IfNone};
 ghost use Rattle.city_json.specs.Tree.{tree, number};
-ghost use Rattle.city_grid.specs.Axes.{Texts, texts_of, three};
+ghost use Rattle.city_grid.specs.Axes.{Texts, number_texts, three};
 
 use city_json::{Json, NumText};
 
@@ -24,7 +24,7 @@ fn as_number(value: &Json) -> Option<&NumText>
 
 /// The numbers of an array of exactly three.
 pub fn three_numbers(value: &Json) -> Option<Axes<&NumText>>
-    ensures some { IfSome result (λ numbers. tree value.now ≡ three (texts_of numbers)) }
+    ensures some { IfSome result (λ numbers. tree value.now ≡ three (number_texts numbers)) }
     ensures none { IfNone result ((texts : Texts) → tree value.now ≢ three texts) }
 {
     let Json::List(items) = value else {

@@ -10,7 +10,9 @@ use Rattle.city_json.specs.Parts.{IsPart, AreParts}
 use Rattle.city_json.specs.Tree.{Tree, null, boolean, number, string, array, object, MemberTrees, no_members, member}
 use Rattle.city_json.specs.Writable.{IsWritable, AreWritableMembers}
 use Rattle.city_json.specs.declared.compacting.parts.Part.{Part}
-use Rattle.city_json.proofs.CompactEnds.{first_same, more_members_stopped, number_other, other_head, others_same}
+use Rattle.city_json.proofs.CompactEnds.{number_other, other_head}
+use Rattle.city_json.proofs.MemberEnds.{more_members_stopped}
+use Rattle.city_json.proofs.StringEnds.{first_same, others_same}
 use Rattle.city_json.proofs.PassParts as pass
 use Rattle.city_json.proofs.Places.{drop_one}
 use Rattle.std.specs.List.{flat_map}

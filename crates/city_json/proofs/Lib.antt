@@ -13,6 +13,7 @@ pub mod DigitRuns
 pub mod Fronts
 pub mod HiddenString
 pub mod ListEnds
+pub mod MemberEnds
 pub mod MemberPlaces
 pub mod NamesApart
 pub mod NumberLaws
@@ -37,6 +38,7 @@ pub mod SoundItems
 pub mod SpelledString
 pub mod SpelledWritable
 pub mod Starts
+pub mod StringEnds
 pub mod StringSteps
 pub mod Texts
 pub mod WholeArrays

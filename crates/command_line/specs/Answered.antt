@@ -15,11 +15,11 @@ use Rattle.command_line.specs.declared.refusal.Refusal.{Refusal}
 use Rattle.command_line.specs.declared.refusal.Refusal.TheVariants.{BadArea, BadTypes, Memory, NoTile}
 
 -- what is said of a refusal; out of memory nothing can be
-abbrev pub text_of : Refusal → Option Text
-text_of BadTypes = Some (codes "citymerge: bad --cotype\n")
-text_of BadArea = Some (codes "citymerge: bad --bbox\n")
-text_of NoTile = Some (codes "citymerge: no TILE\n")
-text_of Memory = None
+abbrev pub message_of : Refusal → Option Text
+message_of BadTypes = Some (codes "citymerge: bad --cotype\n")
+message_of BadArea = Some (codes "citymerge: bad --bbox\n")
+message_of NoTile = Some (codes "citymerge: no TILE\n")
+message_of Memory = None
 
 -- an area is given, and its text writes none
 abbrev pub HasBadArea : List Row → Type 0
@@ -58,5 +58,5 @@ IsAnswered kinds named (parsed.Help text) = list_any is_shown kinds ≡ true
 IsAnswered kinds named (parsed.Usage text) =
     (list_any (λ kind. not (is_shown kind)) kinds ≡ true)
     ⊎ ((kinds ≡ [])
-    × (refusal : Refusal) × RefusesNamed refusal named × (text_of refusal ≡ Some text))
+    × (refusal : Refusal) × RefusesNamed refusal named × (message_of refusal ≡ Some text))
 IsAnswered kinds named parsed.Memory = ⊤

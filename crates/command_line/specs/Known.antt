@@ -60,27 +60,27 @@ abbrev pub Finds : {A : Type 0} → List Text → (List Row → A) → A → Typ
 Finds words of found =
     option_map (λ command. of command.1) (named_by words) ≡ Some found
 
-abbrev pub three : List Text
-three = filter (codes "--exclude" ∷ codes "--cotype=A,B" ∷ codes "--bbox" ∷ codes "1,2,3,4" ∷ [])
+abbrev pub filter_words : List Text
+filter_words = filter (codes "--exclude" ∷ codes "--cotype=A,B" ∷ codes "--bbox" ∷ codes "1,2,3,4" ∷ [])
 
-abbrev pub five : List Text
-five =
+abbrev pub merge_words : List Text
+merge_words =
     merge (codes "a" ∷ codes "--least" ∷ codes "-" ∷ codes "--bbox=1,2,3,4" ∷ codes "--" ∷ codes "--in-turn" ∷ [])
 
 pub record KnownRows : Type 0 where
-  pub taken : takes citymerge_app three ≡ true
-  pub merge_taken : takes citymerge_app five ≡ true
+  pub taken : takes citymerge_app filter_words ≡ true
+  pub merge_taken : takes citymerge_app merge_words ≡ true
   pub cat_taken : takes citymerge_app (cat []) ≡ true
-  pub types : Finds three types_text (Some (codes "A,B"))
-  pub area : Finds three area_text (Some (codes "1,2,3,4"))
-  pub exclude : Finds three (is_used (codes "exclude")) true
+  pub types : Finds filter_words types_text (Some (codes "A,B"))
+  pub area : Finds filter_words area_text (Some (codes "1,2,3,4"))
+  pub exclude : Finds filter_words (is_used (codes "exclude")) true
   pub below_zero :
       Finds (filter (codes "--bbox=-5,0,10,10" ∷ [])) area_text (Some (codes "-5,0,10,10"))
   pub empty : Finds (filter (codes "--cotype=" ∷ [])) types_text (Some [])
   pub no_types : Finds (filter []) types_text None
   pub no_area : Finds (filter []) area_text None
   pub no_exclude : Finds (filter []) (is_used (codes "exclude")) false
-  pub paths : Finds five paths_in (codes "a" ∷ codes "-" ∷ codes "--in-turn" ∷ [])
-  pub least : Finds five (is_used (codes "least")) true
-  pub in_turn : Finds five (is_used (codes "in-turn")) false
-  pub merge_area : Finds five area_text (Some (codes "1,2,3,4"))
+  pub paths : Finds merge_words paths_in (codes "a" ∷ codes "-" ∷ codes "--in-turn" ∷ [])
+  pub least : Finds merge_words (is_used (codes "least")) true
+  pub in_turn : Finds merge_words (is_used (codes "in-turn")) false
+  pub merge_area : Finds merge_words area_text (Some (codes "1,2,3,4"))

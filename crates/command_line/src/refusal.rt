@@ -1,5 +1,5 @@
 ghost use Rattle.std.specs.Prelude.{◌≡◌, option_map};
-ghost use Rattle.command_line.specs.Answered.{text_of};
+ghost use Rattle.command_line.specs.Answered.{message_of};
 ghost use Rattle.command_line.specs.declared.refusal.Refusal.TheVariants.{Memory};
 
 use byte_streams::Fault;
@@ -16,7 +16,7 @@ pub(crate) enum Refusal {
 impl Refusal {
     /// What is said on standard error, where memory is not why.
     pub(crate) fn text(self) -> Option<&'static str>
-        ensures { option_map (λ text. text.now) result ≡ text_of self }
+        ensures { option_map (λ text. text.now) result ≡ message_of self }
     {
         match self {
             Refusal::BadTypes => Some("citymerge: bad --cotype\n"),

@@ -27,22 +27,22 @@ use Rattle.tile_stream.specs.Stream.{stream}
 use Rattle.document_stream.specs.CutStream.{IsStreamOf, cut_stream}
 use Rattle.byte_streams.specs.Limits.{max_line_bytes}
 use Rattle.document_stream.specs.Input.{IsReadAs, RefusesInput, SomeInput}
-use Rattle.document_stream.specs.Taking.{CutsInto, GivesCut, HasCut, IsRefusedInput, RefusesCutting, RefusesRead, is_blank}
+use Rattle.document_stream.specs.Taking.{CutsInto, GivesCut, HasCut, IsRefusedInput, RefusesCutting, RefusesRead, is_white_space}
 
-pub blank : (text : List ℕ) → is_blank text ≡ true → IsBlank text
+pub blank : (text : List ℕ) → is_white_space text ≡ true → IsBlank text
 blank [] all = tt
 blank (b ∷ text) all = go (is_white b) refl (blank text) all
   where
-    go : (white : Bool) → is_white b ≡ white → (is_blank text ≡ true → IsBlank text) → (white && is_blank text) ≡ true
+    go : (white : Bool) → is_white b ≡ white → (is_white_space text ≡ true → IsBlank text) → (white && is_white_space text) ≡ true
         → IsBlank (b ∷ text)
     go true is rest more = (is_white-IsWhite b is, rest more)
     go false is rest more = absurd (true≢false (sym more))
 
-pub not_blank : (text : List ℕ) → is_blank text ≡ false → ¬ IsBlank text
+pub not_blank : (text : List ℕ) → is_white_space text ≡ false → ¬ IsBlank text
 not_blank [] some all = true≢false some
 not_blank (b ∷ text) some all =
     let first : is_white b ≡ true = IsWhite-is_white b all.0 in
-    not_blank text (ap (λ c. c && is_blank text) (sym first) ∙ some) all.1
+    not_blank text (ap (λ c. c && is_white_space text) (sym first) ∙ some) all.1
 
 module _ (gives : List ℕ → Bool → Type 0) where
   -- the input came to its end

@@ -14,8 +14,8 @@ use Rattle.city_cut.specs.Lines.{texts_of}
 use Rattle.tile_stream.specs.Unread.{failed_reads_after}
 use Rattle.document_stream.specs.Input.{IsReadAs, IsWholeInput, RefusesDocument, RefusesInput, SomeInput}
 
-abbrev pub is_blank : List ℕ → Bool
-is_blank text = list_all is_white text
+abbrev pub is_white_space : List ℕ → Bool
+is_white_space text = list_all is_white text
 
 -- a document is cut into this header and these texts
 abbrev pub CutsInto : Tree → HeaderValue → List (List ℕ) → Type 0

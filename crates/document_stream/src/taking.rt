@@ -10,7 +10,7 @@ ghost use Rattle.city_cut.specs.HeldTexts.{texts_in};
 ghost use Rattle.city_cut.specs.Texts.{IsCompactOf};
 ghost use Rattle.document_stream.specs.CutStream.{IsStreamOf};
 ghost use Rattle.document_stream.specs.Input.{SomeInput};
-ghost use Rattle.document_stream.specs.Taking.{CutsInto, GivesCut, HasCut, IsRefusedInput, RefusesCutting, RefusesRead, failed_reads_after_taking, is_blank};
+ghost use Rattle.document_stream.specs.Taking.{CutsInto, GivesCut, HasCut, IsRefusedInput, RefusesCutting, RefusesRead, failed_reads_after_taking, is_white_space};
 ghost use Rattle.tile_stream.specs.Stream.{stream};
 
 use byte_streams::limits::MAX_LINE_BYTES;
@@ -90,7 +90,7 @@ fn cut_text(alloc: Global, text: Vec<u8>) -> Result<CutTexts, Fault>
     ensures ok { IfOk result (λ cut. HasCut text.items (header_value cut.header) (texts_in cut.texts)) }
     ensures refused { IfErr result (λ fault. RefusesCutting fault text.items) }
 {
-    if is_blank(&text) {
+    if is_white_space(&text) {
         return Err(Fault::NoHeader);
     }
     let Some(compacted) = compact_parts(alloc, &text, Line::new(alloc)) else {
@@ -138,8 +138,8 @@ fn read_again(alloc: Global, text: &[u8]) -> Result<Json, Fault>
     read(alloc, text)
 }
 
-fn is_blank(text: &[u8]) -> bool
-    ensures { result ≡ is_blank text.now }
+fn is_white_space(text: &[u8]) -> bool
+    ensures { result ≡ is_white_space text.now }
 {
     text.iter().all(|b| *b == b' ' || *b == b'\t' || *b == b'\n' || *b == b'\r')
 }

@@ -1,7 +1,7 @@
 //! The row of queues, what is asked of it in a run, and the ends between threads.
 ghost use Rattle.std.specs.Prelude.{◌<◌, length, IfOk};
 ghost use Rattle.std.specs.List.{All};
-ghost use Rattle.tile_handoff.specs.History.{tile_of};
+ghost use Rattle.tile_handoff.specs.History.{event_tile};
 ghost use Rattle.tile_handoff.specs.Row.{SameShape};
 
 use crate::memory::{Call, answered, wanted};
@@ -147,7 +147,7 @@ fn a_row_is_closed(rt: HostRuntime) -> Result<(), Fail> {
 }
 
 fn asked(alloc: Global) -> Result<Events, AllocError>
-    ensures { IfOk result (All (λ event. tile_of event < 1)) }
+    ensures { IfOk result (All (λ event. event_tile event < 1)) }
 {
     let events = vec![in alloc;
         Event::Put(0, line(alloc, "x")?),

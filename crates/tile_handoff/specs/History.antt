@@ -20,10 +20,10 @@ abbrev pub history_of : List Event → List Reply → History
 history_of events replies = zip events replies
 
 -- the tile that an event concerns
-abbrev pub tile_of : Event → ℕ
-tile_of (Put t line) = t
-tile_of (Take t) = t
-tile_of (Close t end) = t
+abbrev pub event_tile : Event → ℕ
+event_tile (Put t line) = t
+event_tile (Take t) = t
+event_tile (Close t end) = t
 
 -- the note that an event with its reply put to tile t, as a list of one or none
 abbrev pub put_by : ℕ → Event × Reply → List Note

@@ -1,7 +1,7 @@
 ghost use Rattle.std.specs.Prelude.{◌≡◌, ◌<◌, ◌≤◌, length, IfOk, IfErr};
 ghost use Rattle.std.specs.List.{All};
 ghost use Rattle.tile_handoff.specs.Takes.{reply_of};
-ghost use Rattle.tile_handoff.specs.History.{history_of, tile_of, IsLegal};
+ghost use Rattle.tile_handoff.specs.History.{history_of, event_tile, IsLegal};
 ghost use Rattle.tile_handoff.specs.OrderAndClose.{InOrder, WholeAtEnd, NothingAfterClose};
 ghost use Rattle.tile_handoff.specs.Row.{SameShape};
 ghost use Rattle.tile_handoff.specs.Reflects.{Reflects, Answers};
@@ -24,7 +24,7 @@ use std::alloc::Global;
 pub fn run(alloc: Global, tiles: u32, capacity: u32, events: Events) -> Result<Run, Fault>
     requires tiles { (0 < tiles) × (tiles ≤ MAX_TILES) }
     requires capacity { (0 < capacity) × (capacity ≤ MAX_CAPACITY) }
-    requires events { All (λ event. tile_of event < tiles) events }
+    requires events { All (λ event. event_tile event < tiles) events }
     ensures one_reply_each { IfOk result (λ run. length run.replies ≡ length events) }
     ensures legal { IfOk result (λ run. IsLegal capacity (history_of events run.replies)) }
     ensures reflects { IfOk result (λ run. Reflects run.row (history_of events run.replies)) }
@@ -50,7 +50,7 @@ pub fn run(alloc: Global, tiles: u32, capacity: u32, events: Events) -> Result<R
 
 // Asks one event of a row.
 fn apply(row: &mut Row, event: Event) -> Result<Reply, Fault>
-    requires { tile_of event < length row.old.left }
+    requires { event_tile event < length row.old.left }
     ensures answer { IfOk result (λ reply. Answers row.old event reply row.new) }
     ensures shape { SameShape row.old row.new }
     ensures memory { IfErr result (λ fault. fault ≡ Fault.Memory) }

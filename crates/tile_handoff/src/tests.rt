@@ -1,6 +1,6 @@
 ghost use Rattle.std.specs.Prelude.{◌<◌, IfOk};
 ghost use Rattle.std.specs.List.{All};
-ghost use Rattle.tile_handoff.specs.History.{tile_of};
+ghost use Rattle.tile_handoff.specs.History.{event_tile};
 
 use crate::{
     End, Event, Events, Kind, MAX_CAPACITY, MAX_TILES, Mark, Marks, NoClose, NoPut, Queues,
@@ -50,7 +50,7 @@ fn expect_replies(rt: &impl Abort, alloc: Global, run: &Run, texts: &[&str]) -> 
 }
 
 fn one_tile(alloc: Global) -> Result<Events, AllocError>
-    ensures { IfOk result (All (λ event. tile_of event < 1)) }
+    ensures { IfOk result (All (λ event. event_tile event < 1)) }
 {
     let events = vec![in alloc;
         Event::Put(0, line(alloc, "x")?),
@@ -89,7 +89,7 @@ fn a_tile_is_put_taken_and_closed(rt: HostRuntime) -> Result<(), Fail> {
 }
 
 fn two_tiles(alloc: Global) -> Result<Events, AllocError>
-    ensures { IfOk result (All (λ event. tile_of event < 2)) }
+    ensures { IfOk result (All (λ event. event_tile event < 2)) }
 {
     let events = vec![in alloc;
         Event::Put(0, line(alloc, "x")?),
@@ -157,7 +157,7 @@ fn a_tile_is_put_taken_and_closed_by_calls(rt: HostRuntime) -> Result<(), Fail> 
 }
 
 fn one_place(alloc: Global) -> Result<Events, AllocError>
-    ensures { IfOk result (All (λ event. tile_of event < 1)) }
+    ensures { IfOk result (All (λ event. event_tile event < 1)) }
 {
     let events = vec![in alloc;
         Event::Take(0),
@@ -245,7 +245,7 @@ const ROUNDS: u32 = 2054;
 // give a line, to close, to take a line in, to give all that is left and once more.
 fn event_in(alloc: Global, round: u32, t: u32) -> Result<Event, AllocError>
     requires { t < MAX_TILES }
-    ensures { IfOk result (λ event. tile_of event < MAX_TILES) }
+    ensures { IfOk result (λ event. event_tile event < MAX_TILES) }
 {
     Ok(match round {
         ..=1024 | 1028 => Event::Put(t, numbered(alloc, t, round)?),
@@ -268,7 +268,7 @@ fn is_reply_in(alloc: Global, round: u32, t: u32, reply: &Reply) -> Result<bool,
 }
 
 fn largest_row(alloc: Global) -> Result<Events, AllocError>
-    ensures { IfOk result (All (λ event. tile_of event < MAX_TILES)) }
+    ensures { IfOk result (All (λ event. event_tile event < MAX_TILES)) }
 {
     let mut events = Vec::new(alloc);
     for i in 0..ROUNDS * MAX_TILES {

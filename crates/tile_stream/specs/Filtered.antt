@@ -1,5 +1,5 @@
 -- What a call that filters one tile may answer, and what was written then.
-use Rattle.std.specs.Prelude.{◌≡◌, ◌≢◌, ◌⊎◌, ◌==◌, if◌then◌else◌, ℕ, pos, List, Option, Some, None, length, take, Result, Ok, Err}
+use Rattle.std.specs.Prelude.{◌≡◌, ◌≢◌, ◌⊎◌, ◌==◌, if◌then◌else◌, ℕ, List, Option, Some, None, length, take, Result, Ok, Err}
 use Rattle.std.specs.Io.KnownBytes.{Appends, Keeps}
 use Rattle.city_json.specs.Compact.{compact}
 use Rattle.byte_streams.specs.Failures.{one_more}
@@ -7,7 +7,7 @@ use Rattle.byte_streams.specs.declared.fault.Fault.{Fault}
 use Rattle.byte_streams.specs.declared.fault.Fault.TheVariants.{Write}
 use Rattle.city_feature.specs.Feature.{FeatureValue}
 use Rattle.city_feature.specs.Header.{HeaderValue}
-use Rattle.city_grid.specs.Axes.{Triple, triple}
+use Rattle.city_feature.specs.Quick.{no_steps}
 use Rattle.tile_stream.specs.Head.{HasHead, HasNoHead, SomeTile}
 use Rattle.tile_stream.specs.Held.{Held, TileComesTo}
 use Rattle.tile_stream.specs.Stream.{stream}
@@ -16,10 +16,6 @@ use Rattle.tile_stream.specs.Tile.{TileLines}
 use Rattle.tile_stream.specs.Unread.{failed_reads_after}
 use Rattle.byte_streams.specs.declared.places.MergeFault.{MergeFault}
 use Rattle.byte_streams.specs.declared.places.LineFault.{LineFault}
-
--- the shift of a tile that stays where it is
-abbrev pub no_steps : Triple
-no_steps = triple (pos 0) (pos 0) (pos 0)
 
 -- The tile has this header, and its wanted features, moved by nothing, come to these texts and this
 -- end.

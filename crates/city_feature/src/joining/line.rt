@@ -2,7 +2,7 @@
 ghost use Rattle.std.specs.Prelude.{◌≡◌, IfOk, IfErr, OnOk};
 ghost use Rattle.city_json.specs.Compact.{compact};
 ghost use Rattle.city_json.specs.Tree.{tree, members_tree, number, object};
-ghost use Rattle.city_grid.specs.Axes.{texts_of, three};
+ghost use Rattle.city_grid.specs.Axes.{number_texts, three};
 ghost use Rattle.city_feature.specs.Joined.{joined_value, with_extensions};
 
 use crate::changes::{drop_inner_member, set_inner_member, set_member};
@@ -21,7 +21,7 @@ fn number_json(alloc: Global, written: &NumText) -> Result<Json, Fault>
 
 /// The array of three numbers, as they are written.
 fn three_json(alloc: Global, numbers: &Axes<&NumText>) -> Result<Json, Fault>
-    ensures ok { IfOk result (λ json. tree json ≡ three (texts_of numbers.now)) }
+    ensures ok { IfOk result (λ json. tree json ≡ three (number_texts numbers.now)) }
     ensures fault { IfErr result (λ fault. fault ≡ Fault.Memory) }
 {
     let x = number_json(alloc, numbers.x)?;
@@ -60,7 +60,7 @@ pub(crate) fn joined_line(
 ) -> Result<Line, Fault>
     ensures ok { IfOk result (λ line. line
         ≡ compact (joined_value (tree first.now.json) (members_tree extensions.items)
-        (texts_of translation.now))) }
+        (number_texts translation.now))) }
     ensures fault { IfErr result (λ fault. fault ≡ Fault.Memory) }
 {
     let mut header = first.json().copy(alloc)?;

@@ -1,7 +1,7 @@
 //! The transform that joined tiles share.
 ghost use Rattle.std.specs.Prelude.{◌≡◌, ◌++◌, ◌<◌, [], ◌∷◌, List, length, map, if◌then◌else◌};
 ghost use Rattle.std.specs.Int.Signed.{lt_z};
-ghost use Rattle.city_grid.specs.Axes.{texts_of};
+ghost use Rattle.city_grid.specs.Axes.{number_texts};
 ghost use Rattle.city_grid.specs.Transform.{IsAboveZero};
 ghost use Rattle.city_feature.specs.Header.{HeaderValue};
 ghost use Rattle.city_feature.specs.Origin.{HasTranslation, IsOrigin};
@@ -21,7 +21,7 @@ pub(crate) struct Origin<'a> {
 
 /// A header's translation as it is written.
 fn written_translation(header: &Header) -> Axes<&NumText>
-    ensures { HasTranslation (header_value header.now) (texts_of result) }
+    ensures { HasTranslation (header_value header.now) (number_texts result) }
 {
     let Some(transform) = header.json().get("transform") else {
         unreachable!();
@@ -38,7 +38,7 @@ fn written_translation(header: &Header) -> Axes<&NumText>
 /// The header's own transform.
 fn own_origin(header: &Header) -> Origin<'_>
     ensures transform { result.transform ≡ header.now.grid }
-    ensures translation { HasTranslation (header_value header.now) (texts_of result.translation) }
+    ensures translation { HasTranslation (header_value header.now) (number_texts result.translation) }
 {
     Origin {
         transform: *header.transform(),
@@ -65,9 +65,9 @@ fn text_of_lesser<'a>(
 /// The origin of the headers before, lowered to the header's translation where that is less.
 fn lowered<'a>(before: &Origin<'a>, header: &'a Header) -> Origin<'a>
     ensures { (first : HeaderValue) (others : List HeaderValue)
-        → IsOrigin Base.Least first others before.now.transform (texts_of before.now.translation)
+        → IsOrigin Base.Least first others before.now.transform (number_texts before.now.translation)
         → IsOrigin Base.Least first (others ++ header_value header.now ∷ [])
-        result.transform (texts_of result.translation) }
+        result.transform (number_texts result.translation) }
 {
     let own = own_origin(header);
     let (known, new) = (before.transform.translate(), own.transform.translate());
@@ -88,7 +88,7 @@ pub(crate) fn origin_of<'a>(headers: &'a [Header], base: Base) -> Origin<'a>
     requires { 0 < length headers.now }
     ensures origin { (first : HeaderValue) (others : List HeaderValue)
         → map header_value headers.now ≡ first ∷ others
-        → IsOrigin base first others result.transform (texts_of result.translation) }
+        → IsOrigin base first others result.transform (number_texts result.translation) }
     ensures above_zero { IsAboveZero result.transform.scale }
 {
     let [first, others @ ..] = headers else {
@@ -104,7 +104,7 @@ pub(crate) fn origin_of<'a>(headers: &'a [Header], base: Base) -> Origin<'a>
 
 fn least_origin<'a>(first: &'a Header, others: &'a [Header]) -> Origin<'a>
     ensures { IsOrigin Base.Least (header_value first.now) (map header_value others.now)
-        result.transform (texts_of result.translation) }
+        result.transform (number_texts result.translation) }
 {
     let mut origin = own_origin(first);
     for header in others {

@@ -1,7 +1,7 @@
 ghost use Rattle.std.specs.Prelude.{◌≡◌, ◌≢◌, Some, IfOk, IfErr, IfSome, IfNone};
 ghost use Rattle.city_json.specs.Members.{member_of};
 ghost use Rattle.city_json.specs.Tree.{tree};
-ghost use Rattle.city_grid.specs.Axes.{Each, Texts, Triple, texts_of, three};
+ghost use Rattle.city_grid.specs.Axes.{Each, Texts, Triple, number_texts, three};
 ghost use Rattle.city_grid.specs.Decimal.{IsUnits};
 ghost use Rattle.city_grid.specs.Transform.{Grid, IsAboveZero, IsTransform, RefusesTransform};
 
@@ -15,7 +15,7 @@ use city_json::{Json, NumText};
 /// The three numbers of a member.
 fn numbers_named<'a>(value: &'a Json, name: &str) -> Option<Axes<&'a NumText>>
     ensures some { IfSome result (λ numbers. member_of name.now (tree value.now)
-        ≡ Some (three (texts_of numbers))) }
+        ≡ Some (three (number_texts numbers))) }
     ensures none { IfNone result ((texts : Texts)
         → member_of name.now (tree value.now) ≢ Some (three texts)) }
 {
@@ -28,11 +28,11 @@ fn numbers_named<'a>(value: &'a Json, name: &str) -> Option<Axes<&'a NumText>>
 /// Three numbers as decimals; none where one is no decimal.
 fn decimals(numbers: &Axes<&NumText>) -> Option<Axes<Decimal>>
     ensures some { IfSome result (λ read.
-        Each IsUnits (texts_of numbers.now) read) }
+        Each IsUnits (number_texts numbers.now) read) }
     ensures none { IfNone result ((units : Triple)
-        → ¬ Each IsUnits (texts_of numbers.now) units) }
+        → ¬ Each IsUnits (number_texts numbers.now) units) }
     ensures only { IfSome result (λ read. (units : Triple)
-        → Each IsUnits (texts_of numbers.now) units → units ≡ read) }
+        → Each IsUnits (number_texts numbers.now) units → units ≡ read) }
 {
     Some(Axes {
         x: decimal_of(numbers.x)?,

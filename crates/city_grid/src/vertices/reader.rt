@@ -1,6 +1,6 @@
 ghost use Rattle.std.specs.Prelude.{◌≡◌, IfOk, IfErr, IfSome, IfNone};
 ghost use Rattle.city_json.specs.Tree.{tree};
-ghost use Rattle.city_grid.specs.Axes.{Each, IsInRange, Triple, texts_of};
+ghost use Rattle.city_grid.specs.Axes.{Each, IsInRange, Triple, number_texts};
 ghost use Rattle.city_grid.specs.Vertex.{IsInteger, IsSameOrLarge, IsVertex, RefusesVertex};
 
 use crate::axes::{Axes, three_numbers};
@@ -13,10 +13,10 @@ use city_json::{Json, NumText};
 /// fraction or an exponent.
 fn all_integers(numbers: &Axes<&NumText>) -> Option<Axes<i64>>
     ensures some { IfSome result (λ read. (p : Triple)
-        × Each IsInteger (texts_of numbers.now) p
+        × Each IsInteger (number_texts numbers.now) p
         × IsSameOrLarge p.x read.x × IsSameOrLarge p.y read.y × IsSameOrLarge p.z read.z) }
     ensures none { IfNone result ((p : Triple)
-        → ¬ Each IsInteger (texts_of numbers.now) p) }
+        → ¬ Each IsInteger (number_texts numbers.now) p) }
 {
     Some(Axes {
         x: integer(numbers.x)?,

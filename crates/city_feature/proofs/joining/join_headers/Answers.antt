@@ -1,6 +1,6 @@
 use Rattle.std.proofs.Common.{ap, drop, map}
 use Rattle.std.proofs.lemmas.Result.{err_from_is_err_and}
-use Rattle.city_grid.specs.Axes.{texts_of}
+use Rattle.city_grid.specs.Axes.{number_texts}
 use Rattle.city_feature.specs.Values.{header_value, lent_members}
 use Rattle.city_feature.proofs.JoinedTiles.{all_forward, first_and_others, joined, refused, scale_of_origin}
 use Rattle.city_feature.proofs.joining.join_headers.Goals as goal
@@ -12,7 +12,7 @@ shifts_of_tiles-requires-clause-scale c =
     let origin = c.origin_of-origin.result in
     let are = ap (map header_value) (first_and_others headers first _ c.requires.some c.index-headers-0.is) in
     scale_of_origin c.args.base (header_value first) (map header_value (drop 1 headers)) origin.transform
-    (texts_of origin.translation) (c.origin_of-origin.ensures.origin _ _ are)
+    (number_texts origin.translation) (c.origin_of-origin.ensures.origin _ _ are)
 
 pub returns-in_err-shifts-clause-refusal : goal.returns-in_err-shifts-clause-refusal
 returns-in_err-shifts-clause-refusal c =
@@ -22,7 +22,7 @@ returns-in_err-shifts-clause-refusal c =
     let are = ap (map header_value) (first_and_others headers first _ c.requires.some c.index-headers-0.is) in
     let p = err_from_is_err_and c.from_residual.result c.from_residual.ensures.1 in
     rw (p.1, p.2) (refused c.args.base (map header_value headers) (header_value first)
-    (map header_value (drop 1 headers)) origin.transform (texts_of origin.translation) are
+    (map header_value (drop 1 headers)) origin.transform (number_texts origin.translation) are
     (c.origin_of-origin.ensures.origin _ _ are)
     (lent_members c.new-extensions.result) _ _ c.new-extensions.ensures c.in_err-shifts.ensures.refusal)
 
@@ -33,7 +33,7 @@ returns-clause-ok c =
     let origin = c.origin_of-origin.result in
     let are = ap (map header_value) (first_and_others headers first _ c.requires.some c.index-headers-0.is) in
     joined c.args.base (map header_value headers) (header_value first)
-    (map header_value (drop 1 headers)) origin.transform (texts_of origin.translation) are
+    (map header_value (drop 1 headers)) origin.transform (number_texts origin.translation) are
     (c.origin_of-origin.ensures.origin _ _ are)
     (lent_members c.new-extensions.result) c.in_ok-shifts.shifts c.in-Ok.line c.new-extensions.ensures
     (lent_members c.shifts_of_tiles.new.extensions) c.in_ok-shifts.ensures.ok c.in_ok-shifts.ensures.known
@@ -46,7 +46,7 @@ returns-clause-forward c least =
     let origin = c.origin_of-origin.result in
     let are = ap (map header_value) (first_and_others headers first _ c.requires.some c.index-headers-0.is) in
     all_forward c.args.base (map header_value headers) (header_value first)
-    (map header_value (drop 1 headers)) origin.transform (texts_of origin.translation) are
+    (map header_value (drop 1 headers)) origin.transform (number_texts origin.translation) are
     (c.origin_of-origin.ensures.origin _ _ are)
     (lent_members c.new-extensions.result) c.in_ok-shifts.shifts c.in_ok-shifts.ensures.ok
     c.origin_of-origin.ensures.above_zero least

@@ -5,7 +5,7 @@ use Rattle.std.proofs.lemmas.Iterator.Adapters.{YieldsList-from_vec}
 use Rattle.std.proofs.lemmas.Iterator.Consumers.{YieldsList-turn, YieldsList-end}
 use Rattle.tile_handoff.specs.declared.event.Event.{Event}
 use Rattle.tile_handoff.specs.declared.event.Reply.{Reply}
-use Rattle.tile_handoff.specs.History.{history_of, tile_of, IsLegal}
+use Rattle.tile_handoff.specs.History.{history_of, event_tile, IsLegal}
 use Rattle.tile_handoff.specs.Reflects.{Reflects}
 use Rattle.tile_handoff.proofs.Histories.{in_order, whole_at_end, nothing_after_close}
 use Rattle.tile_handoff.proofs.Reflecting.{legal_empty, reflects_push}
@@ -24,7 +24,7 @@ apply-requires c =
     ∙ ap length c.into_vec-event-items.ensures)) c.loop-event.yielded c.loop-event.event-iterator
     c.loop-event.yielded_by c.next.result c.next.new.self c.in-Some.event c.in-Some.is c.next.ensures.steps in
     let small = c.requires.events (length c.loop-event.yielded) c.in-Some.event turn.0 in
-    omega (arith, ap tile_of turn.1, small, c.loop-event.invariant.tiles)
+    omega (arith, ap event_tile turn.1, small, c.loop-event.invariant.tiles)
 
 pub loop-event-init : goal.loop-event-init
 loop-event-init c =

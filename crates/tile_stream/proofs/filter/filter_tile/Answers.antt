@@ -1,6 +1,7 @@
 use Rattle.std.proofs.Common.{ap, sym, subst, ◌∙◌}
 use Rattle.city_feature.specs.Choice.{IsChosen}
-use Rattle.tile_stream.specs.Filtered.{failures_after_write, no_steps}
+use Rattle.city_feature.specs.Quick.{no_steps}
+use Rattle.tile_stream.specs.Filtered.{failures_after_write}
 use Rattle.tile_stream.specs.Unread.{Leaves, failed_reads_after}
 use Rattle.tile_stream.proofs.HeldFirst.{something}
 use Rattle.tile_stream.proofs.Filtering.{of_no_head, failed_header, failures_told, of_told, passed_on, reads_told, whole_stream, failed_flush}

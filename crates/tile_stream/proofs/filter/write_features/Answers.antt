@@ -1,7 +1,7 @@
 use Rattle.std.proofs.Common.{◌∙◌, refl, arith}
 use Rattle.city_feature.specs.Choice.{IsChosen}
 use Rattle.tile_stream.specs.Coming.{MayComeTo}
-use Rattle.tile_stream.specs.Filtered.{no_steps}
+use Rattle.city_feature.specs.Quick.{no_steps}
 use Rattle.std.proofs.KnownBytes.{Keeps-refl}
 use Rattle.tile_stream.proofs.Steps.{at_end, at_fault, at_text, at_failed_write, at_skipped, at_failed_flush, of_line}
 use Rattle.tile_stream.proofs.filter.write_features.Goals as goal

@@ -1,7 +1,7 @@
 use Rattle.std.proofs.Common.{◌≡◌, ◌∙◌, ◌++◌, ap, codes}
 use Rattle.city_json.specs.Compact.{compact}
 use Rattle.city_json.specs.Tree.{tree, members_tree}
-use Rattle.city_grid.specs.Axes.{texts_of, three}
+use Rattle.city_grid.specs.Axes.{number_texts, three}
 use Rattle.city_feature.specs.Changes.{with_member, changed_member}
 use Rattle.city_feature.specs.Joined.{with_extensions, without_extent}
 use Rattle.city_feature.proofs.joining.line.joined_line.Goals as goal
@@ -17,6 +17,6 @@ returns-clause-ok c =
     ∙ (ap (λ value. changed_member (codes "transform") (with_member (codes "translate") value)
     (tree c.set_extensions.new.header)) c.in_ok-written.ensures.ok
     ∙ ap (changed_member (codes "transform")
-    (with_member (codes "translate") (three (texts_of c.args.translation.now)))) extended) in
+    (with_member (codes "translate") (three (number_texts c.args.translation.now)))) extended) in
     c.in_ok-print.ensures.ok ∙ (ap (λ line. line ++ compact (tree c.set_inner_member.new.object)) c.new-line.ensures
     ∙ ap compact set)

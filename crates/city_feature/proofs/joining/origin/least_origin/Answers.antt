@@ -1,6 +1,6 @@
 use Rattle.std.proofs.Common.{◌∙◌, ap, sym, subst, map, take, ◌++◌, ◌∷◌, []}
 use Rattle.std.proofs.lemmas.List.{map_more}
-use Rattle.city_grid.specs.Axes.{texts_of}
+use Rattle.city_grid.specs.Axes.{number_texts}
 use Rattle.city_feature.specs.Origin.{IsOrigin}
 use Rattle.city_feature.specs.Values.{header_value}
 use Rattle.city_feature.specs.declared.base.Base.TheVariants.{Least}
@@ -10,7 +10,7 @@ use Rattle.city_feature.proofs.joining.origin.least_origin.Goals as goal
 pub loop-header-init : goal.loop-header-init
 loop-header-init c =
     own_is_least (header_value c.args.first.now) c.own_origin-origin.result.transform
-    (texts_of c.own_origin-origin.result.translation) c.own_origin-origin.ensures.transform
+    (number_texts c.own_origin-origin.result.translation) c.own_origin-origin.ensures.transform
     c.own_origin-origin.ensures.translation
 
 pub loop-header-preserved : goal.loop-header-preserved
@@ -21,5 +21,5 @@ loop-header-preserved c =
     let more = map_more header_value others c.loop-header.header-index header c.loop-header-test.true
     ∙ ap (λ h. before ++ header_value h ∷ []) (sym c.header-item.is) in
     subst (λ tiles. IsOrigin Least (header_value c.args.first.now) tiles c.lowered-origin.result.transform
-    (texts_of c.lowered-origin.result.translation)) (sym more)
+    (number_texts c.lowered-origin.result.translation)) (sym more)
     (c.lowered-origin.ensures (header_value c.args.first.now) before c.loop-header.invariant)

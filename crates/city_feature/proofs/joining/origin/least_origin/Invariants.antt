@@ -1,5 +1,5 @@
 use Rattle.std.proofs.Common.{map, take}
-use Rattle.city_grid.specs.Axes.{texts_of}
+use Rattle.city_grid.specs.Axes.{number_texts}
 use Rattle.city_feature.specs.Origin.{IsOrigin}
 use Rattle.city_feature.specs.Values.{header_value}
 use Rattle.city_feature.specs.declared.base.Base.TheVariants.{Least}
@@ -7,4 +7,4 @@ use Rattle.city_feature.proofs.joining.origin.least_origin.Given as goal
 
 abbrev pub invariant-loop-header : goal.invariant-loop-header
 invariant-loop-header l = IsOrigin Least (header_value l.first)
-    (map header_value (take l.header-index l.others)) l.origin.transform (texts_of l.origin.translation)
+    (map header_value (take l.header-index l.others)) l.origin.transform (number_texts l.origin.translation)

@@ -1,7 +1,8 @@
 use Rattle.std.proofs.Common.{◌≡◌, ◌≤◌, ◌<◌, ◌+◌, ◌-◌, length, drop, arith, refl, sym, subst}
 use Rattle.city_json.specs.Bytes.{open_bracket, open_brace, quotation_mark}
 use Rattle.city_json.specs.CompactEnds.{LeavesValue}
-use Rattle.city_json.proofs.CompactEnds.{array_leaves, array_past, item_left, items_begin, items_more, items_none, items_past, items_stop, member_left, members_begin, members_more, members_none, members_past, members_stop, name_left, name_past, no_array, no_object, object_leaves, scalar_leaves, string_leaves, whole_leaves}
+use Rattle.city_json.proofs.CompactEnds.{array_leaves, array_past, item_left, items_begin, items_more, items_none, items_past, items_stop, no_array, no_object, object_leaves, scalar_leaves, string_leaves, whole_leaves}
+use Rattle.city_json.proofs.MemberEnds.{member_left, members_begin, members_more, members_none, members_past, members_stop, name_left, name_past}
 use Rattle.city_json.proofs.Places.{drop_one}
 use Rattle.city_json.proofs.compacting.ends.+end_of.Goals as goal
 

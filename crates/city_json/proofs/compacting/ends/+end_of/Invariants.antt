@@ -4,7 +4,8 @@ use Rattle.city_json.specs.Compact.{compact_items, compact_members}
 use Rattle.city_json.specs.Fits.{items_depth, members_depth}
 use Rattle.city_json.specs.Tree.{ItemTrees, MemberTrees}
 use Rattle.city_json.specs.Writable.{AreWritableItems, AreWritableMembers}
-use Rattle.city_json.proofs.CompactEnds.{ItemsLeft, MembersLeft}
+use Rattle.city_json.proofs.CompactEnds.{ItemsLeft}
+use Rattle.city_json.proofs.MemberEnds.{MembersLeft}
 use Rattle.city_json.proofs.compacting.ends.+end_of.Given as goal
 
 abbrev pub decreases-end_of : goal.decreases-end_of

@@ -1,5 +1,5 @@
 use Rattle.std.proofs.Common.{arith}
-use Rattle.city_json.proofs.CompactEnds.{not_at_end, run_at, string_closes, string_goes_on}
+use Rattle.city_json.proofs.StringEnds.{not_at_end, run_at, string_closes, string_goes_on}
 use Rattle.city_json.proofs.compacting.ends.string_end.Goals as goal
 
 pub returns-then-i-text-clause-is : goal.returns-then-i-text-clause-is
