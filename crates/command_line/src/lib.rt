@@ -8,8 +8,6 @@ mod known;
 mod merge_args;
 mod parsing;
 mod refusal;
-#[cfg(test)]
-mod tests;
 
 pub use commands::citymerge_command;
 pub use known::known_words;

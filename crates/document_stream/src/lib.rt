@@ -5,8 +5,6 @@
 
 mod cat;
 mod taking;
-#[cfg(test)]
-mod tests;
 mod writing;
 
 pub use cat::{cat_document, cat_source};

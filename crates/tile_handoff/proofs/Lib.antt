@@ -1,5 +1,4 @@
 pub mod Ending
-pub mod Passing
 pub mod Histories
 pub mod Queueing
 pub mod Reflecting

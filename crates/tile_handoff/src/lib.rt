@@ -17,8 +17,6 @@ mod queues;
 mod ring;
 mod row;
 mod runs;
-#[cfg(test)]
-mod tests;
 
 pub use byte_streams::limits::{MAX_CAPACITY, MAX_TILES};
 pub use event::{Event, Events, Replies, Reply};

@@ -3,8 +3,6 @@ ghost use Rattle.tile_handoff.specs.Ends.{notes_put, notes_taken, places_known, 
 
 mod receiver;
 mod sender;
-#[cfg(test)]
-mod tests;
 
 use byte_streams::Fault;
 use byte_streams::limits::MAX_CAPACITY;

@@ -1,9 +1,9 @@
 -- All that was put was taken: the end note was, so nothing is left.
 use Rattle.std.proofs.Common.{ap, ◌∙◌}
 use Rattle.tile_handoff.specs.Ends.{notes_put, notes_carried, notes_taken}
-use Rattle.tile_handoff.specs.declared.ring.tests.TheConstants.{END}
-use Rattle.tile_handoff.proofs.Passing.{end_taken, passed_are}
-use Rattle.tile_handoff.proofs.ring.tests.pass.Goals as goal
+use Rattle.tile_handoff_tests.specs.declared.rings.TheConstants.{END}
+use Rattle.tile_handoff_tests.proofs.Passing.{end_taken, passed_are}
+use Rattle.tile_handoff_tests.proofs.rings.pass.Goals as goal
 
 pub returns : goal.returns
 returns g c =

@@ -1,10 +1,11 @@
 //! Readers and writers that fail.
-use super::*;
-use crate::cat::cat_source;
-use byte_streams::{Device, Source};
+use crate::texts::{DOCUMENT, FEATURE, HEADER, NOT_WRITTEN, expect_cat, refused, stream_of};
+use byte_streams::{Bin, Device, Fault, Line, Source, Tape};
+use document_stream::{cat_document, cat_source};
 use std::io::{self, ErrorKind, Read, Write};
 use std::sync::atomic::AtomicU64;
 use std::sync::atomic::Ordering::SeqCst;
+use std::test::Fail;
 
 #[test]
 fn a_read_that_fails_leaves_nothing_written(rt: HostRuntime) -> Result<(), Fail> {

@@ -1,6 +1,6 @@
 use Rattle.std.proofs.Common.{◌≡◌}
 use Rattle.tile_handoff.specs.Ends.{notes_taken, IsSameReceiver}
-use Rattle.tile_handoff.proofs.ring.tests.take.Given as goal
+use Rattle.tile_handoff_tests.proofs.rings.take.Given as goal
 
 -- nothing was taken yet
 abbrev pub invariant-empty : goal.invariant-empty

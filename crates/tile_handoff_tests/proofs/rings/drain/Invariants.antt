@@ -1,7 +1,7 @@
 use Rattle.std.proofs.Common.{◌≡◌, ◌++◌, map}
 use Rattle.tile_handoff.specs.Ends.{notes_taken, IsSameReceiver}
 use Rattle.tile_handoff.specs.declared.note.Note.TheVariants.{Line}
-use Rattle.tile_handoff.proofs.ring.tests.drain.Given as goal
+use Rattle.tile_handoff_tests.proofs.rings.drain.Given as goal
 
 -- what was taken so far are the lines
 abbrev pub invariant-draining : goal.invariant-draining

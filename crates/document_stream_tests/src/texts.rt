@@ -1,31 +1,28 @@
-//! Documents, what comes of them, and readers and writers that fail.
-mod documents;
-mod failures;
-mod refusals;
+//! A document, what comes of it, and what is to be answered.
 
-use crate::cat::cat_document;
 use byte_streams::{Bin, Fault, Line, MergeFault, Tape};
+use document_stream::cat_document;
 use std::alloc::{AllocError, AllocGlobal, Global};
 use std::process::Abort;
 use std::test::Fail;
 
-const HEADER: &str =
+pub(crate) const HEADER: &str =
     r#"{"type":"CityJSON","version":"2.0","transform":{"scale":[0.001,0.001,0.001],"translate":[0,0,0]},"CityObjects":{},"vertices":[]}"#;
 
-const DOCUMENT: &str =
+pub(crate) const DOCUMENT: &str =
     r#"{"type":"CityJSON","version":"2.0","transform":{"scale":[0.001,0.001,0.001],"translate":[0,0,0]},"CityObjects":{"b":{"type":"Building","children":["p1","p2"]},"p1":{"type":"BuildingPart","parents":["b"],"geometry":[{"type":"MultiPoint","lod":"1","boundaries":[3,1]}]},"p2":{"type":"BuildingPart","parents":["b"],"geometry":[{"type":"MultiPoint","lod":"1","boundaries":[1,0]}]}},"vertices":[[0,0,0],[1,1,1],[2,2,2],[3,3,3]]}"#;
 
-const FEATURE: &str =
+pub(crate) const FEATURE: &str =
     r#"{"type":"CityJSONFeature","id":"b","CityObjects":{"b":{"type":"Building","children":["p1","p2"]},"p1":{"type":"BuildingPart","parents":["b"],"geometry":[{"type":"MultiPoint","lod":"1","boundaries":[0,1]}]},"p2":{"type":"BuildingPart","parents":["b"],"geometry":[{"type":"MultiPoint","lod":"1","boundaries":[1,2]}]}},"vertices":[[3,3,3],[1,1,1],[0,0,0]]}"#;
 
-const NOT_WRITTEN: MergeFault = MergeFault {
+pub(crate) const NOT_WRITTEN: MergeFault = MergeFault {
     tile: 0,
     line: 0,
     fault: Fault::Write,
 };
 
 /// The answer to a document that is refused.
-fn refused(fault: Fault) -> Result<u64, MergeFault> {
+pub(crate) fn refused(fault: Fault) -> Result<u64, MergeFault> {
     Err(MergeFault {
         tile: 1,
         line: 0,
@@ -34,7 +31,7 @@ fn refused(fault: Fault) -> Result<u64, MergeFault> {
 }
 
 /// These texts, each followed by a newline.
-fn stream_of(alloc: Global, texts: &[&str]) -> Result<Vec<u8>, AllocError> {
+pub(crate) fn stream_of(alloc: Global, texts: &[&str]) -> Result<Vec<u8>, AllocError> {
     let mut stream = Vec::new(alloc);
     for text in texts {
         stream.extend_from_slice(text.as_bytes())?;
@@ -45,7 +42,7 @@ fn stream_of(alloc: Global, texts: &[&str]) -> Result<Vec<u8>, AllocError> {
 
 /// Reads the document with ample memory, at few and at many bytes a read and a write, and compares all
 /// that is answered and written.
-fn expect_cat(
+pub(crate) fn expect_cat(
     rt: &(impl Abort + AllocGlobal),
     (input, fails): (&[u8], bool),
     answer: Result<u64, MergeFault>,

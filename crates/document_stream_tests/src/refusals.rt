@@ -1,5 +1,7 @@
 //! Documents that are refused, of which nothing is written.
-use super::*;
+use crate::texts::{DOCUMENT, expect_cat, refused};
+use byte_streams::Fault;
+use std::test::Fail;
 
 #[test]
 fn blank_inputs_are_no_document(rt: HostRuntime) -> Result<(), Fail> {

@@ -1,6 +1,6 @@
 use Rattle.std.proofs.Common.{◌≡◌}
 use Rattle.tile_handoff.specs.Ends.{notes_put, IsSameSender}
-use Rattle.tile_handoff.proofs.ring.tests.put.Given as goal
+use Rattle.tile_handoff_tests.proofs.rings.put.Given as goal
 
 -- nothing was put yet
 abbrev pub invariant-full : goal.invariant-full

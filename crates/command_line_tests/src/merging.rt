@@ -1,5 +1,5 @@
-use super::{expect_help, expect_refusal, expect_same_help, expect_usage, parsed, shown};
-use crate::{MergeArgs, Parsed};
+use crate::answers::{expect_help, expect_refusal, expect_same_help, expect_usage, parsed, shown};
+use command_line::{MergeArgs, Parsed};
 use std::alloc::Global;
 use std::process::Abort;
 use std::test::Fail;

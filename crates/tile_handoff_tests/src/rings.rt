@@ -3,8 +3,6 @@ ghost use Rattle.tile_handoff.specs.Ends.{notes_put, notes_carried, notes_taken,
 ghost use Rattle.tile_handoff.specs.declared.note.End.{End};
 ghost use Rattle.tile_handoff.specs.declared.note.Note.{Note};
 
-use crate::ring::{Closed, Receiver, Sender, Whole, ends};
-use crate::{End, MAX_CAPACITY, Note};
 use byte_streams::{Fault, Line};
 use std::alloc::{AllocError, Global};
 use std::snapshot::Snapshot;
@@ -12,6 +10,7 @@ use std::sync::Wait;
 use std::test::Fail;
 use std::thread;
 use std::thread::{Promise, Threads};
+use tile_handoff::{Closed, End, MAX_CAPACITY, Note, Receiver, Sender, Whole, ends};
 
 const END: End = End {
     count: 2,

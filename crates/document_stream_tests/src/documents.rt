@@ -1,6 +1,9 @@
 //! Documents that are cut, and the streams that are written.
-use super::*;
-use byte_streams::Device;
+use crate::texts::{DOCUMENT, FEATURE, HEADER, expect_cat, stream_of};
+use byte_streams::{Bin, Device};
+use document_stream::cat_document;
+use std::alloc::{AllocError, Global};
+use std::test::Fail;
 
 #[test]
 fn a_building_and_its_parts_are_one_line(rt: HostRuntime) -> Result<(), Fail> {

@@ -2,15 +2,15 @@ ghost use Rattle.std.specs.Prelude.{◌<◌, IfOk};
 ghost use Rattle.std.specs.List.{All};
 ghost use Rattle.tile_handoff.specs.History.{event_tile};
 
-use crate::{
-    End, Event, Events, Kind, MAX_CAPACITY, MAX_TILES, Mark, Marks, NoClose, NoPut, Queues,
-    Replies, Reply, Row, Run, Took, order_and_close, run,
-};
 use byte_streams::Line;
 use std::alloc::{AllocError, Global};
 use std::process::Abort;
 use std::str;
 use std::test::Fail;
+use tile_handoff::{
+    End, Event, Events, Kind, MAX_CAPACITY, MAX_TILES, Mark, Marks, NoClose, NoPut, Queues,
+    Replies, Reply, Row, Run, Took, order_and_close, run,
+};
 
 const END: End = End {
     count: 2,

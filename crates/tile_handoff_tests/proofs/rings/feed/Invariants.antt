@@ -1,7 +1,7 @@
 use Rattle.std.proofs.Common.{◌≡◌, ◌++◌, map}
 use Rattle.tile_handoff.specs.Ends.{notes_put, IsSameSender}
 use Rattle.tile_handoff.specs.declared.note.Note.TheVariants.{Line}
-use Rattle.tile_handoff.proofs.ring.tests.feed.Given as goal
+use Rattle.tile_handoff_tests.proofs.rings.feed.Given as goal
 
 -- the lines so far were put
 abbrev pub invariant-feeding : goal.invariant-feeding

@@ -1,4 +1,8 @@
-use super::*;
+//! The words of `cat`.
+use crate::answers::{expect_help, expect_refusal, expect_same_help, parsed};
+use command_line::Parsed;
+use std::process::Abort;
+use std::test::Fail;
 
 #[test]
 fn cat_is_asked_for_by_its_word_alone(rt: HostRuntime) -> Result<(), Fail> {
