@@ -22,7 +22,7 @@ Eleven parts, each of which can be left out:
   documents     MB/s and peak memory of `citymerge cat` on a document, beside `citymerge filter` of its stream;
                 time against size for worst-case documents
   cuts          instructions for each byte and peak memory of `citymerge cat` on documents that are cut on their
-                text, with textures, with addresses, beside the same documents cut by their value (valgrind)
+                text, with textures, with addresses, beside the same documents with a -0 (valgrind)
   worst         the peak memory of the worst lines and documents, in times of their size, valid and refused ones apart
 
 Status 0: all is right. 1: an output is wrong, the peak memory grows with the stream or is above its bound for a

@@ -1,5 +1,5 @@
-"""How much memory do the worst inputs take, in times of their size? Valid ones and refused ones apart, and documents that
-are cut on their text and those that are cut by their value."""
+"""How much memory do the worst inputs take, in times of their size? Valid ones and refused ones apart: a valid document is
+cut on its text, and one at fault by its value, up to the fault."""
 
 import os
 import typing
@@ -72,17 +72,40 @@ def orphan(make):
     return made
 
 
-def by_value(make):
-    """The document with a -0 among its vertices: the cut on the text does not decide it."""
+def refused_late(make):
+    """The document with an object at its end whose boundary names no vertex: it is cut up to there by its value."""
 
     def made(count):
         whole = b"".join(make(count))
-        return iter((whole.replace(b'"vertices":[[0', b'"vertices":[[-0', 1),))
+        last = b',"late":{"geometry":[{"boundaries":[999999999]}]}},"vertices":['
+        return iter((whole.replace(b'},"vertices":[', last, 1),))
 
     return made
 
 
+def minus_zero_vertices(count):
+    return document(listed(('"a":{}',)), listed("[-0,-0,-0]" for _ in range(count)))
+
+
+def bare(count):
+    """So many objects that are empty."""
+    return document(listed('"%x":{}' % at for at in range(count)), vertices(1))
+
+
+def with_child(count):
+    """So many objects that name one child."""
+    objects = ('"%x":{"children":["a"]}' % at for at in range(count))
+    return document(listed(objects), vertices(1))
+
+
+def with_metadata(piece, count):
+    """A document with so many such items in its header."""
+    whole = b"".join(document(listed(('"a":{}',)), vertices(1))).rstrip()
+    yield whole[:-1] + b',"metadata":{"own":[' + b",".join([piece] * count) + b"]}}\n"
+
+
 ORPHAN = "a city object belongs to no feature"
+BOUNDARY = "a boundary index is wrong"
 
 WORST = (
     Worst("a line of vertices of -0", "filter", 400_000, minus_zeros, 6),
@@ -102,15 +125,22 @@ WORST = (
     Worst("cat: indices and vertices", "cat", 200_000, wide_boundary, 22),
     Worst("cat: vertices that none names", "cat", 400_000, lambda n: document(listed(('"a":{}',)), vertices(n)), 22),
     Worst("cat: 200 buildings with a large appearance", "cat", 200, lambda n: with_appearance(n, MEGA), 22),
-    Worst("cat by value: small objects", "cat", 60_000, by_value(apart), 45),
-    Worst("cat by value: boundaries 100 deep", "cat", 20_000, by_value(deep_boundaries), 45),
-    Worst("cat by value: arrays of one index", "cat", 1_000_000, by_value(nested_leaf), 45),
-    Worst("cat by value: a child named often", "cat", 1_000_000, by_value(one_child), 45),
+    Worst("cat: vertices of -0", "cat", 400_000, minus_zero_vertices, 22),
+    Worst("cat: empty objects", "cat", 300_000, bare, 30),
+    Worst("cat: objects that name one child", "cat", 200_000, with_child, 30),
+    Worst("cat: a header of arrays of one item", "cat", 1_000_000, lambda n: with_metadata(b"[1]", n), 25),
+    Worst("cat: a header of numbers", "cat", 2_000_000, lambda n: with_metadata(b"1", n), 25),
+    Worst("cat refused late: small objects", "cat", 60_000, refused_late(apart), 45, BOUNDARY),
+    Worst("cat refused late: boundaries 100 deep", "cat", 20_000, refused_late(deep_boundaries), 45, BOUNDARY),
+    Worst("cat refused late: arrays of one index", "cat", 1_000_000, refused_late(nested_leaf), 45, BOUNDARY),
+    Worst("cat refused late: a child named often", "cat", 1_000_000, refused_late(one_child), 45, BOUNDARY),
+    Worst("cat refused late: empty objects", "cat", 300_000, refused_late(bare), 45, BOUNDARY),
     Worst("cat refused: arrays of one index", "cat", 1_000_000, orphan(nested_leaf), 23, ORPHAN),
     Worst("cat refused: small objects", "cat", 60_000, orphan(apart), 23, ORPHAN),
     Worst("a document on the first line: small objects", "filter", 60_000, apart, 22),
     Worst("a document on the first line: arrays of one index", "filter", 1_000_000, nested_leaf, 22),
-    Worst("a document on the first line, by value: arrays of one index", "filter", 1_000_000, by_value(nested_leaf), 45),
+    Worst("a document on the first line: empty objects", "filter", 300_000, bare, 35),
+    Worst("a document on the first line, refused late: arrays of one index", "filter", 1_000_000, refused_late(nested_leaf), 45, BOUNDARY),
     Worst("a document on the first line: 20 buildings, a large appearance", "filter", 20, lambda n: with_appearance(n, MEGA), 45),
     Worst("a document on the first line, refused: small objects", "filter", 60_000, orphan(apart), 23, ORPHAN),
 )

@@ -1,9 +1,9 @@
 -- A whole document, cut on its compact text.
-use Rattle.std.proofs.Common.{◌≡◌, ◌≢◌, ◌∙◌, ◌++◌, ◌<◌, ◌≤◌, ℕ, List, [], ◌∷◌, Option, Some, None, Result, Ok, Err, IfOk, IfSome, length, map, slice_range, refl, sym, ap, subst, codes, append-nil, append_assoc, arith}
+use Rattle.std.proofs.Common.{◌≡◌, ◌≢◌, ◌∙◌, ◌++◌, ◌<◌, ◌≤◌, ℕ, List, [], ◌∷◌, Option, Some, None, Result, Ok, Err, IfOk, IfSome, length, map, unwrap_or, slice_range, refl, sym, ap, subst, codes, append-nil, append_assoc, arith}
 use Rattle.std.specs.List.{AllZip, Contains}
 use Rattle.city_json.proofs.CompactLaws.{compact-tells}
 use Rattle.city_json.proofs.SpelledWritable.{spelled_writable}
-use Rattle.city_json.specs.Bytes.{colon, comma, close_brace}
+use Rattle.city_json.specs.Bytes.{colon, comma, open_brace, close_brace, open_bracket, close_bracket}
 use Rattle.city_json.specs.Compact.{compact, quoted}
 use Rattle.city_json.specs.Depth.{IsDeep}
 use Rattle.city_json.specs.Fits.{Fits, IsDistinct}
@@ -26,23 +26,31 @@ use Rattle.city_cut.specs.FeatureText.{tail_text}
 use Rattle.city_cut.specs.HeaderText.{HasHeader}
 use Rattle.city_cut.specs.Items.{items_in, members_in}
 use Rattle.city_cut.specs.Texts.{IsCompactOf}
+use Rattle.city_cut.specs.VertexTexts.{HasPoints}
 use Rattle.city_cut.proofs.HeaderMembers.{header_grid, other_member}
 use Rattle.city_cut.proofs.QuickTexts.{member_there, three}
 use Rattle.city_cut.proofs.WholeDocument.{Bounds, cuttable}
 
-pub points_there : (text given : List ℕ) (parts : List Part) (part : Part) (members : MemberTrees) (ps : List Triple)
-    → IsCompactOf text (object members) → AreParts 1 parts members
-    → IsPartNamed text parts (quoted (codes "vertices") ++ colon ∷ []) part
-    → given ≡ slice_range text part.value part.end → SpellsVertices given ps
-    → (items : ItemTrees) × (first_named (codes "vertices") members ≡ Some (array items)) × AreVertices items ps
-points_there text given parts part members ps of are named lies (items, written, writable, vertices) =
-    let found = member_there text parts members (codes "vertices") part given (utf8 (codes "vertices") refl) of are
-    named lies in (
-      items,
-      found.is ∙ ap Some (compact-tells found.value (array items) found.of.writable writable
-          (sym found.of.is ∙ written)),
-      vertices,
-    )
+pub points_there : (given : List ℕ) (members : MemberTrees) (ps : List Triple)
+    → IsCompactOf given (unwrap_or (first_named (codes "vertices") members) (array no_items)) → SpellsVertices given ps
+    → HasPoints members ps
+points_there given members ps of (items, written, writable, vertices) = (
+  items,
+  compact-tells (unwrap_or (first_named (codes "vertices") members) (array no_items)) (array items) of.writable
+      writable (sym of.is ∙ written),
+  vertices,
+)
+
+-- a member that may be absent
+items_or : (found : Option Tree) (items : ItemTrees) → unwrap_or found (array no_items) ≡ array items
+    → WhereThere IsArray found × (items_in found ≡ items)
+items_or None items is = (tt, ap (λ v. items_in (Some v)) is)
+items_or (Some value) items is = (subst IsArray (sym is) tt, ap (λ v. items_in (Some v)) is)
+
+members_or : (found : Option Tree) (members : MemberTrees) → unwrap_or found (object no_members) ≡ object members
+    → WhereThere IsObject found × (members_in found ≡ members)
+members_or None members is = (tt, ap (λ v. members_in (Some v)) is)
+members_or (Some value) members is = (subst IsObject (sym is) tt, ap (λ v. members_in (Some v)) is)
 
 -- what stands after the vertices
 tail_regroup : (a v b : List ℕ) → (comma ∷ ((a ++ colon ∷ v) ++ [])) ++ b ≡ (comma ∷ (a ++ colon ∷ [])) ++ (v ++ b)
@@ -66,19 +74,23 @@ tail_there text given parts part members none line₁ line₂ line₃ of are nam
 
 -- ---- the frame and the header
 pub frame : (document value : Tree) (grid : Grid) (objects : MemberTrees) (items : ItemTrees)
-    → HasHeader document value grid → member_of (codes "CityObjects") document ≡ Some (object objects)
-    → member_of (codes "vertices") document ≡ Some (array items) → AreCityObjects objects → HasFrame document
+    → HasHeader document value grid
+    → unwrap_or (member_of (codes "CityObjects") document) (object no_members) ≡ object objects
+    → unwrap_or (member_of (codes "vertices") document) (array no_items) ≡ array items → AreCityObjects objects
+    → HasFrame document
 frame document value grid objects items has objects_are vertices_are are =
-    let (city_json, version, has_grid) = subst (λ v. IsHeader v grid) has.is has.header in (
+    let objects_in = members_or (member_of (codes "CityObjects") document) objects objects_are in
+    let vertices_in = items_or (member_of (codes "vertices") document) items vertices_are in
+    let (city_json, version, has_grid) = subst (λ v. IsHeader v grid) has.0 has.1 in (
       (
         (
           sym (other_member (codes "type") document refl refl refl) ∙ city_json.0,
           subst (WhereThere IsObject) (other_member (codes "metadata") document refl refl refl) city_json.1,
           subst (WhereThere IsObject) (other_member (codes "extensions") document refl refl refl) city_json.2,
-          subst (WhereThere IsObject) (sym objects_are) tt,
-          subst (WhereThere IsArray) (sym vertices_are) tt,
+          objects_in.0,
+          vertices_in.0,
         ),
-        subst AreCityObjects (sym (ap members_in objects_are)) are,
+        subst AreCityObjects (sym objects_in.1) are,
       ),
       sym (other_member (codes "version") document refl refl refl) ∙ version,
       (grid, header_grid document grid has_grid),
@@ -101,8 +113,8 @@ as_many (item value others) (p ∷ ps) all = let e = as_many others ps all.2 in 
 -- ---- the whole cut
 pub whole : (document value : Tree) (grid : Grid) (objects : MemberTrees) (items : ItemTrees) (points : List Triple)
     (appearance : Option Tree) (features : List FeatureValue) → IsDistinct document → HasHeader document value grid
-    → member_of (codes "CityObjects") document ≡ Some (object objects)
-    → member_of (codes "vertices") document ≡ Some (array items)
+    → unwrap_or (member_of (codes "CityObjects") document) (object no_members) ≡ object objects
+    → unwrap_or (member_of (codes "vertices") document) (array no_items) ≡ array items
     → appearance ≡ member_of (codes "appearance") document → AreCityObjects objects → AreVertices items points
     → (LacksChild objects → ⊥) → AllBelong objects → AreFeatures objects appearance points features
     → ((id name : List ℕ) (value : Tree) → Contains (roots objects) id → IsReached objects id name
@@ -110,8 +122,10 @@ pub whole : (document value : Tree) (grid : Grid) (objects : MemberTrees) (items
     → IsCuttable document × IsCut document (record { value = value; grid = grid }) features
 whole document value grid objects items points appearance features distinct has objects_are vertices_are look
     are_objects are_points lacks belong made bounded =
-    let same : objects_of document ≡ objects = ap members_in objects_are in
-    let same_items : vertices_of document ≡ items = ap items_in vertices_are in
+    let same : objects_of document ≡ objects =
+    (members_or (member_of (codes "CityObjects") document) objects objects_are).1 in
+    let same_items : vertices_of document ≡ items =
+    (items_or (member_of (codes "vertices") document) items vertices_are).1 in
     let framed = frame document value grid objects items has objects_are vertices_are are_objects in
     let points_here : AreVertices (vertices_of document) points =
     subst (λ i. AreVertices i points) (sym same_items) are_points in
@@ -130,35 +144,39 @@ whole document value grid objects items points appearance features distinct has 
           ),
           belong_here,
         ),
-        has.is,
-        header_grid document grid (subst (λ v. HasGrid v grid) has.is has.header.2),
+        has.0,
+        header_grid document grid (subst (λ v. HasGrid v grid) has.0 has.1.2),
       ),
     )
 
 -- ---- the city objects
 pub record ObjectsThere (objects : List ℕ) (places : List Part) (members : MemberTrees) : Type 0 where
   pub pairs : List (List ℕ × Tree)
-  pub is : first_named (codes "CityObjects") members ≡ Some (object (member_trees pairs))
+  pub is : unwrap_or (first_named (codes "CityObjects") members) (object no_members) ≡ object (member_trees pairs)
   pub of : IsCompactOf objects (object (member_trees pairs))
   pub are : AreParts 1 places (member_trees pairs)
 
-pub objects_there : (line objects : List ℕ) (parts places : List Part) (part : Part) (members : MemberTrees)
-    → IsCompactOf line (object members) → AreParts 1 parts members
-    → IsPartNamed line parts (quoted (codes "CityObjects") ++ colon ∷ []) part
-    → objects ≡ slice_range line part.value part.end
+pub objects_there : (objects : List ℕ) (places : List Part) (members : MemberTrees)
+    → IsCompactOf objects (unwrap_or (first_named (codes "CityObjects") members) (object no_members))
     → ((value : Tree) → IsCompactOf objects value → (found : MemberTrees) × (value ≡ object found)
     × AreParts 1 places found) → ObjectsThere objects places members
-objects_there line objects parts places part members of are named lies listed =
-    let found = member_there line parts members (codes "CityObjects") part objects (utf8 (codes "CityObjects") refl) of
-    are named lies in
-    let (inner, is_object, placed) = listed found.value found.of in
+objects_there objects places members of listed =
+    let value = unwrap_or (first_named (codes "CityObjects") members) (object no_members) in
+    let (inner, is_object, placed) = listed value of in
     record {
       pairs = pairs_of inner;
-      is = found.is ∙ (ap Some is_object ∙ ap (λ m. Some (object m)) (sym (pairs_are inner)));
+      is = is_object ∙ ap object (sym (pairs_are inner));
       of = subst (λ m. IsCompactOf objects (object m)) (sym (pairs_are inner))
-          (subst (IsCompactOf objects) is_object found.of);
+          (subst (IsCompactOf objects) is_object of);
       are = subst (AreParts 1 places) (sym (pairs_are inner)) placed;
     }
+
+-- a document without vertices or city objects has none
+pub no_vertices : IsCompactOf (open_bracket ∷ close_bracket ∷ []) (array no_items)
+no_vertices = record { is = refl; writable = tt; distinct = tt; within = omega arith }
+
+pub no_objects : IsCompactOf (open_brace ∷ close_brace ∷ []) (object no_members)
+no_objects = record { is = refl; writable = tt; distinct = (tt, tt); within = omega arith }
 
 pub compact_of : (text line given : List ℕ) (members : MemberTrees) → Spells text (object members)
     → Fits (object members) → line ≡ compact (object members) → given ≡ line → IsCompactOf given (object members)

@@ -2,7 +2,7 @@
 use Rattle.std.proofs.Common.{◌≡◌, ◌≢◌, ◌∙◌, ◌++◌, ◌≤◌, arith, ℕ, Bool, true, false, List, [], ◌∷◌, Option, Some, None, IsUtf8, is_some, bytes_eq, if◌then◌else◌, take, drop, slice_range, refl, sym, ap, subst, codes}
 use Rattle.std.proofs.lemmas.Slice.Eq.{bytes_eq-Decides}
 use Rattle.city_json.proofs.SpelledWritable.{read_of_compact}
-use Rattle.city_json.specs.Bytes.{colon, open_bracket, close_bracket, open_brace, close_brace}
+use Rattle.city_json.specs.Bytes.{colon}
 use Rattle.city_json.specs.Compact.{compact, quoted}
 use Rattle.city_json.specs.Fits.{AreDistinctMembers, HasDistinctNames, IsDistinct, IsNewName, depth, members_depth}
 use Rattle.byte_streams.specs.Limits.{max_depth}
@@ -14,139 +14,135 @@ use Rattle.city_json.specs.Writable.{AreWritableMembers, IsWritable}
 use Rattle.city_json.specs.declared.compacting.parts.Part.{Part}
 use Rattle.city_grid.specs.Transform.{Grid}
 use Rattle.city_feature.proofs.QuickLines.{utf8}
-use Rattle.city_feature.specs.Changes.{changed_member, changed_named, with_member, with_named, without_member, without_named}
+use Rattle.city_feature.specs.Changes.{changed_member, changed_named, without_member, without_named}
 use Rattle.city_feature.specs.Header.{IsHeader}
 use Rattle.city_feature.specs.Quick.{IsPartNamed}
 use Rattle.city_cut.specs.Cut.{header_tree, without_appearance}
-use Rattle.city_cut.specs.HeaderText.{HasHeader, IsEmptied, IsPresent}
+use Rattle.city_cut.specs.HeaderText.{HasHeader, IsEmptied}
 use Rattle.city_cut.specs.Texts.{IsCompactOf}
-use Rattle.city_cut.proofs.MemberChanges.{kept, set_is_changed}
-use Rattle.city_cut.proofs.QuickTexts.{member_there}
+use Rattle.city_cut.proofs.MemberChanges.{kept, none_is_unchanged, set_is_changed}
+use Rattle.city_cut.proofs.QuickTexts.{member_there, three}
 
-writable_with : (name : List ℕ) (value : Tree) (members : MemberTrees) → IsUtf8 name → IsWritable value
-    → AreWritableMembers members → AreWritableMembers (with_named name value members)
-writable_with name value no_members utf8 is all = (utf8, is, tt)
-writable_with name value (member other v others) utf8 is all =
-    by (bytes_eq other name) refl (writable_with name value others utf8 is all.2)
+-- ---- with another value for a member
+writable_changed : (name : List ℕ) (value : Tree) (members : MemberTrees) → IsWritable value
+    → AreWritableMembers members → AreWritableMembers (changed_named name (λ old. value) members)
+writable_changed name value no_members is all = tt
+writable_changed name value (member other v others) is all =
+    by (bytes_eq other name) refl (writable_changed name value others is all.2)
   where
-    by : (b : Bool) → bytes_eq other name ≡ b → AreWritableMembers (with_named name value others)
-        → AreWritableMembers (with_named name value (member other v others))
+    by : (b : Bool) → bytes_eq other name ≡ b → AreWritableMembers (changed_named name (λ old. value) others)
+        → AreWritableMembers (changed_named name (λ old. value) (member other v others))
     by true e later = rw e (all.0, is, all.2)
     by false e later = rw e (all.0, all.1, later)
 
-present : {value : Tree} (found : Option Tree) → found ≡ Some value → IsPresent found
-present found is = subst IsPresent (sym is) tt
-
-kept_named : (members : MemberTrees) → first_named (codes "vertices")
-    (with_named (codes "CityObjects") (object no_members) members) ≡ first_named (codes "vertices") members
-kept_named no_members = refl
-kept_named (member other v others) = by (bytes_eq other (codes "CityObjects")) refl (kept_named others)
+-- names still differ, and nothing nests deeper
+new_changed : (other name : List ℕ) (value : Tree) (members : MemberTrees) → IsNewName other members
+    → IsNewName other (changed_named name (λ old. value) members)
+new_changed other name value no_members new = tt
+new_changed other name value (member o v others) new =
+    by (bytes_eq o name) refl (new_changed other name value others new.1)
   where
-    by : (b : Bool) → bytes_eq other (codes "CityObjects") ≡ b
-        → first_named (codes "vertices") (with_named (codes "CityObjects") (object no_members) others)
-        ≡ first_named (codes "vertices") others → first_named (codes "vertices")
-        (with_named (codes "CityObjects") (object no_members) (member other v others))
-        ≡ first_named (codes "vertices") (member other v others)
-    by true e later = rw (e, (bytes_eq-Decides other (codes "CityObjects")).0 e) refl
-    by false e later = rw e (ap (λ x. if bytes_eq other (codes "vertices") then Some v else x) later)
-
--- ---- with another value, names still differ and nothing nests deeper
-new_with : (other name : List ℕ) (value : Tree) (members : MemberTrees) → other ≢ name → IsNewName other members
-    → IsNewName other (with_named name value members)
-new_with other name value no_members apart new = (apart, tt)
-new_with other name value (member o v others) apart new =
-    by (bytes_eq o name) refl (new_with other name value others apart new.1)
-  where
-    by : (b : Bool) → bytes_eq o name ≡ b → IsNewName other (with_named name value others)
-        → IsNewName other (with_named name value (member o v others))
+    by : (b : Bool) → bytes_eq o name ≡ b → IsNewName other (changed_named name (λ old. value) others)
+        → IsNewName other (changed_named name (λ old. value) (member o v others))
     by true e later = rw e new
     by false e later = rw e (new.0, later)
 
-true_is_false : true ≡ false → ⊥
-true_is_false e = cc
-
-distinct_with : (name : List ℕ) (value : Tree) (members : MemberTrees) → HasDistinctNames members
-    → HasDistinctNames (with_named name value members)
-distinct_with name value no_members differ = (tt, tt)
-distinct_with name value (member o v others) differ =
-    by (bytes_eq o name) refl (distinct_with name value others differ.1)
+distinct_changed : (name : List ℕ) (value : Tree) (members : MemberTrees) → HasDistinctNames members
+    → HasDistinctNames (changed_named name (λ old. value) members)
+distinct_changed name value no_members differ = tt
+distinct_changed name value (member o v others) differ =
+    by (bytes_eq o name) refl (distinct_changed name value others differ.1)
   where
-    by : (b : Bool) → bytes_eq o name ≡ b → HasDistinctNames (with_named name value others)
-        → HasDistinctNames (with_named name value (member o v others))
+    by : (b : Bool) → bytes_eq o name ≡ b → HasDistinctNames (changed_named name (λ old. value) others)
+        → HasDistinctNames (changed_named name (λ old. value) (member o v others))
     by true e later = rw e differ
-    by false e later = rw e (
-      new_with o name value others
-          (λ same. true_is_false (sym ((bytes_eq-Decides o name).1 same) ∙ e)) differ.0,
-      later,
-    )
+    by false e later = rw e (new_changed o name value others differ.0, later)
 
-values_with : (name : List ℕ) (value : Tree) (members : MemberTrees) → IsDistinct value → AreDistinctMembers members
-    → AreDistinctMembers (with_named name value members)
-values_with name value no_members is all = (is, tt)
-values_with name value (member o v others) is all = by (bytes_eq o name) refl (values_with name value others is all.1)
+values_changed : (name : List ℕ) (value : Tree) (members : MemberTrees) → IsDistinct value
+    → AreDistinctMembers members → AreDistinctMembers (changed_named name (λ old. value) members)
+values_changed name value no_members is all = tt
+values_changed name value (member o v others) is all =
+    by (bytes_eq o name) refl (values_changed name value others is all.1)
   where
-    by : (b : Bool) → bytes_eq o name ≡ b → AreDistinctMembers (with_named name value others)
-        → AreDistinctMembers (with_named name value (member o v others))
+    by : (b : Bool) → bytes_eq o name ≡ b → AreDistinctMembers (changed_named name (λ old. value) others)
+        → AreDistinctMembers (changed_named name (λ old. value) (member o v others))
     by true e later = rw e (is, all.1)
     by false e later = rw e (all.0, later)
 
-shallow_with : (name : List ℕ) (value : Tree) (members : MemberTrees) (levels : ℕ) → depth value ≤ levels
-    → members_depth members ≤ levels → members_depth (with_named name value members) ≤ levels
-shallow_with name value no_members levels one all = omega (arith, one)
-shallow_with name value (member o v others) levels one all =
+shallow_changed : (name : List ℕ) (value : Tree) (members : MemberTrees) (levels : ℕ) → depth value ≤ levels
+    → members_depth members ≤ levels → members_depth (changed_named name (λ old. value) members) ≤ levels
+shallow_changed name value no_members levels one all = all
+shallow_changed name value (member o v others) levels one all =
     let first : depth v ≤ levels = omega (arith, all) in
     let more : members_depth others ≤ levels = omega (arith, all) in
-    by (bytes_eq o name) refl first more (shallow_with name value others levels one more)
+    by (bytes_eq o name) refl first more (shallow_changed name value others levels one more)
   where
     by : (b : Bool) → bytes_eq o name ≡ b → depth v ≤ levels → members_depth others ≤ levels
-        → members_depth (with_named name value others) ≤ levels
-        → members_depth (with_named name value (member o v others)) ≤ levels
+        → members_depth (changed_named name (λ old. value) others) ≤ levels
+        → members_depth (changed_named name (λ old. value) (member o v others)) ≤ levels
     by true e first more later = rw e (omega (arith, one, more))
     by false e first more later = rw e (omega (arith, first, later))
 
-pub emptied_is : (text bare given empty : List ℕ) (parts parts₂ passed : List Part) (objects points : Part)
-    (members : MemberTrees) (value : Tree) → IsCompactOf text (object members) → AreParts 1 parts members
-    → IsPartNamed text parts (quoted (codes "CityObjects") ++ colon ∷ []) objects
-    → bare ≡ with_value text objects (open_brace ∷ close_brace ∷ [])
-    → given ≡ bare → ((of : Tree) → IsCompactOf given of → (members₂ : MemberTrees) × (of ≡ object members₂)
-    × AreParts 1 parts₂ members₂) → passed ≡ parts₂
-    → IsPartNamed given passed (quoted (codes "vertices") ++ colon ∷ []) points
-    → empty ≡ with_value given points (open_bracket ∷ close_bracket ∷ []) → Spells empty value
-    → IsEmptied members value
-emptied_is text bare given empty parts parts₂ passed objects points members value of are named bare_is given_is others
-    passed_is points_named empty_is read_is =
-    let bare_members : MemberTrees = with_named (codes "CityObjects") (object no_members) members in
-    let first = member_there text parts members (codes "CityObjects") objects
-    (slice_range text objects.value objects.end) (utf8 (codes "CityObjects") refl) of are named refl in
+pub compact_changed : (text given name : List ℕ) (value : Tree) (members : MemberTrees)
+    → IsCompactOf text (object members) → IsWritable value → IsDistinct value → depth value ≤ 127
+    → given ≡ compact (object (changed_named name (λ old. value) members))
+    → IsCompactOf given (object (changed_named name (λ old. value) members))
+compact_changed text given name value members of writable distinct low is =
     let deep : depth (object members) ≤ max_depth = of.within in
-    let shallow : members_depth bare_members ≤ 127 =
-    shallow_with (codes "CityObjects") (object no_members) members 127 (omega arith) (omega (arith, deep)) in
-    let of₂ : IsCompactOf given (object bare_members) = record {
-      is = given_is ∙ (bare_is ∙ sym (first.exchanged (object no_members)));
-      writable = writable_with (codes "CityObjects") (object no_members) members (utf8 (codes "CityObjects") refl) tt
-          of.writable;
+    let shallow : members_depth (changed_named name (λ old. value) members) ≤ 127 =
+    shallow_changed name value members 127 low (omega (arith, deep)) in
+    record {
+      is = is;
+      writable = writable_changed name value members writable of.writable;
       distinct = (
-        distinct_with (codes "CityObjects") (object no_members) members of.distinct.0,
-        values_with (codes "CityObjects") (object no_members) members (tt, tt) of.distinct.1,
+        distinct_changed name value members of.distinct.0,
+        values_changed name value members distinct of.distinct.1,
       );
       within = omega (arith, shallow);
-    } in
+    }
+
+-- ---- exchanged in the text
+pub exchanged_there : (text none line₁ line₂ line₃ given marked name : List ℕ) (parts : List Part) (part : Part)
+    (members : MemberTrees) (value : Tree) → IsCompactOf text (object members) → AreParts 1 parts members
+    → IsUtf8 name → marked ≡ quoted name ++ colon ∷ [] → IsPartNamed text parts marked part → given ≡ compact value
+    → none ≡ [] → line₁ ≡ none ++ take part.value text → line₂ ≡ line₁ ++ given → line₃ ≡ line₂ ++ drop part.end text
+    → line₃ ≡ compact (object (changed_named name (λ old. value) members))
+exchanged_there text none line₁ line₂ line₃ given marked name parts part members value of are utf8 marks named is empty
+    front middle back =
+    let found = member_there text parts members name part (slice_range text part.value part.end) utf8 of are
+    (subst (λ l. IsPartNamed text parts l part) marks named) refl in
+    three none line₁ line₂ line₃ (take part.value text) given (drop part.end text) front middle back
+    ∙ (ap (λ l. l ++ with_value text part given) empty ∙ (ap (with_value text part) is
+    ∙ (sym (found.exchanged value)
+    ∙ ap compact (set_is_changed name value (object members) (ap is_some found.is)))))
+
+pub exchanged_absent : (text none line name : List ℕ) (members : MemberTrees) (value : Tree)
+    → IsCompactOf text (object members) → first_named name members ≡ None → none ≡ [] → line ≡ none ++ text
+    → line ≡ compact (object (changed_named name (λ old. value) members))
+exchanged_absent text none line name members value of absent empty is =
+    is ∙ (ap (λ l. l ++ text) empty ∙ (of.is
+    ∙ ap compact (sym (none_is_unchanged name (λ old. value) (object members) (ap is_some absent)))))
+
+pub emptied_is : (text bare given empty again : List ℕ) (parts passed : List Part) (members : MemberTrees) (value : Tree)
+    → IsCompactOf text (object members)
+    → bare ≡ compact (object (changed_named (codes "CityObjects") (λ old. object no_members) members)) → given ≡ bare
+    → ((of : Tree) → IsCompactOf given of → (members₂ : MemberTrees) × (of ≡ object members₂)
+    × AreParts 1 parts members₂) → passed ≡ parts
+    → ((members₂ : MemberTrees) → IsCompactOf given (object members₂) → AreParts 1 passed members₂
+    → empty ≡ compact (object (changed_named (codes "vertices") (λ old. array no_items) members₂)))
+    → again ≡ empty → Spells again value → IsEmptied members value
+emptied_is text bare given empty again parts passed members value of bare_is given_is others passed_is emptied again_is
+    read_is =
+    let bare_members = changed_named (codes "CityObjects") (λ old. object no_members) members in
+    let of₂ : IsCompactOf given (object bare_members) = compact_changed text given (codes "CityObjects")
+    (object no_members) members of tt (tt, tt) (omega arith) (given_is ∙ bare_is) in
     let (members₂, same, are₂) = others (object bare_members) of₂ in
     let of₃ : IsCompactOf given (object members₂) = subst (IsCompactOf given) same of₂ in
-    let second = member_there given passed members₂ (codes "vertices") points
-    (slice_range given points.value points.end) (utf8 (codes "vertices") refl) of₃
-    (subst (λ p. AreParts 1 p members₂) (sym passed_is) are₂) points_named refl in
-    let writable₂ : IsWritable (object (with_named (codes "vertices") (array no_items) members₂)) =
-    writable_with (codes "vertices") (array no_items) members₂ (utf8 (codes "vertices") refl) tt of₃.writable in
-    let found : object (with_named (codes "vertices") (array no_items) members₂) ≡ value =
-    read_of_compact empty (object (with_named (codes "vertices") (array no_items) members₂)) value writable₂
-    (empty_is ∙ sym (second.exchanged (array no_items))) read_is in
-    record {
-      is = sym found ∙ ap (with_member (codes "vertices") (array no_items)) (sym same);
-      objects = present (first_named (codes "CityObjects") members) first.is;
-      vertices = subst IsPresent (kept_named members)
-          (present (first_named (codes "vertices") bare_members) (ap (member_of (codes "vertices")) same ∙ second.is));
-    }
+    let empty_is = emptied members₂ of₃ (subst (λ p. AreParts 1 p members₂) (sym passed_is) are₂) in
+    let empty_members = changed_named (codes "vertices") (λ old. array no_items) members₂ in
+    let found : object empty_members ≡ value = read_of_compact again (object empty_members) value
+    (writable_changed (codes "vertices") (array no_items) members₂ tt of₃.writable) (again_is ∙ empty_is) read_is in
+    sym found ∙ ap (changed_member (codes "vertices") (λ old. array no_items)) (sym same)
 
 -- two members are changed in either order
 commute_changed : (m n : List ℕ) (f g : Tree → Tree) (members : MemberTrees) → bytes_eq m n ≡ false
@@ -195,10 +191,6 @@ commute_named m n f (member other v others) apart = by (bytes_eq other m) refl (
     by true e later = rw (at_m e, e) refl
     by false e later = not_m (bytes_eq other n) refl e later
 
-some_present : (found : Option Tree) → IsPresent found → is_some found ≡ true
-some_present None there = absurd there
-some_present (Some value) there = refl
-
 header_left : (members : MemberTrees) (templates : Option Tree)
     → without_appearance templates (changed_member (codes "CityObjects") (λ o. object no_members)
     (changed_member (codes "vertices") (λ v. array no_items) (object members)))
@@ -215,18 +207,6 @@ pub has_header : (members : MemberTrees) (before after : Tree) (grid : Grid) →
     → after ≡ without_appearance (member_of (codes "geometry-templates") before) before → IsHeader after grid
     → HasHeader (object members) after grid
 has_header members before after grid emptied dropped header =
-    let document : Tree = object members in
-    let one : with_member (codes "CityObjects") (object no_members) (object members)
-    ≡ changed_member (codes "CityObjects") (λ o. object no_members) (object members) =
-    set_is_changed (codes "CityObjects") (object no_members) (object members) (some_present _ emptied.objects) in
-    let two : with_member (codes "vertices") (array no_items)
-    (changed_member (codes "CityObjects") (λ o. object no_members) (object members))
-    ≡ changed_member (codes "vertices") (λ v. array no_items)
-    (changed_member (codes "CityObjects") (λ o. object no_members) (object members)) =
-    set_is_changed (codes "vertices") (array no_items)
-    (changed_member (codes "CityObjects") (λ o. object no_members) (object members))
-    (ap is_some (kept (codes "CityObjects") (codes "vertices") (λ o. object no_members) (object members) refl)
-    ∙ some_present _ emptied.vertices) in
     let turned : changed_member (codes "vertices") (λ v. array no_items)
     (changed_member (codes "CityObjects") (λ o. object no_members) (object members))
     ≡ changed_member (codes "CityObjects") (λ o. object no_members)
@@ -234,22 +214,18 @@ has_header members before after grid emptied dropped header =
     ap object (commute_changed (codes "CityObjects") (codes "vertices") (λ o. object no_members) (λ v. array no_items)
     members refl) in
     let both : before ≡ changed_member (codes "CityObjects") (λ o. object no_members)
-    (changed_member (codes "vertices") (λ v. array no_items) (object members)) =
-    emptied.is ∙ (ap (with_member (codes "vertices") (array no_items)) one ∙ (two ∙ turned)) in
+    (changed_member (codes "vertices") (λ v. array no_items) (object members)) = emptied ∙ turned in
     let templates : member_of (codes "geometry-templates") before
     ≡ member_of (codes "geometry-templates") (object members) =
     ap (member_of (codes "geometry-templates")) both
     ∙ (kept (codes "CityObjects") (codes "geometry-templates") (λ o. object no_members)
     (changed_member (codes "vertices") (λ v. array no_items) (object members)) refl
-    ∙ kept (codes "vertices") (codes "geometry-templates") (λ v. array no_items) (object members) refl) in
-    record {
-      is = dropped ∙ (ap (λ t. without_appearance t before) templates
+    ∙ kept (codes "vertices") (codes "geometry-templates") (λ v. array no_items) (object members) refl) in (
+      dropped ∙ (ap (λ t. without_appearance t before) templates
           ∙ (ap (without_appearance (member_of (codes "geometry-templates") (object members))) both
-          ∙ header_left members (member_of (codes "geometry-templates") (object members))));
-      header = header;
-      objects = emptied.objects;
-      vertices = emptied.vertices;
-    }
+          ∙ header_left members (member_of (codes "geometry-templates") (object members)))),
+      header,
+    )
 
 pub has_header_again : (members : MemberTrees) (before after value : Tree) (grid : Grid) → IsEmptied members before
     → after ≡ without_appearance (member_of (codes "geometry-templates") before) before → value ≡ after

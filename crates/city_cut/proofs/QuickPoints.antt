@@ -1,17 +1,21 @@
 -- Vertices that are found in their compact text, and copied from there.
-use Rattle.std.proofs.Common.{◌≡◌, ◌∙◌, ◌++◌, ◌<◌, ◌≤◌, ◌+◌, ◌-◌, ◌==◌, ℕ, Bool, true, false, List, [], ◌∷◌, map, length, take, drop, get_or, slice_range, slice_index, refl, sym, ap, arith, append_assoc, append-nil, length-append}
+use Rattle.std.proofs.Common.{◌≡◌, ◌∙◌, ◌++◌, ◌<◌, ◌≤◌, ◌+◌, ◌-◌, ◌==◌, ℕ, Bool, true, false, List, [], ◌∷◌, All, Some, map, length, take, drop, get_or, slice_range, slice_index, refl, sym, ap, subst, arith, append_assoc, append-nil, length-append}
 use Rattle.std.proofs.lemmas.Bool.{eqb-true, eqb-false}
 use Rattle.std.proofs.lemmas.List.{drop_all, get_or_append_left, get_or_push, map-append, take_more}
 use Rattle.std.proofs.lemmas.List.Folds.{drop_split}
+use Rattle.city_json.proofs.CompactLaws.{compact-tells}
 use Rattle.city_json.proofs.Places.{drop_one}
 use Rattle.city_json.specs.Bytes.{comma, open_bracket, close_bracket}
 use Rattle.city_json.specs.Compact.{compact, compact_items, compact_more_items}
-use Rattle.city_json.specs.Tree.{ItemTrees, item_trees}
-use Rattle.city_grid.specs.Axes.{Triple}
+use Rattle.city_json.specs.Tree.{ItemTrees, array, item_trees}
+use Rattle.city_grid.specs.Axes.{IsInRange, Triple}
 use Rattle.city_grid.specs.Vertex.{vertex_tree}
-use Rattle.city_feature.specs.Feature.{vertices_tree}
+use Rattle.city_feature.proofs.QuickLines.{written_vertices}
+use Rattle.city_feature.specs.Feature.{AreVertices, vertices_tree}
+use Rattle.city_feature.specs.Quick.{SpellsVertices}
 use Rattle.city_cut.specs.Chosen.{point_at}
 use Rattle.city_cut.specs.VertexTexts.{StandAt}
+use Rattle.city_cut.proofs.FeatureParts.{same_array, same_vertices}
 use Rattle.city_cut.proofs.QuickTexts.{three}
 
 abbrev pub trees_of : List Triple → ItemTrees
@@ -98,6 +102,26 @@ module _ (text starts starts' : List ℕ) (points : List Triple) (v : Triple) (a
     },
     ap (slice_index starts') more ∙ new,
   )
+
+-- ---- written anew
+written_once : (text : List ℕ) (ps qs : List Triple) → text ≡ compact (vertices_tree ps)
+    → text ≡ compact (vertices_tree qs) → All IsInRange ps → All IsInRange qs → ps ≡ qs
+written_once text ps qs is_ps is_qs range_ps range_qs =
+    let (xs, text_xs, writable_xs, are_ps) = written_vertices text ps is_ps range_ps in
+    let (ys, text_ys, writable_ys, are_qs) = written_vertices text qs is_qs range_qs in
+    let same : xs ≡ ys = same_array xs ys (ap Some (compact-tells (array xs) (array ys) writable_xs writable_ys
+    (sym text_xs ∙ text_ys))) in
+    same_vertices xs ps qs are_ps (subst (λ l. AreVertices l qs) (sym same) are_qs)
+
+-- the vertices of a text, and where they stand in the text that is written for them
+pub stand_anew : (text written given starts : List ℕ)
+    → (ps : List Triple) × SpellsVertices text ps × (written ≡ compact (vertices_tree ps)) × All IsInRange ps
+    → given ≡ written
+    → (qs : List Triple) × (given ≡ compact (vertices_tree qs)) × All IsInRange qs × StandAt given starts qs
+    → (points : List Triple) × SpellsVertices text points × StandAt given starts points
+stand_anew text written given starts (ps, spells, is_ps, range_ps) lent (qs, is_qs, range_qs, stand) =
+    let same : ps ≡ qs = written_once given ps qs (lent ∙ is_ps) is_qs range_ps range_qs in
+    (ps, spells, subst (StandAt given starts) (sym same) stand)
 
 -- ---- copied
 pub point_text : (text starts line line' given : List ℕ) (points : List Triple) (number from next : ℕ)

@@ -1,5 +1,5 @@
 -- The members of an object that lie in its compact text, and how they are exchanged.
-use Rattle.std.proofs.Common.{◌≡◌, ◌≢◌, ◌∙◌, ◌++◌, ◌<◌, ◌≤◌, ◌+◌, ◌-◌, ◌==◌, max, ℕ, zero, suc, Bool, true, false, List, [], ◌∷◌, Option, Some, None, OnSome, IfSome, IsUtf8, bytes_eq, length, take, drop, get_or, slice_range, refl, sym, ap, subst, arith, append_assoc, append-nil, length-append, length-drop}
+use Rattle.std.proofs.Common.{◌≡◌, ◌≢◌, ◌∙◌, ◌++◌, ◌<◌, ◌≤◌, ◌+◌, ◌-◌, ◌==◌, max, ℕ, zero, suc, Bool, true, false, List, [], ◌∷◌, Option, Some, None, OnSome, IfSome, IsUtf8, bytes_eq, length, take, drop, unwrap_or, get_or, slice_range, refl, sym, ap, subst, arith, append_assoc, append-nil, length-append, length-drop}
 use Rattle.std.proofs.lemmas.Bool.{eqb-true, eqb-false}
 use Rattle.std.proofs.lemmas.List.{get_or_default, take_at}
 use Rattle.std.proofs.lemmas.Slice.Eq.{bytes_eq-Decides}
@@ -143,6 +143,16 @@ member_there text parts members name part given utf8 of are here lies =
       exchanged = found.exchanged;
     }
 
+-- the value of that member, whose text is given, and any other value where there is none
+pub value_or : (text given marked name : List ℕ) (parts : List Part) (part : Part) (members : MemberTrees)
+    (other : Tree) → IsCompactOf text (object members) → AreParts 1 parts members → IsUtf8 name
+    → marked ≡ quoted name ++ colon ∷ [] → IsPartNamed text parts marked part
+    → given ≡ slice_range text part.value part.end → IsCompactOf given (unwrap_or (first_named name members) other)
+value_or text given marked name parts part members other of are utf8 is named lies =
+    let found = member_there text parts members name part given utf8 of are
+    (subst (λ l. IsPartNamed text parts l part) is named) lies in
+    subst (λ o. IsCompactOf given (unwrap_or o other)) (sym found.is) found.of
+
 -- ---- changing the members of a name
 new_none : (name : List ℕ) (members : MemberTrees) → IsNewName name members → first_named name members ≡ None
 new_none name no_members new = refl
@@ -185,6 +195,20 @@ changed_with name f value (member other v others) differ is =
         new_none name others (subst (λ n. IsNewName n others) same differ.0) in
         rw e (ap (λ t. member other (f t) (changed_members name f others)) (some_same (rw e at is))
         ∙ ap (member other (f value)) (changed_absent name f others none))
+    by false e later = rw e (ap (member other v) (later (rw e at is)))
+
+pub with_same : (name : List ℕ) (value : Tree) (members : MemberTrees) → first_named name members ≡ Some value
+    → with_named name value members ≡ members
+with_same name value no_members is = cc
+with_same name value (member other v others) is = by (bytes_eq other name) refl (with_same name value others)
+  where
+    some_same : Some v ≡ Some value → v ≡ value
+    some_same e = cc
+
+    by : (b : Bool) → bytes_eq other name ≡ b
+        → (first_named name others ≡ Some value → with_named name value others ≡ others)
+        → with_named name value (member other v others) ≡ member other v others
+    by true e later = rw e (ap (λ t. member other t others) (sym (some_same (rw e at is))))
     by false e later = rw e (ap (member other v) (later (rw e at is)))
 
 -- ---- the text around a member, and its value between

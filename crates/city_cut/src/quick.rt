@@ -1,6 +1,6 @@
 //! A document cut on its compact text, with no tree of its objects.
 //!
-//! It decides only the common spellings, and no refusal; for any other document its caller goes on with the plain cut.
+//! It decides no refusal: of a document at fault, or where memory runs out, its caller goes on with the plain cut.
 
 mod drafts;
 mod features;
@@ -21,9 +21,10 @@ ghost use Rattle.city_json.specs.Fits.{Fits};
 ghost use Rattle.city_json.specs.Grammar.{Spells};
 ghost use Rattle.city_json.specs.Members.{first_named};
 ghost use Rattle.city_json.specs.Parts.{AreParts};
-ghost use Rattle.city_json.specs.Tree.{MemberTrees, Tree, array, items_tree, ItemTrees, member_trees, object, tree};
+ghost use Rattle.city_json.specs.Tree.{MemberTrees, Tree, items_tree, member_trees, object, tree};
 ghost use Rattle.city_grid.specs.Axes.{Triple};
-ghost use Rattle.city_feature.specs.Feature.{AreVertices, FeatureValue};
+ghost use Rattle.city_feature.specs.Feature.{FeatureValue};
+ghost use Rattle.city_feature.specs.Quick.{SpellsVertices};
 ghost use Rattle.city_feature.specs.Values.{header_value};
 ghost use Rattle.city_cut.specs.CityObjects.{AllBelong, AreCityObjects, LacksChild, roots};
 ghost use Rattle.city_cut.specs.Cut.{IsCut, IsCuttable};
@@ -32,7 +33,7 @@ ghost use Rattle.city_cut.specs.FeatureText.{tail_text};
 ghost use Rattle.city_cut.specs.HeldTexts.{texts_in};
 ghost use Rattle.city_cut.specs.Lines.{texts_of};
 ghost use Rattle.city_cut.specs.Texts.{IsCompactOf};
-ghost use Rattle.city_cut.specs.VertexTexts.{StandAt};
+ghost use Rattle.city_cut.specs.VertexTexts.{HasPoints, StandAt};
 
 use crate::cuts::CutTexts;
 use crate::documents::are_city_objects;
@@ -43,9 +44,9 @@ use city_json::{Members, Part, compact_parts};
 use features::feature_texts;
 use headers::header_of;
 use kin::kin_members;
-use points::{VertexTexts, starts_of};
+use points::{VertexTexts, starts_of, write_anew};
 use std::alloc::Global;
-use texts::{append_text, is_absent, parts_of};
+use texts::{append_text, is_absent, member_or, parts_of};
 
 /// What stands after the vertices of each feature.
 fn tail_of(alloc: Global, text: &[u8], parts: &[Part]) -> Option<Line>
@@ -67,20 +68,58 @@ fn tail_of(alloc: Global, text: &[u8], parts: &[Part]) -> Option<Line>
     Some(tail)
 }
 
-/// The vertices of the document.
-fn points_of<'a>(alloc: Global, text: &'a [u8], parts: &[Part]) -> Option<VertexTexts<'a>>
+/// The text of the document's vertices, of which there may be none.
+fn vertices_text<'a>(text: &'a [u8], parts: &[Part]) -> Option<&'a [u8]>
     ensures { IfSome result (λ found. (members : MemberTrees) → IsCompactOf text.now (object members)
-        → AreParts 1 parts.now members → (items : ItemTrees) × (points : List Triple)
-        × (first_named (codes "vertices") members ≡ Some (array items)) × AreVertices items points
-        × StandAt found.text.now found.starts.items points) }
+        → AreParts 1 parts.now members → (points : List Triple) → SpellsVertices found.now points
+        → HasPoints members points) }
 {
-    let part = part_named(text, parts, b"\"vertices\":")?;
-    let found = between(text, part.value, part.end)?;
-    let starts = starts_of(alloc, found)?;
-    Some(VertexTexts {
-        text: found,
-        starts,
-    })
+    member_or(text, parts, b"\"vertices\":", b"[]")
+}
+
+/// The families of the city objects whose compact text this is, and which lie in these places. `None`: undecided.
+fn families_of(alloc: Global, objects: &[u8], places: &[Part]) -> Option<Vec<Family>>
+    requires { (pairs : List (List ℕ × Tree)) × IsCompactOf objects.now (object (member_trees pairs))
+        × AreParts 1 places.now (member_trees pairs) }
+    ensures { IfSome result (λ found. (pairs : List (List ℕ × Tree))
+        → IsCompactOf objects.now (object (member_trees pairs)) → AreParts 1 places.now (member_trees pairs)
+        → AreCityObjects (member_trees pairs)
+        × (¬ LacksChild (member_trees pairs))
+        × AllBelong (member_trees pairs)
+        × AllZip (Begins (member_trees pairs)) (roots (member_trees pairs)) found.items) }
+{
+    let kin = kin_members(alloc, objects, places)?;
+    if !are_city_objects(&kin) {
+        return None;
+    }
+    let Ok(found) = families(alloc, &kin) else {
+        return None;
+    };
+    Some(found)
+}
+
+/// Cuts the document into features on these vertices, which are its own.
+fn cut_on(
+    alloc: Global,
+    line: &[u8],
+    parts: &[Part],
+    vertices: &VertexTexts<'_>,
+) -> Option<CutTexts>
+    requires { (members : MemberTrees) × IsCompactOf line.now (object members) × AreParts 1 parts.now members }
+    ensures { IfSome result (λ cut. (members : MemberTrees) (points : List Triple)
+        → IsCompactOf line.now (object members) → AreParts 1 parts.now members → HasPoints members points
+        → StandAt vertices.now.text.now vertices.now.starts.items points
+        → IsCuttable (object members)
+        × (features : List FeatureValue) × IsCut (object members) (header_value cut.header) features
+        × (texts_in cut.texts ≡ texts_of features)) }
+{
+    let header = header_of(alloc, line, parts)?;
+    let tail = tail_of(alloc, line, parts)?;
+    let objects = member_or(line, parts, b"\"CityObjects\":", b"{}")?;
+    let places = parts_of(alloc, objects)?;
+    let families = families_of(alloc, objects, &places)?;
+    let texts = feature_texts(alloc, objects, &places, vertices, tail, &families)?;
+    Some(CutTexts { header, texts })
 }
 
 /// Cuts the document whose compact text this is, and whose members lie in these parts, as [`compact_parts`] gives them.
@@ -93,21 +132,14 @@ pub fn cut_compacted(alloc: Global, line: &[u8], parts: &[Part]) -> Option<CutTe
         × (features : List FeatureValue) × IsCut (object members) (header_value cut.header) features
         × (texts_in cut.texts ≡ texts_of features)) }
 {
-    let header = header_of(alloc, line, parts)?;
-    let points = points_of(alloc, line, parts)?;
-    let tail = tail_of(alloc, line, parts)?;
-    let part = part_named(line, parts, b"\"CityObjects\":")?;
-    let objects = between(line, part.value, part.end)?;
-    let places = parts_of(alloc, objects)?;
-    let kin = kin_members(alloc, objects, &places)?;
-    if !are_city_objects(&kin) {
-        return None;
+    let text = vertices_text(line, parts)?;
+    if let Some(starts) = starts_of(alloc, text) {
+        return cut_on(alloc, line, parts, &VertexTexts { text, starts });
     }
-    let Ok(families) = families(alloc, &kin) else {
-        return None;
-    };
-    let texts = feature_texts(alloc, objects, &places, &points, tail, &families)?;
-    Some(CutTexts { header, texts })
+    let written = write_anew(alloc, text)?;
+    let text = written.items();
+    let starts = starts_of(alloc, text)?;
+    cut_on(alloc, line, parts, &VertexTexts { text, starts })
 }
 
 /// Cuts the document that a text spells into a header and the texts of its features. `None`: undecided, or out of

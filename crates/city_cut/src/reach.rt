@@ -63,7 +63,7 @@ pub(crate) fn reached(
     ensures long { OnOk result (length marks.new ≡ length marks.old) }
     ensures fault { IfErr result (λ fault. fault ≡ Fault.Memory) }
 {
-    let mut found = Vec::new(alloc);
+    let mut found = Vec::with_capacity(alloc, 1)?;
     note(root, root, marks, &mut found)?;
     let mut at = 0usize;
     while at < found.len() {

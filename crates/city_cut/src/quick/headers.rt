@@ -1,40 +1,58 @@
 //! The header of a document, read from the compact text of what is no city object and no vertex.
-ghost use Rattle.std.specs.Prelude.{◌≡◌, IfSome};
-ghost use Rattle.city_json.specs.Parts.{AreParts, with_value};
-ghost use Rattle.city_json.specs.Tree.{MemberTrees, object, tree};
+ghost use Rattle.std.specs.Prelude.{◌≡◌, ◌++◌, ◌∷◌, [], ℕ, List, IfSome, IsUtf8};
+ghost use Rattle.city_json.specs.Bytes.{colon};
+ghost use Rattle.city_json.specs.Compact.{compact, quoted};
+ghost use Rattle.city_json.specs.Parts.{AreParts};
+ghost use Rattle.city_json.specs.Tree.{MemberTrees, Tree, object, tree};
+ghost use Rattle.city_feature.specs.Changes.{changed_named};
 ghost use Rattle.city_feature.specs.Header.{IsHeader};
 ghost use Rattle.city_cut.specs.HeaderText.{HasHeader, IsEmptied};
 ghost use Rattle.city_cut.specs.Texts.{IsCompactOf};
 
-use super::texts::{append_back, append_front, append_text, parts_of};
+use super::texts::{append_back, append_front, append_text, is_absent, parts_of};
 use crate::headers::drop_appearance;
 use byte_streams::Line;
 use city_feature::{Header, header, part_named};
 use city_json::{Json, Part, read};
 use std::alloc::Global;
 
-/// The text with another in place of a member's value.
-fn exchanged(alloc: Global, text: &[u8], part: &Part, new: &[u8]) -> Option<Line>
-    ensures { IfSome result (λ line. line ≡ with_value text.now part.now new.now) }
+/// The text with another value of the member of this name, where there is one. The name is given with its marks and its
+/// colon.
+fn exchange_value(
+    alloc: Global,
+    text: &[u8],
+    parts: &[Part],
+    name: &[u8],
+    value: &[u8],
+) -> Option<Line>
+    ensures { IfSome result (λ line. (members : MemberTrees) → IsCompactOf text.now (object members)
+        → AreParts 1 parts.now members → (named : List ℕ) → IsUtf8 named → name.now ≡ quoted named ++ colon ∷ []
+        → (new : Tree) → value.now ≡ compact new
+        → line ≡ compact (object (changed_named named (λ old. new) members))) }
 {
     let mut line = Line::new(alloc);
-    append_front(text, part, &mut line)?;
-    append_text(new, &mut line)?;
-    append_back(text, part, &mut line)?;
+    let Some(part) = part_named(text, parts, name) else {
+        if !is_absent(text, parts, name) {
+            return None;
+        }
+        append_text(text, &mut line)?;
+        return Some(line);
+    };
+    append_front(text, &part, &mut line)?;
+    append_text(value, &mut line)?;
+    append_back(text, &part, &mut line)?;
     Some(line)
 }
 
-/// The document with no city objects and no vertices.
-fn emptied(alloc: Global, text: &[u8], parts: &[Part]) -> Option<Json>
+/// Reads the document with no city objects and no vertices.
+fn read_emptied(alloc: Global, text: &[u8], parts: &[Part]) -> Option<Json>
     ensures { IfSome result (λ json. (members : MemberTrees)
         → IsCompactOf text.now (object members) → AreParts 1 parts.now members
         → IsEmptied members (tree json)) }
 {
-    let objects = part_named(text, parts, b"\"CityObjects\":")?;
-    let bare = exchanged(alloc, text, &objects, b"{}")?;
+    let bare = exchange_value(alloc, text, parts, b"\"CityObjects\":", b"{}")?;
     let others = parts_of(alloc, bare.items())?;
-    let points = part_named(bare.items(), &others, b"\"vertices\":")?;
-    let empty = exchanged(alloc, bare.items(), &points, b"[]")?;
+    let empty = exchange_value(alloc, bare.items(), &others, b"\"vertices\":", b"[]")?;
     let Ok(json) = read(alloc, empty.items()) else {
         return None;
     };
@@ -57,7 +75,7 @@ pub(super) fn header_of(alloc: Global, text: &[u8], parts: &[Part]) -> Option<He
         → IsCompactOf text.now (object members) → AreParts 1 parts.now members
         → HasHeader (object members) (tree header.json) header.grid) }
 {
-    let mut json = emptied(alloc, text, parts)?;
+    let mut json = read_emptied(alloc, text, parts)?;
     drop_appearance(&mut json);
     checked(json)
 }

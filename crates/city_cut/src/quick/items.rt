@@ -71,7 +71,7 @@ fn append_geometry(
     append_back(text, &part, &mut draft.line)
 }
 
-/// Copies an address.
+/// Copies an address. It may be no object, or its location none: it has no boundary.
 fn append_address(
     alloc: Global,
     text: &[u8],
@@ -86,6 +86,9 @@ fn append_address(
         (flat_map leaves (address_boundary value))
         (λ change. compact (in_member (codes "location") (relabelled_boundary change) value))) }
 {
+    if !byte_is(text, 0, b'{') {
+        return append_text(text, &mut draft.line);
+    }
     let parts = parts_of(alloc, text)?;
     let Some(part) = part_named(text, &parts, b"\"location\":") else {
         if !is_absent(text, &parts, b"\"location\":") {
@@ -94,6 +97,9 @@ fn append_address(
         return append_text(text, &mut draft.line);
     };
     let location = between(text, part.value, part.end)?;
+    if !byte_is(location, 0, b'{') {
+        return append_text(text, &mut draft.line);
+    }
     append_front(text, &part, &mut draft.line)?;
     append_geometry(alloc, location, numbering, draft)?;
     append_back(text, &part, &mut draft.line)

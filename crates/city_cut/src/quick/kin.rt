@@ -1,5 +1,5 @@
 //! The city objects of a document with their parents and children alone.
-ghost use Rattle.std.specs.Prelude.{◌≡◌, ◌++◌, ◌∷◌, [], ℕ, List, IsUtf8, IfSome, OnSome, map, option_map};
+ghost use Rattle.std.specs.Prelude.{◌≡◌, ◌≤◌, ◌++◌, ◌∷◌, [], ℕ, List, IsUtf8, IfSome, OnSome, map, option_map};
 ghost use Rattle.std.specs.List.{AllZip};
 ghost use Rattle.city_json.specs.Bytes.{colon};
 ghost use Rattle.city_json.specs.Compact.{quoted};
@@ -49,10 +49,21 @@ fn set_there(alloc: Global, object: &mut Json, name: &str, value: Option<Json>) 
     Some(())
 }
 
-fn no_json(alloc: Global) -> Json
-    ensures { tree result ≡ object (member_trees []) }
+/// How many members this is.
+fn count_of(value: &Option<Json>) -> usize
+    ensures { result ≤ 1 }
 {
-    Json::Map(Vec::new(alloc))
+    if value.is_some() { 1 } else { 0 }
+}
+
+/// An object with room for so many members.
+fn no_json(alloc: Global, room: usize) -> Option<Json>
+    ensures { IfSome result (λ json. tree json ≡ object (member_trees [])) }
+{
+    let Ok(members) = Vec::with_capacity(alloc, room) else {
+        return None;
+    };
+    Some(Json::Map(members))
 }
 
 /// A city object with its parents and children alone.
@@ -62,7 +73,7 @@ fn kin_of(alloc: Global, text: &[u8]) -> Option<Json>
     let parts = parts_of(alloc, text)?;
     let parents = member_json(alloc, text, &parts, b"\"parents\":")?;
     let children = member_json(alloc, text, &parts, b"\"children\":")?;
-    let mut json = no_json(alloc);
+    let mut json = no_json(alloc, count_of(&parents) + count_of(&children))?;
     set_there(alloc, &mut json, "parents", parents)?;
     set_there(alloc, &mut json, "children", children)?;
     Some(json)

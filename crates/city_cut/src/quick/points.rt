@@ -5,12 +5,13 @@ ghost use Rattle.city_json.specs.Tree.{item_trees};
 ghost use Rattle.city_grid.specs.Axes.{IsInRange, Triple};
 ghost use Rattle.city_grid.specs.Vertex.{vertex_tree};
 ghost use Rattle.city_feature.specs.Feature.{vertices_tree};
+ghost use Rattle.city_feature.specs.Quick.{SpellsVertices};
 ghost use Rattle.city_cut.specs.Chosen.{point_at};
 ghost use Rattle.city_cut.specs.VertexTexts.{StandAt};
 
 use super::texts::append_text;
 use byte_streams::Line;
-use city_feature::between;
+use city_feature::{append_vertices, between, vertices_of};
 use city_grid::{byte_is, vertex_end};
 use std::alloc::Global;
 
@@ -70,6 +71,19 @@ pub(super) fn starts_of(alloc: Global, text: &[u8]) -> Option<Vec<u32>>
         }
         at = end + 1;
     }
+}
+
+/// The text that is written for the vertices of a text, in which a zero may have a minus sign. `None`: undecided.
+pub(super) fn write_anew(alloc: Global, text: &[u8]) -> Option<Line>
+    ensures { IfSome result (λ line. (points : List Triple) × SpellsVertices text.now points
+        × (line ≡ compact (vertices_tree points)) × All IsInRange points) }
+{
+    let found = vertices_of(alloc, text)?;
+    let mut line = Line::from_vec(Vec::with_capacity(alloc, text.len()).ok()?);
+    let Ok(_) = append_vertices(&found.vertices, &mut line) else {
+        return None;
+    };
+    Some(line)
 }
 
 /// Appends the text of the vertex of a number.

@@ -1,5 +1,5 @@
 //! The members of an object in its compact text.
-ghost use Rattle.std.specs.Prelude.{◌≡◌, ◌++◌, ◌∷◌, [], ℕ, List, None, drop, take, slice_range, IfSome, OnSome, IsTrue, IsUtf8};
+ghost use Rattle.std.specs.Prelude.{◌≡◌, ◌++◌, ◌∷◌, [], ℕ, List, None, drop, take, unwrap_or, slice_range, IfSome, OnSome, IsTrue, IsUtf8};
 ghost use Rattle.city_json.specs.Bytes.{colon};
 ghost use Rattle.city_json.specs.Compact.{quoted};
 ghost use Rattle.city_json.specs.Members.{first_named};
@@ -8,7 +8,7 @@ ghost use Rattle.city_json.specs.Tree.{Tree, MemberTrees, object};
 ghost use Rattle.city_cut.specs.Texts.{IsCompactOf};
 
 use byte_streams::Line;
-use city_feature::between;
+use city_feature::{between, part_named};
 use city_json::{Part, members_of_compact};
 use std::alloc::Global;
 
@@ -42,6 +42,28 @@ pub(super) fn is_absent(text: &[u8], parts: &[Part], name: &[u8]) -> bool
         }
     }
     true
+}
+
+/// The text of the value of a member; another one, where there is no member of this name, which is given with its
+/// marks and its colon.
+pub(super) fn member_or<'a>(
+    text: &'a [u8],
+    parts: &[Part],
+    name: &[u8],
+    other: &'a [u8],
+) -> Option<&'a [u8]>
+    ensures { IfSome result (λ found. (members : MemberTrees) → IsCompactOf text.now (object members)
+        → AreParts 1 parts.now members → (named : List ℕ) → IsUtf8 named → name.now ≡ quoted named ++ colon ∷ []
+        → (value : Tree) → IsCompactOf other.now value
+        → IsCompactOf found.now (unwrap_or (first_named named members) value)) }
+{
+    let Some(part) = part_named(text, parts, name) else {
+        if !is_absent(text, parts, name) {
+            return None;
+        }
+        return Some(other);
+    };
+    between(text, part.value, part.end)
 }
 
 /// Appends a text.

@@ -65,6 +65,69 @@ fn other_members_are_answered(rt: HostRuntime) -> Result<(), Fail> {
 }
 
 #[test]
+fn other_vertices_are_answered(rt: HostRuntime) -> Result<(), Fail> {
+    let alloc = rt.alloc();
+    let objects =
+        r#""a":{"type":"Building","geometry":[{"boundaries":[[3,0],[2,1]]}]},"b":{"geometry":[{"boundaries":[1]}]}"#;
+    for vertices in [
+        "[[-0,0,0],[1,1,1],[2,2,2],[3,3,3]]",
+        "[[1,2,3],[1,-0,1],[-2,-2,-0],[-0,-0,-0]]",
+        "[[0,0,0],[9007199254740991,0,-0],[2,2,2],[-9007199254740991,10,-10]]",
+        " [ [ 1 , -0 , 2 ] , [0,0,0],[0,0,0],[0,0,0],[-0 , 1,1 ] ] ",
+    ] {
+        let text = format!(in alloc;
+            "{HEAD},\"CityObjects\":{{{objects}}},\"vertices\":{vertices}}}"
+        )?;
+        expect_answer(&rt, &text)?;
+    }
+    Ok(())
+}
+
+#[test]
+fn documents_without_objects_or_vertices_are_answered(rt: HostRuntime) -> Result<(), Fail> {
+    let alloc = rt.alloc();
+    for members in [
+        r#""vertices":[[0,0,0],[-0,1,1]]"#,
+        r#""CityObjects":{}"#,
+        r#""metadata":{"title":"t"},"appearance":{"textures":[]}"#,
+        r#""CityObjects":{"a":{"type":"Building","geometry":[]},"b":{}},"appearance":{"materials":[]}"#,
+        r#""CityObjects":{"a":{"children":["b"],"geometry":[{"type":"MultiSurface","boundaries":[[],[[]]]}]},"b":{"parents":["a"],"address":[{"location":{"boundaries":[]}}]}}"#,
+        r#""geometry-templates":{"templates":[]},"appearance":{},"vertices":[]"#,
+    ] {
+        expect_answer(&rt, &format!(in alloc; "{HEAD},{members}}}")?)?;
+    }
+    expect_answer(&rt, &format!(in alloc; "{HEAD}}}")?)
+}
+
+#[test]
+fn rare_spellings_are_answered(rt: HostRuntime) -> Result<(), Fail> {
+    let alloc = rt.alloc();
+    for members in [
+        r#""Ci\u0074yObjects":{"a":{"\u0067eometry":[{"bound\u0061ries":[3,0]}]}},"\u0076ertices":[[0,0,0],[1,1,1],[2,2,2],[3,3,3]]"#,
+        r#""CityObjects":{"\u0061\/":{"chil\u0064ren":["\ud83d\ude00","a/"]},"😀":{"parents":["a\u002f"],"address":[{"loc\u0061tion":{"boundaries":[0]}}]}},"vertices":[[5,6,7]]"#,
+        r#""CityObjects":{"":{"parents":[],"attributes":{"":1e400,"n":-0.0,"N":1E+2,"t":true,"f":false,"z":null}},"\u0000":{}},"vertices":[]"#,
+    ] {
+        expect_answer(&rt, &format!(in alloc; "\r\n\t {HEAD},{members}}} \n")?)?;
+    }
+    Ok(())
+}
+
+#[test]
+fn deep_documents_are_answered(rt: HostRuntime) -> Result<(), Fail> {
+    let alloc = rt.alloc();
+    let mut opened = String::new(alloc);
+    let mut closed = String::new(alloc);
+    for _ in 0..122u32 {
+        opened.push_str("[")?;
+        closed.push_str("]")?;
+    }
+    let objects = format!(in alloc;
+        "\"a\":{{\"geometry\":[{{\"boundaries\":[{opened}3,0{closed}]}}],\"attributes\":{{\"deep\":[[{opened}{closed}]]}}}}"
+    )?;
+    expect_answer(&rt, &document(alloc, &objects)?)
+}
+
+#[test]
 fn addresses_are_answered(rt: HostRuntime) -> Result<(), Fail> {
     let alloc = rt.alloc();
     let geometry = r#""geometry":[{"type":"MultiPoint","boundaries":[3,1]}]"#;
@@ -76,6 +139,8 @@ fn addresses_are_answered(rt: HostRuntime) -> Result<(), Fail> {
         r#"[{"location":{"type":"MultiPoint"}}, {"City":"b"}]"#,
         r#"{"location":{"type":"MultiPoint","boundaries":[0]}}"#,
         r#""none""#,
+        r#"[1,"a",null,[{"location":{"boundaries":[9]}}],{"location":{"boundaries":[1]}},true]"#,
+        r#"[{"location":null},{"location":[{"boundaries":[9]}],"City":"c"},{"location":"a"},{"location":2.0}]"#,
     ] {
         for members in [
             format!(in alloc; "\"address\":{address}")?,

@@ -1,4 +1,4 @@
-use Rattle.std.proofs.Common.{length, [], refl, arith}
+use Rattle.std.proofs.Common.{rules, ◌≡◌, length, [], refl, arith}
 use Rattle.std.proofs.lemmas.Option.{slice_get_read}
 use Rattle.city_cut.proofs.Growth.{grows_none, grows_first, searches_none, searches_step, searches_end, found_within, rows_within}
 use Rattle.city_cut.proofs.reach.reached.Goals as goal
@@ -10,7 +10,8 @@ loop-at-init c =
     let once = grows_first c.args.root [] c.args.marks.now c.args.marks.now [] [] c.args.root
     (grows_none c.args.root c.args.marks.now []) (omega (arith, c.requires.root, c.requires.marks))
     (c.requires.unmarked c.args.root 0 (omega (arith, c.requires.root, c.requires.marks))) in
-    rw (new.0, new.1, c.new-found.ensures.items)
+    let none : c.in_ok-found.found.items ≡ [] = search rules in
+    rw (new.0, new.1, none)
     (searches_none c.args.graph.now c.args.root c.args.marks.now _ _ once c.requires.unmarked)
 
 pub offset_bounds-graph-next : goal.offset_bounds-graph-next

@@ -22,4 +22,4 @@ returns c = λ value of.
     (tree c.set_there-2.new.object) value members
     (c.in_ok-set_there-2.ensures ∙ ap (with_there (codes "children") (option_map tree c.in_ok-children.children))
     (c.in_ok-set_there.ensures ∙ ap (with_there (codes "parents") (option_map tree c.in_ok-parents.parents))
-    c.no_json-json.ensures)) is_object parents children
+    c.in_ok-json.ensures)) is_object parents children
