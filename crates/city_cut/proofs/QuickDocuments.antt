@@ -1,22 +1,22 @@
 -- A whole document, cut on its compact text.
-use Rattle.std.proofs.Common.{◌≡◌, ◌≢◌, ◌∙◌, ◌++◌, ◌<◌, ◌≤◌, ℕ, List, [], ◌∷◌, Option, Some, None, Result, Ok, Err, IfOk, IfSome, length, map, slice_range, refl, sym, ap, subst, codes, append-nil, append_assoc, arith}
-use Rattle.std.specs.List.{AllZip, Contains}
+use Rattle.std.proofs.Common.{◌≡◌, ◌∙◌, ◌++◌, ℕ, List, [], ◌∷◌, Option, Some, length, slice_range, refl, sym, ap, subst, codes, append-nil, append_assoc, arith}
+use Rattle.std.specs.List.{Contains}
 use Rattle.city_json.proofs.CompactLaws.{compact-tells}
 use Rattle.city_json.proofs.SpelledWritable.{spelled_writable}
 use Rattle.city_json.specs.Bytes.{colon, comma, close_brace}
+use Rattle.city_json.specs.CompactMembers.{HasParts}
 use Rattle.city_json.specs.Compact.{compact, quoted}
-use Rattle.city_json.specs.Depth.{IsDeep}
 use Rattle.city_json.specs.Fits.{Fits, IsDistinct}
 use Rattle.city_json.specs.Grammar.{Spells}
 use Rattle.city_json.specs.Members.{first_named, member_of}
 use Rattle.city_json.specs.Parts.{AreParts}
-use Rattle.city_json.specs.Tree.{Tree, null, boolean, number, string, array, object, ItemTrees, no_items, item, MemberTrees, no_members, member, member_trees}
+use Rattle.city_json.specs.Tree.{Tree, array, object, ItemTrees, no_items, item, MemberTrees, no_members, member, member_trees}
 use Rattle.city_json.specs.declared.compacting.parts.Part.{Part}
 use Rattle.city_grid.specs.Axes.{Triple}
 use Rattle.city_grid.specs.Transform.{Grid}
 use Rattle.city_feature.proofs.QuickLines.{utf8}
 use Rattle.city_feature.specs.Feature.{AreVertices, FeatureValue, item_count}
-use Rattle.city_feature.specs.Header.{HasGrid, HeaderValue, IsHeader}
+use Rattle.city_feature.specs.Header.{HasGrid, IsHeader}
 use Rattle.city_feature.specs.Quick.{IsPartNamed, SpellsVertices}
 use Rattle.city_feature.specs.Shapes.{IsArray, IsObject, WhereThere}
 use Rattle.city_cut.specs.Boundaries.{IsBounded}
@@ -146,12 +146,11 @@ pub objects_there : (line objects : List ℕ) (parts places : List Part) (part :
     → IsCompactOf line (object members) → AreParts 1 parts members
     → IsPartNamed line parts (quoted (codes "CityObjects") ++ colon ∷ []) part
     → objects ≡ slice_range line part.value part.end
-    → ((value : Tree) → IsCompactOf objects value → (found : MemberTrees) × (value ≡ object found)
-    × AreParts 1 places found) → ObjectsThere objects places members
+    → HasParts objects places → ObjectsThere objects places members
 objects_there line objects parts places part members of are named lies listed =
     let found = member_there line parts members (codes "CityObjects") part objects (utf8 (codes "CityObjects") refl) of
     are named lies in
-    let (inner, is_object, placed) = listed found.value found.of in
+    let (inner, is_object, placed) = listed found.value found.of.writable found.of.within found.of.is in
     record {
       pairs = pairs_of inner;
       is = found.is ∙ (ap Some is_object ∙ ap (λ m. Some (object m)) (sym (pairs_are inner)));

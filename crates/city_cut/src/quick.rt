@@ -8,8 +8,10 @@ mod headers;
 mod holders;
 mod items;
 mod kin;
+mod members;
 mod numbers;
 mod objects;
+mod overview;
 mod points;
 mod texts;
 
@@ -42,10 +44,10 @@ use city_feature::{between, part_named};
 use city_json::{Members, Part, compact_parts};
 use features::feature_texts;
 use headers::header_of;
-use kin::kin_members;
+use overview::overview_of;
 use points::{VertexTexts, starts_of};
 use std::alloc::Global;
-use texts::{append_text, is_absent, parts_of};
+use texts::{append_text, is_absent};
 
 /// What stands after the vertices of each feature.
 fn tail_of(alloc: Global, text: &[u8], parts: &[Part]) -> Option<Line>
@@ -98,15 +100,23 @@ pub fn cut_compacted(alloc: Global, line: &[u8], parts: &[Part]) -> Option<CutTe
     let tail = tail_of(alloc, line, parts)?;
     let part = part_named(line, parts, b"\"CityObjects\":")?;
     let objects = between(line, part.value, part.end)?;
-    let places = parts_of(alloc, objects)?;
-    let kin = kin_members(alloc, objects, &places)?;
-    if !are_city_objects(&kin) {
+    let found = overview_of(alloc, objects)?;
+    if !are_city_objects(&found.kin) {
         return None;
     }
-    let Ok(families) = families(alloc, &kin) else {
+    let Ok(families) = families(alloc, &found.kin) else {
         return None;
     };
-    let texts = feature_texts(alloc, objects, &places, &points, tail, &families)?;
+    drop(found.kin);
+    let texts = feature_texts(
+        alloc,
+        objects,
+        &found.places,
+        &found.held,
+        &points,
+        tail,
+        &families,
+    )?;
     Some(CutTexts { header, texts })
 }
 
