@@ -13,9 +13,9 @@ from running import Run, counted
 from streams import attributes
 
 # The most instructions for each byte of a document that is cut on its text.
-MAX_INSTRUCTIONS = 52
+MAX_INSTRUCTIONS = 41
 # The peak memory at most, in times of a document that is cut on its text, and the size of one whose peak is measured.
-MAX_PEAK, LARGE = 3, 20 * MEGA
+MAX_PEAK, LARGE = 2.75, 20 * MEGA
 SURFACES = '[{"type":"GroundSurface"},{"type":"RoofSurface","slope":%d},{"type":"WallSurface"}]'
 PLAIN, TEXTURED, ADDRESSED = "buildings with semantics", "the same with textures", "the same with addresses"
 
@@ -127,7 +127,7 @@ def hold(bench, name, found, peak):
     if found is not None and found > MAX_INSTRUCTIONS:
         bench.fail("cat of %s: %.1f instructions for each byte, wanted: at most %d" % (name, found, MAX_INSTRUCTIONS))
     if peak > MAX_PEAK:
-        bench.fail("cat of %s: %.2f times the document in memory, wanted: at most %d" % (name, peak, MAX_PEAK))
+        bench.fail("cat of %s: %.2f times the document in memory, wanted: at most %.2f" % (name, peak, MAX_PEAK))
 
 
 def compare(bench, name, lines):

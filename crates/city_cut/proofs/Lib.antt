@@ -18,7 +18,9 @@ mod QuickDocuments
 mod QuickFeatures
 mod QuickHeaders
 mod QuickKin
+mod QuickMembers
 mod QuickObjects
+mod QuickOverviews
 mod QuickPoints
 mod QuickTexts
 pub mod OwnVertices

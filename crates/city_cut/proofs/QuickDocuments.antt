@@ -5,18 +5,17 @@ use Rattle.city_json.proofs.CompactLaws.{compact-tells}
 use Rattle.city_json.proofs.SpelledWritable.{spelled_writable}
 use Rattle.city_json.specs.Bytes.{colon, comma, open_brace, close_brace, open_bracket, close_bracket}
 use Rattle.city_json.specs.Compact.{compact, quoted}
-use Rattle.city_json.specs.Depth.{IsDeep}
 use Rattle.city_json.specs.Fits.{Fits, IsDistinct}
 use Rattle.city_json.specs.Grammar.{Spells}
 use Rattle.city_json.specs.Members.{first_named, member_of}
 use Rattle.city_json.specs.Parts.{AreParts}
-use Rattle.city_json.specs.Tree.{Tree, null, boolean, number, string, array, object, ItemTrees, no_items, item, MemberTrees, no_members, member, member_trees}
+use Rattle.city_json.specs.Tree.{Tree, array, object, ItemTrees, no_items, item, MemberTrees, no_members, member, member_trees}
 use Rattle.city_json.specs.declared.compacting.parts.Part.{Part}
 use Rattle.city_grid.specs.Axes.{Triple}
 use Rattle.city_grid.specs.Transform.{Grid}
 use Rattle.city_feature.proofs.QuickLines.{utf8}
 use Rattle.city_feature.specs.Feature.{AreVertices, FeatureValue, item_count}
-use Rattle.city_feature.specs.Header.{HasGrid, HeaderValue, IsHeader}
+use Rattle.city_feature.specs.Header.{HasGrid, IsHeader}
 use Rattle.city_feature.specs.Quick.{IsPartNamed, SpellsVertices}
 use Rattle.city_feature.specs.Shapes.{IsArray, IsObject, WhereThere}
 use Rattle.city_cut.specs.Boundaries.{IsBounded}

@@ -1,6 +1,5 @@
 -- City objects with their parents and children alone.
-use Rattle.std.proofs.Common.{◌≡◌, ◌∙◌, ◌++◌, ◌<◌, ◌≤◌, ◌+◌, ℕ, zero, suc, Bool, true, false, if◌then◌else◌, bytes_eq, length, map, take, take_all, get_or, All, arith, List, [], ◌∷◌, Option, Some, None, IsUtf8, option_map, slice_range, refl, sym, ap, subst, codes}
-use Rattle.std.proofs.lemmas.List.{take_more}
+use Rattle.std.proofs.Common.{◌≡◌, ◌∙◌, ◌++◌, ◌<◌, ℕ, zero, suc, Bool, true, false, if◌then◌else◌, bytes_eq, length, get_or, All, arith, List, [], ◌∷◌, Option, Some, None, IsUtf8, slice_range, refl, sym, ap, subst, codes}
 use Rattle.std.specs.List.{AllZip, Contains, slice_index_or}
 use Rattle.city_json.proofs.SpelledWritable.{read_of_compact}
 use Rattle.city_json.specs.Bytes.{colon}
@@ -9,12 +8,10 @@ use Rattle.city_json.specs.Fits.{HasDistinctNames, IsNewName}
 use Rattle.city_json.specs.Grammar.{Spells}
 use Rattle.city_json.specs.Members.{first_named, member_of, names}
 use Rattle.city_json.specs.Parts.{AreParts}
-use Rattle.city_json.specs.Tree.{Tree, null, string, object, MemberTrees, no_members, member, member_trees, named_tree}
-use Rattle.city_json.specs.declared.json.Member.{Member}
+use Rattle.city_json.specs.Tree.{Tree, string, object, MemberTrees, no_members, member, member_trees}
 use Rattle.city_json.specs.declared.compacting.parts.Part.{Part}
 use Rattle.city_feature.specs.Quick.{IsPartNamed}
 use Rattle.city_feature.specs.Shapes.{IsObject, WhereThere}
-use Rattle.city_cut.specs.Chosen.{pair_at}
 use Rattle.city_cut.specs.CityObjects.{AllBelong, AreCityObjects, AreTexts, IsChild, IsReached, LacksChild, children, has_parents, is_filled, roots}
 use Rattle.city_cut.specs.Families.{Begins}
 use Rattle.city_cut.specs.Items.{items_of, values}
@@ -24,7 +21,6 @@ use Rattle.city_cut.specs.declared.families.Family.{Family}
 use Rattle.city_cut.specs.Kin.{IsKin, IsSameObject, with_there}
 use Rattle.city_cut.specs.Texts.{IsCompactOf}
 use Rattle.city_cut.proofs.QuickTexts.{member_there}
-use Rattle.city_cut.proofs.Seeking.{zip_push}
 
 pub value_read : (text given name : List ℕ) (parts : List Part) (part : Part) (members : MemberTrees) (other : List ℕ)
     (value : Tree) → IsCompactOf text (object members) → AreParts 1 parts members → IsUtf8 other
@@ -75,21 +71,6 @@ pub text_is : (id found text : List ℕ) (json : Tree) (name : List ℕ) → IsU
     → json ≡ string found → name ≡ found → name ≡ text
 text_is id found text json name utf8 is spells found_is name_is =
     name_is ∙ sym (string_same text found (read_of_compact id (string text) json utf8 is spells ∙ found_is))
-
-pub kin_more : (old new : List Member) (member_json : Member) (pairs : List (List ℕ × Tree)) (at : ℕ)
-    → AllZip IsSameObject (map named_tree old) (take at pairs) → at < length pairs
-    → IsSameObject (named_tree member_json) (pair_at pairs at)
-    → map named_tree new ≡ map named_tree old ++ named_tree member_json ∷ []
-    → AllZip IsSameObject (map named_tree new) (take (at + 1) pairs)
-kin_more old new member_json pairs at all within same pushed =
-    subst (λ l. AllZip IsSameObject l (take (at + 1) pairs)) (sym pushed)
-    (subst (λ l. AllZip IsSameObject (map named_tree old ++ named_tree member_json ∷ []) l)
-    (sym (take_more pairs at ([], null) within))
-    (zip_push IsSameObject (map named_tree old) (take at pairs) (named_tree member_json) (pair_at pairs at) all same))
-
-pub kin_all : (kin : List (List ℕ × Tree)) (pairs : List (List ℕ × Tree)) (at : ℕ)
-    → AllZip IsSameObject kin (take at pairs) → length pairs ≤ at → AllZip IsSameObject kin pairs
-kin_all kin pairs at all past = subst (AllZip IsSameObject kin) (take_all at pairs past) all
 
 -- ---- what is known of the one is known of the other
 pub names_same : (kin pairs : List (List ℕ × Tree)) → AllZip IsSameObject kin pairs

@@ -1,5 +1,5 @@
 -- Objects that are copied with their geometries and their addresses, in whichever order these stand.
-use Rattle.std.proofs.Common.{◌≡◌, ◌∙◌, ◌++◌, ◌<◌, ◌≤◌, ◌+◌, ℕ, false, bytes_eq, List, [], ◌∷◌, Option, MatchOption, Some, None, IsUtf8, inl, inr, map, length, take, drop, slice_index, slice_range, refl, sym, ap, subst, arith, append_assoc, append-nil, codes}
+use Rattle.std.proofs.Common.{◌≡◌, ◌∙◌, ◌++◌, ◌<◌, ◌≤◌, ◌+◌, ℕ, false, bytes_eq, List, [], ◌∷◌, Option, Some, None, IsUtf8, inl, inr, map, length, take, drop, slice_index, slice_range, refl, sym, ap, subst, arith, append_assoc, append-nil, codes}
 use Rattle.std.proofs.lemmas.Grind.{flat_map-append}
 use Rattle.std.proofs.lemmas.List.{map-append, take_at}
 use Rattle.std.proofs.lemmas.List.Elements.{Contains-append_left}
@@ -18,6 +18,7 @@ use Rattle.city_cut.specs.Holders.{AreHeld, held_uses, name_of, other_than, rela
 use Rattle.city_cut.specs.Items.{items_of}
 use Rattle.city_cut.specs.Leaves.{leaves}
 use Rattle.city_cut.specs.Numbered.{AreNumbered}
+use Rattle.city_cut.specs.Overviews.{IsFoundIn, IsHolderPart, IsNowhere}
 use Rattle.city_cut.specs.Points.{CountsUp}
 use Rattle.city_cut.specs.Texts.{IsCompactOf}
 use Rattle.city_cut.specs.declared.quick.holders.Holder.{Holder}
@@ -213,35 +214,24 @@ two_made holder count text given middle given₂ t o line line₁ t₁ o₁ line
     (found.value, found₂.value, found.is, found₂.is, inner.0, inner₂.0, all)
 
 -- ---- an object
-abbrev pub IsNowhere : Holder → List ℕ → List Part → Type 0
-IsNowhere holder text parts = (members : MemberTrees) → IsCompactOf text (object members) → AreParts 1 parts members
-    → first_named (name_of holder) members ≡ None
-
-abbrev pub IsFoundIn : Holder → List ℕ → List Part → Part → Type 0
-IsFoundIn holder text parts part = IsPartNamed text parts (quoted (name_of holder) ++ colon ∷ []) part
-
 pub not_found : (holder : Holder) (text : List ℕ) (parts : List Part) (found : Option Part) → found ≡ None
-    → MatchOption found (IsNowhere holder text parts) (IsFoundIn holder text parts) → IsNowhere holder text parts
-not_found holder text parts found is told =
-    subst (λ o. MatchOption o (IsNowhere holder text parts) (IsFoundIn holder text parts)) is told
+    → IsHolderPart holder text parts found → IsNowhere holder text parts
+not_found holder text parts found is told = subst (IsHolderPart holder text parts) is told
 
 pub is_found : (holder : Holder) (text : List ℕ) (parts : List Part) (found : Option Part) (part : Part)
-    → found ≡ Some part → MatchOption found (IsNowhere holder text parts) (IsFoundIn holder text parts)
-    → IsFoundIn holder text parts part
-is_found holder text parts found part is told =
-    subst (λ o. MatchOption o (IsNowhere holder text parts) (IsFoundIn holder text parts)) is told
+    → found ≡ Some part → IsHolderPart holder text parts found → IsFoundIn holder text parts part
+is_found holder text parts found part is told = subst (IsHolderPart holder text parts) is told
 
 -- for each object, it is enough to know what is made of its members
-pub of_object : (count : ℕ) (text t o line t' o' line' : List ℕ) (parts given : List Part) → given ≡ parts
+pub of_object : (count : ℕ) (text t o line t' o' line' : List ℕ) (parts : List Part)
     → ((value : Tree) → IsCompactOf text value → (members : MemberTrees) × (value ≡ object members)
     × AreParts 1 parts members)
-    → ((members : MemberTrees) → IsCompactOf text (object members) → AreParts 1 given members
+    → ((members : MemberTrees) → IsCompactOf text (object members) → AreParts 1 parts members
     → ObjectMade count t o line t' o' line' (object members)) → (value : Tree) → IsCompactOf text value
     → ObjectMade count t o line t' o' line' value
-of_object count text t o line t' o' line' parts given same there made value of =
+of_object count text t o line t' o' line' parts there made value of =
     let (members, is, are) = there value of in
-    subst (ObjectMade count t o line t' o' line') (sym is)
-    (made members (subst (IsCompactOf text) is of) (subst (λ p. AreParts 1 p members) (sym same) are))
+    subst (ObjectMade count t o line t' o' line') (sym is) (made members (subst (IsCompactOf text) is of) are)
 
 either : (change : List ℕ → List ℕ) (members : MemberTrees)
     → changed_members (codes "address") (relabelled_addresses change)

@@ -6,6 +6,7 @@ pub mod Copied
 pub mod Cut
 pub mod Families
 pub mod FeatureText
+pub mod FrontMembers
 pub mod HeaderText
 pub mod HeldTexts
 pub mod Holders
@@ -14,6 +15,7 @@ pub mod Kin
 pub mod Leaves
 pub mod Lines
 pub mod Numbered
+pub mod Overviews
 pub mod Places
 pub mod Points
 pub mod Reach

@@ -8,8 +8,10 @@ mod headers;
 mod holders;
 mod items;
 mod kin;
+mod members;
 mod numbers;
 mod objects;
+mod overview;
 mod points;
 mod texts;
 
@@ -17,11 +19,11 @@ ghost use Rattle.std.specs.Prelude.{◌≡◌, ◌++◌, ◌∷◌, [], ℕ, Lis
 ghost use Rattle.std.specs.List.{AllZip};
 ghost use Rattle.city_json.specs.Compact.{compact};
 ghost use Rattle.city_json.specs.Depth.{IsDeep};
-ghost use Rattle.city_json.specs.Fits.{Fits};
+ghost use Rattle.city_json.specs.Fits.{Fits, IsDistinct};
 ghost use Rattle.city_json.specs.Grammar.{Spells};
 ghost use Rattle.city_json.specs.Members.{first_named};
 ghost use Rattle.city_json.specs.Parts.{AreParts};
-ghost use Rattle.city_json.specs.Tree.{MemberTrees, Tree, items_tree, member_trees, object, tree};
+ghost use Rattle.city_json.specs.Tree.{MemberTrees, Tree, items_tree, member_trees, named_tree, object, tree};
 ghost use Rattle.city_grid.specs.Axes.{Triple};
 ghost use Rattle.city_feature.specs.Feature.{FeatureValue};
 ghost use Rattle.city_feature.specs.Quick.{SpellsVertices};
@@ -31,6 +33,7 @@ ghost use Rattle.city_cut.specs.Cut.{IsCut, IsCuttable};
 ghost use Rattle.city_cut.specs.Families.{Begins};
 ghost use Rattle.city_cut.specs.FeatureText.{tail_text};
 ghost use Rattle.city_cut.specs.HeldTexts.{texts_in};
+ghost use Rattle.city_cut.specs.Kin.{IsSameObject};
 ghost use Rattle.city_cut.specs.Lines.{texts_of};
 ghost use Rattle.city_cut.specs.Texts.{IsCompactOf};
 ghost use Rattle.city_cut.specs.VertexTexts.{HasPoints, StandAt};
@@ -43,10 +46,10 @@ use city_feature::{between, part_named};
 use city_json::{Members, Part, compact_parts};
 use features::feature_texts;
 use headers::header_of;
-use kin::kin_members;
+use overview::overview_of;
 use points::{VertexTexts, starts_of, write_anew};
 use std::alloc::Global;
-use texts::{append_text, is_absent, member_or, parts_of};
+use texts::{append_text, is_absent, member_or};
 
 /// What stands after the vertices of each feature.
 fn tail_of(alloc: Global, text: &[u8], parts: &[Part]) -> Option<Line>
@@ -77,18 +80,17 @@ fn vertices_text<'a>(text: &'a [u8], parts: &[Part]) -> Option<&'a [u8]>
     member_or(text, parts, b"\"vertices\":", b"[]")
 }
 
-/// The families of the city objects whose compact text this is, and which lie in these places. `None`: undecided.
-fn families_of(alloc: Global, objects: &[u8], places: &[Part]) -> Option<Vec<Family>>
-    requires { (pairs : List (List ℕ × Tree)) × IsCompactOf objects.now (object (member_trees pairs))
-        × AreParts 1 places.now (member_trees pairs) }
+/// The families of the city objects of which the parents and children are given. `None`: undecided.
+fn families_of(alloc: Global, kin: Members) -> Option<Vec<Family>>
+    requires { (pairs : List (List ℕ × Tree)) × AllZip IsSameObject (map named_tree kin.items) pairs
+        × IsDistinct (object (member_trees pairs)) }
     ensures { IfSome result (λ found. (pairs : List (List ℕ × Tree))
-        → IsCompactOf objects.now (object (member_trees pairs)) → AreParts 1 places.now (member_trees pairs)
+        → AllZip IsSameObject (map named_tree kin.items) pairs
         → AreCityObjects (member_trees pairs)
         × (¬ LacksChild (member_trees pairs))
         × AllBelong (member_trees pairs)
         × AllZip (Begins (member_trees pairs)) (roots (member_trees pairs)) found.items) }
 {
-    let kin = kin_members(alloc, objects, places)?;
     if !are_city_objects(&kin) {
         return None;
     }
@@ -116,9 +118,17 @@ fn cut_on(
     let header = header_of(alloc, line, parts)?;
     let tail = tail_of(alloc, line, parts)?;
     let objects = member_or(line, parts, b"\"CityObjects\":", b"{}")?;
-    let places = parts_of(alloc, objects)?;
-    let families = families_of(alloc, objects, &places)?;
-    let texts = feature_texts(alloc, objects, &places, vertices, tail, &families)?;
+    let found = overview_of(alloc, objects)?;
+    let families = families_of(alloc, found.kin)?;
+    let texts = feature_texts(
+        alloc,
+        objects,
+        &found.places,
+        &found.held,
+        vertices,
+        tail,
+        &families,
+    )?;
     Some(CutTexts { header, texts })
 }
 

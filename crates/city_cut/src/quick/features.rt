@@ -18,11 +18,13 @@ ghost use Rattle.city_cut.specs.FeatureText.{head_text, middle_text, tail_text};
 ghost use Rattle.city_cut.specs.Leaves.{leaves};
 ghost use Rattle.city_cut.specs.HeldTexts.{HasGrown, texts_in};
 ghost use Rattle.city_cut.specs.Lines.{texts_of};
+ghost use Rattle.city_cut.specs.Overviews.{AreHolders};
 ghost use Rattle.city_cut.specs.Places.{IsFamily, name_at};
 ghost use Rattle.city_cut.specs.Texts.{IsCompactOf};
 ghost use Rattle.city_cut.specs.VertexTexts.{StandAt};
 
 use super::drafts::Draft;
+use super::holders::HeldParts;
 use super::objects::append_object;
 use super::points::{VertexTexts, append_points};
 use super::texts::append_text;
@@ -39,10 +41,12 @@ fn append_named(
     alloc: Global,
     text: &[u8],
     parts: &[Part],
+    held: &[HeldParts],
     at: usize,
     numbering: &mut Numbering,
     draft: &mut Draft,
 ) -> Option<()>
+    requires { AreHolders text.now parts.now held.now }
     ensures long { OnSome result (length numbering.new.table.items ≡ length numbering.old.table.items) }
     ensures made { OnSome result ((pairs : List (List ℕ × Tree))
         → IsCompactOf text.now (object (member_trees pairs)) → AreParts 1 parts.now (member_trees pairs)
@@ -56,11 +60,14 @@ fn append_named(
     if at >= parts.len() {
         return None;
     }
+    if at >= held.len() {
+        return None;
+    }
     let part = parts[at];
     let name = between(text, part.at, part.value)?;
     let value = between(text, part.value, part.end)?;
     append_text(name, &mut draft.line)?;
-    append_object(alloc, value, numbering, draft)
+    append_object(alloc, value, &held[at], numbering, draft)
 }
 
 /// Copies the objects at these places, with a comma before each.
@@ -68,10 +75,12 @@ fn append_others(
     alloc: Global,
     text: &[u8],
     parts: &[Part],
+    held: &[HeldParts],
     places: &[usize],
     numbering: &mut Numbering,
     draft: &mut Draft,
 ) -> Option<()>
+    requires { AreHolders text.now parts.now held.now }
     ensures long { OnSome result (length numbering.new.table.items ≡ length numbering.old.table.items) }
     ensures made { OnSome result ((pairs : List (List ℕ × Tree))
         → IsCompactOf text.now (object (member_trees pairs)) → AreParts 1 parts.now (member_trees pairs)
@@ -83,7 +92,7 @@ fn append_others(
 {
     for at in places {
         append_text(b",", &mut draft.line)?;
-        append_named(alloc, text, parts, *at, numbering, draft)?;
+        append_named(alloc, text, parts, held, *at, numbering, draft)?;
     }
     Some(())
 }
@@ -93,10 +102,12 @@ fn append_objects(
     alloc: Global,
     text: &[u8],
     parts: &[Part],
+    held: &[HeldParts],
     places: &[usize],
     numbering: &mut Numbering,
     draft: &mut Draft,
 ) -> Option<()>
+    requires { AreHolders text.now parts.now held.now }
     ensures long { OnSome result (length numbering.new.table.items ≡ length numbering.old.table.items) }
     ensures made { OnSome result ((pairs : List (List ℕ × Tree))
         → IsCompactOf text.now (object (member_trees pairs)) → AreParts 1 parts.now (member_trees pairs)
@@ -109,12 +120,12 @@ fn append_objects(
     let [first, others @ ..] = places else {
         return None;
     };
-    append_named(alloc, text, parts, *first, numbering, draft)?;
-    append_others(alloc, text, parts, others, numbering, draft)
+    append_named(alloc, text, parts, held, *first, numbering, draft)?;
+    append_others(alloc, text, parts, held, others, numbering, draft)
 }
 
 /// The text of the name that stands in a member's name and its colon.
-fn without_colon(name: &[u8]) -> Option<&[u8]>
+pub(super) fn without_colon(name: &[u8]) -> Option<&[u8]>
     ensures { IfSome result (λ found. (text : List ℕ) → name.now ≡ text ++ colon ∷ [] → found.now ≡ text) }
 {
     if name.is_empty() {
@@ -124,7 +135,7 @@ fn without_colon(name: &[u8]) -> Option<&[u8]>
 }
 
 /// The name of the object at a place, with its marks.
-pub(super) fn id_of<'a>(text: &'a [u8], parts: &[Part], at: usize) -> Option<&'a [u8]>
+fn id_of<'a>(text: &'a [u8], parts: &[Part], at: usize) -> Option<&'a [u8]>
     ensures { IfSome result (λ found. (pairs : List (List ℕ × Tree))
         → IsCompactOf text.now (object (member_trees pairs)) → AreParts 1 parts.now (member_trees pairs)
         → found.now ≡ quoted (pair_at pairs at).0) }
@@ -135,19 +146,6 @@ pub(super) fn id_of<'a>(text: &'a [u8], parts: &[Part], at: usize) -> Option<&'a
     let part = parts[at];
     let name = between(text, part.at, part.value)?;
     without_colon(name)
-}
-
-/// The value of the object at a place.
-pub(super) fn value_at<'a>(text: &'a [u8], parts: &[Part], at: usize) -> Option<&'a [u8]>
-    ensures { IfSome result (λ found. (pairs : List (List ℕ × Tree))
-        → IsCompactOf text.now (object (member_trees pairs)) → AreParts 1 parts.now (member_trees pairs)
-        → (at < length pairs) × IsUtf8 (pair_at pairs at).0 × IsCompactOf found.now (pair_at pairs at).1) }
-{
-    if at >= parts.len() {
-        return None;
-    }
-    let part = parts[at];
-    between(text, part.value, part.end)
 }
 
 /// Appends what stands before the objects of a feature. The name is given with its marks.
@@ -173,12 +171,14 @@ fn append_feature(
     alloc: Global,
     text: &[u8],
     parts: &[Part],
+    held: &[HeldParts],
     vertices: &VertexTexts<'_>,
     family: &Family,
     numbering: &mut Numbering,
     draft: &mut Draft,
 ) -> Option<()>
-    requires { length numbering.old.table.items + 1 ≡ length vertices.now.starts.items }
+    requires holders { AreHolders text.now parts.now held.now }
+    requires long { length numbering.old.table.items + 1 ≡ length vertices.now.starts.items }
     ensures long { OnSome result (length numbering.new.table.items + 1 ≡ length vertices.now.starts.items) }
     ensures made { OnSome result ((pairs : List (List ℕ × Tree)) (appearance : Option Tree) (points : List Triple)
         → StandAt vertices.now.text.now vertices.now.starts.items points
@@ -192,7 +192,7 @@ fn append_feature(
     let id = id_of(text, parts, family.root)?;
     append_head(id, &mut draft.line)?;
     numbering.order.clear();
-    append_objects(alloc, text, parts, &family.places, numbering, draft)?;
+    append_objects(alloc, text, parts, held, &family.places, numbering, draft)?;
     append_rest(vertices, &numbering.order, &mut draft.line)
 }
 
@@ -216,10 +216,12 @@ pub(super) fn feature_texts(
     alloc: Global,
     text: &[u8],
     parts: &[Part],
+    held: &[HeldParts],
     vertices: &VertexTexts<'_>,
     tail: Line,
     families: &[Family],
 ) -> Option<FeatureTexts>
+    requires { AreHolders text.now parts.now held.now }
     ensures { IfSome result (λ texts. (pairs : List (List ℕ × Tree)) (appearance : Option Tree) (points : List Triple)
         → StandAt vertices.now.text.now vertices.now.starts.items points
         → IsCompactOf text.now (object (member_trees pairs)) → AreParts 1 parts.now (member_trees pairs)
@@ -250,6 +252,7 @@ pub(super) fn feature_texts(
             alloc,
             text,
             parts,
+            held,
             vertices,
             family,
             &mut numbering,

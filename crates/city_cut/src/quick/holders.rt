@@ -4,6 +4,8 @@ ghost use Rattle.city_json.specs.Bytes.{colon};
 ghost use Rattle.city_json.specs.Compact.{quoted};
 ghost use Rattle.city_cut.specs.Holders.{name_of, other_than};
 
+use city_json::Part;
+
 /// A member of a city object in whose items boundaries stand.
 #[derive(Clone, Copy, Drop)]
 pub(super) enum Holder {
@@ -32,4 +34,11 @@ impl Holder {
             Holder::Address => Holder::Geometry,
         }
     }
+}
+
+/// Where the geometries and the addresses lie in the text of a city object, if they are there.
+#[derive(Clone, Copy, Drop)]
+pub(super) struct HeldParts {
+    pub geometry: Option<Part>,
+    pub address: Option<Part>,
 }

@@ -1,7 +1,9 @@
 //! Geometries and addresses, copied with numbers of their own at the leaves of their boundaries.
-ghost use Rattle.std.specs.Prelude.{◌≡◌, ◌++◌, ℕ, List, length, OnSome, codes};
+ghost use Rattle.std.specs.Prelude.{◌≡◌, ◌++◌, ◌≤◌, ℕ, List, length, drop, slice_range, IfSome, OnSome, codes};
 ghost use Rattle.std.specs.List.{flat_map};
 ghost use Rattle.city_json.specs.Compact.{compact};
+ghost use Rattle.city_json.specs.CompactEnds.{LeavesValue};
+ghost use Rattle.city_json.specs.CompactMembers.{HasParts};
 ghost use Rattle.city_json.specs.Tree.{Tree};
 ghost use Rattle.city_json.specs.Writable.{IsWritable};
 ghost use Rattle.city_cut.specs.Boundaries.{IsAddress, IsGeometry, address_boundary, in_member, own_boundary};
@@ -13,11 +15,12 @@ ghost use Rattle.city_cut.specs.Texts.{IsCompactOf};
 
 use super::drafts::{Draft, copy_items};
 use super::holders::Holder;
+use super::members::members_at;
 use super::texts::{append_back, append_front, append_text, is_absent, parts_of};
 use crate::numbering::Numbering;
 use city_feature::{between, part_named};
 use city_grid::byte_is;
-use city_json::value_end;
+use city_json::{Part, members_of_compact, value_end};
 use std::alloc::Global;
 
 /// Brackets nest no deeper than this in the brackets of a boundary.
@@ -44,6 +47,33 @@ fn append_boundary(text: &[u8], numbering: &mut Numbering, draft: &mut Draft) ->
     append_text(last, &mut draft.line)
 }
 
+/// Copies a geometry, whose members lie in these parts.
+fn append_listed(
+    text: &[u8],
+    parts: &[Part],
+    numbering: &mut Numbering,
+    draft: &mut Draft,
+) -> Option<()>
+    requires { HasParts text.now parts.now }
+    ensures long { OnSome result (length numbering.new.table.items ≡ length numbering.old.table.items) }
+    ensures made { OnSome result ((value : Tree) → IsCompactOf text.now value
+        → IsGeometry (length numbering.old.table.items) value
+        × Copies numbering.old.table.items numbering.old.order.items draft.old.line
+        numbering.new.table.items numbering.new.order.items draft.new.line
+        (flat_map leaves (own_boundary value)) (λ change. compact (relabelled_boundary change value))) }
+{
+    let Some(part) = part_named(text, parts, b"\"boundaries\":") else {
+        if !is_absent(text, parts, b"\"boundaries\":") {
+            return None;
+        }
+        return append_text(text, &mut draft.line);
+    };
+    let boundary = between(text, part.value, part.end)?;
+    append_front(text, &part, &mut draft.line)?;
+    append_boundary(boundary, numbering, draft)?;
+    append_back(text, &part, &mut draft.line)
+}
+
 /// Copies a geometry.
 fn append_geometry(
     alloc: Global,
@@ -58,17 +88,8 @@ fn append_geometry(
         numbering.new.table.items numbering.new.order.items draft.new.line
         (flat_map leaves (own_boundary value)) (λ change. compact (relabelled_boundary change value))) }
 {
-    let parts = parts_of(alloc, text)?;
-    let Some(part) = part_named(text, &parts, b"\"boundaries\":") else {
-        if !is_absent(text, &parts, b"\"boundaries\":") {
-            return None;
-        }
-        return append_text(text, &mut draft.line);
-    };
-    let boundary = between(text, part.value, part.end)?;
-    append_front(text, &part, &mut draft.line)?;
-    append_boundary(boundary, numbering, draft)?;
-    append_back(text, &part, &mut draft.line)
+    let parts = members_of_compact(alloc, text)?;
+    append_listed(text, &parts, numbering, draft)
 }
 
 /// Copies an address. It may be no object, or its location none: it has no boundary.
@@ -105,24 +126,78 @@ fn append_address(
     append_back(text, &part, &mut draft.line)
 }
 
-/// Copies a geometry or an address.
+/// Copies the geometry that begins at `at`: where it ends.
+fn append_geometry_at(
+    alloc: Global,
+    text: &[u8],
+    at: usize,
+    numbering: &mut Numbering,
+    draft: &mut Draft,
+) -> Option<usize>
+    requires { at ≤ length text.now }
+    ensures onward { IfSome result (λ end. at ≤ end) }
+    ensures within { IfSome result (λ end. end ≤ length text.now) }
+    ensures leaves { IfSome result (λ end. LeavesValue 128 (drop at text.now) (drop end text.now)) }
+    ensures long { OnSome result (length numbering.new.table.items ≡ length numbering.old.table.items) }
+    ensures made { IfSome result (λ end. (value : Tree) → IsCompactOf (slice_range text.now at end) value
+        → IsGeometry (length numbering.old.table.items) value
+        × Copies numbering.old.table.items numbering.old.order.items draft.old.line
+        numbering.new.table.items numbering.new.order.items draft.new.line
+        (flat_map leaves (own_boundary value)) (λ change. compact (relabelled_boundary change value))) }
+{
+    let found = members_at(alloc, text, at)?;
+    append_listed(&text[at..found.end], &found.parts, numbering, draft)?;
+    Some(found.end)
+}
+
+/// Copies the address that begins at `at`: where it ends.
+fn append_address_at(
+    alloc: Global,
+    text: &[u8],
+    at: usize,
+    numbering: &mut Numbering,
+    draft: &mut Draft,
+) -> Option<usize>
+    requires { at ≤ length text.now }
+    ensures onward { IfSome result (λ end. at ≤ end) }
+    ensures within { IfSome result (λ end. end ≤ length text.now) }
+    ensures leaves { IfSome result (λ end. LeavesValue 128 (drop at text.now) (drop end text.now)) }
+    ensures long { OnSome result (length numbering.new.table.items ≡ length numbering.old.table.items) }
+    ensures made { IfSome result (λ end. (value : Tree) → IsCompactOf (slice_range text.now at end) value
+        → IsAddress (length numbering.old.table.items) value
+        × Copies numbering.old.table.items numbering.old.order.items draft.old.line
+        numbering.new.table.items numbering.new.order.items draft.new.line
+        (flat_map leaves (address_boundary value))
+        (λ change. compact (in_member (codes "location") (relabelled_boundary change) value))) }
+{
+    let end = value_end(text, at);
+    append_address(alloc, &text[at..end], numbering, draft)?;
+    Some(end)
+}
+
+/// Copies the geometry or the address that begins at `at`: where it ends.
 fn append_item(
     alloc: Global,
     text: &[u8],
+    at: usize,
     holder: Holder,
     numbering: &mut Numbering,
     draft: &mut Draft,
-) -> Option<()>
+) -> Option<usize>
+    requires { at ≤ length text.now }
+    ensures onward { IfSome result (λ end. at ≤ end) }
+    ensures within { IfSome result (λ end. end ≤ length text.now) }
+    ensures leaves { IfSome result (λ end. LeavesValue 128 (drop at text.now) (drop end text.now)) }
     ensures long { OnSome result (length numbering.new.table.items ≡ length numbering.old.table.items) }
-    ensures made { OnSome result ((value : Tree) → IsCompactOf text.now value
+    ensures made { IfSome result (λ end. (value : Tree) → IsCompactOf (slice_range text.now at end) value
         → IsHeld holder (length numbering.old.table.items) value
         × Copies numbering.old.table.items numbering.old.order.items draft.old.line
         numbering.new.table.items numbering.new.order.items draft.new.line
         (flat_map leaves (boundary_in holder value)) (λ change. compact (relabelled_in holder change value))) }
 {
     match holder {
-        Holder::Geometry => append_geometry(alloc, text, numbering, draft),
-        Holder::Address => append_address(alloc, text, numbering, draft),
+        Holder::Geometry => append_geometry_at(alloc, text, at, numbering, draft),
+        Holder::Address => append_address_at(alloc, text, at, numbering, draft),
     }
 }
 
@@ -153,9 +228,7 @@ fn append_items(
         if at >= text.len() {
             return None;
         }
-        let end = value_end(text, at);
-        let found = between(text, at, end)?;
-        append_item(alloc, found, holder, numbering, draft)?;
+        let end = append_item(alloc, text, at, holder, numbering, draft)?;
         if byte_is(text, end, b']') {
             return append_text(b"]", &mut draft.line);
         }

@@ -3,19 +3,33 @@ ghost use Rattle.std.specs.Prelude.{◌≡◌, ◌≤◌, ◌++◌, ◌∷◌, [
 ghost use Rattle.std.specs.List.{AllZip};
 ghost use Rattle.city_json.specs.Bytes.{colon};
 ghost use Rattle.city_json.specs.Compact.{quoted};
+ghost use Rattle.city_json.specs.CompactMembers.{HasParts};
+ghost use Rattle.city_json.specs.Grammar.{Spells};
 ghost use Rattle.city_json.specs.Members.{first_named};
 ghost use Rattle.city_json.specs.Parts.{AreParts};
 ghost use Rattle.city_json.specs.Tree.{MemberTrees, Tree, member_trees, named_tree, object, tree};
-ghost use Rattle.city_cut.specs.Chosen.{pair_at};
 ghost use Rattle.city_cut.specs.Kin.{IsKin, IsSameObject, with_there};
 ghost use Rattle.city_cut.specs.Texts.{IsCompactOf};
 
-use super::features::{id_of, value_at};
-use super::texts::{is_absent, parts_of};
+use super::features::without_colon;
+use super::texts::is_absent;
 use crate::values::text_of;
 use city_feature::{between, part_named, set_member};
 use city_json::{Json, Member, Members, Part, Str, read};
 use std::alloc::Global;
+
+/// The value that a text spells, with no room for more items: as many of these are held as there are objects.
+fn read_tight(alloc: Global, text: &[u8]) -> Option<Json>
+    ensures { IfSome result (λ json. Spells text.now (tree json)) }
+{
+    let Ok(json) = read(alloc, text) else {
+        return None;
+    };
+    let Ok(tight) = json.copy(alloc) else {
+        return None;
+    };
+    Some(tight)
+}
 
 /// The member of a name, which is given with its marks and its colon, if there is one.
 fn member_json(alloc: Global, text: &[u8], parts: &[Part], name: &[u8]) -> Option<Option<Json>>
@@ -30,9 +44,7 @@ fn member_json(alloc: Global, text: &[u8], parts: &[Part], name: &[u8]) -> Optio
         return Some(None);
     };
     let value = between(text, part.value, part.end)?;
-    let Ok(json) = read(alloc, value) else {
-        return None;
-    };
+    let json = read_tight(alloc, value)?;
     Some(Some(json))
 }
 
@@ -66,13 +78,13 @@ fn no_json(alloc: Global, room: usize) -> Option<Json>
     Some(Json::Map(members))
 }
 
-/// A city object with its parents and children alone.
-fn kin_of(alloc: Global, text: &[u8]) -> Option<Json>
-    ensures { IfSome result (λ json. (value : Tree) → IsCompactOf text.now value → IsKin (tree json) value) }
+/// A city object with its parents and children alone, whose members lie in these parts.
+fn kin_of(alloc: Global, text: &[u8], parts: &[Part]) -> Option<Json>
+    ensures { IfSome result (λ json. HasParts text.now parts.now → (value : Tree) → IsCompactOf text.now value
+        → IsKin (tree json) value) }
 {
-    let parts = parts_of(alloc, text)?;
-    let parents = member_json(alloc, text, &parts, b"\"parents\":")?;
-    let children = member_json(alloc, text, &parts, b"\"children\":")?;
+    let parents = member_json(alloc, text, parts, b"\"parents\":")?;
+    let children = member_json(alloc, text, parts, b"\"children\":")?;
     let mut json = no_json(alloc, count_of(&parents) + count_of(&children))?;
     set_there(alloc, &mut json, "parents", parents)?;
     set_there(alloc, &mut json, "children", children)?;
@@ -99,38 +111,23 @@ fn member_of(name: Str, value: Json) -> Member
     Member { name, value }
 }
 
-/// The city object at a place, with its parents and children alone.
-fn named_kin(alloc: Global, text: &[u8], parts: &[Part], at: usize) -> Option<Member>
-    ensures { IfSome result (λ member. (pairs : List (List ℕ × Tree))
-        → IsCompactOf text.now (object (member_trees pairs)) → AreParts 1 parts.now (member_trees pairs)
-        → IsSameObject (named_tree member) (pair_at pairs at)) }
+/// The city object of this name, which stands before its colon, with its parents and children alone.
+pub(super) fn named_kin(alloc: Global, name: &[u8], text: &[u8], parts: &[Part]) -> Option<Member>
+    ensures { IfSome result (λ member. HasParts text.now parts.now → (id : List ℕ) (value : Tree) → IsUtf8 id
+        → name.now ≡ quoted id ++ colon ∷ [] → IsCompactOf text.now value
+        → IsSameObject (named_tree member) (id, value)) }
 {
-    let id = id_of(text, parts, at)?;
-    let name = text_named(alloc, id)?;
-    let value = value_at(text, parts, at)?;
-    let kin = kin_of(alloc, value)?;
-    Some(member_of(name, kin))
+    let id = without_colon(name)?;
+    let found = text_named(alloc, id)?;
+    let kin = kin_of(alloc, text, parts)?;
+    Some(member_of(found, kin))
 }
 
-fn push_member(member: Member, to: &mut Members) -> Option<()>
+pub(super) fn push_member(member: Member, to: &mut Members) -> Option<()>
     ensures { OnSome result (map named_tree to.new.items ≡ map named_tree to.old.items ++ named_tree member ∷ []) }
 {
     let Ok(_) = to.push(member) else {
         return None;
     };
     Some(())
-}
-
-/// The city objects, with their parents and children alone.
-pub(super) fn kin_members(alloc: Global, text: &[u8], parts: &[Part]) -> Option<Members>
-    ensures { IfSome result (λ kin. (pairs : List (List ℕ × Tree))
-        → IsCompactOf text.now (object (member_trees pairs)) → AreParts 1 parts.now (member_trees pairs)
-        → AllZip IsSameObject (map named_tree kin.items) pairs) }
-{
-    let mut kin = Vec::with_capacity(alloc, parts.len()).ok()?;
-    for at in 0..parts.len() {
-        let member = named_kin(alloc, text, parts, at)?;
-        push_member(member, &mut kin)?;
-    }
-    Some(kin)
 }

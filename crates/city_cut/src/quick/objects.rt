@@ -1,5 +1,5 @@
 //! The objects of a feature, copied with numbers of their own at the leaves of their boundaries.
-ghost use Rattle.std.specs.Prelude.{◌≡◌, ◌++◌, ◌∷◌, [], ℕ, List, None, Some, IfSome, MatchOption, length, OnSome};
+ghost use Rattle.std.specs.Prelude.{◌≡◌, ◌++◌, ◌∷◌, [], ℕ, List, Some, length, OnSome};
 ghost use Rattle.std.specs.List.{flat_map};
 ghost use Rattle.city_json.specs.Bytes.{colon};
 ghost use Rattle.city_json.specs.Compact.{compact, quoted};
@@ -12,14 +12,15 @@ ghost use Rattle.city_cut.specs.Boundaries.{IsBounded, boundaries, changed_membe
 ghost use Rattle.city_cut.specs.Copied.{Copies, Numbers};
 ghost use Rattle.city_cut.specs.Holders.{AreHeld, held_uses, name_of, other_than, relabelled_held};
 ghost use Rattle.city_cut.specs.Leaves.{leaves};
+ghost use Rattle.city_cut.specs.Overviews.{HasHolders};
 ghost use Rattle.city_cut.specs.Texts.{IsCompactOf};
 
 use super::drafts::Draft;
-use super::holders::Holder;
+use super::holders::{HeldParts, Holder};
 use super::items::append_held;
-use super::texts::{append_back, append_front, append_text, is_absent, parts_of};
+use super::texts::{append_back, append_front, append_text};
 use crate::numbering::Numbering;
-use city_feature::{between, part_named};
+use city_feature::between;
 use city_json::Part;
 use std::alloc::Global;
 
@@ -109,22 +110,6 @@ fn number_held(
     Some(())
 }
 
-/// The part of the member in which these boundaries stand, if it is there.
-fn part_of(text: &[u8], parts: &[Part], holder: Holder) -> Option<Option<Part>>
-    ensures { IfSome result (λ found. MatchOption found
-        ((members : MemberTrees) → IsCompactOf text.now (object members) → AreParts 1 parts.now members
-        → first_named (name_of holder) members ≡ None)
-        (λ part. IsPartNamed text.now parts.now (quoted (name_of holder) ++ colon ∷ []) part)) }
-{
-    let Some(part) = part_named(text, parts, holder.mark()) else {
-        if !is_absent(text, parts, holder.mark()) {
-            return None;
-        }
-        return Some(None);
-    };
-    Some(Some(part))
-}
-
 /// Copies an object with geometries and addresses. The vertices of the geometries are numbered first, wherever they
 /// stand.
 fn append_both(
@@ -168,13 +153,15 @@ fn append_both(
     )
 }
 
-/// Copies a city object.
+/// Copies a city object, in which boundaries may stand in these parts.
 pub(super) fn append_object(
     alloc: Global,
     text: &[u8],
+    held: &HeldParts,
     numbering: &mut Numbering,
     draft: &mut Draft,
 ) -> Option<()>
+    requires { HasHolders text.now held.now }
     ensures long { OnSome result (length numbering.new.table.items ≡ length numbering.old.table.items) }
     ensures made { OnSome result ((value : Tree) → IsCompactOf text.now value
         → IsBounded (length numbering.old.table.items) value
@@ -182,16 +169,13 @@ pub(super) fn append_object(
         numbering.new.table.items numbering.new.order.items draft.new.line
         (flat_map leaves (boundaries value)) (λ change. compact (relabelled_object change value))) }
 {
-    let parts = parts_of(alloc, text)?;
-    let geometry = part_of(text, &parts, Holder::Geometry)?;
-    let address = part_of(text, &parts, Holder::Address)?;
-    let Some(address) = address else {
-        let Some(geometry) = geometry else {
+    let Some(address) = held.address else {
+        let Some(geometry) = held.geometry else {
             return append_text(text, &mut draft.line);
         };
         return append_one(alloc, text, &geometry, Holder::Geometry, numbering, draft);
     };
-    let Some(geometry) = geometry else {
+    let Some(geometry) = held.geometry else {
         return append_one(alloc, text, &address, Holder::Address, numbering, draft);
     };
     append_both(alloc, text, &geometry, &address, numbering, draft)

@@ -7,26 +7,31 @@ use Rattle.city_feature.proofs.QuickLines.{utf8}
 use Rattle.city_cut.specs.CityObjects.{roots}
 use Rattle.city_cut.specs.Families.{Begins}
 use Rattle.city_cut.proofs.QuickDocuments.{no_objects, objects_there, whole}
+use Rattle.city_cut.proofs.QuickOverviews.{kin_all}
 use Rattle.city_cut.proofs.quick.cut_on.Goals as goal
 
 pub families_of-requires : goal.families_of-requires
 families_of-requires c =
     let (members, of, are) = c.requires in
-    let there = objects_there c.in_ok-objects.objects.now c.in_ok-places.places.items members
+    let objects = c.in_ok-objects.objects.now in
+    let places = c.in_ok-found.found.places.items in
+    let there = objects_there objects places members
     (c.in_ok-objects.ensures members of are (codes "CityObjects") (utf8 (codes "CityObjects") refl) refl
-    (object no_members) no_objects) c.in_ok-places.ensures in
-    (there.pairs, there.of, subst (λ p. AreParts 1 p (member_trees there.pairs)) (sym c.deref.ensures.value) there.are)
+    (object no_members) no_objects) (λ value lies. c.in_ok-found.ensures.places value lies.writable lies.within lies.is) in
+    (there.pairs, kin_all objects places _ there.pairs c.in_ok-found.ensures.kin there.of there.are, there.of.distinct)
 
 pub returns : goal.returns
 returns c = λ members points of are has stand.
-    let there = objects_there c.in_ok-objects.objects.now c.in_ok-places.places.items members
+    let text = c.in_ok-objects.objects.now in
+    let places = c.in_ok-found.found.places.items in
+    let there = objects_there text places members
     (c.in_ok-objects.ensures members of are (codes "CityObjects") (utf8 (codes "CityObjects") refl) refl
-    (object no_members) no_objects) c.in_ok-places.ensures in
+    (object no_members) no_objects) (λ value lies. c.in_ok-found.ensures.places value lies.writable lies.within lies.is) in
     let objects = member_trees there.pairs in
-    let (city, lacks, belong, begins) = c.in_ok-families.ensures there.pairs there.of
-    (subst (λ p. AreParts 1 p objects) (sym c.deref.ensures.value) there.are) in
+    let (city, lacks, belong, begins) = c.in_ok-families.ensures there.pairs
+    (kin_all text places _ there.pairs c.in_ok-found.ensures.kin there.of there.are) in
     let begun = subst (AllZip (Begins objects) (roots objects)) (sym c.deref-3.ensures.value) begins in
-    let listed = subst (λ p. AreParts 1 p objects) (sym c.deref-2.ensures.value) there.are in
+    let listed = subst (λ p. AreParts 1 p objects) (sym c.deref.ensures.value) there.are in
     let (items, vertices, are_vertices) = has in
     let appearance = first_named (codes "appearance") members in
     let (features, texts, made, bounded) = c.in_ok-texts.ensures there.pairs appearance points stand there.of listed

@@ -7,14 +7,12 @@ use Rattle.city_cut.proofs.quick.families_of.Goals as goal
 
 pub families-requires : goal.families-requires
 families-requires c =
-    let (pairs, of, are) = c.requires in
-    let same = subst (λ k. AllZip IsSameObject (map named_tree k) pairs) (sym c.deref-2.ensures.value)
-    (c.in_ok-kin.ensures pairs of are) in
-    names_differ_on (map named_tree c.deref-2.result.now) pairs same of.distinct.0
+    let (pairs, zip, distinct) = c.requires in
+    let same = subst (λ k. AllZip IsSameObject (map named_tree k) pairs) (sym c.deref-2.ensures.value) zip in
+    names_differ_on (map named_tree c.deref-2.result.now) pairs same distinct.0
 
 pub returns : goal.returns
-returns c = λ pairs of are.
-    let zip = c.in_ok-kin.ensures pairs of are in
+returns c = λ pairs zip.
     let first = subst (λ k. AllZip IsSameObject (map named_tree k) pairs) (sym c.deref.ensures.value) zip in
     let same = subst (λ k. AllZip IsSameObject (map named_tree k) pairs) (sym c.deref-2.ensures.value) zip in
     let kin = map named_tree c.deref-2.result.now in (

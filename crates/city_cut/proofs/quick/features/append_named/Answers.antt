@@ -1,7 +1,12 @@
 use Rattle.std.proofs.Common.{arith, refl}
 use Rattle.city_cut.proofs.QuickFeatures.{named_made}
+use Rattle.city_cut.proofs.QuickOverviews.{holders_at}
 use Rattle.city_cut.proofs.QuickTexts.{on_some_more}
 use Rattle.city_cut.proofs.quick.features.append_named.Goals as goal
+
+pub append_object-requires : goal.append_object-requires
+append_object-requires c = holders_at c.args.text.now c.in_ok-value.value.now c.args.parts.now c.args.held.now
+    c.args.at _ _ _ _ c.requires (omega (arith, c.if-at-held.false)) refl refl c.in_ok-value.ensures.some
 
 pub returns-clause-made : goal.returns-clause-made
 returns-clause-made c = on_some_more c.append_object.result (λ made pairs of are.

@@ -1,0 +1,181 @@
+-- The members of an object that stands in front of other bytes.
+use Rattle.std.proofs.Common.{◌≡◌, ◌≢◌, ◌++◌, ◌∙◌, ◌≤◌, ◌<◌, ◌+◌, ◌-◌, ℕ, List, [], ◌∷◌, length, take, drop, get_or, slice_range, refl, ap, sym, subst, arith, append_assoc, append-nil, true, false}
+use Rattle.std.proofs.lemmas.List.{drop-drop, take-append-drop}
+use Rattle.byte_streams.specs.Limits.{max_depth}
+use Rattle.city_json.proofs.CompactEnds.{first_same, more_members_stopped, number_other, other_head, others_same}
+use Rattle.city_json.proofs.PassParts as pass
+use Rattle.city_json.proofs.Places.{drop_one}
+use Rattle.city_json.specs.Bytes.{colon, comma, open_brace, close_brace, quotation_mark}
+use Rattle.city_json.specs.Compact.{quoted, compact, compact_members, compact_more_members}
+use Rattle.city_json.specs.CompactEnds.{LeavesValue}
+use Rattle.city_json.specs.CompactMembers.{HasParts, LeavesMember}
+use Rattle.city_json.specs.Fits.{depth, members_depth}
+use Rattle.city_json.specs.Parts.{IsPart, AreParts}
+use Rattle.city_json.specs.Tree.{Tree, null, boolean, number, string, array, object, MemberTrees, no_members, member}
+use Rattle.city_json.specs.Writable.{IsWritable, AreWritableMembers}
+use Rattle.city_json.specs.declared.compacting.parts.Part.{Part}
+use Rattle.city_cut.specs.FrontMembers.{HasFrontParts}
+
+-- some members are left, and where they lie in some parts, all do in these after those that were found
+pub record MembersLeft (front : ℕ) (b rest : List ℕ) (parts : List Part) (all : MemberTrees) : Type 0 where
+  pub name : List ℕ
+  pub first : Tree
+  pub others : MemberTrees
+  pub writable : AreWritableMembers (member name first others)
+  pub within : members_depth (member name first others) ≤ max_depth
+  pub is : b ≡ compact_members (member name first others) ++ close_brace ∷ rest
+  pub whole : (more : List Part) → AreParts front more (member name first others) → AreParts 1 (parts ++ more) all
+
+-- the same for whatever object the text begins with
+abbrev pub GoesOn : ℕ → List ℕ → List Part → Type 0
+GoesOn at text parts = (all : MemberTrees) (rest : List ℕ) → AreWritableMembers all → members_depth all ≤ max_depth
+    → text ≡ compact (object all) ++ rest → MembersLeft at (drop at text) rest parts all
+
+-- where all members lie, and what is left
+abbrev pub IsThere : List ℕ → List Part → ℕ → Type 0
+IsThere text parts end = (all : MemberTrees) (rest : List ℕ) → AreWritableMembers all → members_depth all ≤ max_depth
+    → text ≡ compact (object all) ++ rest → AreParts 1 parts all × (drop end text ≡ rest)
+
+after_brace : (text rest : List ℕ) (all : MemberTrees) → text ≡ compact (object all) ++ rest
+    → drop 1 text ≡ compact_members all ++ close_brace ∷ rest
+after_brace text rest all is = ap (drop 1) is ∙ append_assoc (compact_members all) (close_brace ∷ []) rest
+
+pub members_begin : (text : List ℕ) (parts : List Part) → parts ≡ [] → 1 < length text
+    → get_or text 1 0 ≢ close_brace → GoesOn 1 text parts
+members_begin text parts none inside other no_members rest w within is =
+    absurd (other (first_same _ _ _ _ (sym (drop_one text 1 (get_or text 1 0) inside refl)
+    ∙ after_brace text rest no_members is)))
+members_begin text parts none inside other (member name first others) rest w within is = record {
+  name = name;
+  first = first;
+  others = others;
+  writable = w;
+  within = within;
+  is = after_brace text rest (member name first others) is;
+  whole = λ more are. subst (λ l. AreParts 1 (l ++ more) (member name first others)) (sym none) are;
+}
+
+pub members_none : (text : List ℕ) (parts : List Part) → parts ≡ [] → 1 < length text
+    → get_or text 1 0 ≡ close_brace → IsThere text parts 2
+members_none text parts none inside here no_members rest w within is =
+    (subst (λ l. AreParts 1 l no_members) (sym none) tt, ap (drop 2) is)
+members_none text parts none inside here (member name first others) rest w within is =
+    absurd (other_head quotation_mark close_brace _ _ (omega arith)
+    (sym (ap (drop 1) is) ∙ drop_one text 1 close_brace inside here))
+
+record MemberTaken (text rest : List ℕ) (at : ℕ) (part : Part) (name : List ℕ) (first : Tree) (others : MemberTrees) :
+    Type 0 where
+  pub is_part : IsPart at part name first
+  pub after : drop part.end text ≡ compact_more_members others ++ close_brace ∷ rest
+
+member_taken : (text rest : List ℕ) (at : ℕ) (part : Part) (parts : List Part) (all : MemberTrees)
+    (left : MembersLeft at (drop at text) rest parts all)
+    → LeavesMember at part (drop at text) (drop part.end text)
+    → MemberTaken text rest at part left.name left.first left.others
+member_taken text rest at part parts all left leaves =
+    let found = leaves left.name left.first (compact_more_members left.others ++ close_brace ∷ rest) left.writable.1
+    (omega (arith, left.within)) (more_members_stopped left.others rest)
+    (left.is ∙ append_assoc (quoted left.name ++ colon ∷ compact left.first) (compact_more_members left.others)
+    (close_brace ∷ rest)) in
+    record { is_part = found.0; after = found.1 }
+
+none_left : (text rest : List ℕ) (end : ℕ) (others : MemberTrees) → end < length text → get_or text end 0 ≡ close_brace
+    → drop end text ≡ compact_more_members others ++ close_brace ∷ rest
+    → (others ≡ no_members) × (drop (end + 1) text ≡ rest)
+none_left text rest end no_members inside here is =
+    (refl, others_same _ _ _ _ (sym (drop_one text end close_brace inside here) ∙ is))
+none_left text rest end (member name first others) inside here is =
+    absurd (other_head comma close_brace _ _ (omega arith) (sym is ∙ drop_one text end close_brace inside here))
+
+pub members_stop : (text : List ℕ) (at : ℕ) (part : Part) (parts new : List Part) → GoesOn at text parts
+    → LeavesMember at part (drop at text) (drop part.end text) → part.end < length text
+    → get_or text part.end 0 ≡ close_brace → new ≡ parts ++ part ∷ [] → IsThere text new (part.end + 1)
+members_stop text at part parts new on leaves inside here pushed all rest w within is =
+    let left = on all rest w within is in
+    let taken = member_taken text rest at part parts all left leaves in
+    let none = none_left text rest part.end left.others inside here taken.after in (
+      subst (λ l. AreParts 1 l all) (sym pushed)
+          (left.whole (part ∷ []) (taken.is_part, subst (λ o. AreParts (part.end + 1) [] o) (sym none.0) tt)),
+      none.1,
+    )
+
+more_left : (text rest : List ℕ) (at : ℕ) (part : Part) (parts new : List Part) (all : MemberTrees) (name : List ℕ)
+    (first : Tree) (others : MemberTrees)
+    → AreWritableMembers (member name first others) → members_depth (member name first others) ≤ max_depth
+    → ((more : List Part) → AreParts at more (member name first others) → AreParts 1 (parts ++ more) all)
+    → MemberTaken text rest at part name first others → part.end < length text → get_or text part.end 0 ≢ close_brace
+    → new ≡ parts ++ part ∷ [] → MembersLeft (part.end + 1) (drop (part.end + 1) text) rest new all
+more_left text rest at part parts new all name first no_members w within whole taken inside other pushed =
+    absurd (other (first_same _ _ _ _ (sym (drop_one text part.end (get_or text part.end 0) inside refl)
+    ∙ taken.after)))
+more_left text rest at part parts new all name first (member name₂ next others) w within whole taken inside other
+    pushed = record {
+      name = name₂;
+      first = next;
+      others = others;
+      writable = w.2;
+      within = omega (arith, within);
+      is = others_same _ _ _ _ (sym (drop_one text part.end (get_or text part.end 0) inside refl) ∙ taken.after);
+      whole = λ more are. subst (λ l. AreParts 1 l all) (pass.parts_more parts new part more pushed)
+          (whole (part ∷ more) (taken.is_part, are));
+    }
+
+pub members_go_on : (text : List ℕ) (at : ℕ) (part : Part) (parts new : List Part) → GoesOn at text parts
+    → LeavesMember at part (drop at text) (drop part.end text) → part.end < length text
+    → get_or text part.end 0 ≢ close_brace → new ≡ parts ++ part ∷ [] → GoesOn (part.end + 1) text new
+members_go_on text at part parts new on leaves inside other pushed all rest w within is =
+    let left = on all rest w within is in
+    more_left text rest at part parts new all left.name left.first left.others left.writable left.within left.whole
+    (member_taken text rest at part parts all left leaves) inside other pushed
+
+-- what begins with a brace is an object
+object_of : (value : Tree) (rest tail : List ℕ) → IsWritable value → compact value ++ rest ≡ open_brace ∷ tail
+    → (members : MemberTrees) × (value ≡ object members)
+object_of null rest tail w is = absurd (other_head 110 open_brace _ tail (omega arith) is)
+object_of (boolean true) rest tail w is = absurd (other_head 116 open_brace _ tail (omega arith) is)
+object_of (boolean false) rest tail w is = absurd (other_head 102 open_brace _ tail (omega arith) is)
+object_of (number text) rest tail w is = absurd (number_other text rest tail open_brace w refl is)
+object_of (string text) rest tail w is = absurd (other_head quotation_mark open_brace _ tail (omega arith) is)
+object_of (array items) rest tail w is = absurd (other_head 91 open_brace _ tail (omega arith) is)
+object_of (object members) rest tail w is = (members, refl)
+
+of_members : (text : List ℕ) (parts : List Part) (end : ℕ) (value : Tree) (rest : List ℕ) (members : MemberTrees)
+    → value ≡ object members → IsWritable value → depth value ≤ max_depth → text ≡ compact value ++ rest
+    → IsThere text parts end
+    → (all : MemberTrees) × (value ≡ object all) × AreParts 1 parts all × (drop end text ≡ rest)
+of_members text parts end value rest members is_object w within is on =
+    let shallow : depth (object members) ≤ max_depth = subst (λ v. depth v ≤ max_depth) is_object within in
+    let there = on members rest (subst IsWritable is_object w) (omega (arith, shallow))
+    (is ∙ ap (λ v. compact v ++ rest) is_object) in
+    (members, is_object, there.0, there.1)
+
+pub has_front_parts : (text : List ℕ) (parts : List Part) (end : ℕ) → 0 < length text → get_or text 0 0 ≡ open_brace
+    → IsThere text parts end → HasFrontParts text parts end
+has_front_parts text parts end inside opens on = λ value rest w within is.
+    let found = object_of value rest (drop 1 text) w (sym is ∙ drop_one text 0 open_brace inside opens) in
+    of_members text parts end value rest found.0 found.1 w within is on
+
+-- ---- an object that begins at a place
+pub object_leaves : (text given : List ℕ) (parts : List Part) (at end : ℕ) → given ≡ drop at text
+    → HasFrontParts given parts end → LeavesValue 128 (drop at text) (drop (at + end) text)
+object_leaves text given parts at end here has = λ value rest w within stopped is.
+    let (members, is_object, are, left) = has value rest w within (here ∙ is) in
+    sym (drop-drop end at text) ∙ (ap (drop end) (sym here) ∙ left)
+
+pub object_has_parts : (text given : List ℕ) (parts : List Part) (at end : ℕ) → given ≡ drop at text
+    → HasFrontParts given parts end → HasParts (slice_range text at (at + end)) parts
+object_has_parts text given parts at end here has = λ value w within is.
+    let front : slice_range text at (at + end) ≡ take end given =
+    ap (λ n. take n (drop at text)) (minus at end) ∙ ap (take end) (sym here) in
+    let (members, is_object, are, left) = has value (drop end given) w within
+    (sym (take-append-drop end given) ∙ ap (λ l. l ++ drop end given) (sym front ∙ is)) in
+    (members, is_object, are)
+  where
+    minus : (at end : ℕ) → (at + end) - at ≡ end
+    minus at end = omega arith
+
+-- ---- an object with nothing after it
+pub whole_parts : (text : List ℕ) (parts : List Part) (end : ℕ) → HasFrontParts text parts end → HasParts text parts
+whole_parts text parts end has = λ value w within is.
+    let (members, is_object, are, left) = has value [] w within (is ∙ sym (append-nil (compact value))) in
+    (members, is_object, are)

@@ -1,0 +1,17 @@
+use Rattle.std.proofs.Common.{◌≤◌, ◌-◌, length, map}
+use Rattle.std.specs.List.{AllZip}
+use Rattle.city_json.specs.Tree.{named_tree}
+use Rattle.city_cut.specs.Overviews.{AreHolders, IsKinIn}
+use Rattle.city_cut.proofs.QuickMembers.{GoesOn}
+use Rattle.city_cut.proofs.quick.overview.overview_of.Given as goal
+
+abbrev pub invariant-objects : goal.invariant-objects
+invariant-objects l = record {
+  within : l.at ≤ length l.text;
+  goes_on : GoesOn l.at l.text l.found.places.items;
+  kin : AllZip (IsKinIn l.text) l.found.places.items (map named_tree l.found.kin.items);
+  held : AreHolders l.text l.found.places.items l.found.held.items;
+}
+
+abbrev pub decreases-objects : goal.decreases-objects
+decreases-objects l = length l.text - l.at

@@ -1,0 +1,46 @@
+-- What one walk over the texts of city objects finds of each.
+use Rattle.std.specs.Prelude.{◌≡◌, ◌++◌, ◌∷◌, [], ℕ, List, Option, None, MatchOption, IsUtf8, slice_range}
+use Rattle.std.specs.List.{AllZip}
+use Rattle.city_json.specs.Bytes.{colon}
+use Rattle.city_json.specs.Compact.{quoted}
+use Rattle.city_json.specs.Members.{first_named}
+use Rattle.city_json.specs.Parts.{AreParts}
+use Rattle.city_json.specs.Tree.{Tree, MemberTrees, object}
+use Rattle.city_json.specs.declared.compacting.parts.Part.{Part}
+use Rattle.city_feature.specs.Quick.{IsPartNamed}
+use Rattle.city_cut.specs.Holders.{name_of}
+use Rattle.city_cut.specs.Kin.{IsSameObject}
+use Rattle.city_cut.specs.Texts.{IsCompactOf}
+use Rattle.city_cut.specs.declared.quick.holders.Holder.{Holder}
+use Rattle.city_cut.specs.declared.quick.holders.Holder.TheVariants.{Geometry, Address}
+use Rattle.city_cut.specs.declared.quick.holders.HeldParts.{HeldParts}
+
+-- no object with this text and these parts has such a member
+abbrev pub IsNowhere : Holder → List ℕ → List Part → Type 0
+IsNowhere holder text parts = (members : MemberTrees) → IsCompactOf text (object members) → AreParts 1 parts members
+    → first_named (name_of holder) members ≡ None
+
+abbrev pub IsFoundIn : Holder → List ℕ → List Part → Part → Type 0
+IsFoundIn holder text parts part = IsPartNamed text parts (quoted (name_of holder) ++ colon ∷ []) part
+
+abbrev pub IsHolderPart : Holder → List ℕ → List Part → Option Part → Type 0
+IsHolderPart holder text parts found = MatchOption found (IsNowhere holder text parts) (IsFoundIn holder text parts)
+
+-- the members in which boundaries stand lie there, in the text of whatever object this is
+pub record HasHolders (text : List ℕ) (held : HeldParts) : Type 0 where
+  pub parts : List Part
+  pub listed : (value : Tree) → IsCompactOf text value
+      → (members : MemberTrees) × (value ≡ object members) × AreParts 1 parts members
+  pub geometry : IsHolderPart Geometry text parts held.geometry
+  pub address : IsHolderPart Address text parts held.address
+
+-- the same of the objects that lie in these parts of a text
+abbrev pub AreHolders : List ℕ → List Part → List HeldParts → Type 0
+AreHolders text places held = AllZip
+    (λ (part : Part) (there : HeldParts). HasHolders (slice_range text part.value part.end) there) places held
+
+-- whatever object lies in this part of a text, this one has its name, its parents and its children
+abbrev pub IsKinIn : List ℕ → Part → List ℕ × Tree → Type 0
+IsKinIn text part kin = (name : List ℕ) (value : Tree) → IsUtf8 name
+    → slice_range text part.at part.value ≡ quoted name ++ colon ∷ []
+    → IsCompactOf (slice_range text part.value part.end) value → IsSameObject kin (name, value)

@@ -1,0 +1,158 @@
+//! What is looked at of each city object, in one walk over their texts.
+ghost use Rattle.std.specs.Prelude.{◌≡◌, ◌++◌, ◌∷◌, [], ◌<◌, ◌≤◌, length, drop, map, slice_range, IfSome, OnSome};
+ghost use Rattle.std.specs.List.{AllZip};
+ghost use Rattle.city_json.specs.CompactMembers.{HasParts, LeavesMember};
+ghost use Rattle.city_json.specs.Tree.{named_tree};
+ghost use Rattle.city_cut.specs.Overviews.{AreHolders, HasHolders, IsHolderPart, IsKinIn};
+
+use super::holders::{HeldParts, Holder};
+use super::kin::{named_kin, push_member};
+use super::members::{list_part, members_at};
+use super::texts::is_absent;
+use city_feature::{between, part_named};
+use city_json::{Members, Part, string_end};
+use std::alloc::Global;
+
+/// How many bytes the text of a city object has mostly at least.
+const COMMON_LEN: usize = 256;
+
+/// The city objects, each at its place.
+#[derive(Drop)]
+pub(super) struct Overview {
+    /// Where each lies.
+    pub places: Vec<Part>,
+    /// Each with its parents and children alone.
+    pub kin: Members,
+    /// Where boundaries may stand in each.
+    pub held: Vec<HeldParts>,
+}
+
+/// A city object with its name, and its members.
+#[derive(Drop)]
+struct PlacedObject {
+    part: Part,
+    members: Vec<Part>,
+}
+
+/// Where the member lies that begins at `at`, which is a city object.
+fn object_at(alloc: Global, text: &[u8], at: usize) -> Option<PlacedObject>
+    ensures onward { IfSome result (λ found. at < found.part.end) }
+    ensures within { IfSome result (λ found. found.part.end < length text.now) }
+    ensures is { IfSome result (λ found. LeavesMember at found.part (drop at text.now) (drop found.part.end text.now)) }
+    ensures members { IfSome result (λ found.
+        HasParts (slice_range text.now found.part.value found.part.end) found.members.items) }
+{
+    if at >= text.len() {
+        return None;
+    }
+    let colon = string_end(text, at + 1);
+    if colon == text.len() {
+        return None;
+    }
+    let found = members_at(alloc, text, colon + 1)?;
+    if found.end == text.len() {
+        return None;
+    }
+    Some(PlacedObject {
+        part: Part {
+            at,
+            value: colon + 1,
+            end: found.end,
+        },
+        members: found.parts,
+    })
+}
+
+/// The part of the member in which these boundaries stand, if it is there.
+fn part_of(text: &[u8], parts: &[Part], holder: Holder) -> Option<Option<Part>>
+    ensures { IfSome result (λ found. IsHolderPart holder text.now parts.now found) }
+{
+    let Some(part) = part_named(text, parts, holder.mark()) else {
+        if !is_absent(text, parts, holder.mark()) {
+            return None;
+        }
+        return Some(None);
+    };
+    Some(Some(part))
+}
+
+/// Where boundaries may stand in an object.
+fn held_parts(text: &[u8], parts: &[Part]) -> Option<HeldParts>
+    ensures { IfSome result (λ held. HasParts text.now parts.now → HasHolders text.now held) }
+{
+    let geometry = part_of(text, parts, Holder::Geometry)?;
+    let address = part_of(text, parts, Holder::Address)?;
+    Some(HeldParts { geometry, address })
+}
+
+fn list_held(one: HeldParts, to: &mut Vec<HeldParts>) -> Option<()>
+    ensures { OnSome result (to.new.items ≡ to.old.items ++ one ∷ []) }
+{
+    let Ok(_) = to.push(one) else {
+        return None;
+    };
+    Some(())
+}
+
+/// Looks at the object that begins at `at`: where it lies.
+fn add_object(alloc: Global, text: &[u8], at: usize, to: &mut Overview) -> Option<Part>
+    ensures onward { IfSome result (λ part. at < part.end) }
+    ensures within { IfSome result (λ part. part.end < length text.now) }
+    ensures is { IfSome result (λ part. LeavesMember at part (drop at text.now) (drop part.end text.now)) }
+    ensures places { IfSome result (λ part. to.new.places.items ≡ to.old.places.items ++ part ∷ []) }
+    ensures kin { OnSome result (AllZip (IsKinIn text.now) to.old.places.items (map named_tree to.old.kin.items)
+        → AllZip (IsKinIn text.now) to.new.places.items (map named_tree to.new.kin.items)) }
+    ensures held { OnSome result (AreHolders text.now to.old.places.items to.old.held.items
+        → AreHolders text.now to.new.places.items to.new.held.items) }
+{
+    let found = object_at(alloc, text, at)?;
+    let name = between(text, found.part.at, found.part.value)?;
+    let value = between(text, found.part.value, found.part.end)?;
+    let member = named_kin(alloc, name, value, &found.members)?;
+    let held = held_parts(value, &found.members)?;
+    list_part(found.part, &mut to.places)?;
+    push_member(member, &mut to.kin)?;
+    list_held(held, &mut to.held)?;
+    Some(found.part)
+}
+
+/// No objects, with room for those of a text of this length.
+fn no_objects(alloc: Global, len: usize) -> Option<Overview>
+    ensures places { IfSome result (λ found. found.places.items ≡ []) }
+    ensures kin { IfSome result (λ found. map named_tree found.kin.items ≡ []) }
+    ensures held { IfSome result (λ found. found.held.items ≡ []) }
+{
+    let room = len / COMMON_LEN;
+    Some(Overview {
+        places: Vec::with_capacity(alloc, room).ok()?,
+        kin: Vec::with_capacity(alloc, room).ok()?,
+        held: Vec::with_capacity(alloc, room).ok()?,
+    })
+}
+
+/// What is looked at of the city objects, whose compact text this is.
+pub(super) fn overview_of(alloc: Global, text: &[u8]) -> Option<Overview>
+    ensures places { IfSome result (λ found. HasParts text.now found.places.items) }
+    ensures kin { IfSome result (λ found.
+        AllZip (IsKinIn text.now) found.places.items (map named_tree found.kin.items)) }
+    ensures held { IfSome result (λ found. AreHolders text.now found.places.items found.held.items) }
+{
+    if text.len() < 2 {
+        return None;
+    }
+    if text[0] != b'{' {
+        return None;
+    }
+    let mut found = no_objects(alloc, text.len())?;
+    if text[1] == b'}' {
+        return Some(found);
+    }
+    let mut at = 1usize;
+    'objects: loop {
+        let part = add_object(alloc, text, at, &mut found)?;
+        if text[part.end] == b'}' {
+            return Some(found);
+        }
+        at = part.end + 1;
+    }
+}
