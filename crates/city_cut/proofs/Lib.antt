@@ -13,6 +13,7 @@ pub mod Kinship
 pub mod MemberChanges
 pub mod Numbers
 pub mod Pieces
+mod QuickAddresses
 mod QuickCopies
 mod QuickDocuments
 mod QuickFeatures

@@ -2,7 +2,6 @@
 use Rattle.std.proofs.Common.{◌≡◌, ◌∙◌, ◌++◌, ◌<◌, ◌≤◌, ◌+◌, ℕ, true, false, List, [], ◌∷◌, None, length, take, drop, get_or, slice_range, refl, sym, ap, subst, arith, append_assoc, append-nil, length-drop, inl, inr, codes}
 use Rattle.std.proofs.lemmas.Grind.{flat_map-append}
 use Rattle.std.specs.List.{flat_map, AllByRecursion}
-use Rattle.std.specs.Option.{option_to_list}
 use Rattle.city_json.proofs.CompactEnds.{items_some}
 use Rattle.city_json.proofs.Places.{drop_one, shown_one}
 use Rattle.city_json.specs.Bytes.{colon, comma, open_bracket, close_bracket, open_brace, quotation_mark}
@@ -11,15 +10,14 @@ use Rattle.city_json.specs.CompactEnds.{IsStopped, LeavesValue}
 use Rattle.city_json.specs.Compacting.{shown}
 use Rattle.city_json.specs.Fits.{AreDistinctItems, depth, items_depth}
 use Rattle.byte_streams.specs.Limits.{max_depth}
-use Rattle.city_json.specs.Members.{first_named, member_of}
+use Rattle.city_json.specs.Members.{first_named}
 use Rattle.city_json.specs.Parts.{AreParts}
 use Rattle.city_json.specs.Tree.{Tree, null, boolean, number, string, array, object, ItemTrees, no_items, item, MemberTrees}
 use Rattle.city_json.specs.Writable.{AreWritableItems, IsWritable}
 use Rattle.city_json.specs.declared.compacting.parts.Part.{Part}
 use Rattle.city_feature.proofs.QuickLines.{utf8}
-use Rattle.city_feature.specs.Changes.{with_named}
 use Rattle.city_feature.specs.Quick.{IsPartNamed}
-use Rattle.city_cut.specs.Boundaries.{IsAddress, IsBounded, IsGeometry, address_boundary, boundaries, changed_items, changed_members, in_member, located, own_boundary, relabelled_boundary, relabelled_object}
+use Rattle.city_cut.specs.Boundaries.{IsBounded, IsGeometry, boundaries, changed_items, changed_members, own_boundary, relabelled_boundary, relabelled_object}
 use Rattle.city_cut.specs.Copied.{Copies, CopiesItems}
 use Rattle.city_cut.specs.Holders.{AreHeld, IsHeld, IsShaped, boundary_in, held_uses, relabelled_held, relabelled_in}
 use Rattle.city_cut.specs.declared.quick.holders.Holder.{Holder}
@@ -28,32 +26,7 @@ use Rattle.city_cut.specs.Items.{item_list}
 use Rattle.city_cut.specs.Leaves.{IsBoundary, IsNested, leaves, relabelled}
 use Rattle.city_cut.specs.Texts.{IsCompactOf}
 use Rattle.city_cut.proofs.CopiedTexts.{copies_both, copies_so, copies_text, first_of, number_not_array, other_first, others_of, part_array, shown_here}
-use Rattle.city_cut.proofs.QuickTexts.{changed_absent, changed_with, copies_exchanged, member_there, slice_first, with_same}
-
--- ---- what is made of values
-abbrev pub GeometryMade : ℕ → List ℕ → List ℕ → List ℕ → List ℕ → List ℕ → List ℕ → Tree → Type 0
-GeometryMade count t o line t' o' line' value = IsGeometry count value
-    × Copies t o line t' o' line' (flat_map leaves (own_boundary value))
-    (λ change. compact (relabelled_boundary change value))
-
-abbrev pub AddressMade : ℕ → List ℕ → List ℕ → List ℕ → List ℕ → List ℕ → List ℕ → Tree → Type 0
-AddressMade count t o line t' o' line' value = IsAddress count value
-    × Copies t o line t' o' line' (flat_map leaves (address_boundary value))
-    (λ change. compact (in_member (codes "location") (relabelled_boundary change) value))
-
-abbrev pub ItemMade : Holder → ℕ → List ℕ → List ℕ → List ℕ → List ℕ → List ℕ → List ℕ → Tree → Type 0
-ItemMade holder count t o line t' o' line' value = IsHeld holder count value
-    × Copies t o line t' o' line' (flat_map leaves (boundary_in holder value))
-    (λ change. compact (relabelled_in holder change value))
-
-abbrev pub HeldMade : Holder → ℕ → List ℕ → List ℕ → List ℕ → List ℕ → List ℕ → List ℕ → Tree → Type 0
-HeldMade holder count t o line t' o' line' value = AreHeld holder count value
-    × Copies t o line t' o' line' (held_uses holder value) (λ change. compact (relabelled_held holder change value))
-
-abbrev pub ObjectMade : ℕ → List ℕ → List ℕ → List ℕ → List ℕ → List ℕ → List ℕ → Tree → Type 0
-ObjectMade count t o line t' o' line' value = IsBounded count value
-    × Copies t o line t' o' line' (flat_map leaves (boundaries value))
-    (λ change. compact (relabelled_object change value))
+use Rattle.city_cut.proofs.QuickTexts.{changed_absent, copies_exchanged, member_there, slice_first}
 
 part_boundary : (count : ℕ) (value : Tree) (tail : List ℕ) → IsWritable value
     → compact value ++ [] ≡ open_bracket ∷ tail → IsNested count value → IsBoundary count value
@@ -122,84 +95,25 @@ geometry_made count text given t o line line₁ t' o' line₂ line₃ parts part
           (sym (append-nil (leaves found.value)) ∙ sym (ap (flat_map leaves) there)) (λ change. refl),
     )
 
--- ---- an address
--- what is no object has no members, and stays
-not_object : (text : List ℕ) (value : Tree) (name : List ℕ) → (0 < length text → get_or text 0 0 ≡ open_brace → ⊥)
-    → IsCompactOf text value → (member_of name value ≡ None) × ((f : Tree → Tree) → in_member name f value ≡ value)
-not_object text (object members) name other of =
-    absurd (other (omega (arith, ap length of.is)) (ap (λ l. get_or l 0 0) of.is))
-not_object text null name other of = (refl, λ f. refl)
-not_object text (boolean b) name other of = (refl, λ f. refl)
-not_object text (number n) name other of = (refl, λ f. refl)
-not_object text (string s) name other of = (refl, λ f. refl)
-not_object text (array items) name other of = (refl, λ f. refl)
+-- ---- what is made of values
+abbrev pub GeometryMade : ℕ → List ℕ → List ℕ → List ℕ → List ℕ → List ℕ → List ℕ → Tree → Type 0
+GeometryMade count t o line t' o' line' value = IsGeometry count value
+    × Copies t o line t' o' line' (flat_map leaves (own_boundary value))
+    (λ change. compact (relabelled_boundary change value))
 
--- an address that has no boundary
-module _ (count : ℕ) (text t o line line' : List ℕ) (appended : line' ≡ line ++ text) where
-  address_stays : (value : Tree) → IsCompactOf text value → address_boundary value ≡ []
-      → ((change : List ℕ → List ℕ) → in_member (codes "location") (relabelled_boundary change) value ≡ value)
-      → AddressMade count t o line t o line' value
-  address_stays value of none same = (
-    subst (AllByRecursion (IsBoundary count)) (sym none) tt,
-    copies_so t o line t o line' [] (flat_map leaves (address_boundary value)) (λ change. text)
-        (λ change. compact (in_member (codes "location") (relabelled_boundary change) value))
-        (copies_text t o line line' text appended) (sym (ap (flat_map leaves) none))
-        (λ change. of.is ∙ ap compact (sym (same change))),
-  )
+abbrev pub ItemMade : Holder → ℕ → List ℕ → List ℕ → List ℕ → List ℕ → List ℕ → List ℕ → Tree → Type 0
+ItemMade holder count t o line t' o' line' value = IsHeld holder count value
+    × Copies t o line t' o' line' (flat_map leaves (boundary_in holder value))
+    (λ change. compact (relabelled_in holder change value))
 
-  pub address_no_object : (0 < length text → get_or text 0 0 ≡ open_brace → ⊥) → (value : Tree) → IsCompactOf text value
-      → AddressMade count t o line t o line' value
-  address_no_object other value of =
-      let none = not_object text value (codes "location") other of in
-      address_stays value of (ap located none.0) (λ change. none.1 (relabelled_boundary change))
+abbrev pub HeldMade : Holder → ℕ → List ℕ → List ℕ → List ℕ → List ℕ → List ℕ → List ℕ → Tree → Type 0
+HeldMade holder count t o line t' o' line' value = AreHeld holder count value
+    × Copies t o line t' o' line' (held_uses holder value) (λ change. compact (relabelled_held holder change value))
 
-  pub address_absent : (members : MemberTrees) → IsCompactOf text (object members)
-      → first_named (codes "location") members ≡ None → AddressMade count t o line t o line' (object members)
-  address_absent members of none = address_stays (object members) of (ap located none)
-      (λ change. ap object (changed_absent (codes "location") (relabelled_boundary change) members none))
-
-  pub address_bare : (given : List ℕ) (parts : List Part) (part : Part) (members : MemberTrees)
-      → IsCompactOf text (object members) → AreParts 1 parts members
-      → IsPartNamed text parts (quoted (codes "location") ++ colon ∷ []) part
-      → given ≡ slice_range text part.value part.end → (0 < length given → get_or given 0 0 ≡ open_brace → ⊥)
-      → AddressMade count t o line t o line' (object members)
-  address_bare given parts part members of are named lies other =
-      let found = member_there text parts members (codes "location") part given (utf8 (codes "location") refl) of are
-      named lies in
-      let none = not_object given found.value (codes "boundaries") other found.of in
-      address_stays (object members) of (ap located found.is ∙ ap option_to_list none.0)
-      (λ change. ap object
-      (changed_with (codes "location") (relabelled_boundary change) found.value members of.distinct.0 found.is
-      ∙ (ap (λ v. with_named (codes "location") v members) (none.1 (relabelled change))
-      ∙ with_same (codes "location") found.value members found.is)))
-
-pub address_made : (count : ℕ) (text given t o line line₁ t' o' line₂ line₃ : List ℕ) (parts : List Part) (part : Part)
-    (members : MemberTrees) → IsCompactOf text (object members) → AreParts 1 parts members
-    → IsPartNamed text parts (quoted (codes "location") ++ colon ∷ []) part
-    → given ≡ slice_range text part.value part.end
-    → line₁ ≡ line ++ take part.value text
-    → ((value : Tree) → IsCompactOf given value → IsGeometry count value
-    × Copies t o line₁ t' o' line₂ (flat_map leaves (own_boundary value))
-    (λ change. compact (relabelled_boundary change value)))
-    → line₃ ≡ line₂ ++ drop part.end text
-    → IsAddress count (object members) × Copies t o line t' o' line₃
-    (flat_map leaves (address_boundary (object members)))
-    (λ change. compact (in_member (codes "location") (relabelled_boundary change) (object members)))
-address_made count text given t o line line₁ t' o' line₂ line₃ parts part members of are named lies front made back =
-    let found = member_there text parts members (codes "location") part given (utf8 (codes "location") refl) of are
-    named lies in
-    let inner = made found.value found.of in
-    let there : address_boundary (object members) ≡ own_boundary found.value = rw found.is refl in
-    let all = copies_exchanged t o line line₁ t' o' line₂ line₃ text part members (codes "location") found.value
-    (flat_map leaves (own_boundary found.value)) relabelled_boundary of.distinct.0 found.is found.exchanged front
-    inner.1 back in (
-      subst (AllByRecursion (IsBoundary count)) (sym there) inner.0.1,
-      copies_so t o line t' o' line₃ (flat_map leaves (own_boundary found.value))
-          (flat_map leaves (address_boundary (object members)))
-          (λ change. compact (object (changed_members (codes "location") (relabelled_boundary change) members)))
-          (λ change. compact (in_member (codes "location") (relabelled_boundary change) (object members))) all
-          (sym (ap (flat_map leaves) there)) (λ change. refl),
-    )
+abbrev pub ObjectMade : ℕ → List ℕ → List ℕ → List ℕ → List ℕ → List ℕ → List ℕ → Tree → Type 0
+ObjectMade count t o line t' o' line' value = IsBounded count value
+    × Copies t o line t' o' line' (flat_map leaves (boundaries value))
+    (λ change. compact (relabelled_object change value))
 
 shaped : (holder : Holder) (items : ItemTrees) → IsShaped holder (array items)
 shaped Geometry items = tt

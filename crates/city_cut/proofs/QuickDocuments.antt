@@ -33,12 +33,9 @@ use Rattle.city_cut.proofs.WholeDocument.{Bounds, cuttable}
 pub points_there : (given : List ℕ) (members : MemberTrees) (ps : List Triple)
     → IsCompactOf given (unwrap_or (first_named (codes "vertices") members) (array no_items)) → SpellsVertices given ps
     → HasPoints members ps
-points_there given members ps of (items, written, writable, vertices) = (
-  items,
-  compact-tells (unwrap_or (first_named (codes "vertices") members) (array no_items)) (array items) of.writable
-      writable (sym of.is ∙ written),
-  vertices,
-)
+points_there given members ps of (items, written, writable, vertices) =
+    let value = unwrap_or (first_named (codes "vertices") members) (array no_items) in
+    (items, compact-tells value (array items) of.writable writable (sym of.is ∙ written), vertices)
 
 -- a member that may be absent
 items_or : (found : Option Tree) (items : ItemTrees) → unwrap_or found (array no_items) ≡ array items

@@ -123,8 +123,8 @@ exchanged_absent text none line name members value of absent empty is =
     is ∙ (ap (λ l. l ++ text) empty ∙ (of.is
     ∙ ap compact (sym (none_is_unchanged name (λ old. value) (object members) (ap is_some absent)))))
 
-pub emptied_is : (text bare given empty again : List ℕ) (parts passed : List Part) (members : MemberTrees) (value : Tree)
-    → IsCompactOf text (object members)
+pub emptied_is : (text bare given empty again : List ℕ) (parts passed : List Part) (members : MemberTrees)
+    (value : Tree) → IsCompactOf text (object members)
     → bare ≡ compact (object (changed_named (codes "CityObjects") (λ old. object no_members) members)) → given ≡ bare
     → ((of : Tree) → IsCompactOf given of → (members₂ : MemberTrees) × (of ≡ object members₂)
     × AreParts 1 parts members₂) → passed ≡ parts

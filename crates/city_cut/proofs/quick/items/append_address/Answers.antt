@@ -3,7 +3,7 @@ use Rattle.city_json.specs.Parts.{AreParts}
 use Rattle.city_json.specs.Tree.{object}
 use Rattle.city_cut.specs.Texts.{IsCompactOf}
 use Rattle.city_cut.proofs.CopiedTexts.{not_both}
-use Rattle.city_cut.proofs.QuickCopies.{AddressMade, address_absent, address_bare, address_made, address_no_object}
+use Rattle.city_cut.proofs.QuickAddresses.{AddressMade, address_absent, address_bare, address_made, address_no_object}
 use Rattle.city_cut.proofs.QuickTexts.{on_some_more}
 use Rattle.city_cut.proofs.quick.items.append_address.Goals as goal
 
