@@ -15,7 +15,7 @@ from streams import attributes
 # The most instructions for each byte of a document that is cut on its text.
 MAX_INSTRUCTIONS = 41
 # The peak memory at most, in times of a document that is cut on its text, and the size of one whose peak is measured.
-MAX_PEAK, LARGE = 2.75, 20 * MEGA
+MAX_PEAK, LARGE = 2.7, 20 * MEGA
 SURFACES = '[{"type":"GroundSurface"},{"type":"RoofSurface","slope":%d},{"type":"WallSurface"}]'
 PLAIN, TEXTURED, ADDRESSED = "buildings with semantics", "the same with textures", "the same with addresses"
 
