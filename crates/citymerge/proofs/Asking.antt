@@ -3,13 +3,14 @@ use Rattle.std.proofs.Common.{◌≡◌, ◌⊎◌, ℕ, Bool, true, false, List
 use Rattle.city_feature.specs.Feature.{FeatureValue}
 use Rattle.city_feature.specs.declared.base.Base.{Base}
 use Rattle.citymerge.specs.Merging.{IsRefusedAsked, PassedOnAsked}
+use Rattle.tile_merge.specs.Giving.{Giving}
 use Rattle.tile_merge.specs.Merged.{IsOutputFault, IsRefusedEarly, IsRefusedMerge}
 use Rattle.tile_merge.specs.Threaded.{HasNoThread, IsRefusedThreaded}
 use Rattle.tile_merge.specs.Turns.{AreTurns}
 use Rattle.byte_streams.specs.declared.places.MergeFault.{MergeFault}
 use Rattle.tile_merge.specs.declared.merging.report.Report.{Report}
 
-module _ {R : Type 0} (gives : R → List ℕ → Bool → Type 0) (readers : List R) (in_turn : Bool) (base other : Base)
+module _ {R : Type 0} (gives : Giving R) (readers : List R) (in_turn : Bool) (base other : Base)
     (same : base ≡ other) (result : Result Report MergeFault) where
   module _ (IsWanted : FeatureValue → Type 0) (old new : Option (List ℕ)) where
     pub asked_in_turn : in_turn ≡ true → IfErr result

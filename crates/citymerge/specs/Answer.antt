@@ -13,6 +13,7 @@ use Rattle.document_stream.specs.CutStream.{WroteCut}
 use Rattle.document_stream.specs.Input.{SomeInput}
 use Rattle.tile_stream.specs.Filtered.{WroteStream}
 use Rattle.tile_stream.specs.Head.{SomeTile}
+use Rattle.tile_merge.specs.Giving.{Giving}
 use Rattle.tile_merge.specs.Merged.{MergedAll}
 use Rattle.tile_stream.specs.Tile.{stream_limits}
 use Rattle.tile_stream.specs.Unread.{IsOfTile}
@@ -26,7 +27,7 @@ IsStatus parsed.Memory status = status ≡ 1
 IsStatus _ status = (status ≡ 0) ⊎ (status ≡ 1)
 
 -- the tiles of the paths were opened and merged, as was asked for
-abbrev pub DidMerge : {R : Type 0} → (R → List ℕ → Bool → Type 0) → (List ℕ → R → Type 0) → MergeArgs → Type 0 → Option (List ℕ) → Option (List ℕ) → ℕ → ℕ → Type 0
+abbrev pub DidMerge : {R : Type 0} → Giving R → (List ℕ → R → Type 0) → MergeArgs → Type 0 → Option (List ℕ) → Option (List ℕ) → ℕ → ℕ → Type 0
 DidMerge {R} gives Opens args IsFlushed old new before after =
     (readers : List R)
     × (counts : List ℕ)
@@ -36,7 +37,7 @@ DidMerge {R} gives Opens args IsFlushed old new before after =
     × (after ≡ before)
 
 -- what was written where a run ends as done, whose input is of a reader that gives this
-abbrev pub IsDone : {R : Type 0} → (R → List ℕ → Bool → Type 0) → (List ℕ → R → Type 0) → (List ℕ → Bool → Type 0) → Parsed → Type 0 → Option (List ℕ) → Option (List ℕ) → ℕ → ℕ → Type 0
+abbrev pub IsDone : {R : Type 0} → Giving R → (List ℕ → R → Type 0) → (List ℕ → Bool → Type 0) → Parsed → Type 0 → Option (List ℕ) → Option (List ℕ) → ℕ → ℕ → Type 0
 IsDone gives Opens input (parsed.Merge args) IsFlushed old new before after =
     DidMerge gives Opens args IsFlushed old new before after
 IsDone gives Opens input (parsed.Filter choice) IsFlushed old new before after =

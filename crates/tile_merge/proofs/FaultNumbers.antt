@@ -5,8 +5,9 @@ use Rattle.byte_streams.specs.Faults.{number_of}
 use Rattle.byte_streams.specs.declared.fault.Fault.{Fault}
 use Rattle.byte_streams.specs.declared.fault.Fault.TheVariants.{NoHeader, NotUtf8, Syntax, TooDeep, DuplicateName, NotCityJson, Version, NoTransform, Decimal, ScaleNotPositive, HeaderNotEmpty, ScaleDiffers, CrsDiffers, OffGrid, ShiftRange, ExtensionClash, TemplatesDiffer, NotAFeature, VertexShape, VertexNotInteger, VertexRange, LineTooLong, TileTooLong, Read, Write, Memory, NoThread, Handoff, TooManyTiles, ChildMissing, Orphan, BoundaryIndex}
 use Rattle.tile_handoff.specs.declared.note.End.{End}
-use Rattle.tile_merge.specs.EndNotes.{Ended, end_of, end_with, ended_so}
+use Rattle.tile_merge.specs.EndNotes.{end_of, end_with, ended_so}
 use Rattle.tile_stream.specs.Texts.{Outcome}
+use Rattle.tile_merge.specs.declared.merging.ends.TileEnd.{TileEnd}
 
 -- the item at a place, counted from 1
 abbrev at_place : ℕ → List Fault → Option Fault
@@ -55,14 +56,14 @@ told_by ChildMissing = refl
 told_by Orphan = refl
 told_by BoundaryIndex = refl
 
-abbrev told_end : End → Ended
+abbrev told_end : End → TileEnd
 told_end end = ended_so end.count (option_map (λ fault. record { line = end.line; fault = fault })
     (numbered end.number))
 
-tells_itself : (total : ℕ) (outcome : Outcome) → told_end (end_with total outcome) ≡ ended_so total outcome
-tells_itself total None = refl
-tells_itself total (Some at) = ap (λ fault.
-    ended_so total (option_map (λ (f : Fault). record { line = at.line; fault = f }) fault)) (told_by at.fault)
+tells_itself : (count : ℕ) (outcome : Outcome) → told_end (end_with count outcome) ≡ ended_so count outcome
+tells_itself count None = refl
+tells_itself count (Some at) = ap (λ fault.
+    ended_so count (option_map (λ (f : Fault). record { line = at.line; fault = f }) fault)) (told_by at.fault)
 
-pub end_tells : (a b : Ended) → end_of a ≡ end_of b → a ≡ b
-end_tells a b same = sym (tells_itself a.total a.outcome) ∙ ap told_end same ∙ tells_itself b.total b.outcome
+pub end_tells : (a b : TileEnd) → end_of a ≡ end_of b → a ≡ b
+end_tells a b same = sym (tells_itself a.count a.stop) ∙ ap told_end same ∙ tells_itself b.count b.stop

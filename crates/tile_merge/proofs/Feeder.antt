@@ -1,11 +1,12 @@
 -- The notes that the thread of a tile puts, one after another.
-use Rattle.std.proofs.Common.{◌≡◌, ◌+◌, ◌++◌, ℕ, Bool, List, [], ◌∷◌, map, refl, sym, ap, subst, ◌∙◌, arith, append_assoc, append-nil}
+use Rattle.std.proofs.Common.{◌≡◌, ◌+◌, ◌++◌, ℕ, List, [], ◌∷◌, map, refl, sym, ap, subst, ◌∙◌, arith, append_assoc, append-nil}
 use Rattle.std.proofs.lemmas.Grind.{common_steps}
 use Rattle.std.proofs.lemmas.List.{map-append}
 use Rattle.tile_handoff.specs.declared.note.End.{End}
 use Rattle.tile_handoff.specs.declared.note.Note.{Note}
 use Rattle.tile_handoff.specs.declared.note.Note.TheVariants.{Line as LineNote, End as EndNote}
 use Rattle.tile_stream.specs.Coming.{ComesBack, GivesText, SomethingComes}
+use Rattle.tile_merge.specs.Giving.{Giving}
 use Rattle.tile_merge.specs.EndNotes.{end_of, ended_so, notes_of}
 use Rattle.tile_stream.specs.Texts.{Outcome}
 use Rattle.tile_merge.specs.Threads.{Fed, FedSoFar, IsFed, MayFeed}
@@ -51,7 +52,7 @@ module _ (before : List (List ℕ) → Outcome → Type 0) (old : List Note) whe
       put = so_far.put;
     }
 
-module _ {R : Type 0} (gives : R → List ℕ → Bool → Type 0) (fed : Fed R) (Unasked : Type 0) (old : List Note)
+module _ {R : Type 0} (gives : Giving R) (fed : Fed R) (Unasked : Type 0) (old : List Note)
     (now : List (List ℕ) → Outcome → Type 0) (count : ℕ) (new : List Note)
     (so_far : FedSoFar (MayFeed gives fed) now count old new) (end : End) (newer : List Note)
     (put : newer ≡ new ++ EndNote end ∷ []) where

@@ -9,7 +9,9 @@ use Rattle.tile_handoff.specs.declared.note.End.{End}
 use Rattle.tile_handoff.specs.declared.note.Note.{Note}
 use Rattle.tile_handoff.specs.declared.note.Note.TheVariants.{Line as LineNote, End as EndNote}
 use Rattle.tile_stream.specs.Coming.{MayComeTo, ComesBack, GivesText, SomethingComes}
-use Rattle.tile_merge.specs.EndNotes.{Ended, end_of, ended_so}
+use Rattle.tile_merge.specs.Giving.{Giving}
+use Rattle.tile_merge.specs.declared.merging.ends.TileEnd.{TileEnd}
+use Rattle.tile_merge.specs.EndNotes.{end_of, ended_so}
 use Rattle.tile_merge.specs.Feeds.{FeedState, Course, course_of, ThenComes, NotesCome, MayTake, TakesNone, TakesTurn, SomeCourse}
 use Rattle.tile_stream.specs.Texts.{Outcome}
 use Rattle.tile_stream.specs.TileState.{TileState, most_to_come}
@@ -23,14 +25,14 @@ not_empty (other ∷ left) note is = cc is
 module _ (Then More : Course → Type 0) where
   -- no note more, but what follows them is another
   pub notes_stay : ((course : Course) → More course → Then course)
-      → (left : List Note) (texts : List (List ℕ)) (ended : Ended) → NotesCome More left texts ended
+      → (left : List Note) (texts : List (List ℕ)) (ended : TileEnd) → NotesCome More left texts ended
       → NotesCome Then left texts ended
   notes_stay step [] texts ended come = step (course_of texts ended) come
   notes_stay step (LineNote other ∷ left) texts ended come = (come.0, come.1, notes_stay step left come.0 ended come.2)
   notes_stay step (EndNote end ∷ left) texts ended come = come
 
-  pub notes_follow : (more : List (List ℕ)) (last : Ended) → More (course_of more last)
-      → (left : List Note) → has_end left ≡ false → (texts : List (List ℕ)) (ended : Ended)
+  pub notes_follow : (more : List (List ℕ)) (last : TileEnd) → More (course_of more last)
+      → (left : List Note) → has_end left ≡ false → (texts : List (List ℕ)) (ended : TileEnd)
       → NotesCome Then left texts ended → SomeCourse (λ course. NotesCome More left course.texts course.ended)
   notes_follow more last comes [] is_open texts ended come = (course_of more last, comes)
   notes_follow more last comes (LineNote other ∷ left) is_open texts ended come =
@@ -39,17 +41,17 @@ module _ (Then More : Course → Type 0) where
   notes_follow more last comes (EndNote end ∷ left) is_open texts ended come = absurd (cc is_open)
 
   module _ (text : List ℕ) where
-    pub line_put : ((more : List (List ℕ)) (ended : Ended) → More (course_of more ended)
+    pub line_put : ((more : List (List ℕ)) (ended : TileEnd) → More (course_of more ended)
         → Then (course_of (text ∷ more) ended))
-        → (left : List Note) (texts : List (List ℕ)) (ended : Ended)
+        → (left : List Note) (texts : List (List ℕ)) (ended : TileEnd)
         → NotesCome More (left ++ LineNote text ∷ []) texts ended → NotesCome Then left texts ended
     line_put step [] texts ended come =
         subst (λ all. Then (course_of all ended)) (sym come.1) (step come.0 ended come.2)
     line_put step (LineNote other ∷ left) texts ended come = (come.0, come.1, line_put step left come.0 ended come.2)
     line_put step (EndNote end ∷ left) texts ended come = absurd (not_empty left (LineNote text) come.0)
 
-    pub line_follows : (more : List (List ℕ)) (last : Ended) → More (course_of more last)
-        → (left : List Note) → has_end left ≡ false → (texts : List (List ℕ)) (ended : Ended)
+    pub line_follows : (more : List (List ℕ)) (last : TileEnd) → More (course_of more last)
+        → (left : List Note) → has_end left ≡ false → (texts : List (List ℕ)) (ended : TileEnd)
         → NotesCome Then left texts ended → SomeCourse
         (λ course. NotesCome More (left ++ LineNote text ∷ []) course.texts course.ended)
     line_follows more last comes [] is_open texts ended come = (course_of (text ∷ more) last, (more, refl, comes))
@@ -58,18 +60,18 @@ module _ (Then More : Course → Type 0) where
         (course_of (other ∷ some.0.texts) some.0.ended, (some.0.texts, refl, some.1))
     line_follows more last comes (EndNote end ∷ left) is_open texts ended come = absurd (cc is_open)
 
-  module _ (last : Ended) (end : End) (is_end : end ≡ end_of last) where
+  module _ (last : TileEnd) (end : End) (is_end : end ≡ end_of last) where
     pub end_put : Then (course_of [] last)
-        → (left : List Note) (texts : List (List ℕ)) (ended : Ended)
+        → (left : List Note) (texts : List (List ℕ)) (ended : TileEnd)
         → NotesCome More (left ++ EndNote end ∷ []) texts ended → NotesCome Then left texts ended
     end_put over [] texts ended come =
         let same : last ≡ ended = end_tells last ended (sym is_end ∙ come.2) in
         let Over : List (List ℕ) → Type 0 = λ all. Then (course_of all ended) in
-        subst Over (sym come.1) (subst (λ (e : Ended). Then (course_of [] e)) same over)
+        subst Over (sym come.1) (subst (λ (e : TileEnd). Then (course_of [] e)) same over)
     end_put over (LineNote other ∷ left) texts ended come = (come.0, come.1, end_put over left come.0 ended come.2)
     end_put over (EndNote other ∷ left) texts ended come = absurd (not_empty left (EndNote end) come.0)
 
-    pub end_follows : (left : List Note) → has_end left ≡ false → (texts : List (List ℕ)) (ended : Ended)
+    pub end_follows : (left : List Note) → has_end left ≡ false → (texts : List (List ℕ)) (ended : TileEnd)
         → NotesCome Then left texts ended → SomeCourse
         (λ course. NotesCome More (left ++ EndNote end ∷ []) course.texts course.ended)
     end_follows [] is_open texts ended come = (course_of [] last, (refl, refl, is_end))
@@ -84,8 +86,8 @@ pub set_there : (queues : QueuesState) (queue : Queue) → length queues.tiles �
 set_there queues queue one = get_or-set_same queues.tiles 0 queue _ (omega (arith, one))
 
 -- a feed before and after one more note was read
-module _ {R : Type 0} (gives : R → List ℕ → Bool → Type 0) (IsWanted : FeatureValue → Type 0) (shift : Triple)
-    (places later_places count : ℕ) (last : Option End) (before after : TileState R) where
+module _ {R : Type 0} (gives : Giving R) (IsWanted : FeatureValue → Type 0) (shift : Triple)
+    (places later_places count : ℕ) (last : Option TileEnd) (before after : TileState R) where
   abbrev feed : TileState R → ℕ → ℕ → Queue → FeedState R
   feed unread capacity lines queue = record {
     unread = unread;
@@ -104,12 +106,12 @@ module _ {R : Type 0} (gives : R → List ℕ → Bool → Type 0) (IsWanted : F
     -- a line was read
     module _ (text : List ℕ) (given : GivesText (MayComeTo gives IsWanted shift before)
         (MayComeTo gives IsWanted shift after) text) (new : Queue) (is_new : new ≡ longer queue (LineNote text)) where
-      step : (more : List (List ℕ)) (ended : Ended)
+      step : (more : List (List ℕ)) (ended : TileEnd)
           → ThenComes false gives IsWanted shift after (count + 1) last (course_of more ended)
           → ThenComes false gives IsWanted shift before count last (course_of (text ∷ more) ended)
-      step more ended comes = (given more ended.outcome comes.0, omega (arith, comes.1))
+      step more ended comes = (given more ended.stop comes.0, omega (arith, comes.1))
 
-      line_taken-open : (closed : Bool) → closed ≡ false → (texts : List (List ℕ)) (ended : Ended)
+      line_taken-open : (closed : Bool) → closed ≡ false → (texts : List (List ℕ)) (ended : TileEnd)
           → NotesCome (ThenComes closed gives IsWanted shift after (count + 1) last) (queue.left ++ LineNote text ∷ [])
           texts ended → NotesCome (ThenComes closed gives IsWanted shift before count last) queue.left texts ended
       line_taken-open true is texts ended come = absurd (cc is)
@@ -124,7 +126,7 @@ module _ {R : Type 0} (gives : R → List ℕ → Bool → Type 0) (IsWanted : F
           q.left course.texts course.ended in
           line_taken-open queue.closed is_open course.texts course.ended (subst P is_new come)
 
-      line_some-open : (closed : Bool) → closed ≡ false → (texts : List (List ℕ)) (ended : Ended)
+      line_some-open : (closed : Bool) → closed ≡ false → (texts : List (List ℕ)) (ended : TileEnd)
           → has_end queue.left ≡ false → SomethingComes (MayComeTo gives IsWanted shift after)
           → NotesCome (ThenComes closed gives IsWanted shift before count last) queue.left texts ended
           → SomeCourse (λ course. NotesCome (ThenComes closed gives IsWanted shift after (count + 1) last)
@@ -147,20 +149,20 @@ module _ {R : Type 0} (gives : R → List ℕ → Bool → Type 0) (IsWanted : F
 
     -- a line was read that is not chosen
     module _ (back : ComesBack (MayComeTo gives IsWanted shift before) (MayComeTo gives IsWanted shift after)) where
-      nothing_taken-open : (closed : Bool) → closed ≡ false → (texts : List (List ℕ)) (ended : Ended)
+      nothing_taken-open : (closed : Bool) → closed ≡ false → (texts : List (List ℕ)) (ended : TileEnd)
           → NotesCome (ThenComes closed gives IsWanted shift after count last) queue.left texts ended
           → NotesCome (ThenComes closed gives IsWanted shift before count last) queue.left texts ended
       nothing_taken-open true is texts ended come = absurd (cc is)
       nothing_taken-open false is texts ended come =
           notes_stay (ThenComes false gives IsWanted shift before count last)
           (ThenComes false gives IsWanted shift after count last)
-          (λ course comes. (back course.texts course.ended.outcome comes.0, comes.1)) queue.left texts ended come
+          (λ course comes. (back course.texts course.ended.stop comes.0, comes.1)) queue.left texts ended come
 
       pub nothing_taken : TakesNone (MayTake gives IsWanted (feed before places count queue))
           (MayTake gives IsWanted (feed after later_places count queue))
       nothing_taken course come = nothing_taken-open queue.closed is_open course.texts course.ended come
 
-      nothing_some-open : (closed : Bool) → closed ≡ false → (texts : List (List ℕ)) (ended : Ended)
+      nothing_some-open : (closed : Bool) → closed ≡ false → (texts : List (List ℕ)) (ended : TileEnd)
           → has_end queue.left ≡ false → SomethingComes (MayComeTo gives IsWanted shift after)
           → NotesCome (ThenComes closed gives IsWanted shift before count last) queue.left texts ended
           → SomeCourse (λ course. NotesCome (ThenComes closed gives IsWanted shift after count last) queue.left
@@ -180,7 +182,7 @@ module _ {R : Type 0} (gives : R → List ℕ → Bool → Type 0) (IsWanted : F
     -- the end was read
     module _ (outcome : Outcome) (over : Comes before [] outcome) (end : End)
         (is_end : end ≡ end_of (ended_so count outcome)) (new : Queue) (is_new : new ≡ longer queue (EndNote end)) where
-      end_taken-open : (closed : Bool) → closed ≡ false → (texts : List (List ℕ)) (ended : Ended)
+      end_taken-open : (closed : Bool) → closed ≡ false → (texts : List (List ℕ)) (ended : TileEnd)
           → NotesCome (ThenComes true gives IsWanted shift after count last) (queue.left ++ EndNote end ∷ []) texts
           ended → NotesCome (ThenComes closed gives IsWanted shift before count last) queue.left texts ended
       end_taken-open true is texts ended come = absurd (cc is)
@@ -196,7 +198,7 @@ module _ {R : Type 0} (gives : R → List ℕ → Bool → Type 0) (IsWanted : F
           course.texts course.ended in
           end_taken-open queue.closed is_open course.texts course.ended (subst P is_new come)
 
-      end_some-open : (closed : Bool) → closed ≡ false → (texts : List (List ℕ)) (ended : Ended)
+      end_some-open : (closed : Bool) → closed ≡ false → (texts : List (List ℕ)) (ended : TileEnd)
           → has_end queue.left ≡ false
           → NotesCome (ThenComes closed gives IsWanted shift before count last) queue.left texts ended
           → SomeCourse (λ course. NotesCome (ThenComes true gives IsWanted shift after count last)
@@ -229,7 +231,7 @@ line_first Then text others left is was =
       (course_of first.0 was.0.ended, first.2),
     )
 
-pub line_turn : {R : Type 0} (gives : R → List ℕ → Bool → Type 0) (IsWanted : FeatureValue → Type 0)
+pub line_turn : {R : Type 0} (gives : Giving R) (IsWanted : FeatureValue → Type 0)
     (before : FeedState R) (queue : Queue) (text : List ℕ)
     → before.notes.left ≡ LineNote text ∷ queue.left → queue.closed ≡ before.notes.closed
     → SomeCourse (MayTake gives IsWanted before)

@@ -1,5 +1,5 @@
 -- The headers of tiles, joined or refused.
-use Rattle.std.proofs.Common.{◌≡◌, ◌≤◌, ◌<◌, ◌+◌, ◌-◌, ◌++◌, ◌⊎◌, ℕ, zero, suc, Bool, List, [], ◌∷◌, IsSomeAnd, slice_get, length, map, refl, sym, ap, subst, inl, inr, arith}
+use Rattle.std.proofs.Common.{◌≡◌, ◌≤◌, ◌<◌, ◌+◌, ◌-◌, ◌++◌, ◌⊎◌, ℕ, zero, suc, List, [], ◌∷◌, IsSomeAnd, slice_get, length, map, refl, sym, ap, subst, inl, inr, arith}
 use Rattle.byte_streams.specs.declared.fault.Fault.{Fault}
 use Rattle.byte_streams.specs.declared.fault.Fault.TheVariants.{Memory}
 use Rattle.city_json.specs.Tree.{MemberTrees}
@@ -8,6 +8,7 @@ use Rattle.city_feature.specs.Joined.{AllAgree, IsFirstMisfit, RefusesJoin, IsJo
 use Rattle.city_feature.specs.declared.base.Base.{Base}
 use Rattle.city_grid.specs.Axes.{Triple}
 use Rattle.city_grid.specs.Transform.{Grid}
+use Rattle.tile_merge.specs.Giving.{Giving}
 use Rattle.tile_merge.specs.Merged.{HeadedTile, HaveHeads, headers_of, IsFirstHeadless, IsFirstUnfit, IsOfNoTile}
 use Rattle.tile_merge.specs.Opened.{AllThree, OpenState, IsOpened}
 use Rattle.byte_streams.specs.declared.places.MergeFault.{MergeFault}
@@ -86,7 +87,7 @@ module _ {X : Type 0} (line : X → ℕ) (P : ℕ → Type 0) where
       one_later head heads place P (at_place heads items numbers place some)
 
 -- a refusal of joining, at the line of the tile's header
-module _ {R : Type 0} (gives : R → List ℕ → Bool → Type 0) (base : Base) (readers : List R) (tiles : List (OpenState R))
+module _ {R : Type 0} (gives : Giving R) (base : Base) (readers : List R) (tiles : List (OpenState R))
     (headers : List HeaderValue) (opened : AllThree (IsOpened gives) readers tiles headers) where
   pub within_tiles : (tile : ℕ) (fault : Fault) → RefusesJoin base headers tile fault → tile ≤ length tiles
   within_tiles tile fault refused =

@@ -1,3 +1,4 @@
+pub mod Answering
 pub mod FaultNumbers
 pub mod Feeder
 pub mod Feeding

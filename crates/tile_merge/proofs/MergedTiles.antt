@@ -1,5 +1,5 @@
 -- From the tiles that were opened and what they gave to the tiles of a merge.
-use Rattle.std.proofs.Common.{◌≡◌, ◌+◌, ℕ, Bool, List, [], ◌∷◌, length, map, refl, sym, ap, subst, ◌∙◌, arith}
+use Rattle.std.proofs.Common.{◌≡◌, ◌+◌, ℕ, List, [], ◌∷◌, length, map, refl, sym, ap, subst, ◌∙◌, arith}
 use Rattle.std.specs.List.{AllByRecursion}
 use Rattle.city_feature.specs.Feature.{FeatureValue}
 use Rattle.city_feature.specs.Header.{HeaderValue}
@@ -7,19 +7,20 @@ use Rattle.city_feature.specs.Joined.{IsJoined}
 use Rattle.city_feature.specs.declared.base.Base.{Base}
 use Rattle.city_grid.specs.Axes.{Triple}
 use Rattle.tile_stream.specs.Coming.{MayComeTo}
+use Rattle.tile_merge.specs.Giving.{Giving}
 use Rattle.tile_merge.specs.EndNotes.{ended_so, outcomes_in, totals_in}
 use Rattle.tile_merge.specs.Feeds.{FeedState, Course, course_of, MayTake}
-use Rattle.tile_merge.specs.Merged.{HeadedTile, MergedTile, HaveHeads, headers_of, shifts_of, texts_of, outcomes_of, ComesToTexts, Merges}
+use Rattle.tile_merge.specs.Merged.{HeadedTile, MergedTile, HaveHeads, headers_of, merged_shifts, merged_texts, merged_outcomes, ComesToTexts, Merges}
 use Rattle.tile_merge.specs.Opened.{AllThree, OpenState, IsOpened}
-use Rattle.tile_merge.specs.Rounds.{IsFeedOf, MayTakeAll, SomeCourses, texts_in, ends_in}
+use Rattle.tile_merge.specs.Rounds.{IsFeedOf, MayTakeAll, SomeCourses, course_texts, course_ends}
 use Rattle.tile_stream.proofs.HeldFirst.{something, tile_comes}
 
-module _ {R : Type 0} (gives : R → List ℕ → Bool → Type 0) (IsWanted : FeatureValue → Type 0) where
+module _ {R : Type 0} (gives : Giving R) (IsWanted : FeatureValue → Type 0) where
   -- what may come of a tile that was opened, moved by its shift
   abbrev pub MayGive : OpenState R → Triple → Course → Type 0
   MayGive tile shift course =
-      MayComeTo gives IsWanted shift tile.unread course.texts course.ended.outcome
-      × (course.ended.total ≡ length course.texts)
+      MayComeTo gives IsWanted shift tile.unread course.texts course.ended.stop
+      × (course.ended.count ≡ length course.texts)
 
   module _ (capacity : ℕ) where
     fresh : (tile : OpenState R) (shift : Triple) (feed : FeedState R) → IsFeedOf capacity tile shift feed
@@ -68,10 +69,10 @@ module _ {R : Type 0} (gives : R → List ℕ → Bool → Type 0) (IsWanted : F
     pub heads : HaveHeads gives readers (map (λ (m : MergedTile). m.tile) merged)
     pub comes : AllByRecursion (ComesToTexts IsWanted) merged
     pub headers_are : headers_of (map (λ (m : MergedTile). m.tile) merged) ≡ headers
-    pub shifts_are : shifts_of merged ≡ shifts
-    pub texts_are : texts_of merged ≡ texts_in courses
-    pub outcomes_are : outcomes_of merged ≡ outcomes_in (ends_in courses)
-    pub totals_are : totals_in (ends_in courses) ≡ map length (texts_of merged)
+    pub shifts_are : merged_shifts merged ≡ shifts
+    pub texts_are : merged_texts merged ≡ course_texts courses
+    pub outcomes_are : merged_outcomes merged ≡ outcomes_in (course_ends courses)
+    pub totals_are : totals_in (course_ends courses) ≡ map length (merged_texts merged)
 
   pub are_merged : (readers : List R) (tiles : List (OpenState R)) (headers : List HeaderValue) (shifts : List Triple)
       (courses : List Course) → AllThree (IsOpened gives) readers tiles headers → AllThree MayGive tiles shifts courses
@@ -96,7 +97,7 @@ module _ {R : Type 0} (gives : R → List ℕ → Bool → Type 0) (IsWanted : F
         shift = shift;
         texts = course.texts;
         outcome =
-            course.ended.outcome;
+            course.ended.stop;
       } in
       let more = are_merged readers tiles headers shifts courses opened.1 given.1 in
       record {
@@ -104,14 +105,14 @@ module _ {R : Type 0} (gives : R → List ℕ → Bool → Type 0) (IsWanted : F
         heads = ((head.1, head.2), more.heads);
         comes = (
           tile_comes gives IsWanted shift tile.unread opened.0.head.0 opened.0.head.1 opened.0.none_ready
-              (omega (arith, opened.0.line, opened.0.later)) course.texts course.ended.outcome comes,
+              (omega (arith, opened.0.line, opened.0.later)) course.texts course.ended.stop comes,
           more.comes,
         );
         headers_are = ap (λ xs. header ∷ xs) more.headers_are;
         shifts_are = ap (λ xs. shift ∷ xs) more.shifts_are;
         texts_are = ap (λ xs. course.texts ∷ xs) more.texts_are;
-        outcomes_are = ap (λ xs. course.ended.outcome ∷ xs) more.outcomes_are;
-        totals_are = ap (λ n. n ∷ totals_in (ends_in courses)) given.0.1
+        outcomes_are = ap (λ xs. course.ended.stop ∷ xs) more.outcomes_are;
+        totals_are = ap (λ n. n ∷ totals_in (course_ends courses)) given.0.1
             ∙ ap (λ xs. length course.texts ∷ xs) more.totals_are;
       }
   are_merged [] [] [] [] (course ∷ courses) opened given = absurd given
@@ -128,7 +129,7 @@ module _ {R : Type 0} (gives : R → List ℕ → Bool → Type 0) (IsWanted : F
       → Merges gives IsWanted base readers all.merged line
   merges base readers headers line shifts courses all joined = record {
     heads = all.heads;
-    joined = subst (λ (hs : List HeaderValue). IsJoined base hs line (shifts_of all.merged)) (sym all.headers_are)
+    joined = subst (λ (hs : List HeaderValue). IsJoined base hs line (merged_shifts all.merged)) (sym all.headers_are)
         (subst (IsJoined base headers line) (sym all.shifts_are) joined);
     texts = all.comes;
   }

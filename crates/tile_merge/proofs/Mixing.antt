@@ -1,11 +1,11 @@
 -- Texts that are taken of several tiles, as they come: what was taken interleaves them.
-use Rattle.std.proofs.Common.{◌≡◌, ◌≢◌, ◌≤◌, ◌<◌, ◌+◌, ◌-◌, ◌++◌, ℕ, zero, suc, Bool, true, false, List, [], ◌∷◌, length, take, get_or, set, map, ◌==◌, if◌then◌else◌, refl, sym, ap, subst, ◌∙◌, arith, append-nil, length-append}
+use Rattle.std.proofs.Common.{◌≡◌, ◌≢◌, ◌≤◌, ◌<◌, ◌+◌, ◌++◌, ℕ, zero, suc, Bool, true, false, List, [], ◌∷◌, length, get_or, set, map, ◌==◌, if◌then◌else◌, refl, sym, ap, ◌∙◌, arith, append-nil, length-append}
 use Rattle.std.proofs.lemmas.Bool.{eq-eqb}
 use Rattle.std.proofs.lemmas.Bool.Decides.{nat_tests}
-use Rattle.std.proofs.lemmas.List.{get_or-set_same, get_or-set_other, get_or-map, length-map}
+use Rattle.std.proofs.lemmas.List.{get_or-set_same, get_or-set_other, length-map}
 use Rattle.std.proofs.lemmas.List.Elements.{All-append}
-use Rattle.std.specs.List.{All, AllByRecursion, concat}
-use Rattle.tile_merge.specs.Interleaves.{Interleaves, items_at}
+use Rattle.std.specs.List.{All, AllByRecursion}
+use Rattle.tile_merge.specs.Interleaves.{Interleaves, items_numbered}
 use Rattle.tile_merge.specs.Opened.{AllThree}
 use Rattle.tile_merge.proofs.Opening.{all_three_long}
 use Rattle.tile_merge.proofs.TurnsInterleave.{at-append, at_other, at_own}
@@ -18,7 +18,7 @@ set_long (x ∷ items) (suc i) y = ap suc (set_long items i y)
 module _ {X : Type 0} where
   -- the items of a number, where one more item is of it or of another
   at_one : (t n : ℕ) (item : X) (same : Bool) → (n == t) ≡ same
-      → items_at t (n ∷ []) (item ∷ []) ≡ (if same then item ∷ [] else [])
+      → items_numbered t (n ∷ []) (item ∷ []) ≡ (if same then item ∷ [] else [])
   at_one t n item same is = rw is refl
 
   at_this : (lists : List (List X)) (i t : ℕ) (item : X) → i < length lists → (same : Bool) → (i == t) ≡ same
@@ -58,7 +58,7 @@ module _ {X : Type 0} where
             (λ k d there. only_own Own k d (omega (arith, there)) (omega (arith, longer, within)));
         each = λ t there.
             at-append t mixed.numbers (i ∷ []) out (item ∷ []) mixed.long
-            ∙ ap (λ items. items ++ items_at t (i ∷ []) (item ∷ [])) (mixed.each t (omega (arith, there, longer)))
+            ∙ ap (λ items. items ++ items_numbered t (i ∷ []) (item ∷ [])) (mixed.each t (omega (arith, there, longer)))
             ∙ ap (λ items. get_or lists t [] ++ items) (at_one t i item (i == t) refl)
             ∙ at_this lists i t item within (i == t) refl;
       }
@@ -111,41 +111,42 @@ module _ {X : Type 0} where
       All-append Own (map (λ item. next) rest) (numbers_of (suc next) rests)
       (same_own Own next (omega (arith, fits)) rest) (numbers_own count (suc next) rests (omega (arith, fits)))
 
-  here_at : (t next : ℕ) (rest : List X) → next ≡ t → items_at t (map (λ item. next) rest) rest ≡ rest
+  here_at : (t next : ℕ) (rest : List X) → next ≡ t → items_numbered t (map (λ item. next) rest) rest ≡ rest
   here_at t next [] same = refl
   here_at t next (item ∷ rest) same = at_own t next (map (λ item. next) rest) item rest same
       ∙ ap (λ items. item ∷ items) (here_at t next rest same)
 
-  elsewhere_at : (t next : ℕ) (rest : List X) → next ≢ t → items_at t (map (λ item. next) rest) rest ≡ []
+  elsewhere_at : (t next : ℕ) (rest : List X) → next ≢ t → items_numbered t (map (λ item. next) rest) rest ≡ []
   elsewhere_at t next [] other = refl
   elsewhere_at t next (item ∷ rest) other = at_other t next (map (λ item. next) rest) item rest other
       ∙ elsewhere_at t next rest other
 
-  before_at : (t next : ℕ) (rests : List (List X)) → t < next → items_at t (numbers_of next rests) (flat rests) ≡ []
+  before_at : (t next : ℕ) (rests : List (List X)) → t < next
+      → items_numbered t (numbers_of next rests) (flat rests) ≡ []
   unfolding numbers_of
   before_at t next [] before = refl
   before_at t next (rest ∷ rests) before =
       at-append t (map (λ item. next) rest) (numbers_of (suc next) rests) rest (flat rests)
       (length-map rest (λ (item : X). next))
-      ∙ ap (λ items. items ++ items_at t (numbers_of (suc next) rests) (flat rests))
+      ∙ ap (λ items. items ++ items_numbered t (numbers_of (suc next) rests) (flat rests))
       (elsewhere_at t next rest (λ same. omega (arith, same, before)))
       ∙ before_at t (suc next) rests (omega (arith, before))
 
   rest_at : (t next place : ℕ) (rests : List (List X)) → t ≡ next + place
-      → items_at t (numbers_of next rests) (flat rests) ≡ get_or rests place []
+      → items_numbered t (numbers_of next rests) (flat rests) ≡ get_or rests place []
   unfolding numbers_of
   rest_at t next place [] is = refl
   rest_at t next zero (rest ∷ rests) is =
       at-append t (map (λ item. next) rest) (numbers_of (suc next) rests) rest (flat rests)
       (length-map rest (λ (item : X). next))
-      ∙ ap (λ items. items ++ items_at t (numbers_of (suc next) rests) (flat rests))
+      ∙ ap (λ items. items ++ items_numbered t (numbers_of (suc next) rests) (flat rests))
       (here_at t next rest (omega (arith, is)))
       ∙ ap (λ items. rest ++ items) (before_at t (suc next) rests (omega (arith, is)))
       ∙ append-nil rest
   rest_at t next (suc place) (rest ∷ rests) is =
       at-append t (map (λ item. next) rest) (numbers_of (suc next) rests) rest (flat rests)
       (length-map rest (λ (item : X). next))
-      ∙ ap (λ items. items ++ items_at t (numbers_of (suc next) rests) (flat rests))
+      ∙ ap (λ items. items ++ items_numbered t (numbers_of (suc next) rests) (flat rests))
       (elsewhere_at t next rest (λ same. omega (arith, same, is)))
       ∙ rest_at t (suc next) place rests (omega (arith, is))
 
@@ -178,7 +179,7 @@ module _ {X : Type 0} where
             (numbers_own (length wholes) 0 rests (omega (arith, long.0, long.1)));
         each = λ t there.
             at-append t mixed.numbers (numbers_of 0 rests) out (flat rests) mixed.long
-            ∙ ap (λ items. items ++ items_at t (numbers_of 0 rests) (flat rests))
+            ∙ ap (λ items. items ++ items_numbered t (numbers_of 0 rests) (flat rests))
             (mixed.each t (omega (arith, there, long.0)))
             ∙ ap (λ items. get_or taken t [] ++ items) (rest_at t 0 t rests (omega arith))
             ∙ sym (parted_at taken wholes rests parted t);

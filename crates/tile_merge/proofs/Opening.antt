@@ -1,10 +1,11 @@
 -- Tiles whose headers were taken, one after another.
-use Rattle.std.proofs.Common.{◌≡◌, ◌+◌, ◌++◌, ℕ, Bool, List, [], ◌∷◌, length, map, refl, sym, ap, subst, ◌∙◌, arith}
+use Rattle.std.proofs.Common.{◌≡◌, ◌+◌, ◌++◌, ℕ, List, [], ◌∷◌, length, map, refl, sym, ap, subst, ◌∙◌, arith}
 use Rattle.std.proofs.lemmas.List.{map-append}
 use Rattle.city_feature.specs.Header.{HeaderValue}
 use Rattle.city_feature.specs.Values.{HeaderJson, header_value}
 use Rattle.tile_stream.specs.Head.{SomeTile, HasNoHead, GivesHead, GivesHeld}
 use Rattle.tile_stream.specs.Held.{Held, HeldLine}
+use Rattle.tile_merge.specs.Giving.{Giving}
 use Rattle.tile_merge.specs.Merged.{HeadedTile, HaveHeads, headers_of, IsFirstHeadless}
 use Rattle.tile_merge.specs.Opened.{AllThree, OpenState, IsOpened}
 use Rattle.tile_stream.specs.Tile.{TileLines, stream_limits}
@@ -46,7 +47,7 @@ module _ {A B C : Type 0} (P : A → B → C → Type 0) where
 
 -- ---- heads ----
 
-module _ {R : Type 0} (gives : R → List ℕ → Bool → Type 0) where
+module _ {R : Type 0} (gives : Giving R) where
   -- one tile more was opened
   pub opened_push : (readers : List R) (tiles : List (OpenState R)) (headers : List HeaderJson) (reader : R)
       (tile : OpenState R) (header : HeaderJson) → AllThree (IsOpened gives) readers tiles (map header_value headers)

@@ -1,10 +1,11 @@
 -- Tiles that are ready to be merged in turn, or why they are not.
-use Rattle.std.proofs.Common.{◌≡◌, ◌≤◌, ◌+◌, ◌⊎◌, ◌==◌, ℕ, zero, suc, Bool, false, All, List, [], ◌∷◌, length, inl, inr, refl, ap, arith, if◌then◌else◌}
+use Rattle.std.proofs.Common.{◌≡◌, ◌≤◌, ◌+◌, ◌⊎◌, ◌==◌, ℕ, zero, suc, false, All, List, [], ◌∷◌, length, inl, inr, refl, ap, arith, if◌then◌else◌}
 use Rattle.std.proofs.lemmas.Bool.Decides.{nat_tests}
 use Rattle.byte_streams.specs.declared.fault.Fault.TheVariants.{Memory}
 use Rattle.city_feature.specs.Header.{HeaderValue}
 use Rattle.city_feature.specs.declared.base.Base.{Base}
 use Rattle.tile_stream.specs.Filtered.{failures_after_refusal, failures_after_write}
+use Rattle.tile_merge.specs.Giving.{Giving}
 use Rattle.tile_merge.specs.Merged.{IsFirstHeadless, IsFirstUnfit, IsOfNoTile, IsRefusedEarly}
 use Rattle.tile_merge.specs.Opened.{AllThree, OpenState, IsOpened}
 use Rattle.tile_stream.specs.TileState.{most_to_come, most_texts}
@@ -22,7 +23,7 @@ pub quiet_memory : (refusal : MergeFault) → IsOfNoTile refusal → refusal.fau
 quiet_memory refusal none is count =
     rw (none.0, is) refl
 
-module _ {R : Type 0} (gives : R → List ℕ → Bool → Type 0) (base : Base) (readers : List R) where
+module _ {R : Type 0} (gives : Giving R) (base : Base) (readers : List R) where
   pub refused_early : (refusal : MergeFault) → IsFirstHeadless gives readers refusal
       ⊎ IsFirstUnfit gives base readers refusal ⊎ (IsOfNoTile refusal × (refusal.fault ≡ Memory))
       → IsRefusedEarly gives base readers refusal

@@ -6,21 +6,22 @@ use Rattle.std.proofs.KnownBytes.{Appends-nil, Appends-trans}
 use Rattle.std.proofs.lemmas.Grind.{flat_map-append}
 use Rattle.std.specs.List.{AllZip, AllByRecursion, list_any}
 use Rattle.city_feature.specs.Feature.{FeatureValue}
-use Rattle.tile_merge.specs.EndNotes.{Ended, end_of}
+use Rattle.tile_merge.specs.Giving.{Giving}
+use Rattle.tile_merge.specs.declared.merging.ends.TileEnd.{TileEnd}
 use Rattle.tile_merge.specs.Feeds.{FeedState, Course, ThenComes, NotesCome, MayTake, TakesTurn, SomeCourse, IsOver, most_ahead, text_before}
 use Rattle.tile_merge.specs.Opened.{AllThree}
-use Rattle.tile_merge.specs.Rounds.{texts_in, ends_in, MayTakeAll, SomeCourses, all_ahead, texts_given, lines_of, WroteRound, WroteTurns, WroteTurnsFront, TurnsSoFar}
+use Rattle.tile_merge.specs.Rounds.{course_texts, course_ends, MayTakeAll, SomeCourses, all_ahead, texts_given, lines_of, WroteRound, WroteTurns, WroteTurnsFront, TurnsSoFar}
 use Rattle.tile_stream.specs.Stream.{with_newline}
 use Rattle.tile_merge.specs.Turns.{firsts, rests, turns}
 use Rattle.tile_merge.proofs.TurnsLaws.{turns_step, turns_nothing}
 
-module _ {R : Type 0} (gives : R → List ℕ → Bool → Type 0) (IsWanted : FeatureValue → Type 0) where
+module _ {R : Type 0} (gives : Giving R) (IsWanted : FeatureValue → Type 0) where
   abbrev May : FeedState R → Course → Type 0
   May feed course = MayTake gives IsWanted feed course
 
   -- of a tile that is over nothing more comes, and its end is known
   over_course : (feed : FeedState R) → IsOver feed → (course : Course) → May feed course → (course.texts ≡ [])
-      × (feed.last ≡ Some (end_of course.ended))
+      × (feed.last ≡ Some course.ended)
   over_course feed over course may =
       let Comes : List _ → Type 0 = λ left. NotesCome
       (ThenComes feed.notes.closed gives IsWanted feed.shift feed.unread feed.count feed.last) left course.texts
@@ -59,9 +60,9 @@ module _ {R : Type 0} (gives : R → List ℕ → Bool → Type 0) (IsWanted : F
     where
       pub all : List Course
       pub may : MayTakeAll gives IsWanted before all
-      pub first : firsts (texts_in all) ≡ texts_given given
-      pub rest : rests (texts_in all) ≡ texts_in courses
-      pub ended : ends_in all ≡ ends_in courses
+      pub first : firsts (course_texts all) ≡ texts_given given
+      pub rest : rests (course_texts all) ≡ course_texts courses
+      pub ended : course_ends all ≡ course_ends courses
 
   pub round_back : (before after : List (FeedState R)) (given : List (Option (List ℕ)))
       → AllThree (TakesTurn gives IsWanted) before after given
@@ -73,9 +74,10 @@ module _ {R : Type 0} (gives : R → List ℕ → Bool → Type 0) (IsWanted : F
       record {
         all = one.there ∷ more.all;
         may = (one.may, more.may);
-        first = ap (λ xs. xs ++ firsts (texts_in more.all)) one.first ∙ ap (λ ys. option_to_list text ++ ys) more.first;
-        rest = ap (λ xs. xs ∷ rests (texts_in more.all)) one.rest ∙ ap (λ ys. course.texts ∷ ys) more.rest;
-        ended = ap (λ x. x ∷ ends_in more.all) one.ended ∙ ap (λ ys. course.ended ∷ ys) more.ended;
+        first = ap (λ xs. xs ++ firsts (course_texts more.all)) one.first
+            ∙ ap (λ ys. option_to_list text ++ ys) more.first;
+        rest = ap (λ xs. xs ∷ rests (course_texts more.all)) one.rest ∙ ap (λ ys. course.texts ∷ ys) more.rest;
+        ended = ap (λ x. x ∷ course_ends more.all) one.ended ∙ ap (λ ys. course.ended ∷ ys) more.ended;
       }
   round_back [] [] [] turns (course ∷ courses) may = absurd may
   round_back [] [] (text ∷ given) turns courses may = absurd turns
@@ -132,8 +134,8 @@ module _ {R : Type 0} (gives : R → List ℕ → Bool → Type 0) (IsWanted : F
   -- where no tile gave a text, all are over
   pub record IsAllOver (after : List (FeedState R)) (given : List (Option (List ℕ))) (courses : List Course) : Type 0
     where
-      pub none : AllByRecursion (λ (texts : List (List ℕ)). texts ≡ []) (texts_in courses)
-      pub ends : AllZip (λ (feed : FeedState R) (ended : Ended). feed.last ≡ Some (end_of ended)) after (ends_in courses)
+      pub none : AllByRecursion (λ (texts : List (List ℕ)). texts ≡ []) (course_texts courses)
+      pub ends : AllZip (λ (feed : FeedState R) (ended : TileEnd). feed.last ≡ Some ended) after (course_ends courses)
       pub nothing : texts_given given ≡ []
 
   pub all_over : (before after : List (FeedState R)) (given : List (Option (List ℕ)))
@@ -179,17 +181,18 @@ module _ {R : Type 0} (gives : R → List ℕ → Bool → Type 0) (IsWanted : F
 
           back : (courses : List Course) → MayTakeAll gives IsWanted after courses
               → (all : List Course) × MayTakeAll gives IsWanted before all
-              × (turns (texts_in all) ≡ (so_far.out ++ texts_given given) ++ turns (texts_in courses))
-              × (ends_in all ≡ ends_in courses)
+              × (turns (course_texts all) ≡ (so_far.out ++ texts_given given) ++ turns (course_texts courses))
+              × (course_ends all ≡ course_ends courses)
           back courses may =
               let one = round_back now after given round.1 courses may in
               let all = so_far.back one.all one.may in
-              let step = turns_step (texts_in one.all) ∙ ap (λ xs. xs ++ turns (rests (texts_in one.all))) one.first
+              let step = turns_step (course_texts one.all)
+              ∙ ap (λ xs. xs ++ turns (rests (course_texts one.all))) one.first
               ∙ ap (λ ls. texts_given given ++ turns ls) one.rest in (
                 all.0,
                 all.1,
                 all.2 ∙ ap (λ xs. so_far.out ++ xs) step
-                    ∙ sym (append_assoc so_far.out (texts_given given) (turns (texts_in courses))),
+                    ∙ sym (append_assoc so_far.out (texts_given given) (turns (course_texts courses))),
                 all.3 ∙ one.ended,
               )
 
@@ -204,25 +207,25 @@ module _ {R : Type 0} (gives : R → List ℕ → Bool → Type 0) (IsWanted : F
           pub turns_smaller : any ≡ true → all_ahead after < all_ahead now
           turns_smaller is = round_fewer now after given round.1 (sym round.2 ∙ is)
 
-          pub turns_over : any ≡ false → WroteTurns gives IsWanted before after old new
+          pub turns_over : any ≡ false → WroteTurns gives IsWanted [] before after old new
           turns_over is =
               let some = round_some now after given round.1 in
               let over = all_over now after given round.1 (sym round.2 ∙ is) some.0 some.1 in
               let all = back some.0 some.1 in
-              let Ends : List Ended → Type 0 = λ ends.
-              AllZip (λ (feed : FeedState R) (ended : Ended). feed.last ≡ Some (end_of ended)) after ends in
+              let Ends : List TileEnd → Type 0 = λ ends.
+              AllZip (λ (feed : FeedState R) (ended : TileEnd). feed.last ≡ Some ended) after ends in
               let lines = ap lines_of (all.2 ∙ ap (λ xs. (so_far.out ++ texts_given given) ++ xs)
-              (turns_nothing (texts_in some.0) over.none) ∙ append-nil (so_far.out ++ texts_given given)) in
+              (turns_nothing (course_texts some.0) over.none) ∙ append-nil (so_far.out ++ texts_given given)) in
               (all.0, all.1, subst Ends (sym all.3) over.ends, subst (Appends old new) (sym lines) wrote)
 
-        pub turns_failed : (new : Option (List ℕ)) → WroteTurnsFront gives IsWanted now mid new
-            → WroteTurnsFront gives IsWanted before old new
+        pub turns_failed : (new : Option (List ℕ)) → WroteTurnsFront gives IsWanted [] now mid new
+            → WroteTurnsFront gives IsWanted [] before old new
         turns_failed new front =
             let all = so_far.back front.0 front.2 in
-            let lines = ap lines_of all.2 ∙ flat_map-append with_newline so_far.out (turns (texts_in front.0)) in
+            let lines = ap lines_of all.2 ∙ flat_map-append with_newline so_far.out (turns (course_texts front.0)) in
             let count = length (lines_of so_far.out) + front.1 in
-            let part = ap (take count) lines ∙ take-append-add (lines_of so_far.out) (lines_of (turns (texts_in front.0)))
-            front.1 in (
+            let part = ap (take count) lines
+            ∙ take-append-add (lines_of so_far.out) (lines_of (turns (course_texts front.0))) front.1 in (
               all.0,
               count,
               all.1,

@@ -1,6 +1,5 @@
 -- Tiles that join, each with its thread, or why one has none.
-use Rattle.std.proofs.Common.{◌≡◌, ◌≤◌, ◌<◌, ◌-◌, ◌++◌, ◌⊎◌, ℕ, Bool, List, [], ◌∷◌, Option, Result, Ok, Err, IfErr, length, take, take_all, get_or, inl, inr, refl, sym, ap, subst, ◌∙◌, arith}
-use Rattle.std.proofs.lemmas.Grind.{common_steps}
+use Rattle.std.proofs.Common.{◌≡◌, ◌≤◌, ◌<◌, ◌-◌, ◌⊎◌, ℕ, List, [], ◌∷◌, Option, Result, Ok, Err, IfErr, length, inl, inr, refl, sym, ap, subst, arith}
 use Rattle.std.proofs.KnownBytes.{Keeps-refl}
 use Rattle.byte_streams.specs.declared.fault.Fault.{Fault}
 use Rattle.byte_streams.specs.declared.fault.Fault.TheVariants.{Memory, NoThread}
@@ -10,39 +9,18 @@ use Rattle.city_feature.specs.Joined.{IsJoined}
 use Rattle.city_feature.specs.declared.base.Base.{Base}
 use Rattle.city_feature.specs.declared.choices.Choice.{Choice}
 use Rattle.city_grid.specs.Axes.{Triple}
+use Rattle.tile_merge.specs.Giving.{Giving}
 use Rattle.tile_merge.specs.Interleaves.{Interleaves}
 use Rattle.tile_merge.specs.Merged.{IsRefusedEarly, IsRefusedMerge}
-use Rattle.tile_merge.specs.Opened.{AllThree, OpenState, IsOpened}
+use Rattle.tile_merge.specs.Opened.{AllThree, AreJoined, OpenState, IsOpened}
 use Rattle.tile_merge.specs.Threaded.{HeadersJoin, HasNoThread, IsRefusedThreaded}
 use Rattle.tile_merge.specs.Threads.{RunningState, AreFresh, IsRunOf, IsUnstarted}
 use Rattle.byte_streams.specs.declared.places.MergeFault.{MergeFault}
 use Rattle.tile_merge.specs.declared.merging.report.Report.{Report}
-use Rattle.tile_merge.proofs.Feeds.{take_next}
-use Rattle.tile_merge.proofs.InTurn.{of_early}
+use Rattle.tile_merge.proofs.Answering.{of_early}
 use Rattle.tile_merge.proofs.Opening.{have_heads, all_three_long}
 use Rattle.tile_merge.proofs.Readying.{quiet_memory, quiet_tile}
 use Rattle.tile_stream.specs.Filtered.{failures_after_refusal}
-use Rattle.tile_merge.proofs.Threes.{all_three_push}
-
-module _ {A B C : Type 0} (P : A → B → C → Type 0) where
-  -- all of the first list were gone through
-  pub threes_all : (xs yielded : List A) (ys : List B) (zs : List C) → yielded ≡ xs → length ys ≡ length xs
-      → AllThree P yielded (take (length yielded) ys) zs → AllThree P xs ys zs
-  threes_all xs yielded ys zs same long all =
-      let whole = take_all (length yielded) ys (omega (arith, long, ap length same)) in
-      let Holds : List A → List B → Type 0 = λ front back. AllThree P front back zs in
-      subst (λ front. Holds front ys) same (subst (Holds yielded) whole all)
-
-  -- one place more
-  pub threes_more : (xs : List A) (ys : List B) (zs newer : List C) (x : A) (y : B) (z : C)
-      → AllThree P xs (take (length xs) ys) zs → length xs < length ys → y ≡ get_or ys (length xs) y → P x y z
-      → newer ≡ zs ++ z ∷ []
-      → AllThree P (xs ++ x ∷ []) (take (length (xs ++ x ∷ [])) ys) newer
-  threes_more xs ys zs newer x y z all within is_y holds grown =
-      let longer : take (length (xs ++ x ∷ [])) ys ≡ take (length xs) ys ++ y ∷ [] =
-      ap (λ n. take n ys) (grind (arith, common_steps)) ∙ take_next ys (length xs) y within
-      ∙ ap (λ b. take (length xs) ys ++ b ∷ []) (sym is_y) in
-      rw (longer, grown) (all_three_push P xs (take (length xs) ys) zs x y z all holds)
 
 -- a refusal to start the thread of a tile
 pub unstarted : (count tile : ℕ) → 0 < tile → tile ≤ count → (fault : Fault) → (fault ≡ Memory) ⊎ (fault ≡ NoThread)
@@ -63,24 +41,23 @@ quiet_unstarted count refusal (inl memory) n =
     quiet_memory refusal (none, ap (λ (r : MergeFault). r.line) memory) (ap (λ (r : MergeFault). r.fault) memory) n
 quiet_unstarted count refusal (inr lacking) n = quiet_tile refusal (refusal.tile - 1) (omega (arith, lacking.2)) n
 
-module _ {R : Type 0} (gives : R → List ℕ → Bool → Type 0) (base : Base) (readers : List R) where
-  pub not_started : (tiles : List (OpenState R)) (headers : List HeaderValue) (header : List ℕ) (shifts : List Triple)
-      → AllThree (IsOpened gives) readers tiles headers → IsJoined base headers header shifts
-      → (refusal : MergeFault) → IsUnstarted (length tiles) refusal → HasNoThread gives base readers refusal
-      ⊎ IsRefusedEarly gives base readers refusal
-  not_started tiles headers header shifts opened joined refusal (inl memory) =
+module _ {R : Type 0} (gives : Giving R) (base : Base) (readers : List R) where
+  pub not_started : (tiles : List (OpenState R)) (shifts : List Triple) (line : List ℕ)
+      → AreJoined gives base readers tiles shifts line → (refusal : MergeFault) → IsUnstarted (length tiles) refusal
+      → HasNoThread gives base readers refusal ⊎ IsRefusedEarly gives base readers refusal
+  not_started tiles shifts line all refusal (inl memory) =
       let none = ap (λ (r : MergeFault). r.tile) memory in
       inr (inr (inr (inr ((none, ap (λ (r : MergeFault). r.line) memory), ap (λ (r : MergeFault). r.fault) memory))))
-  not_started tiles headers header shifts opened joined refusal (inr lacking) =
-      let long = all_three_long (IsOpened gives) readers tiles headers opened in
-      let heads = have_heads gives readers tiles headers opened in
+  not_started tiles shifts line all refusal (inr lacking) =
+      let long = all_three_long (IsOpened gives) readers tiles all.headers all.opened in
+      let heads = have_heads gives readers tiles all.headers all.opened in
       let joins : HeadersJoin gives base readers = (
         heads.0,
-        header,
+        line,
         shifts,
         heads.1,
-        subst (λ (hs : List HeaderValue). IsJoined base hs header shifts)
-            (sym heads.2) joined,
+        subst (λ (hs : List HeaderValue). IsJoined base hs line shifts)
+            (sym heads.2) all.joined,
       ) in
       inl (lacking.0, lacking.1, lacking.2, omega (arith, lacking.3, long.0), joins)
 

@@ -1,10 +1,12 @@
 -- The lines among the notes that were taken of a tile, and its end note.
-use Rattle.std.proofs.Common.{◌≡◌, ◌++◌, ℕ, List, [], ◌∷◌, Option, Some, None, is_some, length, map, refl, sym, ap, subst, ◌∙◌, true, Bool, append-nil}
+use Rattle.std.proofs.Common.{◌≡◌, ◌++◌, ℕ, List, [], ◌∷◌, Option, Some, None, is_some, length, map, refl, sym, ap, subst, ◌∙◌, true, append-nil}
 use Rattle.tile_handoff.specs.declared.note.End.{End}
 use Rattle.tile_handoff.specs.declared.note.Note.{Note}
 use Rattle.tile_handoff.specs.declared.note.Note.TheVariants.{Line as LineNote, End as EndNote}
 use Rattle.tile_handoff.specs.Notes.{has_end}
+use Rattle.tile_merge.specs.Giving.{Giving}
 use Rattle.tile_merge.specs.EndNotes.{end_of, ended_so, notes_of}
+use Rattle.tile_merge.specs.declared.merging.ends.TileEnd.{TileEnd}
 use Rattle.tile_merge.specs.Feeds.{Course, course_of}
 use Rattle.tile_merge.specs.Threads.{Fed, IsFed, HasGiven, TellsEnd, lines_in}
 
@@ -43,13 +45,13 @@ same_end [] end last (note ∷ other ∷ front) same = absurd (cc same)
 same_end (text ∷ texts) end last [] same = absurd (cc same)
 same_end (text ∷ texts) end last (note ∷ front) same = same_end texts end last front (cc same)
 
-pub some_end : (last : Option End) → is_some last ≡ true → (end : End) × (last ≡ Some end)
+pub some_end : (last : Option TileEnd) → is_some last ≡ true → (end : TileEnd) × (last ≡ Some end)
 some_end None is = absurd (cc is)
 some_end (Some end) is = (end, refl)
 
 -- what was taken of a tile, all that its thread put, is what the tile gave, or the first of it
-pub has_given : {R : Type 0} (gives : R → List ℕ → Bool → Type 0) (fed : Fed R) (last : Option End) (cancels : ℕ)
-    (Unasked : Type 0) (end : End) → last ≡ Some end → (before carried taken : List Note) → before ≡ []
+pub has_given : {R : Type 0} (gives : Giving R) (fed : Fed R) (last : Option TileEnd) (cancels : ℕ)
+    (Unasked : Type 0) (end : TileEnd) → last ≡ Some end → (before carried taken : List Note) → before ≡ []
     → IsFed gives fed Unasked before carried → taken ≡ carried → TellsEnd last taken → (cancels ≡ 0 → Unasked)
     → (course : Course) × HasGiven gives (record { fed = fed; lines = lines_in taken; last = last; cancels = cancels })
     course
@@ -59,7 +61,7 @@ has_given gives fed last cancels Unasked end is before carried taken empty put w
     whole ∙ put.put ∙ ap (λ ns. ns ++ notes_of put.texts put.end) empty in
     let notes = map line_note put.texts in
     let all = put.texts ++ put.others in
-    let last_is : last ≡ Some put.end = is ∙ ap Some (same_end put.texts put.end end told.0 (sym are ∙ told.1)) in (
+    let note_is : told.1 ≡ put.end = same_end put.texts put.end told.1 told.0 (sym are ∙ told.2) in (
       course_of all (ended_so (length all) put.outcome),
       record {
         texts = put.texts;
@@ -71,10 +73,8 @@ has_given gives fed last cancels Unasked end is before carried taken empty put w
         whole = λ none.
             let all_came = put.whole (unasked none) in
             let texts_are : put.texts ≡ all = sym (append-nil put.texts)
-            ∙ ap (λ others. put.texts ++ others) (sym all_came.0) in (
-              all_came.0,
-              last_is ∙ ap Some (all_came.1
-                  ∙ ap (λ texts. end_of (ended_so (length texts) put.outcome)) texts_are),
-            );
+            ∙ ap (λ others. put.texts ++ others) (sym all_came.0) in
+            let is_end = note_is ∙ all_came.1 ∙ ap (λ texts. end_of (ended_so (length texts) put.outcome)) texts_are in
+            (all_came.0, is ∙ ap Some (told.3 (ended_so (length all) put.outcome) is_end));
       },
     )

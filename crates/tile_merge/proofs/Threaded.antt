@@ -1,38 +1,41 @@
 -- From the lines that were written and what the threads gave to the answer of the whole merge.
-use Rattle.std.proofs.Common.{◌≡◌, ◌++◌, ◌⊎◌, ℕ, Bool, Result, Ok, Err, IfOk, IfErr, List, [], ◌∷◌, Option, Some, None, length, take, flat_map, inl, inr, refl, sym, ap, subst, ◌∙◌, arith, take_all, le_refl, append_assoc, append-nil}
+use Rattle.std.proofs.Common.{◌≡◌, ◌++◌, ◌⊎◌, ℕ, Result, Ok, Err, IfOk, IfErr, OnOk, List, [], ◌∷◌, Option, Some, None, take, flat_map, filter_map, inl, inr, refl, sym, ap, subst, ◌∙◌, append_assoc, append-nil}
 use Rattle.std.specs.Io.KnownBytes.{Appends}
 use Rattle.std.specs.List.{AllZip}
-use Rattle.std.proofs.lemmas.List.{length-map}
 use Rattle.std.proofs.lemmas.Grind.{flat_map-append}
-use Rattle.std.proofs.lemmas.Slice.Zip.{AllZip-long}
 use Rattle.byte_streams.specs.declared.fault.Fault.{Fault}
-use Rattle.byte_streams.specs.declared.fault.Fault.TheVariants.{Write, Memory}
+use Rattle.byte_streams.specs.declared.fault.Fault.TheVariants.{Write}
 use Rattle.city_feature.specs.Choice.{IsChosen}
 use Rattle.city_feature.specs.Feature.{FeatureValue}
 use Rattle.city_feature.specs.declared.base.Base.{Base}
 use Rattle.city_feature.specs.declared.choices.Choice.{Choice}
 use Rattle.city_grid.specs.Axes.{Triple}
-use Rattle.tile_handoff.specs.declared.note.End.{End}
-use Rattle.tile_merge.specs.EndNotes.{Ended, AreEnds, end_of, outcomes_in, totals_in}
+use Rattle.tile_merge.specs.Giving.{Giving}
+use Rattle.tile_merge.specs.EndNotes.{outcomes_in, totals_in}
 use Rattle.tile_merge.specs.Feeds.{Course}
 use Rattle.tile_merge.specs.Interleaves.{Interleaves}
-use Rattle.tile_merge.specs.Merged.{MergedAll, WroteMerge, WroteFrontOf, IsRefusedMerge, texts_of}
-use Rattle.tile_merge.specs.Opened.{AllThree, OpenState}
-use Rattle.tile_merge.specs.Rounds.{ends_in, texts_in}
+use Rattle.tile_merge.specs.Merged.{MergedAll, IsRefusedMerge}
+use Rattle.tile_merge.specs.Opened.{AllThree, AreJoined, OpenState}
+use Rattle.tile_merge.specs.Rounds.{course_ends, course_texts}
 use Rattle.tile_stream.specs.Stream.{with_newline, stream}
-use Rattle.tile_merge.specs.Threads.{Fed, RunningState, AreStarted, AreUncancelled, HasGiven, HaveGiven, IsRunOf, LinesSoFar, WroteUnless, feds_of, lines_taken, fed_of}
-use Rattle.tile_merge.specs.Told.{told}
+use Rattle.tile_merge.specs.Threads.{Fed, RunningState, AreUncancelled, HasGiven, HaveGiven, IsRunOf, LinesSoFar, WroteUnless, feds_of, lines_taken, fed_of}
+use Rattle.tile_merge.specs.Told.{first_refusal}
 use Rattle.byte_streams.specs.declared.places.MergeFault.{MergeFault}
 use Rattle.tile_merge.specs.declared.merging.report.Report.{Report}
-use Rattle.tile_merge.proofs.InTurn.{ends_long, of_write, of_tile}
-use Rattle.tile_merge.proofs.MergedTiles.{AreMerged, MayGive, are_merged, merges}
+use Rattle.tile_merge.specs.declared.merging.ends.TileEnd.{TileEnd}
+use Rattle.byte_streams.specs.Failures.{after_call}
+use Rattle.tile_merge.specs.Threaded.{WroteInterleaved}
+use Rattle.tile_stream.specs.Filtered.{failures_after_merge}
+use Rattle.tile_merge.proofs.Answering.{merged_result, no_failed_write, of_write, refused_result}
+use Rattle.tile_merge.proofs.Feeds.{all_ended}
+use Rattle.tile_merge.proofs.MergedTiles.{MayGive}
 use Rattle.tile_merge.proofs.Mixing.{AreParted, flat, mixed_on}
 use Rattle.tile_stream.proofs.Steps.{first_of_longer}
 use Rattle.tile_merge.proofs.Writing.{on_ok}
 
 -- ---- what the threads gave ----
 
-module _ {R : Type 0} (gives : R → List ℕ → Bool → Type 0) where
+module _ {R : Type 0} (gives : Giving R) where
   given_push : (tiles : List (RunningState R)) (tile : RunningState R) (courses : List Course) (course : Course)
       → HaveGiven gives tiles courses → HasGiven gives tile course
       → HaveGiven gives (tiles ++ tile ∷ []) (courses ++ course ∷ [])
@@ -50,7 +53,7 @@ module _ {R : Type 0} (gives : R → List ℕ → Bool → Type 0) where
 
   -- where nobody asked them to stop, the lines that were taken are those of the texts
   lines_given : (tiles : List (RunningState R)) (courses : List Course) → HaveGiven gives tiles courses
-      → AreUncancelled tiles → lines_taken tiles ≡ texts_in courses
+      → AreUncancelled tiles → lines_taken tiles ≡ course_texts courses
   lines_given [] [] have none = refl
   lines_given [] (course ∷ courses) have none = absurd have
   lines_given (tile ∷ tiles) [] have none = absurd have
@@ -63,7 +66,7 @@ module _ {R : Type 0} (gives : R → List ℕ → Bool → Type 0) where
 
   -- otherwise they are the first of these
   lines_parted : (tiles : List (RunningState R)) (courses : List Course) → HaveGiven gives tiles courses
-      → (rests : List (List (List ℕ))) × AllThree AreParted (lines_taken tiles) (texts_in courses) rests
+      → (rests : List (List (List ℕ))) × AllThree AreParted (lines_taken tiles) (course_texts courses) rests
   lines_parted [] [] have = ([], tt)
   lines_parted [] (course ∷ courses) have = absurd have
   lines_parted (tile ∷ tiles) [] have = absurd have
@@ -75,20 +78,13 @@ module _ {R : Type 0} (gives : R → List ℕ → Bool → Type 0) where
 
   -- where nobody asked them to stop, the end notes are those of the courses
   pub ends_given : (tiles : List (RunningState R)) (courses : List Course) → HaveGiven gives tiles courses
-      → AreUncancelled tiles → AllZip (λ (tile : RunningState R) (ended : Ended). tile.last ≡ Some (end_of ended)) tiles
-      (ends_in courses)
+      → AreUncancelled tiles
+      → AllZip (λ (tile : RunningState R) (ended : TileEnd). tile.last ≡ Some ended) tiles (course_ends courses)
   ends_given [] [] have none = tt
   ends_given [] (course ∷ courses) have none = absurd have
   ends_given (tile ∷ tiles) [] have none = absurd have
   ends_given (tile ∷ tiles) (course ∷ courses) have none =
       ((have.0.whole none.0).1, ends_given tiles courses have.1 none.1)
-
-  pub few_given : (tiles : List (RunningState R)) (courses : List Course) → HaveGiven gives tiles courses
-      → (ends : List End) → AreEnds ends (ends_in courses) → length ends ≡ length tiles
-  few_given tiles courses have ends are =
-      let long = AllZip-long (HasGiven gives) tiles courses have in
-      let ended = length-map courses (λ (course : Course). course.ended) in
-      omega (arith, ends_long ends (ends_in courses) are, ended, long)
 
   module _ (choice : Choice) where
     gave : (tile : OpenState R) (shift : Triple) (run now : RunningState R) (course : Course)
@@ -121,94 +117,105 @@ module _ {R : Type 0} (gives : R → List ℕ → Bool → Type 0) where
 
 -- ---- what was written ----
 
-module _ {R : Type 0} (gives : R → List ℕ → Bool → Type 0) (tiles now : List (RunningState R)) (line : List ℕ)
-    (wrote : Result (Unit {0}) Fault) (old new : Option (List ℕ)) (failures newer : ℕ)
-    (so_far : LinesSoFar (feds_of tiles) line now wrote old new failures newer) (courses : List Course)
+module _ {R : Type 0} (gives : Giving R) (choice : Choice) (base : Base) (readers : List R)
+    (tiles : List (OpenState R)) (shifts : List Triple) (line : List ℕ)
+    (joined : AreJoined gives base readers tiles shifts line) (running now : List (RunningState R))
+    (runs : AllThree (IsRunOf choice) tiles shifts running) (wrote : Result (Unit {0}) Fault)
+    (old new : Option (List ℕ)) (failures newer : ℕ)
+    (so_far : LinesSoFar (feds_of running) line now wrote old new failures newer) (courses : List Course)
     (have : HaveGiven gives now courses) where
-  module _ (choice : Choice) (base : Base) (readers : List R)
-      (started : AreStarted gives choice base readers tiles line) where
-    abbrev wanted : FeatureValue → Type 0
-    wanted feature = IsChosen choice feature
+  given : AllThree (MayGive gives (IsChosen choice)) tiles shifts courses
+  given = gave_all gives choice tiles shifts running now courses runs so_far.fed have
 
-    merged : AreMerged gives wanted readers started.headers started.shifts courses
-    merged = are_merged gives wanted readers started.tiles started.headers started.shifts courses started.opened
-        (gave_all gives choice started.tiles started.shifts tiles now courses started.runs so_far.fed have)
+  abbrev parted : (rests : List (List (List ℕ))) × AllThree AreParted (lines_taken now) (course_texts courses) rests
+  parted = lines_parted gives now courses have
 
-    abbrev parted : (rests : List (List (List ℕ))) × AllThree AreParted (lines_taken now) (texts_in courses) rests
-    parted = lines_parted gives now courses have
+  -- what would have come after what was written
+  abbrev later : List (List ℕ)
+  later = flat parted.0
 
-    abbrev later : List (List ℕ)
-    later = flat parted.0
+  all_mixed : Interleaves (course_texts courses) (so_far.out ++ later)
+  all_mixed = mixed_on (lines_taken now) (course_texts courses) parted.0 parted.1 so_far.out so_far.mixes
 
-    -- what was written, and then what would have come
-    all_mixed : Interleaves (texts_in courses) (so_far.out ++ later)
-    all_mixed = mixed_on (lines_taken now) (texts_in courses) parted.0 parted.1 so_far.out so_far.mixes
+  all_bytes : stream line so_far.out ++ flat_map with_newline later ≡ stream line (so_far.out ++ later)
+  all_bytes =
+      append_assoc (with_newline line) (flat_map with_newline so_far.out) (flat_map with_newline later)
+      ∙ ap (λ l. with_newline line ++ l) (sym (flat_map-append with_newline so_far.out later))
 
-    all_bytes : stream line so_far.out ++ flat_map with_newline later ≡ stream line (so_far.out ++ later)
-    all_bytes =
-        append_assoc (with_newline line) (flat_map with_newline so_far.out) (flat_map with_newline later)
-        ∙ ap (λ l. with_newline line ++ l) (sym (flat_map-append with_newline so_far.out later))
+  -- a write failed
+  pub refused_write : (fault : Fault) → wrote ≡ Err fault → (refusal : MergeFault)
+      → refusal ≡ record { tile = 0; line = 0; fault = fault }
+      → IsRefusedMerge gives (IsChosen choice) base Interleaves readers refusal old new
+  refused_write fault was refusal is =
+      let part = subst (λ (r : Result (Unit {0}) Fault). WroteUnless r (stream line so_far.out) old new) was
+      so_far.written in
+      let which = subst (λ (r : Result (Unit {0}) Fault). IfErr r (λ f. f ≡ Write)) was so_far.fault in
+      let first = first_of_longer part.0 (stream line so_far.out) (flat_map with_newline later) in
+      of_write gives (IsChosen choice) base Interleaves readers tiles shifts line joined courses given
+      (so_far.out ++ later) all_mixed old new fault which refusal is first.0
+      (subst (Appends old new) (sym first.1 ∙ ap (take first.0) all_bytes) part.1)
 
-    front_by : (count : ℕ) → Appends old new (take count (stream line so_far.out))
-        → WroteFrontOf gives wanted base Interleaves readers old new
-    front_by count wrote_front =
-        let first = first_of_longer count (stream line so_far.out) (flat_map with_newline later) in
-        record {
-          tiles = merged.merged;
-          line = line;
-          out = so_far.out ++ later;
-          count = first.0;
-          merges = merges gives wanted base readers started.headers line started.shifts courses merged started.joined;
-          mixes = subst (λ (lists : List (List (List ℕ))). Interleaves lists (so_far.out ++ later))
-              (sym merged.texts_are) all_mixed;
-          written = subst (Appends old new) (sym first.1 ∙ ap (take first.0) all_bytes) wrote_front;
-        }
+  module _ (was : wrote ≡ Ok tt) (ends : List TileEnd)
+      (taken : ends ≡ filter_map (λ (tile : RunningState R). tile.last) now) (result : Result Report MergeFault) where
+    none : AreUncancelled now
+    none = on_ok (AreUncancelled now) wrote was so_far.uncancelled
 
-    -- a write failed
-    pub refused_write : (fault : Fault) → wrote ≡ Err fault → (refusal : MergeFault)
-        → refusal ≡ record { tile = 0; line = 0; fault = fault }
-        → IsRefusedMerge gives wanted base Interleaves readers refusal old new
-    refused_write fault was refusal is =
-        let part = subst (λ (r : Result (Unit {0}) Fault). WroteUnless r (stream line so_far.out) old new) was
-        so_far.written in
-        let which = subst (λ (r : Result (Unit {0}) Fault). IfErr r (λ f. f ≡ Write)) was so_far.fault in
-        of_write gives wanted base Interleaves readers old new fault which refusal is (front_by part.0 part.1)
+    mixes : Interleaves (course_texts courses) so_far.out
+    mixes = subst (λ (lists : List (List (List ℕ))). Interleaves lists so_far.out)
+        (lines_given gives now courses have none) so_far.mixes
 
-    module _ (was : wrote ≡ Ok tt) where
-      none : AreUncancelled now
-      none = on_ok (AreUncancelled now) wrote was so_far.uncancelled
+    written : Appends old new (stream line so_far.out)
+    written = subst (λ (r : Result (Unit {0}) Fault). WroteUnless r (stream line so_far.out) old new) was so_far.written
 
-      mixes : Interleaves (texts_of merged.merged) so_far.out
-      mixes = subst (λ (lists : List (List (List ℕ))). Interleaves lists so_far.out)
-          (lines_given gives now courses have none ∙ sym merged.texts_are) so_far.mixes
+    ends_are : ends ≡ course_ends courses
+    ends_are = taken ∙ all_ended (λ (tile : RunningState R). tile.last) now (course_ends courses)
+        (ends_given gives now courses have none)
 
-      written : Appends old new (stream line so_far.out)
-      written = subst (λ (r : Result (Unit {0}) Fault). WroteUnless r (stream line so_far.out) old new) was
-          so_far.written
+    pub all_merged : IfOk result
+        (λ report. (first_refusal 1 (outcomes_in ends) ≡ None) × (report.counts ≡ totals_in ends))
+        → IfOk result (λ report. MergedAll gives (IsChosen choice) base Interleaves readers report.counts old new)
+    all_merged says = merged_result gives (IsChosen choice) base Interleaves readers tiles shifts line joined courses
+        given so_far.out mixes old new written ends ends_are result says
 
-      whole : WroteMerge gives wanted base Interleaves readers merged.merged old new
-      whole = record {
-        line = line;
-        out = so_far.out;
-        merges = merges gives wanted base readers started.headers line started.shifts courses merged started.joined;
-        mixes = mixes;
-        written = written;
-      }
+    pub tile_refused : IfErr result (λ e. first_refusal 1 (outcomes_in ends) ≡ Some e)
+        → IfErr result (λ e. IsRefusedMerge gives (IsChosen choice) base Interleaves readers e old new)
+    tile_refused says = refused_result gives (IsChosen choice) base Interleaves readers tiles shifts line joined courses
+        given so_far.out mixes old new written ends ends_are result says
 
-      module _ (ends : List End) (are : AreEnds ends (ends_in courses)) where
-        pub merged_result : (result : Result Report MergeFault)
-            → IfOk result (λ report. (ts : List Ended) → AreEnds ends ts → (told 1 (outcomes_in ts) ≡ None)
-            × (report.counts ≡ totals_in ts))
-            → IfOk result (λ report. MergedAll gives wanted base Interleaves readers report.counts old new)
-        merged_result (Ok report) says =
-            let said = says (ends_in courses) are in
-            (merged.merged, whole, ap (told 1) merged.outcomes_are ∙ said.0, said.1 ∙ merged.totals_are)
-        merged_result (Err e) says = tt
+    pub failures_are : IfErr result (λ e. first_refusal 1 (outcomes_in ends) ≡ Some e)
+        → newer ≡ failures_after_merge result failures
+    failures_are says =
+        so_far.failed ∙ ap (λ (r : Result (Unit {0}) Fault). after_call r failures) was
+        ∙ no_failed_write ends result says failures
 
-        pub refused_result : (result : Result Report MergeFault)
-            → IfErr result (λ e. (ts : List Ended) → AreEnds ends ts → told 1 (outcomes_in ts) ≡ Some e)
-            → IfErr result (λ e. IsRefusedMerge gives wanted base Interleaves readers e old new)
-        refused_result (Ok report) says = tt
-        refused_result (Err e) says =
-            of_tile gives wanted base Interleaves readers old new e
-            (merged.merged, whole, ap (told 1) merged.outcomes_are ∙ says (ends_in courses) are)
+-- why nothing was written, and that what was written was passed on
+pub before_writing : {A B C D : Type 0} → A ⊎ B → A ⊎ (B ⊎ (C ⊎ D))
+before_writing (inl a) = inl a
+before_writing (inr b) = inr (inl b)
+
+pub all_passed_on : (Unstarted Early Output : MergeFault → Type 0) (P : Type 0) (result : Result Report MergeFault) → P
+    → IfErr result (λ e. Unstarted e ⊎ Early e ⊎ Output e ⊎ P)
+all_passed_on Unstarted Early Output P (Ok report) holds = tt
+all_passed_on Unstarted Early Output P (Err e) holds = inr (inr (inr holds))
+
+-- where the bytes are known, they are followed by those that were written
+appended : (old new : Option (List ℕ)) (bytes before : List ℕ) → Appends old new bytes → old ≡ Some before
+    → new ≡ Some (before ++ bytes)
+appended None new bytes before wrote is = absurd (cc is)
+appended (Some xs) None bytes before wrote is = absurd wrote
+appended (Some xs) (Some ys) bytes before wrote is =
+    let same : xs ≡ before = cc is in
+    ap Some (wrote ∙ ap (λ front. front ++ bytes) same)
+
+-- where the bytes are known, an interleaving was written
+pub interleaved : {R : Type 0} (gives : Giving R) (IsWanted : FeatureValue → Type 0) (base : Base) (readers : List R)
+    (old new : Option (List ℕ)) (result : Result Report MergeFault)
+    → IfOk result (λ report. MergedAll gives IsWanted base Interleaves readers report.counts old new)
+    → OnOk result (WroteInterleaved gives IsWanted base readers old new)
+interleaved gives IsWanted base readers old new (Ok report) merged = λ before is.
+    let wrote = merged.1 in (
+      stream wrote.line wrote.out,
+      (merged.0, wrote.line, wrote.out, wrote.merges, merged.2, wrote.mixes, refl),
+      appended old new (stream wrote.line wrote.out) before wrote.written is,
+    )
+interleaved gives IsWanted base readers old new (Err e) merged = tt

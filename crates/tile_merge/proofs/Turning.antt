@@ -7,9 +7,10 @@ use Rattle.std.proofs.lemmas.Grind.{common_steps, flat_map-append}
 use Rattle.std.proofs.lemmas.List.Folds.{list_any-append}
 use Rattle.std.specs.List.{AllZip, list_any}
 use Rattle.city_feature.specs.Feature.{FeatureValue}
+use Rattle.tile_merge.specs.Giving.{Giving}
 use Rattle.tile_merge.specs.Feeds.{FeedState, Course, MayTake, TakesTurn, SomeCourse, text_before}
 use Rattle.tile_merge.specs.Opened.{AllThree}
-use Rattle.tile_merge.specs.Rounds.{texts_in, MayTakeAll, SomeCourses, texts_given, lines_of, WroteRound, WroteTurnsFront, RoundSoFar}
+use Rattle.tile_merge.specs.Rounds.{course_texts, MayTakeAll, SomeCourses, texts_given, lines_of, WroteRound, WroteTurnsFront, RoundSoFar}
 use Rattle.tile_stream.specs.Stream.{with_newline}
 use Rattle.tile_merge.specs.Turns.{firsts, rests, turns}
 use Rattle.tile_merge.proofs.Threes.{all_three_push}
@@ -65,9 +66,10 @@ AllZip-joined P [] back (y ∷ ys) zs one two = absurd one
 AllZip-joined P (a ∷ front) back [] zs one two = absurd one
 AllZip-joined P (a ∷ front) back (y ∷ ys) zs one two = (one.0, AllZip-joined P front back ys zs one.1 two)
 
-texts_in-append : (first others : List Course) → texts_in (first ++ others) ≡ texts_in first ++ texts_in others
-texts_in-append [] others = refl
-texts_in-append (course ∷ first) others = ap (λ xs. course.texts ∷ xs) (texts_in-append first others)
+course_texts-append : (first others : List Course)
+    → course_texts (first ++ others) ≡ course_texts first ++ course_texts others
+course_texts-append [] others = refl
+course_texts-append (course ∷ first) others = ap (λ xs. course.texts ∷ xs) (course_texts-append first others)
 
 pub any_false : (any : Bool) → (any || false) ≡ any
 any_false true = refl
@@ -77,7 +79,7 @@ pub any_true : (any : Bool) → (any || true) ≡ true
 any_true true = refl
 any_true false = refl
 
-module _ {R : Type 0} (gives : R → List ℕ → Bool → Type 0) (IsWanted : FeatureValue → Type 0)
+module _ {R : Type 0} (gives : Giving R) (IsWanted : FeatureValue → Type 0)
     (before : List (FeedState R)) (old : Option (List ℕ)) where
   pub round_start : RoundSoFar gives IsWanted before before 0 false old old
   round_start = record {
@@ -148,7 +150,7 @@ module _ {R : Type 0} (gives : R → List ℕ → Bool → Type 0) (IsWanted : F
 
       -- what was written could not be passed on before the turn
       pub turn_unwritten : SomeCourses (MayTakeAll gives IsWanted before)
-          → WroteTurnsFront gives IsWanted before old mid
+          → WroteTurnsFront gives IsWanted [] before old mid
       turn_unwritten some =
           let behind = AllZip-behind (MayTake gives IsWanted) so_far.first seam.item seam.others some.0
           (subst (λ feeds. MayTakeAll gives IsWanted feeds some.0) is_before some.1) in
@@ -159,18 +161,18 @@ module _ {R : Type 0} (gives : R → List ℕ → Bool → Type 0) (IsWanted : F
           let may = AllZip-joined (MayTake gives IsWanted) so_far.first (seam.item ∷ seam.others) front.all rest
           front.may (behind.2, behind.3) in
           let texts = texts_given given in
-          let others = firsts (texts_in rest) in
-          let later = turns (rests (texts_in all)) in
-          let first : firsts (texts_in all) ≡ texts ++ others =
-          ap firsts (texts_in-append front.all rest) ∙ firsts-append (texts_in front.all) (texts_in rest)
+          let others = firsts (course_texts rest) in
+          let later = turns (rests (course_texts all)) in
+          let first : firsts (course_texts all) ≡ texts ++ others =
+          ap firsts (course_texts-append front.all rest) ∙ firsts-append (course_texts front.all) (course_texts rest)
           ∙ ap (λ xs. xs ++ others) front.first in
-          let whole : turns (texts_in all) ≡ texts ++ (others ++ later) =
-          turns_step (texts_in all) ∙ ap (λ xs. xs ++ later) first ∙ append_assoc texts others later in
+          let whole : turns (course_texts all) ≡ texts ++ (others ++ later) =
+          turns_step (course_texts all) ∙ ap (λ xs. xs ++ later) first ∙ append_assoc texts others later in
           let tail = lines_of (others ++ later) in
-          let lines : lines_of (turns (texts_in all)) ≡ lines_of texts ++ tail =
+          let lines : lines_of (turns (course_texts all)) ≡ lines_of texts ++ tail =
           ap lines_of whole ∙ flat_map-append with_newline texts (others ++ later) in
           let count = length (lines_of texts) + 0 in
-          let is : take count (lines_of (turns (texts_in all))) ≡ lines_of texts =
+          let is : take count (lines_of (turns (course_texts all))) ≡ lines_of texts =
           ap (take count) lines ∙ take-append-add (lines_of texts) tail 0 ∙ append-nil (lines_of texts) in (
             all,
             count,
@@ -221,7 +223,7 @@ module _ {R : Type 0} (gives : R → List ℕ → Bool → Type 0) (IsWanted : F
             (subst (λ feeds. MayTakeAll gives IsWanted feeds some.0) is_before some.1)
 
         pub turn_failed : (newer : Option (List ℕ)) (taken : ℕ) → Appends mid newer (take taken (with_newline text))
-            → WroteTurnsFront gives IsWanted before old newer
+            → WroteTurnsFront gives IsWanted [] before old newer
         turn_failed newer taken appends =
             let after = round_some gives IsWanted so_far.first so_far.after given so_far.round.1 in
             let front = round_back gives IsWanted so_far.first so_far.after given so_far.round.1 after.0 after.1 in
@@ -232,20 +234,21 @@ module _ {R : Type 0} (gives : R → List ℕ → Bool → Type 0) (IsWanted : F
             let may = AllZip-joined (MayTake gives IsWanted) so_far.first (seam.item ∷ seam.others) front.all
             (course ∷ rest) front.may (item_text.0 here.0 here.1, behind.3) in
             let texts = texts_given given in
-            let others = firsts (texts_in rest) in
-            let later = turns (rests (texts_in all)) in
-            let first : firsts (texts_in all) ≡ texts ++ text ∷ others =
-            ap firsts (texts_in-append front.all (course ∷ rest))
-            ∙ firsts-append (texts_in front.all) (texts_in (course ∷ rest))
+            let others = firsts (course_texts rest) in
+            let later = turns (rests (course_texts all)) in
+            let first : firsts (course_texts all) ≡ texts ++ text ∷ others =
+            ap firsts (course_texts-append front.all (course ∷ rest))
+            ∙ firsts-append (course_texts front.all) (course_texts (course ∷ rest))
             ∙ ap (λ xs. xs ++ text ∷ others) front.first in
-            let whole : turns (texts_in all) ≡ texts ++ text ∷ (others ++ later) =
-            turns_step (texts_in all) ∙ ap (λ xs. xs ++ later) first ∙ append_assoc texts (text ∷ others) later in
+            let whole : turns (course_texts all) ≡ texts ++ text ∷ (others ++ later) =
+            turns_step (course_texts all) ∙ ap (λ xs. xs ++ later) first ∙ append_assoc texts (text ∷ others) later in
             let tail = lines_of (others ++ later) in
-            let lines : lines_of (turns (texts_in all)) ≡ lines_of texts ++ (with_newline text ++ tail) =
+            let lines : lines_of (turns (course_texts all)) ≡ lines_of texts ++ (with_newline text ++ tail) =
             ap lines_of whole ∙ flat_map-append with_newline texts (text ∷ (others ++ later)) in
             let part = first_of_longer taken (with_newline text) tail in
             let count = length (lines_of texts) + part.0 in
-            let is : take count (lines_of (turns (texts_in all))) ≡ lines_of texts ++ take taken (with_newline text) =
+            let is : take count (lines_of (turns (course_texts all)))
+            ≡ lines_of texts ++ take taken (with_newline text) =
             ap (take count) lines ∙ take-append-add (lines_of texts) (with_newline text ++ tail) part.0
             ∙ ap (λ xs. lines_of texts ++ xs) part.1 in (
               all,

@@ -4,7 +4,7 @@ use Rattle.std.proofs.lemmas.Bool.{eq-eqb, ne_eqb}
 use Rattle.std.proofs.lemmas.List.{take-append-drop}
 use Rattle.std.proofs.lemmas.List.Elements.{All-append, All-from_recursion}
 use Rattle.std.specs.List.{All, AllByRecursion}
-use Rattle.tile_merge.specs.Interleaves.{Interleaves, items_at}
+use Rattle.tile_merge.specs.Interleaves.{Interleaves, items_numbered}
 use Rattle.tile_merge.specs.Turns.{firsts, rests, longest, rounds, turns}
 use Rattle.tile_merge.proofs.TurnsLaws.{longest_rests}
 
@@ -12,11 +12,11 @@ module _ {X : Type 0} where
   -- ---- items at the places of a number ----
 
   pub at_own : (t n : ℕ) (numbers : List ℕ) (item : X) (out : List X) → n ≡ t
-      → items_at t (n ∷ numbers) (item ∷ out) ≡ item ∷ items_at t numbers out
+      → items_numbered t (n ∷ numbers) (item ∷ out) ≡ item ∷ items_numbered t numbers out
   at_own t n numbers item out same = rw (eq-eqb n t same) refl
 
   pub at_other : (t n : ℕ) (numbers : List ℕ) (item : X) (out : List X) → n ≢ t
-      → items_at t (n ∷ numbers) (item ∷ out) ≡ items_at t numbers out
+      → items_numbered t (n ∷ numbers) (item ∷ out) ≡ items_numbered t numbers out
   at_other t n numbers item out other = rw (ne_eqb n t other) refl
 
   one_more : (is_own : Bool) (item : X) (items others : List X)
@@ -26,13 +26,14 @@ module _ {X : Type 0} where
   one_more false item items others = refl
 
   pub at-append : (t : ℕ) (numbers more : List ℕ) (out others : List X) → length numbers ≡ length out
-      → items_at t (numbers ++ more) (out ++ others) ≡ items_at t numbers out ++ items_at t more others
+      → items_numbered t (numbers ++ more) (out ++ others)
+      ≡ items_numbered t numbers out ++ items_numbered t more others
   at-append t [] more [] others long = refl
   at-append t [] more (item ∷ out) others long = absurd (omega (arith, long))
   at-append t (n ∷ numbers) more [] others long = absurd (omega (arith, long))
   at-append t (n ∷ numbers) more (item ∷ out) others long =
       rw (at-append t numbers more out others (omega (arith, long)))
-      (one_more (n == t) item (items_at t numbers out) (items_at t more others))
+      (one_more (n == t) item (items_numbered t numbers out) (items_numbered t more others))
 
   -- ---- one round ----
 
@@ -58,7 +59,7 @@ module _ {X : Type 0} where
 
   -- no list before has a first item here
   firsts_past : (t next : ℕ) (lists : List (List X)) → t < next
-      → items_at t (numbers_of_firsts next lists) (firsts lists) ≡ []
+      → items_numbered t (numbers_of_firsts next lists) (firsts lists) ≡ []
   unfolding numbers_of_firsts
   firsts_past t next [] past = refl
   firsts_past t next ([] ∷ others) past = firsts_past t (suc next) others (omega (arith, past))
@@ -67,7 +68,7 @@ module _ {X : Type 0} where
       ∙ firsts_past t (suc next) others (omega (arith, past))
 
   firsts_at : (t next : ℕ) (lists : List (List X)) (place : ℕ) → t ≡ next + place
-      → items_at t (numbers_of_firsts next lists) (firsts lists) ≡ take 1 (get_or lists place [])
+      → items_numbered t (numbers_of_firsts next lists) (firsts lists) ≡ take 1 (get_or lists place [])
   unfolding numbers_of_firsts
   firsts_at t next [] place is = refl
   firsts_at t next ([] ∷ others) zero is = firsts_past t (suc next) others (omega (arith, is))
@@ -125,12 +126,12 @@ module _ {X : Type 0} where
   empty (item ∷ list) none = absurd (omega (arith, none))
 
   items_are : (n : ℕ) (lists : List (List X)) (t : ℕ) → longest lists ≤ n
-      → items_at t (numbers_in n lists) (rounds n lists) ≡ get_or lists t []
+      → items_numbered t (numbers_in n lists) (rounds n lists) ≡ get_or lists t []
   unfolding numbers_in rounds
   items_are zero lists t long = sym (empty (get_or lists t []) (omega (arith, list_within lists t, long)))
   items_are (suc n) lists t long =
       let list = get_or lists t [] in
-      let later = items_at t (numbers_in n (rests lists)) (rounds n (rests lists)) in
+      let later = items_numbered t (numbers_in n (rests lists)) (rounds n (rests lists)) in
       let first = firsts_at t 0 lists t (omega arith) in
       let others = items_are n (rests lists) t (omega (arith, longest_rests lists, long)) ∙ rest_at lists t in
       at-append t (numbers_of_firsts 0 lists) (numbers_in n (rests lists)) (firsts lists) (rounds n (rests lists))

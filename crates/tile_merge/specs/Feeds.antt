@@ -3,22 +3,23 @@ use Rattle.std.specs.Prelude.{◌≡◌, ◌⊎◌, ◌≤◌, ◌<◌, ◌+◌,
 use Rattle.city_feature.specs.Feature.{FeatureValue}
 use Rattle.city_grid.specs.Axes.{Triple}
 use Rattle.tile_handoff.specs.Queues.{Queue, empty_queue}
-use Rattle.tile_handoff.specs.declared.note.End.{End}
 use Rattle.tile_handoff.specs.declared.note.Note.{Note}
 use Rattle.tile_handoff.specs.declared.note.Note.TheVariants.{Line as LineNote, End as EndNote}
 use Rattle.tile_stream.specs.Coming.{MayComeTo}
-use Rattle.tile_merge.specs.EndNotes.{Ended, end_of}
+use Rattle.tile_merge.specs.Giving.{Giving}
+use Rattle.tile_merge.specs.EndNotes.{end_of}
+use Rattle.tile_merge.specs.declared.merging.ends.TileEnd.{TileEnd}
 use Rattle.tile_stream.specs.TileState.{TileState, most_to_come}
 
 -- The reader, the shift, how many notes may be read ahead, those that were, how many lines were put
--- among them, and the end note once it was taken.
+-- among them, and how it ended once the end note was taken.
 pub record FeedState (R : Type 0) : Type 0 where
   pub unread : TileState R
   pub shift : Triple
   pub capacity : ℕ
   pub notes : Queue
   pub count : ℕ
-  pub last : Option End
+  pub last : Option TileEnd
 
 -- nothing was read ahead yet
 abbrev pub fresh_feed : {R : Type 0} → ℕ → TileState R → Triple → FeedState R
@@ -27,9 +28,9 @@ fresh_feed capacity unread shift = record { unread = unread; shift = shift; capa
 -- the texts that a tile still gives, and how it has ended then
 pub record Course : Type 0 where
   pub texts : List (List ℕ)
-  pub ended : Ended
+  pub ended : TileEnd
 
-abbrev pub course_of : List (List ℕ) → Ended → Course
+abbrev pub course_of : List (List ℕ) → TileEnd → Course
 course_of texts ended = record { texts = texts; ended = ended }
 
 -- a text, and then what else is given
@@ -37,15 +38,15 @@ abbrev pub text_before : List ℕ → Course → Course
 text_before text course = record { texts = text ∷ course.texts; ended = course.ended }
 
 -- what follows the notes: what may be read, or once the tile was closed nothing more than its end
-abbrev pub ThenComes : {R : Type 0} → Bool → (R → List ℕ → Bool → Type 0) → (FeatureValue → Type 0) → Triple → TileState R → ℕ → Option End → Course → Type 0
+abbrev pub ThenComes : {R : Type 0} → Bool → Giving R → (FeatureValue → Type 0) → Triple → TileState R → ℕ → Option TileEnd → Course → Type 0
 ThenComes true gives IsWanted shift unread count last course =
-    (course.texts ≡ []) × (last ≡ Some (end_of course.ended))
+    (course.texts ≡ []) × (last ≡ Some course.ended)
 ThenComes false gives IsWanted shift unread count last course =
-    MayComeTo gives IsWanted shift unread course.texts course.ended.outcome
-    × (course.ended.total ≡ count + length course.texts)
+    MayComeTo gives IsWanted shift unread course.texts course.ended.stop
+    × (course.ended.count ≡ count + length course.texts)
 
 -- these notes come first: their texts, and the end note is the last
-abbrev pub NotesCome : (Course → Type 0) → List Note → List (List ℕ) → Ended → Type 0
+abbrev pub NotesCome : (Course → Type 0) → List Note → List (List ℕ) → TileEnd → Type 0
 NotesCome Then [] texts ended = Then (course_of texts ended)
 NotesCome Then (LineNote text ∷ notes) texts ended =
     (more : List (List ℕ)) × (texts ≡ text ∷ more) × NotesCome Then notes more ended
@@ -53,7 +54,7 @@ NotesCome Then (EndNote end ∷ notes) texts ended =
     (notes ≡ []) × (texts ≡ []) × (end ≡ end_of ended)
 
 -- this course may be ahead of the tile
-abbrev pub MayTake : {R : Type 0} → (R → List ℕ → Bool → Type 0) → (FeatureValue → Type 0) → FeedState R → Course → Type 0
+abbrev pub MayTake : {R : Type 0} → Giving R → (FeatureValue → Type 0) → FeedState R → Course → Type 0
 MayTake gives IsWanted feed course =
     NotesCome (ThenComes feed.notes.closed gives IsWanted feed.shift feed.unread feed.count feed.last) feed.notes.left course.texts course.ended
 
@@ -89,7 +90,7 @@ abbrev pub most_lines : {R : Type 0} → FeedState R → ℕ
 most_lines feed = if feed.notes.closed then 0 else 1 + most_to_come feed.unread
 
 -- one turn of a tile: it gave this text, or none since it is over
-abbrev pub TakesTurn : {R : Type 0} → (R → List ℕ → Bool → Type 0) → (FeatureValue → Type 0) → FeedState R → FeedState R → Option (List ℕ) → Type 0
+abbrev pub TakesTurn : {R : Type 0} → Giving R → (FeatureValue → Type 0) → FeedState R → FeedState R → Option (List ℕ) → Type 0
 TakesTurn gives IsWanted before after (Some text) =
     TakesText (MayTake gives IsWanted before) (MayTake gives IsWanted after) text
     × SomeCourse (MayTake gives IsWanted after)

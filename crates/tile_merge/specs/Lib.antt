@@ -1,5 +1,6 @@
 pub mod EndNotes
 pub mod Feeds
+pub mod Giving
 pub mod Interleaves
 pub mod Merged
 pub mod Opened

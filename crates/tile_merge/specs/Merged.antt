@@ -1,6 +1,6 @@
 -- What a merge of several tiles may answer, and what was written then. `Mixes lists out` says in
 -- which order the texts of the tiles stand in the stream.
-use Rattle.std.specs.Prelude.{◌≡◌, ◌⊎◌, ◌<◌, ◌+◌, ◌++◌, ℕ, Bool, List, ◌∷◌, Option, Some, None, length, map, take}
+use Rattle.std.specs.Prelude.{◌≡◌, ◌⊎◌, ◌<◌, ◌+◌, ◌++◌, ℕ, List, ◌∷◌, Option, Some, None, length, map, take}
 use Rattle.std.specs.Io.KnownBytes.{Appends, Keeps}
 use Rattle.std.specs.List.{AllZip, AllByRecursion}
 use Rattle.byte_streams.specs.declared.fault.Fault.TheVariants.{Write, Memory, TooManyTiles}
@@ -16,7 +16,8 @@ use Rattle.tile_stream.specs.Stream.{stream}
 use Rattle.tile_stream.specs.Texts.{Outcome}
 use Rattle.tile_stream.specs.Tile.{TileLines, stream_limits}
 use Rattle.tile_stream.specs.Unread.{IsOfTile}
-use Rattle.tile_merge.specs.Told.{told}
+use Rattle.tile_merge.specs.Giving.{Giving, Mixing}
+use Rattle.tile_merge.specs.Told.{first_refusal}
 use Rattle.byte_streams.specs.declared.places.MergeFault.{MergeFault}
 
 -- ---- tiles ----
@@ -30,7 +31,7 @@ pub record HeadedTile : Type 0 where
   pub after : TileLines
 
 -- these readers' tiles, one of each, have these heads
-abbrev pub HaveHeads : {R : Type 0} → (R → List ℕ → Bool → Type 0) → List R → List HeadedTile → Type 0
+abbrev pub HaveHeads : {R : Type 0} → Giving R → List R → List HeadedTile → Type 0
 HaveHeads gives readers tiles =
     AllZip (λ reader tile.
     IsOfTile (gives reader) stream_limits tile.lines
@@ -46,14 +47,14 @@ pub record MergedTile : Type 0 where
   pub texts : List (List ℕ)
   pub outcome : Outcome
 
-abbrev pub shifts_of : List MergedTile → List Triple
-shifts_of tiles = map (λ merged. merged.shift) tiles
+abbrev pub merged_shifts : List MergedTile → List Triple
+merged_shifts tiles = map (λ merged. merged.shift) tiles
 
-abbrev pub texts_of : List MergedTile → List (List (List ℕ))
-texts_of tiles = map (λ merged. merged.texts) tiles
+abbrev pub merged_texts : List MergedTile → List (List (List ℕ))
+merged_texts tiles = map (λ merged. merged.texts) tiles
 
-abbrev pub outcomes_of : List MergedTile → List Outcome
-outcomes_of tiles = map (λ merged. merged.outcome) tiles
+abbrev pub merged_outcomes : List MergedTile → List Outcome
+merged_outcomes tiles = map (λ merged. merged.outcome) tiles
 
 -- its wanted features, moved by its shift, come to these texts and this end
 abbrev pub ComesToTexts : (FeatureValue → Type 0) → MergedTile → Type 0
@@ -62,50 +63,50 @@ ComesToTexts IsWanted merged =
 
 -- The tiles of these readers have headers that join to this line, each with its shift, and come to
 -- their texts and ends.
-pub record Merges {R : Type 0} (gives : R → List ℕ → Bool → Type 0) (IsWanted : FeatureValue → Type 0) (base : Base) (readers : List R) (tiles : List MergedTile) (line : List ℕ) : Type 0 where
+pub record Merges {R : Type 0} (gives : Giving R) (IsWanted : FeatureValue → Type 0) (base : Base) (readers : List R) (tiles : List MergedTile) (line : List ℕ) : Type 0 where
   pub heads : HaveHeads gives readers (map (λ merged. merged.tile) tiles)
-  pub joined : IsJoined base (headers_of (map (λ merged. merged.tile) tiles)) line (shifts_of tiles)
+  pub joined : IsJoined base (headers_of (map (λ merged. merged.tile) tiles)) line (merged_shifts tiles)
   pub texts : AllByRecursion (ComesToTexts IsWanted) tiles
 
 -- ---- what was written ----
 
 -- the stream of all texts was written
-pub record WroteMerge {R : Type 0} (gives : R → List ℕ → Bool → Type 0) (IsWanted : FeatureValue → Type 0) (base : Base) (Mixes : List (List (List ℕ)) → List (List ℕ) → Type 0) (readers : List R) (tiles : List MergedTile) (old new : Option (List ℕ)) : Type 0 where
+pub record WroteMerge {R : Type 0} (gives : Giving R) (IsWanted : FeatureValue → Type 0) (base : Base) (Mixes : Mixing) (readers : List R) (tiles : List MergedTile) (old new : Option (List ℕ)) : Type 0 where
   pub line : List ℕ
   pub out : List (List ℕ)
   pub merges : Merges gives IsWanted base readers tiles line
-  pub mixes : Mixes (texts_of tiles) out
+  pub mixes : Mixes (merged_texts tiles) out
   pub written : Appends old new (stream line out)
 
 -- nothing is wrong with any tile, and their stream was written; so many texts are of each
-abbrev pub MergedAll : {R : Type 0} → (R → List ℕ → Bool → Type 0) → (FeatureValue → Type 0) → Base → (List (List (List ℕ)) → List (List ℕ) → Type 0) → List R → List ℕ → Option (List ℕ) → Option (List ℕ) → Type 0
+abbrev pub MergedAll : {R : Type 0} → Giving R → (FeatureValue → Type 0) → Base → Mixing → List R → List ℕ → Option (List ℕ) → Option (List ℕ) → Type 0
 MergedAll gives IsWanted base Mixes readers counts old new =
     (tiles : List MergedTile)
     × WroteMerge gives IsWanted base Mixes readers tiles old new
-    × (told 1 (outcomes_of tiles) ≡ None)
-    × (counts ≡ map length (texts_of tiles))
+    × (first_refusal 1 (merged_outcomes tiles) ≡ None)
+    × (counts ≡ map length (merged_texts tiles))
 
 -- this is told of a tile that stopped, and the stream of the texts before the ends was written
-abbrev pub StoppedAtTile : {R : Type 0} → (R → List ℕ → Bool → Type 0) → (FeatureValue → Type 0) → Base → (List (List (List ℕ)) → List (List ℕ) → Type 0) → List R → MergeFault → Option (List ℕ) → Option (List ℕ) → Type 0
+abbrev pub StoppedAtTile : {R : Type 0} → Giving R → (FeatureValue → Type 0) → Base → Mixing → List R → MergeFault → Option (List ℕ) → Option (List ℕ) → Type 0
 StoppedAtTile gives IsWanted base Mixes readers refusal old new =
     (tiles : List MergedTile)
     × WroteMerge gives IsWanted base Mixes readers tiles old new
-    × (told 1 (outcomes_of tiles) ≡ Some refusal)
+    × (first_refusal 1 (merged_outcomes tiles) ≡ Some refusal)
 
 -- the first bytes of such a stream were written, and nothing else
-pub record WroteFrontOf {R : Type 0} (gives : R → List ℕ → Bool → Type 0) (IsWanted : FeatureValue → Type 0) (base : Base) (Mixes : List (List (List ℕ)) → List (List ℕ) → Type 0) (readers : List R) (old new : Option (List ℕ)) : Type 0 where
+pub record WroteFrontOf {R : Type 0} (gives : Giving R) (IsWanted : FeatureValue → Type 0) (base : Base) (Mixes : Mixing) (readers : List R) (old new : Option (List ℕ)) : Type 0 where
   pub tiles : List MergedTile
   pub line : List ℕ
   pub out : List (List ℕ)
   pub count : ℕ
   pub merges : Merges gives IsWanted base readers tiles line
-  pub mixes : Mixes (texts_of tiles) out
+  pub mixes : Mixes (merged_texts tiles) out
   pub written : Appends old new (take count (stream line out))
 
 -- ---- refusals before a byte is written ----
 
 -- the tile of this number, counted from 1, is the first that has no head, for this fault of this line
-pub record IsFirstHeadless {R : Type 0} (gives : R → List ℕ → Bool → Type 0) (readers : List R) (refusal : MergeFault) : Type 0 where
+pub record IsFirstHeadless {R : Type 0} (gives : Giving R) (readers : List R) (refusal : MergeFault) : Type 0 where
   pub before : List R
   pub reader : R
   pub others : List R
@@ -116,7 +117,7 @@ pub record IsFirstHeadless {R : Type 0} (gives : R → List ℕ → Bool → Typ
   pub none : SomeTile (IsOfTile (gives reader) stream_limits) (λ lines. HasNoHead lines (record { line = refusal.line; fault = refusal.fault }))
 
 -- the headers do not join: this tile is the first that does not fit, and this the line of its header
-pub record IsFirstUnfit {R : Type 0} (gives : R → List ℕ → Bool → Type 0) (base : Base) (readers : List R) (refusal : MergeFault) : Type 0 where
+pub record IsFirstUnfit {R : Type 0} (gives : Giving R) (base : Base) (readers : List R) (refusal : MergeFault) : Type 0 where
   pub tiles : List HeadedTile
   pub heads : HaveHeads gives readers tiles
   pub before : List HeadedTile
@@ -138,7 +139,7 @@ IsTooMany readers refusal = IsOfNoTile refusal × (refusal.fault ≡ TooManyTile
 
 -- before a byte is written: there are too many tiles; one has no head; the headers do not join; or
 -- memory ran out
-abbrev pub IsRefusedEarly : {R : Type 0} → (R → List ℕ → Bool → Type 0) → Base → List R → MergeFault → Type 0
+abbrev pub IsRefusedEarly : {R : Type 0} → Giving R → Base → List R → MergeFault → Type 0
 IsRefusedEarly gives base readers refusal =
     IsTooMany readers refusal
     ⊎ IsFirstHeadless gives readers refusal
@@ -152,7 +153,7 @@ IsOutputFault refusal =
 
 -- Why a merge is refused, and what was written: nothing; or the first bytes of a stream, where the
 -- output failed; or the whole stream of the texts before the ends, where a tile stopped.
-abbrev pub IsRefusedMerge : {R : Type 0} → (R → List ℕ → Bool → Type 0) → (FeatureValue → Type 0) → Base → (List (List (List ℕ)) → List (List ℕ) → Type 0) → List R → MergeFault → Option (List ℕ) → Option (List ℕ) → Type 0
+abbrev pub IsRefusedMerge : {R : Type 0} → Giving R → (FeatureValue → Type 0) → Base → Mixing → List R → MergeFault → Option (List ℕ) → Option (List ℕ) → Type 0
 IsRefusedMerge gives IsWanted base Mixes readers refusal old new =
     (IsRefusedEarly gives base readers refusal × Keeps old new)
     ⊎ (IsOutputFault refusal × WroteFrontOf gives IsWanted base Mixes readers old new)

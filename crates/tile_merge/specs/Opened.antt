@@ -1,11 +1,15 @@
 -- Tiles whose headers were taken, and of which the features are still to be read.
-use Rattle.std.specs.Prelude.{◌≡◌, ◌≤◌, ◌<◌, ℕ, Bool, List, [], ◌∷◌}
+use Rattle.std.specs.Prelude.{◌≡◌, ◌≤◌, ◌<◌, ℕ, List, [], ◌∷◌}
 use Rattle.city_feature.specs.Header.{HeaderValue}
+use Rattle.city_feature.specs.Joined.{IsJoined}
+use Rattle.city_feature.specs.declared.base.Base.{Base}
+use Rattle.city_grid.specs.Axes.{Triple}
 use Rattle.tile_stream.specs.Coming.{MayLeave}
 use Rattle.tile_stream.specs.Head.{GivesHeld}
 use Rattle.tile_stream.specs.Tile.{TileLines, stream_limits}
 use Rattle.tile_stream.specs.TileState.{TileState, most_to_come, most_texts}
 use Rattle.tile_stream.specs.Unread.{Leaves, IsOfTile}
+use Rattle.tile_merge.specs.Giving.{Giving}
 
 -- This holds of the items of three lists, place by place.
 abbrev pub AllThree : {A B C : Type 0} → (A → B → C → Type 0) → List A → List B → List C → Type 0
@@ -20,10 +24,16 @@ pub record OpenState (R : Type 0) : Type 0 where
 
 -- The reader's tile was opened: the header is that of the line of this number, which holds the
 -- features that come first, and what may be left comes after it.
-pub record IsOpened {R : Type 0} (gives : R → List ℕ → Bool → Type 0) (reader : R) (tile : OpenState R) (header : HeaderValue) : Type 0 where
+pub record IsOpened {R : Type 0} (gives : Giving R) (reader : R) (tile : OpenState R) (header : HeaderValue) : Type 0 where
   pub line : tile.line ≡ tile.unread.held.line
   pub none_ready : tile.unread.ready ≡ []
   pub later : tile.line < tile.unread.lines.number
   pub head : GivesHeld (IsOfTile (gives reader) stream_limits) (Leaves gives tile.unread.lines) header tile.unread.held
   pub some : (left : TileLines) × MayLeave gives tile.unread.lines left
   pub most : most_to_come tile.unread ≤ most_texts
+
+-- The tiles of these readers were opened, and their headers join to this line, with these shifts.
+pub record AreJoined {R : Type 0} (gives : Giving R) (base : Base) (readers : List R) (tiles : List (OpenState R)) (shifts : List Triple) (line : List ℕ) : Type 0 where
+  pub headers : List HeaderValue
+  pub opened : AllThree (IsOpened gives) readers tiles headers
+  pub joined : IsJoined base headers line shifts

@@ -6,19 +6,18 @@ use Rattle.byte_streams.specs.Failures.{after_call}
 use Rattle.byte_streams.specs.declared.fault.Fault.{Fault}
 use Rattle.byte_streams.specs.declared.fault.Fault.TheVariants.{Write, Memory, NoThread}
 use Rattle.city_feature.specs.Choice.{IsChosen}
-use Rattle.city_feature.specs.Header.{HeaderValue}
-use Rattle.city_feature.specs.Joined.{IsJoined}
-use Rattle.city_feature.specs.declared.base.Base.{Base}
 use Rattle.city_feature.specs.declared.choices.Choice.{Choice}
 use Rattle.city_grid.specs.Axes.{Triple}
 use Rattle.tile_handoff.specs.declared.note.End.{End}
 use Rattle.tile_handoff.specs.declared.note.Note.{Note}
 use Rattle.tile_handoff.specs.declared.note.Note.TheVariants.{Line as LineNote, End as EndNote}
+use Rattle.tile_merge.specs.declared.merging.ends.TileEnd.{TileEnd}
 use Rattle.tile_stream.specs.Coming.{MayComeTo}
-use Rattle.tile_merge.specs.EndNotes.{end_of, ended_so, notes_of}
+use Rattle.tile_merge.specs.Giving.{Giving}
+use Rattle.tile_merge.specs.EndNotes.{IsToldBy, end_of, ended_so, notes_of}
 use Rattle.tile_merge.specs.Feeds.{Course}
 use Rattle.tile_merge.specs.Interleaves.{Interleaves}
-use Rattle.tile_merge.specs.Opened.{AllThree, OpenState, IsOpened}
+use Rattle.tile_merge.specs.Opened.{OpenState}
 use Rattle.tile_stream.specs.Stream.{stream}
 use Rattle.tile_stream.specs.Texts.{Outcome}
 use Rattle.tile_stream.specs.TileState.{TileState}
@@ -36,13 +35,13 @@ abbrev pub fed_of : {R : Type 0} → TileState R → Triple → Choice → Fed R
 fed_of unread shift choice = record { unread = unread; shift = shift; choice = choice }
 
 -- these texts may come of the tile, and then this end
-abbrev pub MayFeed : {R : Type 0} → (R → List ℕ → Bool → Type 0) → Fed R → List (List ℕ) → Outcome → Type 0
+abbrev pub MayFeed : {R : Type 0} → Giving R → Fed R → List (List ℕ) → Outcome → Type 0
 MayFeed gives fed texts outcome =
     MayComeTo gives (IsChosen fed.choice) fed.shift fed.unread texts outcome
 
 -- Texts that come first of those that may come of the tile, and an end note, were put after these
 -- notes. Where it was not asked to stop, they are all that came, and the note tells how the tile ended.
-pub record IsFed {R : Type 0} (gives : R → List ℕ → Bool → Type 0) (fed : Fed R) (Unasked : Type 0) (before after : List Note) : Type 0 where
+pub record IsFed {R : Type 0} (gives : Giving R) (fed : Fed R) (Unasked : Type 0) (before after : List Note) : Type 0 where
   pub texts : List (List ℕ)
   pub others : List (List ℕ)
   pub outcome : Outcome
@@ -66,17 +65,18 @@ lines_in [] = []
 lines_in (LineNote line ∷ notes) = line ∷ lines_in notes
 lines_in (EndNote end ∷ notes) = lines_in notes
 
--- where the end note was taken, it is the last of the notes
-abbrev pub TellsEnd : Option End → List Note → Type 0
+-- where the end note was taken, it is the last of the notes, and the tile ended as it tells
+abbrev pub TellsEnd : Option TileEnd → List Note → Type 0
 TellsEnd None notes = Unit {0}
-TellsEnd (Some end) notes = (front : List Note) × (notes ≡ front ++ EndNote end ∷ [])
+TellsEnd (Some ended) notes =
+    (front : List Note) × (note : End) × (notes ≡ front ++ EndNote note ∷ []) × IsToldBy ended note
 
--- what the thread of the tile was given, the lines that were taken, the end note once it was, and how
--- often the thread was asked to stop
+-- what the thread of the tile was given, the lines that were taken, how it ended once the end note was
+-- taken, and how often the thread was asked to stop
 pub record RunningState (R : Type 0) : Type 0 where
   pub fed : Fed R
   pub lines : List (List ℕ)
-  pub last : Option End
+  pub last : Option TileEnd
   pub cancels : ℕ
 
 -- nothing was taken yet, and nothing asked
@@ -106,17 +106,17 @@ AreUncancelled tiles = AllByRecursion (λ tile. tile.cancels ≡ 0) tiles
 
 -- The lines that were taken are those of the texts that come first of all that the tile may give.
 -- Where nobody asked it to stop, they are all, and the end note tells how it ended.
-pub record HasGiven {R : Type 0} (gives : R → List ℕ → Bool → Type 0) (tile : RunningState R) (course : Course) : Type 0 where
+pub record HasGiven {R : Type 0} (gives : Giving R) (tile : RunningState R) (course : Course) : Type 0 where
   pub texts : List (List ℕ)
   pub others : List (List ℕ)
   pub are : course.texts ≡ texts ++ others
-  pub comes : MayFeed gives tile.fed course.texts course.ended.outcome
-  pub counted : course.ended.total ≡ length course.texts
+  pub comes : MayFeed gives tile.fed course.texts course.ended.stop
+  pub counted : course.ended.count ≡ length course.texts
   pub lines : tile.lines ≡ texts
-  pub whole : tile.cancels ≡ 0 → (others ≡ []) × (tile.last ≡ Some (end_of course.ended))
+  pub whole : tile.cancels ≡ 0 → (others ≡ []) × (tile.last ≡ Some course.ended)
 
 -- each of the tiles has given one of these courses
-abbrev pub HaveGiven : {R : Type 0} → (R → List ℕ → Bool → Type 0) → List (RunningState R) → List Course → Type 0
+abbrev pub HaveGiven : {R : Type 0} → Giving R → List (RunningState R) → List Course → Type 0
 HaveGiven gives tiles courses = AllZip (HasGiven gives) tiles courses
 
 -- ---- what was written ----
@@ -152,15 +152,6 @@ GoesOn before now wrote =
     → LinesSoFar feds header now wrote old new count newer
 
 -- ---- the tiles of a merge ----
-
--- The tiles of these readers were opened, their headers join to this line, and each has its thread.
-pub record AreStarted {R : Type 0} (gives : R → List ℕ → Bool → Type 0) (choice : Choice) (base : Base) (readers : List R) (running : List (RunningState R)) (line : List ℕ) : Type 0 where
-  pub tiles : List (OpenState R)
-  pub headers : List HeaderValue
-  pub shifts : List Triple
-  pub opened : AllThree (IsOpened gives) readers tiles headers
-  pub joined : IsJoined base headers line shifts
-  pub runs : AllThree (IsRunOf choice) tiles shifts running
 
 -- nothing was taken of any tile yet, and nothing asked
 abbrev pub AreFresh : {R : Type 0} → List (RunningState R) → Type 0

@@ -27,5 +27,5 @@ or_else (Some fault) other = Some fault
 
 -- that of the lowest tile that ran out of memory, or else of the lowest that has one; tiles are
 -- counted from `tile`
-abbrev pub told : ℕ → List Outcome → Option MergeFault
-told tile outcomes = or_else (first_where is_memory tile outcomes) (first_where (λ fault. true) tile outcomes)
+abbrev pub first_refusal : ℕ → List Outcome → Option MergeFault
+first_refusal tile outcomes = or_else (first_where is_memory tile outcomes) (first_where (λ fault. true) tile outcomes)

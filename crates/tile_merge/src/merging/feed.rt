@@ -6,14 +6,14 @@ ghost use Rattle.tile_handoff.specs.Queues.{queue_of, empty_queue};
 ghost use Rattle.tile_merge.specs.Feeds.{fresh_feed, MayTake, SomeCourse, TakesNone, TakesTurn, HasFreePlace, IsAhead, most_ahead, most_lines};
 ghost use Rattle.tile_stream.specs.TileState.{most_to_come, most_texts};
 
-use crate::merging::ends::end_note;
+use crate::merging::ends::{Ending, TileEnd};
 use byte_streams::{Fault, Line, Sink, Source};
 use city_feature::Choice;
 use city_grid::Shift;
 use std::alloc::Global;
 use std::marker::Model;
 use std::mem;
-use tile_handoff::{End, Queues, Took};
+use tile_handoff::{Queues, Took};
 use tile_stream::{Passed, TileReader, pass_on};
 
 /// A tile that is merged in turn: its reader, and a queue of the texts that were read ahead.
@@ -23,7 +23,7 @@ pub(crate) struct Feed<R> {
     shift: Shift,
     notes: Queues,
     count: u64,
-    last: Option<End>,
+    last: Option<TileEnd>,
     spare: Line,
 }
 
@@ -103,7 +103,7 @@ impl<R: Source> Feed<R> {
         match self.notes.take(0) {
             Took::Line(text) => return Ok(Some(text)),
             Took::End(end) => {
-                self.last = Some(end);
+                self.last = Some(TileEnd::of(end));
                 return Ok(None);
             }
             Took::Empty | Took::Drained => return Ok(None),
@@ -116,13 +116,6 @@ impl<R: Source> Feed<R> {
         ensures { self.new ≡ self.old }
     {
         self.spare = spare;
-    }
-
-    /// The end note of the tile, once it was taken.
-    pub(crate) fn last(&self) -> Option<End>
-        ensures { result ≡ self.now.last }
-    {
-        self.last
     }
 
     /// Reads until there is a note, and then on while lines are held and there is a place for theirs.
@@ -179,11 +172,13 @@ impl<R: Source> Feed<R> {
         let passed = match self.reader.pass(alloc, self.shift, choice, spare) {
             Ok(Some(passed)) => passed,
             Ok(None) => {
-                self.notes.store_end(0, end_note(self.count, None));
+                self.notes
+                    .store_end(0, TileEnd::new(self.count, None).note());
                 return;
             }
             Err(at) => {
-                self.notes.store_end(0, end_note(self.count, Some(at)));
+                self.notes
+                    .store_end(0, TileEnd::new(self.count, Some(at)).note());
                 return;
             }
         };
@@ -194,5 +189,13 @@ impl<R: Source> Feed<R> {
         }
         self.notes.store_line(0, text);
         self.count += 1;
+    }
+}
+
+impl<R: Source> Ending for Feed<R> {
+    ghost last_of = { λ feed. feed.last };
+
+    fn last(&self) -> Option<TileEnd> {
+        self.last
     }
 }

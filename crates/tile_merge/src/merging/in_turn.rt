@@ -1,31 +1,24 @@
-ghost use Rattle.std.specs.Prelude.{◌≡◌, ◌⊎◌, ◌≤◌, ◌<◌, ◌+◌, ◌^◌, ℕ, All, Err, [], length, filter_map, IfOk, IfErr, OnOk, OnErr};
+ghost use Rattle.std.specs.Prelude.{◌≡◌, ◌⊎◌, ◌≤◌, ◌<◌, ◌+◌, All, Err, [], length, IfOk, IfErr, OnOk, OnErr};
 ghost use Rattle.byte_streams.specs.Failures.{after_call};
 ghost use Rattle.city_feature.specs.Choice.{IsChosen};
-ghost use Rattle.tile_stream.specs.Filtered.{failures_after_merge, failures_after_refusal};
+ghost use Rattle.tile_stream.specs.Filtered.{failures_after_merge};
+ghost use Rattle.tile_stream.specs.Stream.{with_newline};
 ghost use Rattle.tile_merge.specs.Interleaves.{Interleaves};
 ghost use Rattle.tile_merge.specs.Merged.{MergedAll, IsOutputFault, IsRefusedEarly, IsRefusedMerge};
 ghost use Rattle.tile_merge.specs.Opened.{AllThree};
 ghost use Rattle.tile_merge.specs.Turns.{AreTurns};
 ghost use Rattle.tile_stream.specs.TileState.{most_to_come, most_texts};
-ghost use Rattle.tile_merge.specs.Rounds.{AreReady, IsFeedOf, MayTakeAll, SomeCourses, WroteRound, WroteTurns, WroteTurnsFront};
+ghost use Rattle.tile_merge.specs.Rounds.{IsFeedOf, MayTakeAll, SomeCourses, WroteRound, WroteTurns, WroteTurnsFront};
 
 use crate::merging::feed::Feed;
-use crate::merging::report::{Ends, Report};
-use crate::merging::tiles::{JoinedTiles, OpenTile, join_tiles, tile_count};
+use crate::merging::report::Report;
+use crate::merging::tiles::{JoinedTiles, OpenTile, join_tiles};
 use byte_streams::{Fault, Line, MergeFault, Sink, Source};
 use city_feature::{Base, Choice};
 use city_grid::Shift;
 use std::alloc::Global;
 use tile_handoff::{MAX_CAPACITY, Queues};
 use tile_stream::write_line;
-
-/// Tiles that are ready to be merged in turn, the line of their header, and room for their ends.
-#[derive(Debug, Drop)]
-struct ReadyTiles<R> {
-    feeds: Vec<Feed<R>>,
-    line: Line,
-    ends: Ends,
-}
 
 /// Merges the tiles that the readers give, in turn: the joined header, then the first feature that
 /// is chosen of each tile that has one, in the tiles' order, then the second ones, and so on. Each
@@ -72,68 +65,15 @@ pub fn merge_in_turn<R: Source + Drop, W: Sink>(
     }) }
     ensures failures { W.failures output.new ≡ failures_after_merge result (W.failures output.old) }
 {
-    tile_count(readers.len())?;
-    merge_few(alloc, readers, choice, base, capacity, output)
-}
-
-/// As above, for at most 64 tiles.
-fn merge_few<R: Source + Drop, W: Sink>(
-    alloc: Global,
-    readers: Vec<R>,
-    choice: &Choice,
-    base: Base,
-    capacity: u32,
-    output: &mut W,
-) -> Result<Report, MergeFault>
-    requires some { 0 < length readers.items }
-    requires few { length readers.items ≤ 64 }
-    requires capacity { (0 < capacity) × (capacity ≤ MAX_CAPACITY) }
-    ensures ok { IfOk result (λ report. MergedAll R.gives (IsChosen choice.now) base AreTurns
-        readers.items report.counts (W.taken output.old) (W.taken output.new)) }
-    ensures flushed { OnOk result (W.is_flushed output.new) }
-    ensures refused { IfErr result (λ e. IsRefusedMerge R.gives (IsChosen choice.now) base AreTurns
-        readers.items e (W.taken output.old) (W.taken output.new)) }
-    ensures passed_on { IfErr result (λ e. IsRefusedEarly R.gives base readers.items e
-        ⊎ IsOutputFault e ⊎ W.is_flushed output.new) }
-    ensures failures { W.failures output.new ≡ failures_after_merge result (W.failures output.old) }
-{
-    let ReadyTiles {
-        mut feeds,
-        line,
-        ends,
-    } = make_ready(alloc, readers, base, capacity)?;
-    write_line(output, line)?;
-    write_turns(alloc, &mut feeds, choice, output)?;
-    output.flush()?;
-    ends_of(&feeds, ends).report()
-}
-
-/// Opens and joins the tiles, and makes their feeds.
-fn make_ready<R: Source + Drop>(
-    alloc: Global,
-    readers: Vec<R>,
-    base: Base,
-    capacity: u32,
-) -> Result<ReadyTiles<R>, MergeFault>
-    requires some { 0 < length readers.items }
-    requires few { length readers.items ≤ 64 }
-    requires capacity { (0 < capacity) × (capacity ≤ MAX_CAPACITY) }
-    ensures ok { IfOk result (λ ready.
-        AreReady R.gives base capacity readers.items ready.feeds.items ready.line) }
-    ensures few { IfOk result (λ ready. length ready.feeds.items ≤ 64) }
-    ensures room { IfOk result (λ ready. ready.ends
-        ≡ record { room = length ready.feeds.items; ends = [] }) }
-    ensures refused { IfErr result (IsRefusedEarly R.gives base readers.items) }
-    ensures quiet { IfErr result (λ e. (count : ℕ) → failures_after_refusal e count ≡ count) }
-{
     let JoinedTiles {
         tiles,
         line,
         shifts,
+        ends,
     } = join_tiles(alloc, readers, base)?;
-    let ends = Ends::new(alloc, tiles.len())?;
-    let feeds = feeds_of(alloc, tiles, shifts.items(), capacity)?;
-    Ok(ReadyTiles { feeds, line, ends })
+    let mut feeds = feeds_of(alloc, tiles, shifts.items(), capacity)?;
+    write_stream(alloc, &mut feeds, line, choice, output)?;
+    ends.gather(&feeds).report()
 }
 
 /// The tiles, each with its shift and an empty queue.
@@ -149,6 +89,7 @@ fn feeds_of<R: Source + Drop>(
     requires capacity { (0 < capacity) × (capacity ≤ MAX_CAPACITY) }
     ensures ok { IfOk result (λ feeds.
         AllThree (IsFeedOf capacity) tiles.items shifts.now feeds.items) }
+    ensures long { IfOk result (λ feeds. length feeds.items ≡ length tiles.items) }
     ensures memory { IfErr result (λ fault. fault ≡ Fault.Memory) }
 {
     let mut feeds = Vec::with_capacity(alloc, tiles.len())?;
@@ -160,6 +101,33 @@ fn feeds_of<R: Source + Drop>(
     Ok(feeds)
 }
 
+/// Writes the line of the header, and then the texts of the tiles in turn, to the end of each, and
+/// passes them on.
+///
+/// # Errors
+///
+/// [`Fault::Write`] where a write or the flush failed.
+fn write_stream<R: Source, W: Sink>(
+    alloc: Global,
+    feeds: &mut [Feed<R>],
+    header: Line,
+    choice: &Choice,
+    output: &mut W,
+) -> Result<(), Fault>
+    requires { SomeCourses (MayTakeAll R.gives (IsChosen choice.now) feeds.old) }
+    ensures ok { OnOk result (WroteTurns R.gives (IsChosen choice.now) (with_newline header)
+        feeds.old feeds.new (W.taken output.old) (W.taken output.new)) }
+    ensures failed { OnErr result (WroteTurnsFront R.gives (IsChosen choice.now)
+        (with_newline header) feeds.old (W.taken output.old) (W.taken output.new)) }
+    ensures flushed { OnOk result (W.is_flushed output.new) }
+    ensures fault { IfErr result (λ fault. fault ≡ Fault.Write) }
+    ensures failures { W.failures output.new ≡ after_call result (W.failures output.old) }
+{
+    write_line(output, header)?;
+    write_turns(alloc, feeds, choice, output)?;
+    output.flush()
+}
+
 /// Writes the texts of the tiles in turn, to the end of each.
 fn write_turns<R: Source, W: Sink>(
     alloc: Global,
@@ -168,9 +136,9 @@ fn write_turns<R: Source, W: Sink>(
     output: &mut W,
 ) -> Result<(), Fault>
     requires { SomeCourses (MayTakeAll R.gives (IsChosen choice.now) feeds.old) }
-    ensures ok { OnOk result (WroteTurns R.gives (IsChosen choice.now) feeds.old feeds.new
+    ensures ok { OnOk result (WroteTurns R.gives (IsChosen choice.now) [] feeds.old feeds.new
         (W.taken output.old) (W.taken output.new)) }
-    ensures failed { OnErr result (WroteTurnsFront R.gives (IsChosen choice.now) feeds.old
+    ensures failed { OnErr result (WroteTurnsFront R.gives (IsChosen choice.now) [] feeds.old
         (W.taken output.old) (W.taken output.new)) }
     ensures fault { IfErr result (λ fault. fault ≡ Fault.Write) }
     ensures failures { W.failures output.new ≡ after_call result (W.failures output.old) }
@@ -195,7 +163,7 @@ fn write_round<R: Source, W: Sink>(
     requires { SomeCourses (MayTakeAll R.gives (IsChosen choice.now) feeds.old) }
     ensures ok { IfOk result (λ any. WroteRound R.gives (IsChosen choice.now) feeds.old feeds.new
         any (W.taken output.old) (W.taken output.new)) }
-    ensures failed { OnErr result (WroteTurnsFront R.gives (IsChosen choice.now) feeds.old
+    ensures failed { OnErr result (WroteTurnsFront R.gives (IsChosen choice.now) [] feeds.old
         (W.taken output.old) (W.taken output.new)) }
     ensures fault { IfErr result (λ fault. fault ≡ Fault.Write) }
     ensures failures { W.failures output.new ≡ after_call result (W.failures output.old) }
@@ -216,20 +184,4 @@ fn write_round<R: Source, W: Sink>(
         }
     }
     Ok(any)
-}
-
-/// The ends of tiles that are over.
-fn ends_of<R: Source>(feeds: &[Feed<R>], none: Ends) -> Ends
-    requires none { none.ends ≡ [] }
-    requires room { length feeds.now ≤ none.room }
-    ensures { result.ends ≡ filter_map (λ feed. feed.last) feeds.now }
-{
-    let mut ends = none;
-    for feed in feeds {
-        let Some(end) = feed.last() else {
-            continue;
-        };
-        ends.add(end);
-    }
-    ends
 }

@@ -1,11 +1,11 @@
-ghost use Rattle.std.specs.Prelude.{◌≡◌, ◌<◌, ◌^◌, ◌++◌, [], ◌∷◌, List, Some, None, true, length, map, IfOk, IfErr};
-ghost use Rattle.tile_merge.specs.EndNotes.{Ended, AreEnds, end_of, outcome_at, outcomes_in, totals_in};
-ghost use Rattle.tile_merge.specs.Told.{told, first_where, is_memory, fault_of_tile};
+ghost use Rattle.std.specs.Prelude.{◌≡◌, ◌≤◌, ◌<◌, ◌^◌, ◌++◌, [], ◌∷◌, Some, None, true, length, filter_map, IfOk, IfErr};
+ghost use Rattle.tile_merge.specs.EndNotes.{outcomes_in, totals_in};
+ghost use Rattle.tile_merge.specs.Told.{first_refusal, first_where, is_memory, fault_of_tile};
 
-use byte_streams::{Fault, LineFault, MergeFault, Sequence};
+use crate::merging::ends::{Ending, TileEnd};
+use byte_streams::{Fault, MergeFault, Sequence};
 use std::alloc::{AllocError, Global};
 use std::marker::Model;
-use tile_handoff::End;
 
 /// A count for each tile, in order.
 pub type Counts = Sequence<u64>;
@@ -17,12 +17,12 @@ pub struct Report {
     pub counts: Counts,
 }
 
-/// The end notes of the tiles of a merge, in order. The memory for them and for the report of their counts
+/// How the tiles of a merge ended, in order. The memory for this and for the report of their counts
 /// is there from the start, so that neither can fail once the stream is written.
 #[derive(Debug, Drop)]
 pub(crate) struct Ends {
     room: usize,
-    ends: Vec<End>,
+    ends: Vec<TileEnd>,
     counts: Vec<u64>,
 }
 
@@ -39,7 +39,7 @@ impl Model for Ends {
 }
 
 impl Ends {
-    /// No end note yet, and room for those of so many tiles.
+    /// None yet, and room for those of so many tiles.
     pub(crate) fn new(alloc: Global, tiles: usize) -> Result<Ends, AllocError>
         ensures { IfOk result (λ all. all ≡ record { room = tiles; ends = [] }) }
     {
@@ -50,8 +50,25 @@ impl Ends {
         })
     }
 
-    /// Adds the end note of the next tile.
-    pub(crate) fn add(&mut self, end: End)
+    /// The ends of these tiles, as far as they were taken.
+    pub(crate) fn gather<T: Ending>(self, tiles: &[T]) -> Ends
+        requires none { self.ends ≡ [] }
+        requires room { length tiles.now ≤ self.room }
+        ensures ends { result.ends ≡ filter_map T.last_of tiles.now }
+        ensures few { length result.ends ≤ length tiles.now }
+    {
+        let mut ends = self;
+        for tile in tiles {
+            let Some(end) = tile.last() else {
+                continue;
+            };
+            ends.add(end);
+        }
+        ends
+    }
+
+    /// Adds the end of the next tile.
+    fn add(&mut self, end: TileEnd)
         requires room { length self.old.ends < self.old.room }
         ensures { self.new ≡ record self.old { ends = self.old.ends ++ end ∷ [] } }
     {
@@ -65,17 +82,16 @@ impl Ends {
     /// That of the lowest tile that ran out of memory, or else of the lowest that has one.
     pub(crate) fn report(self) -> Result<Report, MergeFault>
         requires few { length self.ends < 2 ^ 32 }
-        ensures ok { IfOk result (λ report. (tiles : List Ended) → AreEnds self.ends tiles
-            → (told 1 (outcomes_in tiles) ≡ None) × (report.counts ≡ totals_in tiles)) }
-        ensures refused { IfErr result (λ e. (tiles : List Ended) → AreEnds self.ends tiles
-            → told 1 (outcomes_in tiles) ≡ Some e) }
+        ensures ok { IfOk result (λ report. (first_refusal 1 (outcomes_in self.ends) ≡ None)
+            × (report.counts ≡ totals_in self.ends)) }
+        ensures refused { IfErr result (λ e. first_refusal 1 (outcomes_in self.ends) ≡ Some e) }
     {
         let Ends {
             ends,
             mut counts,
             ..
         } = self;
-        if let Some(refusal) = told(&ends) {
+        if let Some(refusal) = first_refusal(&ends) {
             return Err(refusal);
         }
         for end in &ends {
@@ -87,11 +103,10 @@ impl Ends {
     }
 }
 
-/// What is told of tiles that ended so.
-fn told(ends: &[End]) -> Option<MergeFault>
+/// What is answered of tiles that ended so, if one of them stopped.
+fn first_refusal(ends: &[TileEnd]) -> Option<MergeFault>
     requires few { length ends.now < 2 ^ 32 }
-    ensures { (tiles : List Ended) → AreEnds ends.now tiles
-        → result ≡ told 1 (outcomes_in tiles) }
+    ensures { result ≡ first_refusal 1 (outcomes_in ends.now) }
 {
     match first_memory(ends) {
         Some(refusal) => Some(refusal),
@@ -99,15 +114,14 @@ fn told(ends: &[End]) -> Option<MergeFault>
     }
 }
 
-fn first_memory(ends: &[End]) -> Option<MergeFault>
+fn first_memory(ends: &[TileEnd]) -> Option<MergeFault>
     requires few { length ends.now < 2 ^ 32 }
-    ensures { (tiles : List Ended) → AreEnds ends.now tiles
-        → result ≡ first_where is_memory 1 (outcomes_in tiles) }
+    ensures { result ≡ first_where is_memory 1 (outcomes_in ends.now) }
 {
     let mut tile = 0u32;
     for end in ends {
         tile += 1;
-        if let Some(at) = stop_of(end) {
+        if let Some(at) = end.stop {
             if at.fault == Fault::Memory {
                 return Some(at.of_tile(tile));
             }
@@ -116,28 +130,16 @@ fn first_memory(ends: &[End]) -> Option<MergeFault>
     None
 }
 
-fn first_stop(ends: &[End]) -> Option<MergeFault>
+fn first_stop(ends: &[TileEnd]) -> Option<MergeFault>
     requires few { length ends.now < 2 ^ 32 }
-    ensures { (tiles : List Ended) → AreEnds ends.now tiles
-        → result ≡ first_where (λ fault. true) 1 (outcomes_in tiles) }
+    ensures { result ≡ first_where (λ fault. true) 1 (outcomes_in ends.now) }
 {
     let mut tile = 0u32;
     for end in ends {
         tile += 1;
-        if let Some(at) = stop_of(end) {
+        if let Some(at) = end.stop {
             return Some(at.of_tile(tile));
         }
     }
     None
-}
-
-/// Where and why a tile stopped that ended so.
-fn stop_of(end: &End) -> Option<LineFault>
-    ensures { (ended : Ended) → end.now ≡ end_of ended → outcome_at result ≡ ended.outcome }
-{
-    let fault = Fault::of(end.number)?;
-    Some(LineFault {
-        line: end.line,
-        fault,
-    })
 }

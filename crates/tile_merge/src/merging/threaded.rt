@@ -1,15 +1,12 @@
-ghost use Rattle.std.specs.Prelude.{◌≡◌, ◌⊎◌, ◌≤◌, ◌<◌, ◌+◌, ◌^◌, ℕ, List, All, Err, true, [], length, filter_map, IfOk, IfErr, OnOk};
-ghost use Rattle.std.specs.List.{AllZip};
+ghost use Rattle.std.specs.Prelude.{◌≡◌, ◌⊎◌, ◌≤◌, ◌<◌, ◌+◌, List, All, Err, true, length, IfOk, IfErr, OnOk};
 ghost use Rattle.city_feature.specs.Choice.{IsChosen};
-ghost use Rattle.city_feature.specs.declared.base.Base.{Base};
-ghost use Rattle.city_feature.specs.declared.choices.Choice.{Choice};
 ghost use Rattle.tile_merge.specs.Feeds.{Course};
-ghost use Rattle.tile_stream.specs.Filtered.{failures_after_merge, failures_after_refusal};
+ghost use Rattle.tile_stream.specs.Filtered.{failures_after_merge};
 ghost use Rattle.tile_merge.specs.Interleaves.{Interleaves};
-ghost use Rattle.tile_merge.specs.Merged.{MergedAll, IsOutputFault, IsRefusedEarly, IsRefusedMerge};
+ghost use Rattle.tile_merge.specs.Merged.{MergedAll, IsOutputFault, IsRefusedEarly};
 ghost use Rattle.tile_merge.specs.Opened.{AllThree};
 ghost use Rattle.tile_merge.specs.Threaded.{HasNoThread, IsRefusedThreaded, WroteInterleaved};
-ghost use Rattle.tile_merge.specs.Threads.{are_all_ended, AreFresh, AreStarted, HaveGiven, IsRunOf, IsUnstarted, fresh_run, fed_of};
+ghost use Rattle.tile_merge.specs.Threads.{are_all_ended, HaveGiven, IsRunOf, IsUnstarted};
 ghost use Rattle.tile_stream.specs.TileState.{most_to_come, most_texts};
 
 mod cancelling;
@@ -18,27 +15,19 @@ mod running;
 mod waiting;
 mod writing;
 
-use crate::merging::report::{Ends, Report};
+use crate::merging::report::Report;
 use crate::merging::threaded::feeder::FedTile;
 use crate::merging::threaded::running::{RunningTile, start};
 use crate::merging::threaded::waiting::Bell;
 use crate::merging::threaded::writing::write_stream;
-use crate::merging::tiles::{JoinedTiles, OpenTile, join_tiles, tile_count};
-use byte_streams::{Fault, Line, MergeFault, Sink, Source};
+use crate::merging::tiles::{JoinedTiles, OpenTile, join_tiles};
+use byte_streams::{Fault, MergeFault, Sink, Source};
 use city_feature::{Base, Choice};
 use city_grid::Shift;
 use std::alloc::Global;
 use std::sync::Wait;
 use std::thread::Threads;
 use tile_handoff::MAX_CAPACITY;
-
-/// Tiles whose threads run, the line of their header, and room for their ends.
-#[derive(Drop)]
-struct StartedTiles<R: Source> {
-    tiles: Vec<RunningTile<R>>,
-    line: Line,
-    ends: Ends,
-}
 
 /// Merges the tiles that the readers give, with a thread for each: the joined header, and then the
 /// features that are chosen, each moved by its tile's shift, those of a tile in their order and
@@ -92,75 +81,19 @@ where
     }) }
     ensures failures { W.failures output.new ≡ failures_after_merge result (W.failures output.old) }
 {
-    tile_count(readers.len())?;
-    merge_few(rt, alloc, readers, choice, base, capacity, output)
-}
-
-/// As above, for at most 64 tiles.
-fn merge_few<H, R, W>(
-    rt: &H,
-    alloc: Global,
-    readers: Vec<R>,
-    choice: &Choice,
-    base: Base,
-    capacity: u32,
-    output: &mut W,
-) -> Result<Report, MergeFault>
-where
-    H: Threads + Wait + Copy + Send + 'static,
-    R: Source + Send + Drop + 'static,
-    W: Sink,
-    requires some { 0 < length readers.items }
-    requires few { length readers.items ≤ 64 }
-    requires capacity { (0 < capacity) × (capacity ≤ MAX_CAPACITY) }
-    ensures ok { IfOk result (λ report. MergedAll R.gives (IsChosen choice.now) base Interleaves
-        readers.items report.counts (W.taken output.old) (W.taken output.new)) }
-    ensures flushed { OnOk result (W.is_flushed output.new) }
-    ensures refused { IfErr result (λ e. IsRefusedThreaded R.gives (IsChosen choice.now) base
-        readers.items e (W.taken output.old) (W.taken output.new)) }
-    ensures passed_on { IfErr result (λ e. HasNoThread R.gives base readers.items e
-        ⊎ IsRefusedEarly R.gives base readers.items e ⊎ IsOutputFault e
-        ⊎ W.is_flushed output.new) }
-    ensures failures { W.failures output.new ≡ failures_after_merge result (W.failures output.old) }
-{
-    let filled = Bell::new(alloc)?;
-    let started = start_tiles(rt, alloc, readers, choice, base, capacity, &filled)?;
-    finish(rt, &filled, started, output)
-}
-
-/// Opens and joins the tiles, and starts their threads.
-fn start_tiles<H, R>(
-    rt: &H,
-    alloc: Global,
-    readers: Vec<R>,
-    choice: &Choice,
-    base: Base,
-    capacity: u32,
-    filled: &Bell,
-) -> Result<StartedTiles<R>, MergeFault>
-where
-    H: Threads + Wait + Copy + Send + 'static,
-    R: Source + Send + Drop + 'static,
-    requires some { 0 < length readers.items }
-    requires few { length readers.items ≤ 64 }
-    requires capacity { (0 < capacity) × (capacity ≤ MAX_CAPACITY) }
-    ensures ok { IfOk result (λ started. AreStarted R.gives choice.now base
-        readers.items started.tiles.items started.line) }
-    ensures few { IfOk result (λ started. length started.tiles.items ≤ 64) }
-    ensures room { IfOk result (λ started. started.ends
-        ≡ record { room = length started.tiles.items; ends = [] }) }
-    ensures refused { IfErr result (λ e. HasNoThread R.gives base readers.items e
-        ⊎ IsRefusedEarly R.gives base readers.items e) }
-    ensures quiet { IfErr result (λ e. (count : ℕ) → failures_after_refusal e count ≡ count) }
-{
     let JoinedTiles {
         tiles,
         line,
         shifts,
+        ends,
     } = join_tiles(alloc, readers, base)?;
-    let ends = Ends::new(alloc, tiles.len())?;
-    let tiles = start_all(rt, alloc, tiles, shifts.items(), choice, capacity, filled)?;
-    Ok(StartedTiles { tiles, line, ends })
+    let filled = Bell::new(alloc)?;
+    let mut running = start_all(rt, alloc, tiles, shifts.items(), choice, capacity, &filled)?;
+    let wrote = write_stream(rt, &filled, &mut running, line, output);
+    let ends = ends.gather(&running);
+    join_all(rt, running);
+    wrote?;
+    ends.report()
 }
 
 /// Starts a thread for each tile. Where one cannot be started, those that run are stopped.
@@ -182,6 +115,7 @@ where
     requires capacity { (0 < capacity) × (capacity ≤ MAX_CAPACITY) }
     ensures ok { IfOk result (λ running.
         AllThree (IsRunOf choice.now) tiles.items shifts.now running.items) }
+    ensures long { IfOk result (λ running. length running.items ≡ length tiles.items) }
     ensures refused { IfErr result (IsUnstarted (length tiles.items)) }
 {
     let mut running = Vec::with_capacity(alloc, tiles.len())?;
@@ -252,56 +186,6 @@ fn stop_all<H: Threads + Wait, R: Source + Drop>(
     for tile in tiles {
         tile.stop(rt, filled);
     }
-}
-
-/// Writes the stream of tiles whose threads run, and joins these.
-fn finish<H: Threads + Wait, R: Source + Drop, W: Sink>(
-    rt: &H,
-    filled: &Bell,
-    started: StartedTiles<R>,
-    output: &mut W,
-) -> Result<Report, MergeFault>
-    requires few { length started.tiles.items ≤ 64 }
-    requires room { started.ends ≡ record { room = length started.tiles.items; ends = [] } }
-    requires fresh { AreFresh started.tiles.items }
-    ensures ok { (choice : Choice) (base : Base) (readers : List R)
-        → AreStarted R.gives choice base readers started.tiles.items started.line
-        → IfOk result (λ report. MergedAll R.gives (IsChosen choice) base Interleaves
-        readers report.counts (W.taken output.old) (W.taken output.new)) }
-    ensures refused { (choice : Choice) (base : Base) (readers : List R)
-        → AreStarted R.gives choice base readers started.tiles.items started.line
-        → IfErr result (λ e. IsRefusedMerge R.gives (IsChosen choice) base Interleaves
-        readers e (W.taken output.old) (W.taken output.new)) }
-    ensures flushed { OnOk result (W.is_flushed output.new) }
-    ensures passed_on { IfErr result (λ e. IsOutputFault e ⊎ W.is_flushed output.new) }
-    ensures failures { W.failures output.new ≡ failures_after_merge result (W.failures output.old) }
-{
-    let StartedTiles {
-        mut tiles,
-        line,
-        ends,
-    } = started;
-    let wrote = write_stream(rt, filled, &mut tiles, line, output);
-    let ends = ends_of(&tiles, ends);
-    join_all(rt, tiles);
-    wrote?;
-    ends.report()
-}
-
-/// The end notes of tiles of which they were taken.
-fn ends_of<R: Source + Drop>(tiles: &[RunningTile<R>], none: Ends) -> Ends
-    requires none { none.ends ≡ [] }
-    requires room { length tiles.now ≤ none.room }
-    ensures { result.ends ≡ filter_map (λ tile. tile.last) tiles.now }
-{
-    let mut ends = none;
-    for tile in tiles {
-        let Some(end) = tile.last() else {
-            continue;
-        };
-        ends.add(end);
-    }
-    ends
 }
 
 /// Joins the threads of all tiles, and confirms what was taken of each.

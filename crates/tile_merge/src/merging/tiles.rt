@@ -1,13 +1,14 @@
-ghost use Rattle.std.specs.Prelude.{◌≡◌, ◌≤◌, ◌<◌, ◌-◌, ◌⊎◌, ℕ, List, length, map, slice_get, IsSomeAnd, IfOk, IfErr};
-ghost use Rattle.city_feature.specs.Header.{HeaderValue};
-ghost use Rattle.city_feature.specs.Joined.{IsJoined};
+ghost use Rattle.std.specs.Prelude.{◌≡◌, ◌≤◌, ◌<◌, ◌-◌, ◌⊎◌, ℕ, All, Err, [], length, map, slice_get, IsSomeAnd, IfOk, IfErr, OnOk};
 ghost use Rattle.city_feature.specs.Values.{header_value};
+ghost use Rattle.tile_stream.specs.Filtered.{failures_after_refusal};
 ghost use Rattle.tile_stream.specs.Head.{HasNoHead, SomeTile};
-ghost use Rattle.tile_merge.specs.Merged.{IsFirstHeadless, IsFirstUnfit, IsOfNoTile};
-ghost use Rattle.tile_merge.specs.Opened.{AllThree, IsOpened};
+ghost use Rattle.tile_merge.specs.Merged.{IsFirstHeadless, IsOfNoTile, IsRefusedEarly};
+ghost use Rattle.tile_merge.specs.Opened.{AllThree, AreJoined, IsOpened};
 ghost use Rattle.tile_stream.specs.Tile.{stream_limits};
+ghost use Rattle.tile_stream.specs.TileState.{most_to_come, most_texts};
 ghost use Rattle.tile_stream.specs.Unread.{IsOfTile};
 
+use crate::merging::report::Ends;
 use byte_streams::limits::MAX_TILES;
 use byte_streams::{Fault, Line, LineFault, MergeFault, Source};
 use city_feature::{Base, Header, HeaderFault, Joined, Shifts, join_headers};
@@ -42,12 +43,13 @@ pub(crate) struct OpenTiles<R> {
     pub(crate) headers: Vec<Header>,
 }
 
-/// Tiles that join: the line of their header in the stream, and the shift of each.
+/// Tiles that join: the line of their header in the stream, the shift of each, and room for their ends.
 #[derive(Debug, Drop)]
 pub(crate) struct JoinedTiles<R> {
     pub(crate) tiles: Vec<OpenTile<R>>,
     pub(crate) line: Line,
     pub(crate) shifts: Shifts,
+    pub(crate) ends: Ends,
 }
 
 /// Refuses more than 64 tiles.
@@ -70,32 +72,43 @@ pub fn tile_count(count: usize) -> Result<(), MergeFault>
 ///
 /// # Errors
 ///
-/// That of the first tile that has no header; else that of joining, at the line of the tile's
-/// header; of no tile [`Fault::Memory`].
+/// [`Fault::TooManyTiles`], of no tile, above 64 readers; else that of the first tile that has no
+/// header; else that of joining, at the line of the tile's header; of no tile [`Fault::Memory`].
 pub(crate) fn join_tiles<R: Source + Drop>(
     alloc: Global,
     readers: Vec<R>,
     base: Base,
 ) -> Result<JoinedTiles<R>, MergeFault>
     requires some { 0 < length readers.items }
-    requires few { length readers.items ≤ 64 }
-    ensures ok { IfOk result (λ joined. (headers : List HeaderValue)
-        × AllThree (IsOpened R.gives) readers.items joined.tiles.items headers
-        × IsJoined base headers joined.line joined.shifts) }
+    ensures ok { IfOk result (λ joined. AreJoined R.gives base readers.items
+        joined.tiles.items joined.shifts joined.line) }
+    ensures few { OnOk result (length readers.items ≤ 64) }
+    ensures long { IfOk result (λ joined. length joined.tiles.items ≡ length readers.items) }
     ensures shifts { IfOk result (λ joined. length joined.shifts ≡ length joined.tiles.items) }
-    ensures refused { IfErr result (λ e. IsFirstHeadless R.gives readers.items e
-        ⊎ IsFirstUnfit R.gives base readers.items e
-        ⊎ (IsOfNoTile e × (e.fault ≡ Fault.Memory))) }
+    ensures most { IfOk result (λ joined.
+        All (λ tile. most_to_come tile.unread ≤ most_texts) joined.tiles.items) }
+    ensures room { IfOk result (λ joined. joined.ends
+        ≡ record { room = length joined.tiles.items; ends = [] }) }
+    ensures refused { IfErr result (IsRefusedEarly R.gives base readers.items) }
+    ensures too_many { 64 < length readers.items → result ≡ Err (record {
+      tile = 0;
+      line = 0;
+      fault = Fault.TooManyTiles;
+    }) }
+    ensures quiet { IfErr result (λ e. (count : ℕ) → failures_after_refusal e count ≡ count) }
 {
+    tile_count(readers.len())?;
     let OpenTiles { tiles, headers } = take_heads(alloc, readers)?;
     let Joined { line, shifts } = match join_headers(alloc, &headers, base) {
         Ok(joined) => joined,
         Err(refused) => return Err(refusal_at_head(refused, &tiles)),
     };
+    let ends = Ends::new(alloc, tiles.len())?;
     Ok(JoinedTiles {
         tiles,
         line,
         shifts,
+        ends,
     })
 }
 

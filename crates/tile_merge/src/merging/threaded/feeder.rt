@@ -2,10 +2,11 @@ ghost use Rattle.std.specs.Prelude.{◌≡◌, ◌≤◌, ◌+◌, ◌^◌, ◌+
 ghost use Rattle.rtrb.specs.Ring.{received, SameConsumer};
 ghost use Rattle.tile_handoff.specs.Ends.{notes_put, notes_carried, IsSameSender, EndedIn};
 ghost use Rattle.tile_handoff.specs.declared.note.Note.{Note};
+ghost use Rattle.tile_merge.specs.EndNotes.{end_of};
 ghost use Rattle.tile_merge.specs.Threads.{IsFed};
 ghost use Rattle.tile_stream.specs.TileState.{most_to_come, most_texts};
 
-use crate::merging::ends::end_note;
+use crate::merging::ends::TileEnd;
 use crate::merging::threaded::cancelling::Cancellation;
 use crate::merging::threaded::waiting::{Bell, Patience};
 use byte_streams::{Line, Source};
@@ -106,8 +107,8 @@ impl<R: Source + Drop> FedTile<R> {
         'lines: loop {
             let Passed { is_chosen, text } = match reader.pass(alloc, shift, &choice, spare) {
                 Ok(Some(passed)) => passed,
-                Ok(None) => return finish(rt, links, sender, end_note(count, None)),
-                Err(at) => return finish(rt, links, sender, end_note(count, Some(at))),
+                Ok(None) => return finish(rt, links, sender, TileEnd::new(count, None)),
+                Err(at) => return finish(rt, links, sender, TileEnd::new(count, Some(at))),
             };
             if is_chosen {
                 spare = roomy_line(alloc, text.items().len());
@@ -117,7 +118,7 @@ impl<R: Source + Drop> FedTile<R> {
                 spare = text;
             }
             if links.cancellation.is_asked() {
-                return finish(rt, links, sender, end_note(count, None));
+                return finish(rt, links, sender, TileEnd::new(count, None));
             }
         }
     }
@@ -158,12 +159,12 @@ fn put<H: Wait>(rt: &H, links: &Links, sender: &mut Sender, line: Line)
 }
 
 /// Puts the end note, and gives back what the thread was given of its caller's.
-fn finish<H: Wait>(rt: &H, links: Links, sender: Sender, end: End) -> Finished
+fn finish<H: Wait>(rt: &H, links: Links, sender: Sender, end: TileEnd) -> Finished
     ensures own { EndedIn sender result.closed }
-    ensures put { notes_carried result.closed ≡ notes_put sender ++ Note.End end ∷ [] }
+    ensures put { notes_carried result.closed ≡ notes_put sender ++ Note.End (end_of end) ∷ [] }
     ensures asked { result.cancellation.consumer ≡ links.cancellation.consumer }
 {
-    let closed = put_end(rt, &links, sender, end);
+    let closed = put_end(rt, &links, sender, end.note());
     let Links { cancellation, .. } = links;
     Finished {
         closed,

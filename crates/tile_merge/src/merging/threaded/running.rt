@@ -5,6 +5,7 @@ ghost use Rattle.tile_merge.specs.Feeds.{Course};
 ghost use Rattle.tile_merge.specs.Threads.{fresh_run, is_ended, HasGiven};
 ghost use Rattle.tile_stream.specs.TileState.{most_to_come, most_texts};
 
+use crate::merging::ends::{Ending, TileEnd};
 use crate::merging::threaded::cancelling::{Canceller, cancel_ends};
 use crate::merging::threaded::feeder::{FedTile, Feeds, Finished, Links};
 use crate::merging::threaded::waiting::{Bell, Patience, SpacedBell};
@@ -15,13 +16,14 @@ use std::snapshot::Snapshot;
 use std::sync::Wait;
 use std::thread;
 use std::thread::{PromisedHandle, Threads};
-use tile_handoff::{End, MAX_CAPACITY, Note, Receiver, Sender, ends};
+use tile_handoff::{MAX_CAPACITY, Note, Receiver, Sender, ends};
 
-/// A tile whose thread runs: the thread, the end note once it was taken, and what the caller keeps.
+/// A tile whose thread runs: the thread, how it ended once the end note was taken, and what the caller
+/// keeps.
 #[derive(Drop)]
 pub(super) struct RunningTile<R: Source> {
     thread: PromisedHandle<Finished, Feeds<R>>,
-    last: Option<End>,
+    last: Option<TileEnd>,
     receiver: Receiver,
     canceller: Canceller,
     emptied: SpacedBell,
@@ -168,7 +170,7 @@ impl<R: Source + Drop> RunningTile<R> {
                 return Some(line);
             }
             Some(Note::End(end)) => {
-                self.last = Some(end);
+                self.last = Some(TileEnd::of(end));
                 return None;
             }
             None => return None,
@@ -182,13 +184,6 @@ impl<R: Source + Drop> RunningTile<R> {
         ensures lines { self.new.lines ≡ self.old.lines }
     {
         self.canceller.cancel();
-    }
-
-    /// The end note, once it was taken.
-    pub(super) fn last(&self) -> Option<End>
-        ensures { result ≡ self.now.last }
-    {
-        self.last
     }
 
     /// Joins the thread, whose end note was taken, and confirms that all was taken that it put.
@@ -236,5 +231,13 @@ impl<R: Source + Drop> RunningTile<R> {
         }
         let RunningTile { thread, .. } = tile;
         thread.join(rt);
+    }
+}
+
+impl<R: Source> Ending for RunningTile<R> {
+    ghost last_of = { λ tile. tile.last };
+
+    fn last(&self) -> Option<TileEnd> {
+        self.last
     }
 }

@@ -3,6 +3,7 @@ ghost use Rattle.byte_streams.specs.Failures.{after_call};
 ghost use Rattle.tile_stream.specs.Stream.{with_newline};
 ghost use Rattle.tile_merge.specs.Threads.{AreFresh, are_all_ended, GoesOn, GoesOnWriting, LinesSoFar, WroteUnless, feds_of};
 
+use crate::merging::ends::Ending;
 use crate::merging::threaded::running::RunningTile;
 use crate::merging::threaded::waiting::{Bell, Patience};
 use byte_streams::{Fault, Line, Sink, Source};

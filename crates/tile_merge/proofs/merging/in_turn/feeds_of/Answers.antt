@@ -7,9 +7,10 @@ use Rattle.tile_merge.specs.Feeds.{fresh_feed}
 use Rattle.tile_merge.specs.Opened.{OpenState}
 use Rattle.tile_merge.specs.Rounds.{IsFeedOf}
 use Rattle.tile_stream.specs.TileState.{most_to_come, most_texts}
-use Rattle.tile_merge.proofs.Feeds.{feed_more, feeds_all, all_at}
+use Rattle.tile_merge.proofs.Feeds.{all_at}
 use Rattle.tile_stream.proofs.GoneThrough.{goes_on, is_longer}
 use Rattle.tile_merge.proofs.Opening.{all_three_long}
+use Rattle.tile_merge.proofs.Threes.{threes_all, threes_more}
 use Rattle.tile_merge.proofs.merging.in_turn.feeds_of.Goals as goal
 
 pub bounds-shifts-len : goal.bounds-shifts-len
@@ -51,12 +52,23 @@ loop-tile-preserved g c =
     record {
       can_next = tt;
       is_finite = tt;
-      fed = feed_more c.args.capacity loop.yielded c.args.shifts.now loop.feeds.items c.push.new.self.items tile
-          c.index-shifts-len.result c.new-in-loop-tile.result loop.invariant.fed
+      fed = threes_more (IsFeedOf c.args.capacity) loop.yielded c.args.shifts.now loop.feeds.items
+          c.push.new.self.items tile c.index-shifts-len.result c.new-in-loop-tile.result loop.invariant.fed
           (omega (arith, is_longer c.args.tiles.items loop.yielded tile _ are, c.requires.shifts)) is_shift is_feed
           c.in_ok-push.ensures.items;
       left = are ∙ sym (append_assoc loop.yielded (tile ∷ []) c.next.new.self.rest.items);
     }
+
+pub returns-clause-long : goal.returns-clause-long
+returns-clause-long g c =
+    let loop = c.loop-tile in
+    let end = YieldsList-end (YieldsList-from_vec {s = c.into_iter-tile-iterator.result} c.args.tiles.items
+    c.into_iter-tile-iterator.ensures.into_iter_gives.0
+    (c.into_iter-tile-iterator.ensures.into_iter_gives.1 ∙ c.args.tiles.ok.0)) loop.yielded loop.tile-iterator
+    loop.yielded_by c.next.result c.next.new.self c.in-None.is c.next.ensures.steps in
+    let long = all_three_long (IsFeedOf c.args.capacity) loop.yielded (take (length loop.yielded) c.args.shifts.now)
+    loop.feeds.items loop.invariant.fed in
+    long.1 ∙ ap length (sym (map-id loop.yielded) ∙ end.0)
 
 pub returns-clause-ok : goal.returns-clause-ok
 returns-clause-ok g c =
@@ -65,5 +77,5 @@ returns-clause-ok g c =
     c.into_iter-tile-iterator.ensures.into_iter_gives.0
     (c.into_iter-tile-iterator.ensures.into_iter_gives.1 ∙ c.args.tiles.ok.0)) loop.yielded loop.tile-iterator
     loop.yielded_by c.next.result c.next.new.self c.in-None.is c.next.ensures.steps in
-    feeds_all c.args.capacity c.args.tiles.items loop.yielded c.args.shifts.now loop.feeds.items
+    threes_all (IsFeedOf c.args.capacity) c.args.tiles.items loop.yielded c.args.shifts.now loop.feeds.items
     (sym (map-id loop.yielded) ∙ end.0) c.requires.shifts loop.invariant.fed

@@ -9,7 +9,7 @@ returns-then-eq c =
     let at = c.in-Some.at in
     let holds = sym (c.if-eq.ensures ∙ same_memory at.fault) in
     tells_this is_memory (c.loop-end.tile + 1) c.args.ends.now c.loop-end.end-index c.loop-end.invariant.told
-    c.loop-end-test.true c.stop_of.result c.stop_of.ensures at c.in-Some.is holds c.of_tile.result c.of_tile.ensures
+    c.loop-end-test.true at c.in-Some.is holds c.of_tile.result c.of_tile.ensures
 
 pub loop-end-preserved : goal.loop-end-preserved
 loop-end-preserved c =
@@ -19,21 +19,14 @@ loop-end-preserved c =
     let told = c.loop-end.invariant.told in
     let within = c.loop-end-test.true in
     let counted = ap (λ n. n + 1) c.loop-end.invariant.counted in
-    elim c.match-stop_of.branch [
+    elim c.match-end.branch [
       | in-Some+else-eq w ↦
           (let at = w.in-Some.at in
           let fails = sym (w.if-eq.ensures ∙ same_memory at.fault) in
-          record {
-            counted = counted;
-            told = tells_on_other is_memory next ends index told within c.stop_of.result
-                c.stop_of.ensures at w.in-Some.is fails;
-          })
+          let onward = tells_on_other is_memory next ends index told within at w.in-Some.is fails in
+          record { counted = counted; told = onward })
       | in_default w ↦
-          record {
-            counted = counted;
-            told = tells_on is_memory next ends index told within c.stop_of.result
-                c.stop_of.ensures w.in_default.is;
-          }
+          record { counted = counted; told = tells_on is_memory next ends index told within w.in_default.is }
     ]
 
 pub returns : goal.returns

@@ -9,7 +9,7 @@ any fault = true
 pub returns-in-Some : goal.returns-in-Some
 returns-in-Some c =
     tells_this any (c.loop-end.tile + 1) c.args.ends.now c.loop-end.end-index c.loop-end.invariant.told
-    c.loop-end-test.true c.stop_of.result c.stop_of.ensures c.in-Some.at c.in-Some.is refl c.of_tile.result
+    c.loop-end-test.true c.in-Some.at c.in-Some.is refl c.of_tile.result
     c.of_tile.ensures
 
 pub loop-end-preserved : goal.loop-end-preserved
@@ -17,7 +17,7 @@ loop-end-preserved c =
     record {
       counted = ap (λ n. n + 1) c.loop-end.invariant.counted;
       told = tells_on any (c.loop-end.tile + 1) c.args.ends.now c.loop-end.end-index c.loop-end.invariant.told
-          c.loop-end-test.true c.stop_of.result c.stop_of.ensures c.in_default.is;
+          c.loop-end-test.true c.in_default.is;
     }
 
 pub returns : goal.returns

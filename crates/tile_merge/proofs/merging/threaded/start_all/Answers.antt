@@ -1,4 +1,4 @@
-use Rattle.std.proofs.Common.{◌≡◌, ◌≤◌, ◌+◌, ◌∷◌, [], length, take, get_or, sym, subst, ◌∙◌, arith, append_assoc}
+use Rattle.std.proofs.Common.{◌≡◌, ◌≤◌, ◌+◌, ◌∷◌, [], length, take, get_or, ap, sym, subst, ◌∙◌, arith, append_assoc}
 use Rattle.std.proofs.lemmas.List.{map-id}
 use Rattle.std.proofs.lemmas.Iterator.Adapters.{YieldsList-from_vec}
 use Rattle.std.proofs.lemmas.Iterator.Consumers.{YieldsList-end}
@@ -8,7 +8,8 @@ use Rattle.tile_stream.specs.TileState.{most_to_come, most_texts}
 use Rattle.tile_merge.proofs.Feeds.{all_at}
 use Rattle.tile_stream.proofs.GoneThrough.{goes_on, is_longer}
 use Rattle.tile_merge.proofs.Opening.{all_three_long}
-use Rattle.tile_merge.proofs.Starting.{threes_all, threes_more, unstarted}
+use Rattle.tile_merge.proofs.Starting.{unstarted}
+use Rattle.tile_merge.proofs.Threes.{threes_all, threes_more}
 use Rattle.tile_merge.proofs.merging.threaded.start_all.Goals as goal
 
 pub bounds-shifts-len : goal.bounds-shifts-len
@@ -71,6 +72,17 @@ returns-in-Err-clause-refused g c =
     unstarted (length tiles) (c.len-in-Err.result + 1) (omega arith)
     (omega (arith, long.1, within, c.len-in-Err.ensures, loop.running.ok.0)) c.in-Err.fault c.in-Err.ensures.refused
     told.result told.ensures.thread told.ensures.memory
+
+pub returns-clause-long : goal.returns-clause-long
+returns-clause-long g c =
+    let loop = c.loop-tile in
+    let end = YieldsList-end (YieldsList-from_vec {s = c.into_iter-tile-iterator.result} c.args.tiles.items
+    c.into_iter-tile-iterator.ensures.into_iter_gives.0
+    (c.into_iter-tile-iterator.ensures.into_iter_gives.1 ∙ c.args.tiles.ok.0)) loop.yielded loop.tile-iterator
+    loop.yielded_by c.next.result c.next.new.self c.in-None.is c.next.ensures.steps in
+    let long = all_three_long (IsRunOf c.args.choice.now) loop.yielded (take (length loop.yielded) c.args.shifts.now)
+    loop.running.items loop.invariant.runs in
+    long.1 ∙ ap length (sym (map-id loop.yielded) ∙ end.0)
 
 pub returns-clause-ok : goal.returns-clause-ok
 returns-clause-ok g c =

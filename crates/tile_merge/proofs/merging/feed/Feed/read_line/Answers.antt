@@ -1,6 +1,7 @@
 use Rattle.std.proofs.Common.{◌∙◌, Some, None, ap}
 use Rattle.city_feature.specs.Choice.{IsChosen}
 use Rattle.tile_handoff.specs.Queues.{queue_of}
+use Rattle.tile_merge.specs.EndNotes.{end_of}
 use Rattle.tile_merge.proofs.Feeding.{line_taken, line_some, nothing_taken, nothing_some, end_taken, end_some, set_there}
 use Rattle.tile_merge.proofs.merging.feed.Feed.read_line.Goals as goal
 
@@ -53,7 +54,8 @@ returns-in-Ok-None-clause-none g c =
     let is_new = ap (λ queues. queue_of queues 0) c.store_end.ensures ∙ set_there inside.notes _ c.self.invariant.1 in
     rw (← c.self.view_is) (end_taken g.R.Source.gives (IsChosen c.args.choice.now) inside.shift inside.notes.capacity
     (c.store_end.new.self).capacity inside.count inside.last inside.reader c.pass.new.self (queue_of inside.notes 0)
-    is_open None over c.end_note.result c.end_note.ensures (queue_of c.store_end.new.self 0) is_new)
+    is_open None over c.note.result (c.note.ensures ∙ ap end_of c.new-in-Ok-None.ensures)
+    (queue_of c.store_end.new.self 0) is_new)
 
 pub returns-in-Ok-None-clause-some : goal.returns-in-Ok-None-clause-some
 returns-in-Ok-None-clause-some g c =
@@ -64,7 +66,8 @@ returns-in-Ok-None-clause-some g c =
     let was = rw (← c.self.view_is) at c.requires.some in
     end_some g.R.Source.gives (IsChosen c.args.choice.now) inside.shift inside.notes.capacity
     (c.store_end.new.self).capacity inside.count inside.last inside.reader c.pass.new.self (queue_of inside.notes 0)
-    is_open None over c.end_note.result c.end_note.ensures (queue_of c.store_end.new.self 0) is_new
+    is_open None over c.note.result (c.note.ensures ∙ ap end_of c.new-in-Ok-None.ensures)
+    (queue_of c.store_end.new.self 0) is_new
     (c.self.invariant.3 is_open).1 was
 
 pub returns-in-Err-clause-none : goal.returns-in-Err-clause-none
@@ -76,8 +79,9 @@ returns-in-Err-clause-none g c =
     ∙ set_there inside.notes _ c.self.invariant.1 in
     rw (← c.self.view_is) (end_taken g.R.Source.gives (IsChosen c.args.choice.now) inside.shift inside.notes.capacity
     (c.store_end-in-Err.new.self).capacity inside.count inside.last inside.reader c.pass.new.self
-    (queue_of inside.notes 0) is_open (Some (record { line = c.in-Err.at.line; fault = c.in-Err.at.fault })) over
-    c.end_note-in-Err.result c.end_note-in-Err.ensures (queue_of c.store_end-in-Err.new.self 0) is_new)
+    (queue_of inside.notes 0) is_open (Some c.in-Err.at) over
+    c.note-in-Err.result (c.note-in-Err.ensures ∙ ap end_of c.new-in-Err.ensures)
+    (queue_of c.store_end-in-Err.new.self 0) is_new)
 
 pub returns-in-Err-clause-some : goal.returns-in-Err-clause-some
 returns-in-Err-clause-some g c =
@@ -89,6 +93,7 @@ returns-in-Err-clause-some g c =
     let was = rw (← c.self.view_is) at c.requires.some in
     end_some g.R.Source.gives (IsChosen c.args.choice.now) inside.shift inside.notes.capacity
     (c.store_end-in-Err.new.self).capacity inside.count inside.last inside.reader c.pass.new.self
-    (queue_of inside.notes 0) is_open (Some (record { line = c.in-Err.at.line; fault = c.in-Err.at.fault })) over
-    c.end_note-in-Err.result c.end_note-in-Err.ensures (queue_of c.store_end-in-Err.new.self 0) is_new
+    (queue_of inside.notes 0) is_open (Some c.in-Err.at) over
+    c.note-in-Err.result (c.note-in-Err.ensures ∙ ap end_of c.new-in-Err.ensures)
+    (queue_of c.store_end-in-Err.new.self 0) is_new
     (c.self.invariant.3 is_open).1 was

@@ -3,6 +3,7 @@ use Rattle.rtrb.specs.Ring.{received}
 use Rattle.city_feature.specs.Choice.{IsChosen}
 use Rattle.tile_handoff.specs.Ends.{notes_put, notes_carried}
 use Rattle.tile_stream.specs.Coming.{MayComeTo}
+use Rattle.tile_merge.specs.EndNotes.{end_of}
 use Rattle.tile_merge.specs.Threads.{Fed, FedSoFar}
 use Rattle.tile_stream.specs.TileState.{most_to_come, most_texts}
 use Rattle.tile_merge.proofs.Feeder.{fed_start, fed_text, fed_nothing, fed_whole, fed_front}
@@ -30,21 +31,20 @@ returns-in-Ok-None-clause-fed g c =
     let fed = fed_whole g.R.Source.gives (record
     { unread = c.self.inside.reader; shift = c.self.inside.shift; choice = c.self.inside.choice }) Unasked
     (notes_put c.args.sender) (comes c.lines.reader) c.lines.count (notes_put c.lines.sender)
-    c.lines.invariant.so_far c.end_note.result (notes_carried c.finish.result.closed) c.finish.ensures.put None over
-    c.end_note.ensures in
+    c.lines.invariant.so_far (end_of c.new.result) (notes_carried c.finish.result.closed) c.finish.ensures.put None
+    over (ap end_of c.new.ensures) in
     rw (← c.self.view_is) fed
 
 pub returns-in-Err-clause-fed : goal.returns-in-Err-clause-fed
 returns-in-Err-clause-fed g c =
     let comes = MayComeTo g.R.Source.gives (IsChosen c.self.inside.choice) c.self.inside.shift in
-    let outcome = Some (record { line = c.in-Err.at.line; fault = c.in-Err.at.fault }) in
     let finish = c.finish-in-Err in
     let Unasked = received finish.result.cancellation.consumer ≡ received c.args.links.cancellation.consumer in
     let fed = fed_whole g.R.Source.gives (record
     { unread = c.self.inside.reader; shift = c.self.inside.shift; choice = c.self.inside.choice }) Unasked
     (notes_put c.args.sender) (comes c.lines.reader) c.lines.count (notes_put c.lines.sender)
-    c.lines.invariant.so_far c.end_note-in-Err.result (notes_carried finish.result.closed) finish.ensures.put
-    outcome c.in-Err.ensures.refused c.end_note-in-Err.ensures in
+    c.lines.invariant.so_far (end_of c.new-in-Err.result) (notes_carried finish.result.closed) finish.ensures.put
+    (Some c.in-Err.at) c.in-Err.ensures.refused (ap end_of c.new-in-Err.ensures) in
     rw (← c.self.view_is) fed
 
 pub returns-then-is_asked-clause-fed : goal.returns-then-is_asked-clause-fed
@@ -75,7 +75,7 @@ returns-then-is_asked-clause-fed g c =
     let kept = ap received finish.ensures.asked in
     let fed = fed_front g.R.Source.gives (record
     { unread = c.self.inside.reader; shift = c.self.inside.shift; choice = c.self.inside.choice }) Unasked old after
-    c.if-is_chosen.count (notes_put c.if-is_chosen.sender) passed c.end_note-then-is_asked.result
+    c.if-is_chosen.count (notes_put c.if-is_chosen.sender) passed (end_of c.new-then-is_asked.result)
     (notes_carried finish.result.closed) finish.ensures.put c.pass.ensures.some
     (λ unasked. omega (arith, one_more, unseen, ap length (sym kept ∙ unasked))) in
     rw (← c.self.view_is) fed
