@@ -2,7 +2,9 @@
 use Rattle.std.proofs.Common.{◌≡◌, ◌≢◌, ◌++◌, ◌∙◌, ◌≤◌, ◌<◌, ◌+◌, ◌-◌, ℕ, List, [], ◌∷◌, length, take, drop, get_or, slice_range, refl, ap, sym, subst, arith, append_assoc, append-nil, true, false}
 use Rattle.std.proofs.lemmas.List.{drop-drop, take-append-drop}
 use Rattle.byte_streams.specs.Limits.{max_depth}
-use Rattle.city_json.proofs.CompactEnds.{first_same, more_members_stopped, number_other, other_head, others_same}
+use Rattle.city_json.proofs.CompactEnds.{number_other, other_head}
+use Rattle.city_json.proofs.MemberEnds.{more_members_stopped}
+use Rattle.city_json.proofs.StringEnds.{first_same, others_same}
 use Rattle.city_json.proofs.PassParts as pass
 use Rattle.city_json.proofs.Places.{drop_one}
 use Rattle.city_json.specs.Bytes.{colon, comma, open_brace, close_brace, quotation_mark}

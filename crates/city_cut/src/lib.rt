@@ -20,8 +20,6 @@ mod objects;
 mod quick;
 mod reach;
 mod relabelling;
-#[cfg(test)]
-mod tests;
 mod values;
 
 pub use cuts::{Cut, CutTexts, Features};

@@ -1,8 +1,7 @@
 //! Documents that the quick cut answers, with the texts of the plain one.
-use super::{HEAD, POINTS, document};
-use crate::cutting::cut_texts;
-use crate::quick::quick_cut;
+use crate::texts::{HEAD, POINTS, document};
 use byte_streams::Line;
+use city_cut::{cut_texts, quick_cut};
 use city_json::{print, read};
 use std::alloc::AllocGlobal;
 use std::process::Abort;

@@ -1,5 +1,6 @@
 //! Documents that are cut.
-use super::*;
+use crate::texts::{building, cut_text, document, expect_features, expect_lines};
+use std::test::Fail;
 
 /// The members of a building, the boundaries of its two parts, and the vertices.
 type Shape = (&'static str, &'static str, &'static str, &'static str);

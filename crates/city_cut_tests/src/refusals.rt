@@ -1,5 +1,8 @@
 //! Documents that are refused.
-use super::*;
+use crate::texts::{building, cut_text, document, expect_same_texts};
+use byte_streams::Fault;
+use std::alloc::Global;
+use std::test::Fail;
 
 fn fault_of(alloc: Global, text: &str) -> Option<Fault> {
     cut_text(alloc, text).err()

@@ -1,34 +1,30 @@
 //! Documents and what they are cut into, line by line.
-mod answers;
-mod refusals;
-mod shapes;
 
-use crate::cuts::Cut;
-use crate::cutting::{cut, cut_texts};
 use byte_streams::{Fault, Line};
+use city_cut::{Cut, cut, cut_texts};
 use city_feature::line;
 use city_json::{print, read};
 use std::alloc::{AllocGlobal, Global};
 use std::process::Abort;
 use std::test::Fail;
 
-const HEAD: &str =
+pub(crate) const HEAD: &str =
     r#"{"type":"CityJSON","version":"2.0","transform":{"scale":[0.001,0.001,0.001],"translate":[0,0,0]}"#;
 
-const POINTS: &str = "[[0,0,0],[1,1,1],[2,2,2],[3,3,3]]";
+pub(crate) const POINTS: &str = "[[0,0,0],[1,1,1],[2,2,2],[3,3,3]]";
 
 /// A document of these city objects and the vertices `POINTS`.
-fn document(alloc: Global, objects: &str) -> Result<String, Fail> {
+pub(crate) fn document(alloc: Global, objects: &str) -> Result<String, Fail> {
     Ok(format!(in alloc; "{HEAD},\"CityObjects\":{{{objects}}},\"vertices\":{POINTS}}}")?)
 }
 
-fn cut_text(alloc: Global, text: &str) -> Result<Cut, Fault> {
+pub(crate) fn cut_text(alloc: Global, text: &str) -> Result<Cut, Fault> {
     cut(alloc, read(alloc, text.as_bytes())?)
 }
 
 /// Cut as texts, a text comes to the same header, and to the texts that the lines of its features are, or to the same
 /// fault.
-fn expect_same_texts(
+pub(crate) fn expect_same_texts(
     rt: &(impl Abort + AllocGlobal),
     text: &str,
     want: Result<&[Line], Fault>,
@@ -57,7 +53,7 @@ fn expect_same_texts(
 }
 
 /// The lines of the header and the features.
-fn lines_of(alloc: Global, cut: &Cut) -> Result<Vec<Line>, Fault> {
+pub(crate) fn lines_of(alloc: Global, cut: &Cut) -> Result<Vec<Line>, Fault> {
     let mut lines = Vec::new(alloc);
     let mut header = Line::new(alloc);
     print(cut.header.json(), &mut header)?;
@@ -69,7 +65,11 @@ fn lines_of(alloc: Global, cut: &Cut) -> Result<Vec<Line>, Fault> {
 }
 
 /// The document is cut into these lines.
-fn expect_lines(rt: &(impl Abort + AllocGlobal), text: &str, want: &[&str]) -> Result<(), Fail> {
+pub(crate) fn expect_lines(
+    rt: &(impl Abort + AllocGlobal),
+    text: &str,
+    want: &[&str],
+) -> Result<(), Fail> {
     let cut = cut_text(rt.alloc(), text)?;
     let lines = lines_of(rt.alloc(), &cut)?;
     assert_eq!(rt; lines.len(), want.len(), "{text}");
@@ -80,7 +80,7 @@ fn expect_lines(rt: &(impl Abort + AllocGlobal), text: &str, want: &[&str]) -> R
 }
 
 /// The document of these objects is cut into the header and these features.
-fn expect_features(
+pub(crate) fn expect_features(
     rt: &(impl Abort + AllocGlobal),
     objects: &str,
     want: &[&str],
@@ -95,7 +95,12 @@ fn expect_features(
 }
 
 /// A building with these members and two parts with these boundaries.
-fn building(alloc: Global, members: &str, first: &str, second: &str) -> Result<String, Fail> {
+pub(crate) fn building(
+    alloc: Global,
+    members: &str,
+    first: &str,
+    second: &str,
+) -> Result<String, Fail> {
     Ok(format!(in alloc;
         r#""b":{{"type":"Building"{members}}},"p1":{{"type":"BuildingPart","parents":["b"],"geometry":[{{"type":"MultiPoint","lod":"1","boundaries":{first}}}]}},"p2":{{"type":"BuildingPart","parents":["b"],"geometry":[{{"type":"MultiPoint","lod":"1","boundaries":{second}}}]}}"#
     )?)
