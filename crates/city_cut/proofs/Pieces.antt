@@ -1,6 +1,6 @@
 -- Pieces of bytes, and the texts that are held so.
-use Rattle.std.proofs.Common.{◌≡◌, ◌∙◌, ◌++◌, ◌<◌, ◌≤◌, ◌-◌, ℕ, zero, suc, List, [], ◌∷◌, map, length, take, drop, take_all, get_or, slice_range, refl, sym, ap, subst, arith, append_assoc, append-nil}
-use Rattle.std.proofs.lemmas.List.{drop-append-le, length-append, length-drop, length-map, map-append, take-append-le}
+use Rattle.std.proofs.Common.{◌≡◌, ◌∙◌, ◌++◌, ◌<◌, ◌≤◌, ◌-◌, ℕ, zero, suc, List, [], ◌∷◌, map, length, take, drop, take_all, get_or, slice_range, refl, sym, ap, arith, append-nil}
+use Rattle.std.proofs.lemmas.List.{drop-append-le, length-append, length-drop, map-append, take-append-le}
 use Rattle.std.proofs.Math.Seq.{drop-append_seam}
 use Rattle.city_json.specs.Compact.{compact}
 use Rattle.city_feature.specs.Feature.{FeatureValue}

@@ -1,6 +1,6 @@
 -- A whole document, cut on its compact text.
-use Rattle.std.proofs.Common.{◌≡◌, ◌≢◌, ◌∙◌, ◌++◌, ◌<◌, ◌≤◌, ℕ, List, [], ◌∷◌, Option, Some, None, Result, Ok, Err, IfOk, IfSome, length, map, unwrap_or, slice_range, refl, sym, ap, subst, codes, append-nil, append_assoc, arith}
-use Rattle.std.specs.List.{AllZip, Contains}
+use Rattle.std.proofs.Common.{◌≡◌, ◌∙◌, ◌++◌, ℕ, List, [], ◌∷◌, Option, Some, None, length, unwrap_or, slice_range, refl, sym, ap, subst, codes, append-nil, append_assoc, arith}
+use Rattle.std.specs.List.{Contains}
 use Rattle.city_json.proofs.CompactLaws.{compact-tells}
 use Rattle.city_json.proofs.SpelledWritable.{spelled_writable}
 use Rattle.city_json.specs.Bytes.{colon, comma, open_brace, close_brace, open_bracket, close_bracket}

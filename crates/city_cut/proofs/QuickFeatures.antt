@@ -8,10 +8,10 @@ use Rattle.std.specs.Prelude.{codes}
 use Rattle.city_json.proofs.MemberPlaces.{member_in_part}
 use Rattle.city_json.specs.Bytes.{colon, comma, open_brace, close_brace}
 use Rattle.city_json.specs.Compact.{compact, compact_members, compact_more_members, quoted}
-use Rattle.city_json.specs.Fits.{AreDistinctMembers, IsDistinct, depth, members_depth}
+use Rattle.city_json.specs.Fits.{AreDistinctMembers, IsDistinct, members_depth}
 use Rattle.byte_streams.specs.Limits.{max_depth}
 use Rattle.city_json.specs.Parts.{AreParts, HasMember}
-use Rattle.city_json.specs.Tree.{Tree, null, MemberTrees, member_trees, object}
+use Rattle.city_json.specs.Tree.{Tree, member_trees, object}
 use Rattle.city_json.specs.Writable.{AreWritableMembers}
 use Rattle.city_json.specs.declared.compacting.parts.Part.{Part}
 use Rattle.city_grid.specs.Axes.{Triple, triple}

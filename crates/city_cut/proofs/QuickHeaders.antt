@@ -1,5 +1,5 @@
 -- The header of a document, from the text in which two of its members are exchanged.
-use Rattle.std.proofs.Common.{◌≡◌, ◌≢◌, ◌∙◌, ◌++◌, ◌≤◌, arith, ℕ, Bool, true, false, List, [], ◌∷◌, Option, Some, None, IsUtf8, is_some, bytes_eq, if◌then◌else◌, take, drop, slice_range, refl, sym, ap, subst, codes}
+use Rattle.std.proofs.Common.{◌≡◌, ◌∙◌, ◌++◌, ◌≤◌, arith, ℕ, Bool, true, false, List, [], ◌∷◌, Option, Some, None, IsUtf8, is_some, bytes_eq, take, drop, slice_range, refl, sym, ap, subst, codes}
 use Rattle.std.proofs.lemmas.Slice.Eq.{bytes_eq-Decides}
 use Rattle.city_json.proofs.SpelledWritable.{read_of_compact}
 use Rattle.city_json.specs.Bytes.{colon}
@@ -14,10 +14,10 @@ use Rattle.city_json.specs.Writable.{AreWritableMembers, IsWritable}
 use Rattle.city_json.specs.declared.compacting.parts.Part.{Part}
 use Rattle.city_grid.specs.Transform.{Grid}
 use Rattle.city_feature.proofs.QuickLines.{utf8}
-use Rattle.city_feature.specs.Changes.{changed_member, changed_named, without_member, without_named}
+use Rattle.city_feature.specs.Changes.{changed_member, changed_named, without_named}
 use Rattle.city_feature.specs.Header.{IsHeader}
 use Rattle.city_feature.specs.Quick.{IsPartNamed}
-use Rattle.city_cut.specs.Cut.{header_tree, without_appearance}
+use Rattle.city_cut.specs.Cut.{without_appearance}
 use Rattle.city_cut.specs.HeaderText.{HasHeader, IsEmptied}
 use Rattle.city_cut.specs.Texts.{IsCompactOf}
 use Rattle.city_cut.proofs.MemberChanges.{kept, none_is_unchanged, set_is_changed}

@@ -1,4 +1,4 @@
-use Rattle.std.proofs.Common.{◌≡◌, ◌≤◌, ◌∙◌, get_or, subst, sym, length, ap}
+use Rattle.std.proofs.Common.{◌≤◌, ◌∙◌, get_or, subst, sym, length, ap}
 use Rattle.std.specs.List.{slice_range}
 use Rattle.city_cut.proofs.Pieces.{inside, piece_at}
 use Rattle.city_cut.proofs.held.piece.Goals as goal

@@ -1,6 +1,4 @@
-use Rattle.std.proofs.Common.{◌≡◌, ◌∙◌, ◌++◌, sym, ap, refl, codes}
 use Rattle.city_cut.proofs.QuickDocuments.{tail_there}
-use Rattle.city_cut.proofs.QuickTexts.{three}
 use Rattle.city_cut.proofs.quick.tail_of.Goals as goal
 
 pub returns : goal.returns

@@ -6,14 +6,14 @@ use Rattle.document_stream.specs.Taking.{is_white_space}
 use Rattle.document_stream.proofs.InputTaken.{blank, compact_given, compact_of, compact_refused, not_blank}
 use Rattle.document_stream.proofs.taking.cut_text.Goals as goal
 
-pub returns-then-is_blank-clause-refused : goal.returns-then-is_blank-clause-refused
-returns-then-is_blank-clause-refused c = blank c.args.text.items
-    (ap is_white_space (sym c.deref.ensures.value) ∙ (sym c.is_white_space.ensures ∙ c.if-is_blank.true))
+pub returns-then-is_white_space-clause-refused : goal.returns-then-is_white_space-clause-refused
+returns-then-is_white_space-clause-refused c = blank c.args.text.items
+    (ap is_white_space (sym c.deref.ensures.value) ∙ (sym c.is_white_space.ensures ∙ c.if-is_white_space.true))
 
 pub plain_cut-requires : goal.plain_cut-requires
 plain_cut-requires c = not_blank c.deref-in_default.result.now
     (ap is_white_space (c.deref-in_default.ensures.value ∙ sym c.deref.ensures.value)
-    ∙ (sym c.is_white_space.ensures ∙ c.if-is_blank.false))
+    ∙ (sym c.is_white_space.ensures ∙ c.if-is_white_space.false))
 
 pub returns-in_default-clause-ok : goal.returns-in_default-clause-ok
 returns-in_default-clause-ok c = rw c.deref-in_default.ensures.value at c.plain_cut.ensures.ok
@@ -34,5 +34,5 @@ returns-clause-refused c =
     let found = rw c.deref-2.ensures.value at c.in-Some.ensures in
     compact_refused c.args.text.items c.in-Some.compacted.line c.in-Some.compacted.parts.items found
     c.cut_compact.result (not_blank c.args.text.items
-    (ap is_white_space (sym c.deref.ensures.value) ∙ (sym c.is_white_space.ensures ∙ c.if-is_blank.false)))
+    (ap is_white_space (sym c.deref.ensures.value) ∙ (sym c.is_white_space.ensures ∙ c.if-is_white_space.false)))
     c.cut_compact.ensures.refused

@@ -1,6 +1,6 @@
-use Rattle.std.proofs.Common.{◌≡◌, ◌∙◌, sym, length, ap, arith}
+use Rattle.std.proofs.Common.{◌∙◌, sym, length, ap, arith}
 use Rattle.std.proofs.lemmas.Grind.{common_steps}
-use Rattle.city_cut.specs.HeldTexts.{HeldTexts, pieces}
+use Rattle.city_cut.specs.HeldTexts.{HeldTexts}
 use Rattle.city_cut.proofs.Pieces.{long_pieces}
 use Rattle.city_cut.proofs.held.FeatureTexts.len.Goals as goal
 

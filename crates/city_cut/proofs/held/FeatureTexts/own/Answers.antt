@@ -1,5 +1,5 @@
-use Rattle.std.proofs.Common.{◌≡◌, ◌∙◌, ◌<◌, sym, length, ap, arith, subst, get_or}
-use Rattle.city_cut.specs.HeldTexts.{HeldTexts, pieces}
+use Rattle.std.proofs.Common.{◌∙◌, ◌<◌, sym, length, ap, subst}
+use Rattle.city_cut.specs.HeldTexts.{HeldTexts}
 use Rattle.city_cut.proofs.Pieces.{long_pieces}
 use Rattle.city_cut.proofs.held.FeatureTexts.own.Goals as goal
 

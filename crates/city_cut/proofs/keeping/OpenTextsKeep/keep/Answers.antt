@@ -1,4 +1,4 @@
-use Rattle.std.proofs.Common.{◌≡◌, ◌∙◌, ◌++◌, ◌∷◌, [], sym, length, ap}
+use Rattle.std.proofs.Common.{◌∙◌, ◌++◌, ◌∷◌, [], length, ap}
 use Rattle.city_json.specs.Compact.{compact}
 use Rattle.city_json.specs.Tree.{tree}
 use Rattle.city_feature.specs.Values.{feature_value}

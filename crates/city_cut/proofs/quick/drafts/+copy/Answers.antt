@@ -1,4 +1,4 @@
-use Rattle.std.proofs.Common.{◌≡◌, ◌∙◌, ◌<◌, ◌≤◌, ◌+◌, ◌-◌, ap, sym, subst, arith, length, drop, refl, slice_index}
+use Rattle.std.proofs.Common.{◌≡◌, ◌∙◌, ◌<◌, ◌≤◌, subst, arith, length, drop, refl, slice_index}
 use Rattle.city_json.specs.Bytes.{close_bracket, comma, open_bracket}
 use Rattle.city_json.specs.Compacting.{shown}
 use Rattle.city_json.proofs.PassScalars.{if_some}

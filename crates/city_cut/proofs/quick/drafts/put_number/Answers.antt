@@ -1,4 +1,4 @@
-use Rattle.std.proofs.Common.{◌≡◌, ◌∙◌, ◌<◌, ◌++◌, ◌∷◌, ap, arith, get_or, ◌-◌}
+use Rattle.std.proofs.Common.{◌∙◌, ◌<◌, ◌++◌, ◌∷◌, ap, arith, get_or, ◌-◌}
 use Rattle.std.specs.Fmt.{decimal}
 use Rattle.city_cut.proofs.CopiedTexts.{byte_shown}
 use Rattle.city_cut.proofs.quick.drafts.put_number.Goals as goal

@@ -1,4 +1,4 @@
-use Rattle.std.proofs.Common.{◌≡◌, ◌∙◌, ◌-◌, map, subst, take, drop, arith, length, get_or}
+use Rattle.std.proofs.Common.{◌-◌, map, subst, take, drop, length, get_or}
 use Rattle.city_cut.specs.Chosen.{pair_at}
 use Rattle.city_cut.proofs.QuickFeatures.{ObjectsMade, OthersMade, first_and_others, objects_made}
 use Rattle.city_cut.proofs.QuickTexts.{on_some_more}

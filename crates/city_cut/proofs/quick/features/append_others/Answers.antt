@@ -1,4 +1,4 @@
-use Rattle.std.proofs.Common.{◌≡◌, ◌∙◌, map, subst, take, take_all, arith, ap, length, get_or, sym}
+use Rattle.std.proofs.Common.{◌∙◌, map, subst, take, take_all, length, get_or}
 use Rattle.city_cut.specs.Boundaries.{IsBounded}
 use Rattle.city_cut.specs.Chosen.{pair_at}
 use Rattle.city_cut.proofs.QuickFeatures.{OthersMade, others_more, places_more}

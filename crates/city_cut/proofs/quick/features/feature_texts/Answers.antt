@@ -1,5 +1,4 @@
 use Rattle.std.proofs.Common.{◌∙◌, ◌≤◌, ◌++◌, [], ◌∷◌, ap, subst, sym, arith, length}
-use Rattle.std.proofs.lemmas.Grind.{common_steps}
 use Rattle.city_json.specs.Compact.{compact}
 use Rattle.city_json.specs.Tree.{member_trees}
 use Rattle.city_cut.specs.HeldTexts.{HasGrown, texts_in}

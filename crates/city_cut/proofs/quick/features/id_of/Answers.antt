@@ -1,4 +1,4 @@
-use Rattle.std.proofs.Common.{◌++◌, arith}
+use Rattle.std.proofs.Common.{arith}
 use Rattle.city_json.specs.Compact.{quoted}
 use Rattle.city_cut.specs.Chosen.{pair_at}
 use Rattle.city_cut.proofs.QuickFeatures.{name_there}

@@ -1,6 +1,4 @@
-use Rattle.std.proofs.Common.{subst, sym}
 use Rattle.city_json.specs.Tree.{tree}
-use Rattle.city_feature.specs.Header.{IsHeader}
 use Rattle.city_cut.proofs.QuickHeaders.{has_header_again}
 use Rattle.city_cut.proofs.QuickTexts.{if_some_more}
 use Rattle.city_cut.proofs.quick.headers.header_of.Goals as goal

@@ -1,4 +1,3 @@
-use Rattle.std.proofs.Common.{◌∙◌}
 use Rattle.city_json.specs.Tree.{tree}
 use Rattle.city_cut.proofs.QuickKin.{text_is}
 use Rattle.city_cut.proofs.quick.kin.text_named.Goals as goal

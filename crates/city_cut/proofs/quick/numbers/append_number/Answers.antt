@@ -1,5 +1,5 @@
 use Rattle.std.proofs.Common.{◌≡◌, ◌≤◌, ◌-◌, ◌∙◌, ◌++◌, ◌∷◌, ap, arith, drop, take, length, length-drop}
-use Rattle.std.proofs.lemmas.Fmt.{decimal_nonempty, length-decimal-le}
+use Rattle.std.proofs.lemmas.Fmt.{length-decimal-le}
 use Rattle.std.proofs.lemmas.List.{append-nil, take_all}
 use Rattle.std.specs.Fmt.{decimal}
 use Rattle.city_cut.proofs.quick.numbers.append_number.Goals as goal

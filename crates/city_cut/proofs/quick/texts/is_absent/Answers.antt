@@ -1,4 +1,4 @@
-use Rattle.std.proofs.Common.{◌≡◌, ◌≤◌, ap, arith, length, rules, slice_range}
+use Rattle.std.proofs.Common.{arith}
 use Rattle.city_cut.proofs.CopiedTexts.{not_both}
 use Rattle.city_cut.proofs.QuickTexts.{absent_there, not_named_more}
 use Rattle.city_cut.proofs.quick.texts.is_absent.Goals as goal
