@@ -1,7 +1,7 @@
 #!/usr/bin/env python3
 """What nobody can write with the two ends of a ring: the borrow checker refuses it.
 
-Each case is a function with one place in it. A copy of the crate in which each has the right text
+Each case is a function with one place in it. A copy of the crate of tests in which each has the right text
 there is built and its tests are run. One in which each has the wrong text must be refused, with
 the borrow checker's own error at each of these places, and with no other error. Nothing is proved.
 """
@@ -16,8 +16,8 @@ from collections import namedtuple
 
 os.chdir(os.path.dirname(os.path.dirname(os.path.abspath(__file__))))
 
-CRATE = "tile_handoff"
-FILE = "crates/tile_handoff/src/ring.rt"
+CRATE = "tile_handoff_tests"
+FILE = "crates/tile_handoff_tests/src/rings.rt"
 PLACE = "HERE"
 
 # What it shows, the function, the right and the wrong text at its place, and the error that the
@@ -28,7 +28,7 @@ CASES = [
     Case(
         shows="a put after the end",
         function="""
-pub fn puts_after_the_end(sender: Sender, line: byte_streams::Line, end: crate::End) -> (bool, bool) {
+pub fn puts_after_the_end(sender: Sender, line: byte_streams::Line, end: End) -> (bool, bool) {
     let mut sender = sender;
     let ended = sender.try_end(end).is_ok();
     (ended, HERE)
@@ -41,7 +41,7 @@ pub fn puts_after_the_end(sender: Sender, line: byte_streams::Line, end: crate::
     Case(
         shows="a second end",
         function="""
-pub fn ends_twice(sender: Sender, end: crate::End) -> (bool, bool) {
+pub fn ends_twice(sender: Sender, end: End) -> (bool, bool) {
     let ended = sender.try_end(end).is_ok();
     (ended, HERE)
 }
@@ -131,7 +131,8 @@ def copy_crates(room):
             todo += crates[name]
             for folder in ("src", "specs", "proofs"):
                 path = "crates/%s/%s" % (name, folder)
-                shutil.copytree(path, "%s/%s" % (room, path))
+                if os.path.isdir(path):
+                    shutil.copytree(path, "%s/%s" % (room, path))
     shutil.copy("HANDLES", room)
     with open(room + "/crates.txt", "w", encoding="utf-8") as file:
         for name in sorted(taken):
@@ -162,7 +163,7 @@ def wrong_answers(room):
     if status != 0 or "test result: ok" not in told:
         yield "the right functions are refused:\n" + told
     code, status, told = run(room, [case.function.replace(PLACE, case.wrong) for case in CASES])
-    errors = set(re.findall(r"^src/ring\.rt:(\d+):\d+: error\[([\w-]+)\]", told, re.MULTILINE))
+    errors = set(re.findall(r"^src/rings\.rt:(\d+):\d+: error\[([\w-]+)\]", told, re.MULTILINE))
     wanted = {(str(line_of(code, case)), case.error) for case in CASES}
     for case in CASES:
         if (str(line_of(code, case)), case.error) not in errors:
