@@ -18,13 +18,20 @@ use city_feature::{between, part_named, set_member};
 use city_json::{Json, Member, Members, Part, Str, read};
 use std::alloc::Global;
 
-/// The value that a text spells, with no room for more items: as many of these are held as there are objects.
+/// Of a text that is longer than this the value is not copied.
+const MAX_TIGHT_LEN: usize = 4096;
+
+/// The value that a text spells; of a short text with no room for more items, since as many of these are held as there
+/// are objects.
 fn read_tight(alloc: Global, text: &[u8]) -> Option<Json>
     ensures { IfSome result (λ json. Spells text.now (tree json)) }
 {
     let Ok(json) = read(alloc, text) else {
         return None;
     };
+    if text.len() > MAX_TIGHT_LEN {
+        return Some(json);
+    }
     let Ok(tight) = json.copy(alloc) else {
         return None;
     };
