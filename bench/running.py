@@ -53,9 +53,9 @@ class Run:
         self.errors = errors.decode("utf-8", "replace")
         self.processor = usage.ru_utime + usage.ru_stime
         # A child begins as a copy of this script, so that its use of resources tells its own peak only
-        # where it is the larger one.
+        # where it is clearly the larger one: the system counts pages in batches.
         self.peak = max(usage.ru_maxrss * 1024, watch.peak)
-        if self.peak <= peak_of("self") and watch.peak > 0:
+        if self.peak <= 1.05 * peak_of("self") and watch.peak > 0:
             self.peak = watch.peak
 
     def trouble(self):
