@@ -166,7 +166,7 @@ struct Feeds {
 }
 
 impl Promise<Closed> for Feeds {
-    ghost use Rattle.tile_handoff.specs.declared.ring.tests.TheConstants.{END};
+    ghost use Rattle.tile_handoff_tests.specs.declared.rings.TheConstants.{END};
 
     ghost kept_by = { λ feeds closed. EndedIn feeds.sender.value closed
         × (notes_carried closed ≡ notes_put feeds.sender.value
