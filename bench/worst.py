@@ -141,7 +141,7 @@ WORST = (
     Worst("a document on the first line: arrays of one index", "filter", 1_000_000, nested_leaf, 22),
     Worst("a document on the first line: empty objects", "filter", 300_000, bare, 38),
     Worst("a document on the first line, refused late: arrays of one index", "filter", 1_000_000, refused_late(nested_leaf), 45, BOUNDARY),
-    Worst("a document on the first line: 20 buildings, a large appearance", "filter", 20, lambda n: with_appearance(n, MEGA), 45),
+    Worst("a document on the first line: 200 buildings, a large appearance", "filter", 200, lambda n: with_appearance(n, MEGA), 22),
     Worst("a document on the first line, refused: small objects", "filter", 60_000, orphan(apart), 23, ORPHAN),
 )
 

@@ -1,14 +1,14 @@
 //! The stream of a document that was cut, written.
-ghost use Rattle.std.specs.Prelude.{◌≡◌, ◌++◌, ℕ, flat_map, take, IfErr, OnOk, OnErr};
+ghost use Rattle.std.specs.Prelude.{◌≡◌, ℕ, flat_map, take, IfErr, OnOk, OnErr};
 ghost use Rattle.std.specs.Io.KnownBytes.{Appends};
 ghost use Rattle.byte_streams.specs.Failures.{after_call};
 ghost use Rattle.city_cut.specs.HeldTexts.{texts_in};
 ghost use Rattle.tile_stream.specs.Stream.{stream, with_newline};
 
 use crate::taking::CutStream;
-use byte_streams::{Fault, Sink, write_all};
+use byte_streams::{Fault, Sink};
 use city_cut::FeatureTexts;
-use tile_stream::write_text;
+use tile_stream::{write_parts, write_text};
 
 /// Writes a stream, and flushes.
 ///
@@ -42,17 +42,4 @@ fn write_texts<W: Sink>(texts: &FeatureTexts, output: &mut W) -> Result<(), Faul
         write_parts(texts.own(at), texts.common(), output)?;
     }
     Ok(())
-}
-
-/// Writes a text in two parts, and its newline.
-fn write_parts<W: Sink>(own: &[u8], common: &[u8], output: &mut W) -> Result<(), Fault>
-    ensures ok { OnOk result (Appends (W.taken output.old) (W.taken output.new)
-        (with_newline (own.now ++ common.now))) }
-    ensures some { OnErr result ((count : ℕ) × Appends (W.taken output.old) (W.taken output.new)
-        (take count (with_newline (own.now ++ common.now)))) }
-    ensures failures { W.failures output.new ≡ after_call result (W.failures output.old) }
-    ensures fault { IfErr result (λ fault. fault ≡ Fault.Write) }
-{
-    write_all(output, own)?;
-    write_text(output, common)
 }

@@ -8,7 +8,7 @@ use Rattle.city_feature.specs.Feature.{FeatureValue}
 use Rattle.city_feature.specs.FeatureLine.{GivesFeature, RefusesFeatureLine}
 use Rattle.city_grid.specs.Axes.{Triple}
 use Rattle.tile_stream.specs.declared.tile_reader.feature_lines.Passed.{Passed}
-use Rattle.tile_stream.specs.Coming.{LinesMayComeTo, LeftComesTo, MayComeTo, MayLeave, ReadyFirst, GivesText, ComesBack, SomethingComes}
+use Rattle.tile_stream.specs.Coming.{LinesMayComeTo, LeftComesTo, MayComeTo, MayLeave, ReadyFirst, GivesText, GivesTexts, ComesBack, SomethingComes}
 use Rattle.tile_stream.specs.Held.{Held, HeldLine, AreTextsOf, LinesGive, RefusesLines, TextsFirst, TileComesTo}
 use Rattle.tile_stream.specs.Texts.{Outcome, ComesTo, EndsAfter}
 use Rattle.tile_stream.specs.Tile.{TileLines}
@@ -113,6 +113,16 @@ module _ {R : Type 0} (gives : R → List ℕ → Bool → Type 0) (IsWanted : F
         let There : List (List ℕ) → Type 0 = λ ready.
         ReadyFirst ready (TextsFirst IsWanted k before.held (Left before.lines here.0)) texts outcome in
         (here.0, here.1, subst There (sym none) (texts, refl, inr (after.ready, came.0, gave, rest, came.1)))
+
+  -- the texts of all features were made, and given at once
+  pub texts_given : (before after : TileState R) (same_lines : after.lines ≡ before.lines) → before.ready ≡ []
+      → after.ready ≡ [] → (texts : List (List ℕ)) → LinesGive IsWanted k before.held.texts texts
+      → after.held.texts ≡ [] → GivesTexts (MayComeTo gives IsWanted k before) (MayComeTo gives IsWanted k after) texts
+  texts_given before after same_lines none none_ready texts gave none_held more outcome comes =
+      let Then = TextsFirst IsWanted k after.held (Left after.lines comes.0) in
+      let here = subst (λ ready. ReadyFirst ready Then more outcome) none_ready comes.2 in
+      ready_made before (record after { ready = texts }) same_lines none gave none_held (texts ++ more) outcome
+      (comes.0, comes.1, (here.0, ap (λ ts. texts ++ ts) here.1, here.2))
 
   -- the tile stops at the features
   pub held_stops : (tile : TileState R) → tile.ready ≡ [] → (left : TileLines) × MayLeave gives tile.lines left

@@ -2,6 +2,7 @@ pub mod CityHeld
 pub mod Coming
 pub mod Comings
 pub mod Filtering
+pub mod FirstBytes
 pub mod FirstParts
 pub mod GoneThrough
 pub mod Heads

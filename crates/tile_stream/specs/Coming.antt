@@ -42,6 +42,11 @@ abbrev pub GivesText : (List (List ℕ) → Outcome → Type 0) → (List (List 
 GivesText before after text =
     (texts : List (List ℕ)) (outcome : Outcome) → after texts outcome → before (text ∷ texts) outcome
 
+-- The same of these texts.
+abbrev pub GivesTexts : (List (List ℕ) → Outcome → Type 0) → (List (List ℕ) → Outcome → Type 0) → List (List ℕ) → Type 0
+GivesTexts before after given =
+    (texts : List (List ℕ)) (outcome : Outcome) → after texts outcome → before (given ++ texts) outcome
+
 -- Whatever may be to come after may have been to come before.
 abbrev pub ComesBack : (List (List ℕ) → Outcome → Type 0) → (List (List ℕ) → Outcome → Type 0) → Type 0
 ComesBack before after = (texts : List (List ℕ)) (outcome : Outcome) → after texts outcome → before texts outcome

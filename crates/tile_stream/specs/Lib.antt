@@ -4,6 +4,7 @@ pub mod Filtered
 pub mod Head
 pub mod Held
 pub mod Progress
+pub mod Ready
 pub mod Stream
 pub mod Taking
 pub mod TapeLines

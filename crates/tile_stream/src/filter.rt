@@ -1,4 +1,4 @@
-ghost use Rattle.std.specs.Prelude.{◌≡◌, ◌≢◌, ◌≤◌, ◌<◌, ℕ, List, [], length, take, false, Some, None, IfOk, IfErr, OnOk, OnErr};
+ghost use Rattle.std.specs.Prelude.{◌≡◌, ◌≢◌, ◌≤◌, ◌<◌, ◌+◌, ◌++◌, ℕ, List, [], length, take, false, Some, None, IfOk, IfErr, OnOk, OnErr};
 ghost use Rattle.std.specs.Io.KnownBytes.{Appends, Keeps};
 ghost use Rattle.city_json.specs.Compact.{compact};
 ghost use Rattle.byte_streams.specs.Failures.{after_call};
@@ -9,7 +9,7 @@ ghost use Rattle.tile_stream.specs.Coming.{MayComeTo, MayLeave};
 ghost use Rattle.tile_stream.specs.Filtered.{WroteStream, IsRefusedFilter, CountsReads, PassedOn, ToldAfter, failures_after_filter, failed_reads_after_filter};
 ghost use Rattle.city_feature.specs.Quick.{no_steps};
 ghost use Rattle.tile_stream.specs.Head.{HasNoHead, SomeTile, GivesHeld};
-ghost use Rattle.tile_stream.specs.Progress.{WroteTexts, IsRefusedAfter};
+ghost use Rattle.tile_stream.specs.Progress.{SoFar, WroteTexts, IsRefusedAfter};
 ghost use Rattle.tile_stream.specs.Stream.{with_newline};
 ghost use Rattle.tile_stream.specs.Tile.{TileLines, stream_limits};
 ghost use Rattle.tile_stream.specs.TileState.{most_to_come, most_texts};
@@ -157,6 +157,42 @@ fn header_line(alloc: Global, head: &Head) -> Result<Line, LineFault>
     }
 }
 
+/// Writes the lines of those chosen features that the header's line holds, and says how many there are. What all of them
+/// end in is held once.
+fn write_held<R: Source, W: Sink>(
+    alloc: Global,
+    tile: &mut TileReader<R>,
+    choice: &Choice,
+    output: &mut W,
+) -> Result<u64, MergeFault>
+    requires not_failed { has_failed tile.old.lines ≡ false }
+    ensures ok { IfOk result (λ count. SoFar
+        (MayComeTo R.gives (IsChosen choice.now) no_steps tile.old)
+        (MayComeTo R.gives (IsChosen choice.now) no_steps tile.new) count
+        (W.taken output.old) (W.taken output.new)) }
+    ensures fewer { IfOk result (λ count. count + most_to_come tile.new ≤ most_to_come tile.old) }
+    ensures refused { IfErr result (λ e. IsRefusedAfter
+        (MayComeTo R.gives (IsChosen choice.now) no_steps tile.old) e.fault e.tile e.line
+        (W.taken output.old) (W.taken output.new)) }
+    ensures kind { IfErr result (λ e. is_read e.fault ≡ false) }
+    ensures failures { W.failures output.new
+        ≡ failures_after_filter result (W.failures output.old) }
+    ensures lines { tile.new.lines ≡ tile.old.lines }
+{
+    let texts = match tile.take_held(alloc, Shift::zero(), choice) {
+        Ok(texts) => texts,
+        Err(at) => return Err(MergeFault::of_line(at.line, at.fault)),
+    };
+    match texts.write(output) {
+        Ok(()) => {}
+        Err(_) => return Err(MergeFault::of_no_line(Fault::Write)),
+    }
+    match pass_on(tile, output) {
+        Ok(()) => Ok(texts.len() as u64),
+        Err(_) => Err(MergeFault::of_no_line(Fault::Write)),
+    }
+}
+
 /// Writes the lines of a tile's chosen features, and says how many there are. `text` is a buffer
 /// to reuse.
 fn write_features<R: Source, W: Sink>(
@@ -180,7 +216,7 @@ fn write_features<R: Source, W: Sink>(
         ≡ failed_reads_after_filter result (R.failures tile.old.lines.ahead.reader) }
 {
     let mut text = text;
-    let mut count = 0u64;
+    let mut count = write_held(alloc, tile, choice, output)?;
     'features: loop {
         let passed = match tile.pass(alloc, Shift::zero(), choice, text) {
             Ok(Some(passed)) => passed,
@@ -268,6 +304,23 @@ pub fn write_line<W: Sink>(output: &mut W, line: Line) -> Result<Line, Fault>
         Ok(()) => return Ok(emptied(line)),
         Err(fault) => return Err(fault),
     }
+}
+
+/// Writes a text in two parts, and its newline.
+///
+/// # Errors
+///
+/// [`Fault::Write`] where a write failed; some first bytes of the line were written then.
+pub fn write_parts<W: Sink>(own: &[u8], common: &[u8], output: &mut W) -> Result<(), Fault>
+    ensures ok { OnOk result (Appends (W.taken output.old) (W.taken output.new)
+        (with_newline (own.now ++ common.now))) }
+    ensures some { OnErr result ((count : ℕ) × Appends (W.taken output.old) (W.taken output.new)
+        (take count (with_newline (own.now ++ common.now)))) }
+    ensures failures { W.failures output.new ≡ after_call result (W.failures output.old) }
+    ensures fault { IfErr result (λ fault. fault ≡ Fault.Write) }
+{
+    write_all(output, own)?;
+    write_text(output, common)
 }
 
 /// Writes a text and its newline.

@@ -1,7 +1,7 @@
-ghost use Rattle.std.specs.Prelude.{◌≡◌, ◌≢◌, ◌≤◌, ◌<◌, ◌↔◌, ℕ, List, [], true, false, Some, None, IfOk, IfErr, IfSome, IfNone, OnOk, OnErr};
+ghost use Rattle.std.specs.Prelude.{◌≡◌, ◌≢◌, ◌≤◌, ◌<◌, ◌↔◌, ℕ, List, [], true, false, Some, None, IfOk, IfErr, IfSome, IfNone, OnOk, OnErr, ◌+◌, length};
 ghost use Rattle.city_feature.specs.Choice.{IsChosen};
 ghost use Rattle.city_feature.specs.Values.{header_value};
-ghost use Rattle.tile_stream.specs.Coming.{MayComeTo, MayLeave, GivesText, ComesBack, SomethingComes};
+ghost use Rattle.tile_stream.specs.Coming.{MayComeTo, MayLeave, GivesText, GivesTexts, ComesBack, SomethingComes};
 ghost use Rattle.tile_stream.specs.Head.{HasNoHead, SomeTile, GivesHeld, RanOutAt};
 ghost use Rattle.tile_stream.specs.Tile.{TileLines, stream_limits};
 ghost use Rattle.tile_stream.specs.TileState.{IsPassed, most_to_come, most_texts};
@@ -10,13 +10,15 @@ ghost use Rattle.tile_stream.specs.Unread.{Leaves, IsOfTile, has_failed, is_read
 mod feature_lines;
 mod head;
 mod held;
+mod ready;
 
 use crate::lines::Lines;
 pub use crate::tile_reader::feature_lines::Passed;
 use crate::tile_reader::feature_lines::{pass_line, take_feature};
 pub use crate::tile_reader::head::Head;
 use crate::tile_reader::head::{FirstLine, read_first_line};
-use crate::tile_reader::held::{Held, texts_of};
+use crate::tile_reader::held::{Held, lines_of, texts_of};
+use crate::tile_reader::ready::ReadyTexts;
 use byte_streams::{Fault, Line, LineFault, Source};
 use city_cut::FeatureTexts;
 use city_feature::Choice;
@@ -225,6 +227,45 @@ impl<R: Source> TileReader<R> {
         }
     }
 
+    /// Takes the texts of the features that the first line holds and that are chosen when they are moved
+    /// by the shift, so moved, unless some were taken already: then it takes none.
+    ///
+    /// # Errors
+    ///
+    /// Those of that line: one of its features cannot be moved so, or [`Fault::Memory`].
+    pub(crate) fn take_held(
+        &mut self,
+        alloc: Global,
+        shift: Shift,
+        choice: &Choice,
+    ) -> Result<ReadyTexts, LineFault>
+        ensures texts { IfOk result (λ texts. GivesTexts
+            (MayComeTo R.gives (IsChosen choice.now) shift self.old)
+            (MayComeTo R.gives (IsChosen choice.now) shift self.new) texts) }
+        ensures refused { IfErr result (λ e. MayComeTo R.gives (IsChosen choice.now) shift
+            self.old [] (Some (record { line = e.line; fault = e.fault }))) }
+        ensures kind { IfErr result (λ e. (e.fault ≢ Fault.Write) × (is_read e.fault ≡ false)) }
+        ensures some { SomethingComes (MayComeTo R.gives (IsChosen choice.now) shift self.new) }
+        ensures fewer { IfOk result (λ texts.
+            length texts + most_to_come self.new ≤ most_to_come self.old) }
+        ensures lines { self.new.lines ≡ self.old.lines }
+    {
+        if !self.ready.is_empty() {
+            return Ok(ReadyTexts::none(alloc));
+        }
+        if self.held.texts.len() == 0 {
+            return Ok(ReadyTexts::none(alloc));
+        }
+        let held = mem::replace(&mut self.held.texts, FeatureTexts::none(alloc));
+        match texts_of(alloc, &held, shift, choice) {
+            Ok(texts) => Ok(texts),
+            Err(fault) => Err(LineFault {
+                line: self.held.line,
+                fault,
+            }),
+        }
+    }
+
     /// Whether the next line was read already, so that taking it does not wait for the reader. It
     /// may be false where the tile is over, and of a feature of the first line.
     pub fn holds_line(&self) -> bool {
@@ -282,7 +323,7 @@ impl<R: Source> TileReader<R> {
             return Ok(());
         }
         let held = mem::replace(&mut self.held.texts, FeatureTexts::none(alloc));
-        match texts_of(alloc, &held, shift, choice) {
+        match lines_of(alloc, &held, shift, choice) {
             Ok(texts) => {
                 self.ready = texts;
                 Ok(())

@@ -5,6 +5,7 @@ ghost use Rattle.city_feature.specs.FeatureLine.{GivesFeature, RefusesFeatureLin
 ghost use Rattle.tile_stream.specs.Held.{LinesGive, RefusesLines};
 
 use crate::spare::emptied;
+use crate::tile_reader::ready::ReadyTexts;
 use byte_streams::{Fault, Line};
 use city_cut::FeatureTexts;
 use city_feature::{Choice, feature_line};
@@ -30,13 +31,14 @@ pub(crate) fn texts_of(
     held: &FeatureTexts,
     shift: Shift,
     choice: &Choice,
-) -> Result<VecDeque<Line>, Fault>
+) -> Result<ReadyTexts, Fault>
+    requires some { 0 < length held.now.own }
     ensures ok { IfOk result (λ texts.
-        LinesGive (IsChosen choice.now) shift (texts_in held.now) texts.items) }
-    ensures fewer { IfOk result (λ texts. length texts.items ≤ length (texts_in held.now)) }
+        LinesGive (IsChosen choice.now) shift (texts_in held.now) texts) }
+    ensures fewer { IfOk result (λ texts. length texts ≤ length (texts_in held.now)) }
     ensures refused { IfErr result (λ fault. RefusesLines shift fault (texts_in held.now)) }
 {
-    let mut texts = VecDeque::new(alloc);
+    let mut texts = ReadyTexts::that_end_in(alloc, held.common())?;
     let mut spare = Line::new(alloc);
     let mut at = 0usize;
     'held: while at < held.len() {
@@ -44,6 +46,27 @@ pub(crate) fn texts_of(
         at += 1;
     }
     Ok(texts)
+}
+
+/// The same, each text whole.
+///
+/// # Errors
+///
+/// Those of [`texts_of`].
+pub(crate) fn lines_of(
+    alloc: Global,
+    held: &FeatureTexts,
+    shift: Shift,
+    choice: &Choice,
+) -> Result<VecDeque<Line>, Fault>
+    requires some { 0 < length held.now.own }
+    ensures ok { IfOk result (λ lines.
+        LinesGive (IsChosen choice.now) shift (texts_in held.now) lines.items) }
+    ensures fewer { IfOk result (λ lines. length lines.items ≤ length (texts_in held.now)) }
+    ensures refused { IfErr result (λ fault. RefusesLines shift fault (texts_in held.now)) }
+{
+    let texts = texts_of(alloc, held, shift, choice)?;
+    Ok(texts.lines(alloc)?)
 }
 
 /// Adds the text of the feature at a place, where it is chosen when it is moved by the shift. `spare`
@@ -55,12 +78,12 @@ fn add_text(
     shift: Shift,
     choice: &Choice,
     spare: Line,
-    texts: &mut VecDeque<Line>,
+    texts: &mut ReadyTexts,
 ) -> Result<Line, Fault>
     requires { at < length held.now.own }
     ensures ok { OnOk result ((given : Option (List ℕ))
         × GivesFeature (IsChosen choice.now) shift (get_or (texts_in held.now) at []) given
-        × (texts.new.items ≡ texts.old.items ++ option_to_list given)) }
+        × (texts.new ≡ texts.old ++ option_to_list given)) }
     ensures refused { IfErr result (λ fault. (fault ≡ Fault.Memory)
         ⊎ RefusesFeatureLine shift fault (get_or (texts_in held.now) at [])) }
 {
@@ -76,18 +99,18 @@ fn add_line(
     line: &[u8],
     shift: Shift,
     choice: &Choice,
-    texts: &mut VecDeque<Line>,
+    texts: &mut ReadyTexts,
 ) -> Result<(), Fault>
     ensures ok { OnOk result ((given : Option (List ℕ))
         × GivesFeature (IsChosen choice.now) shift line.now given
-        × (texts.new.items ≡ texts.old.items ++ option_to_list given)) }
+        × (texts.new ≡ texts.old ++ option_to_list given)) }
     ensures refused { IfErr result (λ fault. (fault ≡ Fault.Memory)
         ⊎ RefusesFeatureLine shift fault line.now) }
 {
     let mut text = Line::new(alloc);
     let is_chosen = feature_line(alloc, line, shift, choice, &mut text)?;
     if is_chosen {
-        texts.push_back(text)?;
+        texts.push(alloc, text.items())?;
     }
     Ok(())
 }

@@ -1,4 +1,4 @@
-use Rattle.std.proofs.Common.{ap, sym, subst, ◌∙◌}
+use Rattle.std.proofs.Common.{ap, ◌∙◌}
 use Rattle.city_feature.specs.Choice.{IsChosen}
 use Rattle.city_feature.specs.Quick.{no_steps}
 use Rattle.tile_stream.specs.Filtered.{failures_after_write}

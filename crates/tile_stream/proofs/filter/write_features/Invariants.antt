@@ -9,13 +9,13 @@ use Rattle.tile_stream.proofs.filter.write_features.Given as goal
 
 abbrev pub invariant-features : goal.invariant-features
 invariant-features g l = record {
-  so_far : SoFar (MayComeTo g.R.Source.gives (IsChosen l.choice) no_steps l.initial.tile)
+  so_far : SoFar (MayComeTo g.R.Source.gives (IsChosen l.choice) no_steps l.fn.tile)
       (MayComeTo g.R.Source.gives (IsChosen l.choice) no_steps l.tile)
-      l.count (g.W.Sink.taken l.initial.output) (g.W.Sink.taken l.output);
+      l.count (g.W.Sink.taken l.fn.output) (g.W.Sink.taken l.output);
   bounded : l.count + most_to_come l.tile ≤ most_texts;
   not_failed : has_failed l.tile.lines ≡ false;
-  reads : g.R.Source.failures l.tile.lines.ahead.reader ≡ g.R.Source.failures l.initial.tile.lines.ahead.reader;
-  failures : g.W.Sink.failures l.output ≡ g.W.Sink.failures l.initial.output;
+  reads : g.R.Source.failures l.tile.lines.ahead.reader ≡ g.R.Source.failures l.fn.tile.lines.ahead.reader;
+  failures : g.W.Sink.failures l.output ≡ g.W.Sink.failures l.fn.output;
 }
 
 abbrev pub decreases-features : goal.decreases-features

@@ -9,7 +9,7 @@ abbrev pub invariant-held : goal.invariant-held
 invariant-held l =
     record {
       within : l.at ≤ length (texts_in l.held);
-      made : MadeSoFar (IsChosen l.choice) l.shift (take l.at (texts_in l.held)) l.texts.items;
+      made : MadeSoFar (IsChosen l.choice) l.shift (take l.at (texts_in l.held)) l.texts;
     }
 
 abbrev pub decreases-held : goal.decreases-held

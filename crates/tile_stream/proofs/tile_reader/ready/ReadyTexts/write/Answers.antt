@@ -1,0 +1,27 @@
+use Rattle.std.proofs.Common.{◌∙◌, arith}
+use Rattle.std.proofs.lemmas.Result.{err_from_is_err_and}
+use Rattle.tile_stream.proofs.FirstBytes.{all_texts, next_failed, next_written}
+use Rattle.tile_stream.proofs.tile_reader.ready.ReadyTexts.write.Goals as goal
+
+pub returns-in_err-write_parts-clause-some : goal.returns-in_err-write_parts-clause-some
+returns-in_err-write_parts-clause-some g c =
+    let refusal = err_from_is_err_and c.from_residual.result c.from_residual.ensures.1 in
+    let some = rw (← c.parts_at.ensures) at c.in_err-write_parts.ensures.some in
+    rw refusal.1 (next_failed c.args.self.now c.loop-at.at (omega (arith, c.loop-at-test.true, c.len-at-end.ensures.count))
+    (g.W.Sink.taken c.args.output.now) (g.W.Sink.taken c.loop-at.output) (g.W.Sink.taken c.write_parts.new.output)
+    c.loop-at.invariant.written some)
+
+pub loop-at-preserved : goal.loop-at-preserved
+loop-at-preserved g c = record {
+  written =
+      let wrote = rw (← c.parts_at.ensures) at c.in_ok-write_parts.ensures.ok in
+      next_written c.args.self.now c.loop-at.at (omega (arith, c.loop-at-test.true, c.len-at-end.ensures.count))
+      (g.W.Sink.taken c.args.output.now) (g.W.Sink.taken c.loop-at.output) (g.W.Sink.taken c.write_parts.new.output)
+      c.loop-at.invariant.written wrote;
+  none_failed = c.in_ok-write_parts.ensures.failures ∙ c.loop-at.invariant.none_failed;
+}
+
+pub returns-clause-ok : goal.returns-clause-ok
+returns-clause-ok g c = all_texts c.args.self.now c.loop-at.at (g.W.Sink.taken c.args.output.now)
+    (g.W.Sink.taken c.loop-at.output) (omega (arith, c.loop-at-test.false, c.len-at-end.ensures.count))
+    c.loop-at.invariant.written

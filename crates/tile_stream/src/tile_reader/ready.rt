@@ -1,0 +1,157 @@
+//! The texts of the features that a first line holds, moved and chosen, before they are given.
+ghost use Rattle.std.specs.Prelude.{◌≡◌, ◌≤◌, ◌<◌, ◌^◌, ◌++◌, ◌∷◌, [], ℕ, flat_map, get_or, length, take, IfOk, IfErr, OnOk, OnErr};
+ghost use Rattle.std.specs.Io.KnownBytes.{Appends};
+ghost use Rattle.byte_streams.specs.Failures.{after_call};
+ghost use Rattle.tile_stream.specs.Ready.{whole_text};
+ghost use Rattle.tile_stream.specs.Stream.{with_newline};
+
+use crate::filter::write_parts;
+use byte_streams::{Fault, Line, Sink};
+use std::alloc::{AllocError, Global};
+use std::collections::VecDeque;
+use std::marker::Model;
+
+/// A text without the end that it shares with the others, or whole.
+#[derive(Debug, Drop)]
+struct ReadyText {
+    own: Line,
+    shares: bool,
+}
+
+/// Texts, in order. The end that they have in common is held once.
+#[derive(Debug, Drop)]
+pub(crate) struct ReadyTexts {
+    texts: Vec<ReadyText>,
+    common: Line,
+}
+
+impl Model for ReadyTexts {
+    ghost use Rattle.std.specs.Prelude.{ℕ, List, map};
+    ghost use Rattle.tile_stream.specs.Ready.{whole_text};
+
+    ghost Value = { List (List ℕ) };
+
+    ghost view = { λ ready. map (λ one. whole_text ready.common one.shares one.own) ready.texts.items };
+}
+
+fn copied(alloc: Global, bytes: &[u8]) -> Result<Line, AllocError>
+    ensures { IfOk result (λ line. line ≡ bytes.now) }
+{
+    let mut line = Line::from_vec(Vec::with_capacity(alloc, bytes.len())?);
+    line.append(bytes)?;
+    Ok(line)
+}
+
+/// The text, without the end that it shares, if it does.
+fn ready_text(alloc: Global, text: &[u8], common: &[u8]) -> Result<ReadyText, AllocError>
+    ensures { IfOk result (λ one. whole_text common.now one.shares one.own ≡ text.now) }
+{
+    match text.strip_suffix(common) {
+        Some(own) => Ok(ReadyText {
+            own: copied(alloc, own)?,
+            shares: true,
+        }),
+        None => Ok(ReadyText {
+            own: copied(alloc, text)?,
+            shares: false,
+        }),
+    }
+}
+
+impl ReadyTexts {
+    /// No texts, which will mostly end so.
+    pub(crate) fn that_end_in(alloc: Global, common: &[u8]) -> Result<ReadyTexts, Fault>
+        ensures none { IfOk result (λ ready. ready ≡ []) }
+        ensures fault { IfErr result (λ fault. fault ≡ Fault.Memory) }
+    {
+        Ok(ReadyTexts {
+            texts: Vec::new(alloc),
+            common: copied(alloc, common)?,
+        })
+    }
+
+    /// No texts.
+    pub(crate) fn none(alloc: Global) -> ReadyTexts
+        ensures { result ≡ [] }
+    {
+        ReadyTexts {
+            texts: Vec::new(alloc),
+            common: Line::new(alloc),
+        }
+    }
+
+    /// How many texts there are.
+    pub(crate) fn len(&self) -> usize
+        ensures count { result ≡ length self.now }
+        ensures few { result < 2 ^ 63 }
+    {
+        self.texts.len()
+    }
+
+    /// Puts a text after the others.
+    pub(crate) fn push(&mut self, alloc: Global, text: &[u8]) -> Result<(), Fault>
+        ensures ok { OnOk result (self.new ≡ self.old ++ text.now ∷ []) }
+        ensures fault { IfErr result (λ fault. fault ≡ Fault.Memory) }
+    {
+        let one = ready_text(alloc, text, self.common.items())?;
+        self.texts.push(one)?;
+        Ok(())
+    }
+
+    /// What the text at a place has of its own, and what stands after that.
+    fn parts_at(&self, at: usize) -> (&[u8], &[u8])
+        requires { at < length self.now }
+        ensures { get_or self.now at [] ≡ result.0.now ++ result.1.now }
+    {
+        let text = &self.texts[at];
+        let end: &[u8] = if text.shares {
+            self.common.items()
+        } else {
+            b""
+        };
+        (text.own.items(), end)
+    }
+
+    /// The text at a place.
+    fn line_at(&self, alloc: Global, at: usize) -> Result<Line, AllocError>
+        requires { at < length self.now }
+        ensures { IfOk result (λ line. line ≡ get_or self.now at []) }
+    {
+        let (own, end) = self.parts_at(at);
+        let mut line = Line::from_vec(Vec::with_capacity(alloc, own.len() + end.len())?);
+        line.append(own)?;
+        line.append(end)?;
+        Ok(line)
+    }
+
+    /// The texts, each whole.
+    pub(crate) fn lines(&self, alloc: Global) -> Result<VecDeque<Line>, AllocError>
+        ensures { IfOk result (λ lines. lines.items ≡ self.now) }
+    {
+        let mut lines = VecDeque::with_capacity(alloc, self.len())?;
+        for at in 0..self.len() {
+            lines.push_back(self.line_at(alloc, at)?)?;
+        }
+        Ok(lines)
+    }
+
+    /// Writes the texts, each with its newline. It takes no memory.
+    ///
+    /// # Errors
+    ///
+    /// [`Fault::Write`] where a write failed; some first bytes were written then.
+    pub(crate) fn write<W: Sink>(&self, output: &mut W) -> Result<(), Fault>
+        ensures ok { OnOk result (Appends (W.taken output.old) (W.taken output.new)
+            (flat_map with_newline self.now)) }
+        ensures some { OnErr result ((count : ℕ) × Appends (W.taken output.old) (W.taken output.new)
+            (take count (flat_map with_newline self.now))) }
+        ensures failures { W.failures output.new ≡ after_call result (W.failures output.old) }
+        ensures fault { IfErr result (λ fault. fault ≡ Fault.Write) }
+    {
+        for at in 0..self.len() {
+            let (own, end) = self.parts_at(at);
+            write_parts(own, end, output)?;
+        }
+        Ok(())
+    }
+}
