@@ -3,7 +3,7 @@ use Rattle.std.proofs.Common.{◌≡◌, ◌⊎◌, ℕ, Bool, true, false, List
 use Rattle.city_feature.specs.Feature.{FeatureValue}
 use Rattle.city_feature.specs.declared.base.Base.{Base}
 use Rattle.citymerge.specs.Merging.{IsRefusedAsked, PassedOnAsked}
-use Rattle.tile_merge.specs.Giving.{Giving}
+use Rattle.tile_merge.specs.Giving.{Giving, merging}
 use Rattle.tile_merge.specs.Merged.{IsOutputFault, IsRefusedEarly, IsRefusedMerge}
 use Rattle.tile_merge.specs.Threaded.{HasNoThread, IsRefusedThreaded}
 use Rattle.tile_merge.specs.Turns.{AreTurns}
@@ -14,10 +14,10 @@ module _ {R : Type 0} (gives : Giving R) (readers : List R) (in_turn : Bool) (ba
     (same : base ≡ other) (result : Result Report MergeFault) where
   module _ (IsWanted : FeatureValue → Type 0) (old new : Option (List ℕ)) where
     pub asked_in_turn : in_turn ≡ true → IfErr result
-        (λ e. IsRefusedMerge gives IsWanted base AreTurns readers e old new)
+        (λ e. IsRefusedMerge (merging gives IsWanted base AreTurns readers) e old new)
         → IfErr result (λ e. IsRefusedAsked in_turn gives IsWanted other readers e old new)
     asked_in_turn is refused =
-        let there = subst (λ (b : Base). IfErr result (λ e. IsRefusedMerge gives IsWanted b AreTurns readers e old new))
+        let there = subst (λ (b : Base). IfErr result (λ e. IsRefusedMerge (merging gives IsWanted b AreTurns readers) e old new))
         same refused in
         subst (λ (asked : Bool). IfErr result (λ e. IsRefusedAsked asked gives IsWanted other readers e old new))
         (sym is) there

@@ -13,7 +13,7 @@ use Rattle.document_stream.specs.CutStream.{WroteCut}
 use Rattle.document_stream.specs.Input.{SomeInput}
 use Rattle.tile_stream.specs.Filtered.{WroteStream}
 use Rattle.tile_stream.specs.Head.{SomeTile}
-use Rattle.tile_merge.specs.Giving.{Giving}
+use Rattle.tile_merge.specs.Giving.{Giving, merging}
 use Rattle.tile_merge.specs.Merged.{MergedAll}
 use Rattle.tile_stream.specs.Tile.{stream_limits}
 use Rattle.tile_stream.specs.Unread.{IsOfTile}
@@ -32,7 +32,7 @@ DidMerge {R} gives Opens args IsFlushed old new before after =
     (readers : List R)
     × (counts : List ℕ)
     × AllZip Opens args.paths readers
-    × MergedAll gives (IsChosen args.choice) (base_of args.least) (mixes_of args.in_turn) readers counts old new
+    × MergedAll (merging gives (IsChosen args.choice) (base_of args.least) (mixes_of args.in_turn) readers) counts old new
     × IsFlushed
     × (after ≡ before)
 

@@ -3,7 +3,7 @@ use Rattle.std.specs.Prelude.{◌⊎◌, ℕ, Bool, true, false, List, Option, i
 use Rattle.city_feature.specs.declared.base.Base.{Base}
 use Rattle.city_feature.specs.declared.base.Base.TheVariants.{First, Least}
 use Rattle.city_feature.specs.Feature.{FeatureValue}
-use Rattle.tile_merge.specs.Giving.{Giving, Mixing}
+use Rattle.tile_merge.specs.Giving.{Giving, Mixing, merging}
 use Rattle.tile_merge.specs.Interleaves.{Interleaves}
 use Rattle.tile_merge.specs.Merged.{IsOutputFault, IsRefusedEarly, IsRefusedMerge}
 use Rattle.tile_merge.specs.Threaded.{HasNoThread, IsRefusedThreaded}
@@ -21,7 +21,7 @@ mixes_of false lists out = Interleaves lists out
 -- why a merge in turn, or one as they come, is refused, and what was written then
 abbrev pub IsRefusedAsked : {R : Type 0} → Bool → Giving R → (FeatureValue → Type 0) → Base → List R → MergeFault → Option (List ℕ) → Option (List ℕ) → Type 0
 IsRefusedAsked true gives IsWanted base readers refusal old new =
-    IsRefusedMerge gives IsWanted base AreTurns readers refusal old new
+    IsRefusedMerge (merging gives IsWanted base AreTurns readers) refusal old new
 IsRefusedAsked false gives IsWanted base readers refusal old new =
     IsRefusedThreaded gives IsWanted base readers refusal old new
 

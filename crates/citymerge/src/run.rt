@@ -5,6 +5,7 @@ ghost use Rattle.citymerge.specs.Merging.{base_of, mixes_of, IsRefusedAsked, Pas
 ghost use Rattle.citymerge.specs.Passing.{WroteOrFailed};
 ghost use Rattle.tile_stream.specs.Filtered.{WroteStream, IsRefusedFilter, CountsReads, PassedOn, failures_after_merge, failures_after_refusal, failures_after_write};
 ghost use Rattle.tile_stream.specs.Head.{SomeTile};
+ghost use Rattle.tile_merge.specs.Giving.{merging};
 ghost use Rattle.tile_merge.specs.Interleaves.{Interleaves};
 ghost use Rattle.tile_merge.specs.Merged.{MergedAll};
 ghost use Rattle.tile_stream.specs.Unread.{Leaves, has_failed};
@@ -89,15 +90,15 @@ where
     requires { 0 < length readers.items }
     ensures status { (result ≡ 0) ⊎ (result ≡ 1) }
     ensures done { result ≡ 0 → (counts : List ℕ)
-        × MergedAll R.gives (IsChosen args.now.choice) (base_of args.now.least)
+        × MergedAll (merging R.gives (IsChosen args.now.choice) (base_of args.now.least)
         (mixes_of args.now.in_turn)
-        readers.items counts (W.taken output.old) (W.taken output.new) }
+        readers.items) counts (W.taken output.old) (W.taken output.new) }
 
     // In turn or not, the stream is the joined header and an interleaving of the tiles' chosen, moved
     // features, each tile in its own order.
     ensures interleaved { result ≡ 0 → (counts : List ℕ)
-        × MergedAll R.gives (IsChosen args.now.choice) (base_of args.now.least) Interleaves
-        readers.items counts (W.taken output.old) (W.taken output.new) }
+        × MergedAll (merging R.gives (IsChosen args.now.choice) (base_of args.now.least) Interleaves
+        readers.items) counts (W.taken output.old) (W.taken output.new) }
 
     ensures done_flushed { result ≡ 0 → W.is_flushed output.new }
     ensures done_failures { result ≡ 0 → W.failures output.new ≡ W.failures output.old }
@@ -130,12 +131,12 @@ where
     R: Source + Send + Drop + 'static,
     W: Sink,
     requires { 0 < length readers.items }
-    ensures ok { IfOk result (λ report. MergedAll R.gives (IsChosen args.now.choice)
+    ensures ok { IfOk result (λ report. MergedAll (merging R.gives (IsChosen args.now.choice)
         (base_of args.now.least) (mixes_of args.now.in_turn)
-        readers.items report.counts (W.taken output.old) (W.taken output.new)) }
-    ensures interleaved { IfOk result (λ report. MergedAll R.gives (IsChosen args.now.choice)
+        readers.items) report.counts (W.taken output.old) (W.taken output.new)) }
+    ensures interleaved { IfOk result (λ report. MergedAll (merging R.gives (IsChosen args.now.choice)
         (base_of args.now.least) Interleaves
-        readers.items report.counts (W.taken output.old) (W.taken output.new)) }
+        readers.items) report.counts (W.taken output.old) (W.taken output.new)) }
     ensures flushed { OnOk result (W.is_flushed output.new) }
     ensures refused { IfErr result (λ e. IsRefusedAsked args.now.in_turn R.gives
         (IsChosen args.now.choice) (base_of args.now.least)

@@ -3,7 +3,6 @@ use Rattle.std.specs.Prelude.{◌≡◌, ◌⊎◌, ℕ, Bool, List, Result, Ok,
 use Rattle.std.specs.List.{list_all}
 use Rattle.city_json.specs.Grammar.{IsBlank}
 use Rattle.city_json.specs.Reading.{is_white}
-use Rattle.city_json.specs.Refusals.{RefusesText}
 use Rattle.city_json.specs.Tree.{Tree}
 use Rattle.byte_streams.specs.declared.fault.Fault.{Fault}
 use Rattle.byte_streams.specs.declared.fault.Fault.TheVariants.{LineTooLong, Memory, NoHeader, Read, Write}

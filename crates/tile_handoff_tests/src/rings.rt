@@ -71,14 +71,6 @@ fn what_is_left_is_counted(rt: HostRuntime) -> Result<(), Fail> {
     let closed = ended(sender)?;
     assert!(rt; is_note(&receiver.try_take(), "x"));
     assert_eq!(rt; receiver.confirm(closed)?.left, 2);
-
-    let (mut sender, receiver) = ends(alloc, 4)?;
-    assert!(rt; sender.try_put(line(alloc, "x")?).is_ok());
-    assert!(rt; sender.try_put(line(alloc, "y")?).is_ok());
-    assert_eq!(rt; receiver.confirm(ended(sender)?)?.left, 3);
-
-    let (sender, receiver) = ends(alloc, 1)?;
-    assert_eq!(rt; receiver.confirm(ended(sender)?)?.left, 1);
     Ok(())
 }
 

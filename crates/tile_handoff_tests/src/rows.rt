@@ -136,26 +136,6 @@ fn no_events_leave_nothing(rt: HostRuntime) -> Result<(), Fail> {
     Ok(())
 }
 
-#[test]
-fn a_tile_is_put_taken_and_closed_by_calls(rt: HostRuntime) -> Result<(), Fail> {
-    let alloc = rt.alloc();
-    let mut row = Row::new(alloc, 1, 2)?;
-    assert!(rt; row.put(0, line(alloc, "x")?).is_ok());
-    assert!(rt; row.put(0, line(alloc, "y")?).is_ok());
-    let full = row.put(0, line(alloc, "z")?);
-    assert!(rt; matches!(&full, Err(NoPut::Full(back)) if is_line(back, "z")));
-    assert!(rt; matches!(&row.take(0)?, Took::Line(x) if is_line(x, "x")));
-    assert!(rt; row.close(0, END).is_ok());
-    let closed = row.put(0, line(alloc, "w")?);
-    assert!(rt; matches!(&closed, Err(NoPut::Closed(back)) if is_line(back, "w")));
-    assert!(rt; matches!(&row.take(0)?, Took::Line(y) if is_line(y, "y")));
-    assert!(rt; matches!(&row.take(0)?, Took::End(end) if *end == END));
-    assert!(rt; matches!(row.take(0)?, Took::Drained));
-    assert_eq!(rt; row.close(0, END), Err(NoClose::Closed));
-    assert_eq!(rt; row.marks().items().len(), 6);
-    Ok(())
-}
-
 fn one_place(alloc: Global) -> Result<Events, AllocError>
     ensures { IfOk result (All (λ event. event_tile event < 1)) }
 {
@@ -176,37 +156,27 @@ fn an_end_note_takes_a_place(rt: HostRuntime) -> Result<(), Fail> {
 }
 
 #[test]
-fn an_end_note_takes_a_place_by_calls(rt: HostRuntime) -> Result<(), Fail> {
+fn a_row_is_asked_by_calls(rt: HostRuntime) -> Result<(), Fail> {
     let alloc = rt.alloc();
     let mut row = Row::new(alloc, 1, 1)?;
-    assert!(rt; matches!(row.take(0)?, Took::Empty));
     assert!(rt; row.put(0, line(alloc, "x")?).is_ok());
     assert_eq!(rt; row.close(0, END), Err(NoClose::Full));
+    assert!(rt; matches!(&row.take(0)?, Took::Line(x) if is_line(x, "x")));
+    assert!(rt; row.close(0, END).is_ok());
     Ok(())
 }
 
 #[test]
 fn queues_are_filled_and_drained(rt: HostRuntime) -> Result<(), Fail> {
     let alloc = rt.alloc();
-    let mut queues = Queues::new(alloc, 2, 2)?;
-    assert!(rt; matches!(queues.take(1), Took::Empty));
+    let mut queues = Queues::new(alloc, 2, 1)?;
     assert!(rt; queues.put(1, line(alloc, "x")?).is_ok());
-    assert!(rt; queues.put(1, line(alloc, "y")?).is_ok());
-    assert!(rt; queues.is_full(1) && !queues.is_full(0));
-    let full = queues.put(1, line(alloc, "z")?);
-    assert!(rt; matches!(&full, Err(NoPut::Full(back)) if is_line(back, "z")));
-    assert_eq!(rt; queues.close(1, END), Err(NoClose::Full));
+    let full = queues.put(1, line(alloc, "y")?);
+    assert!(rt; matches!(&full, Err(NoPut::Full(back)) if is_line(back, "y")));
     assert!(rt; matches!(&queues.take(1), Took::Line(x) if is_line(x, "x")));
     assert!(rt; queues.close(1, END).is_ok());
-    assert!(rt; queues.is_closed(1) && !queues.is_closed(0));
-    assert_eq!(rt; queues.len(1), 2);
-    let closed = queues.put(1, line(alloc, "w")?);
-    assert!(rt; matches!(&closed, Err(NoPut::Closed(back)) if is_line(back, "w")));
-    assert!(rt; matches!(&queues.take(1), Took::Line(y) if is_line(y, "y")));
     assert!(rt; matches!(&queues.take(1), Took::End(end) if *end == END));
-    assert!(rt; queues.is_empty(1) && queues.is_empty(0));
     assert!(rt; matches!(queues.take(1), Took::Drained));
-    assert_eq!(rt; queues.close(1, END), Err(NoClose::Closed));
     Ok(())
 }
 

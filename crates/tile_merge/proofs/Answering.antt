@@ -11,7 +11,7 @@ use Rattle.city_grid.specs.Axes.{Triple}
 use Rattle.tile_merge.specs.EndNotes.{outcomes_in, totals_in}
 use Rattle.tile_stream.specs.Filtered.{failures_after_merge}
 use Rattle.tile_merge.specs.Feeds.{Course}
-use Rattle.tile_merge.specs.Giving.{Giving, Mixing}
+use Rattle.tile_merge.specs.Giving.{Giving, Mixing, merging}
 use Rattle.tile_merge.specs.Merged.{MergedAll, Merges, WroteMerge, WroteFrontOf, IsRefusedEarly, IsOutputFault, IsRefusedMerge, merged_texts, merged_outcomes}
 use Rattle.tile_merge.specs.Opened.{AllThree, AreJoined, OpenState}
 use Rattle.tile_merge.specs.Rounds.{course_texts, course_ends}
@@ -28,7 +28,7 @@ use Rattle.tile_merge.proofs.Readying.{quiet_tile}
 -- before a byte is written
 pub of_early : {R : Type 0} (gives : Giving R) (IsWanted : FeatureValue → Type 0) (base : Base) (Mixes : Mixing)
     (readers : List R) (refusal : MergeFault) (old : Option (List ℕ)) → IsRefusedEarly gives base readers refusal
-    → IsRefusedMerge gives IsWanted base Mixes readers refusal old old
+    → IsRefusedMerge (merging gives IsWanted base Mixes readers) refusal old old
 of_early gives IsWanted base Mixes readers refusal old early = inl (early, Keeps-refl old)
 
 pub of_memory : {R : Type 0} (gives : Giving R) (base : Base) (readers : List R) (fault : Fault) → fault ≡ Memory
@@ -92,9 +92,9 @@ module _ {R : Type 0} (gives : Giving R) (IsWanted : FeatureValue → Type 0) (b
   pub of_write : (fault : Fault) → fault ≡ Write → (refusal : MergeFault)
       → refusal ≡ record { tile = 0; line = 0; fault = fault } → (count : ℕ)
       → Appends old new (take count (stream line out))
-      → IsRefusedMerge gives IsWanted base Mixes readers refusal old new
+      → IsRefusedMerge (merging gives IsWanted base Mixes readers) refusal old new
   of_write fault which refusal is count written =
-      let front : WroteFrontOf gives IsWanted base Mixes readers old new = record {
+      let front : WroteFrontOf (merging gives IsWanted base Mixes readers) old new = record {
         tiles = all.merged;
         line = line;
         out = out;
@@ -108,14 +108,14 @@ module _ {R : Type 0} (gives : Giving R) (IsWanted : FeatureValue → Type 0) (b
   -- all of it was
   module _ (written : Appends old new (stream line out)) (ends : List TileEnd) (are : ends ≡ course_ends courses)
       (result : Result Report MergeFault) where
-    whole : WroteMerge gives IsWanted base Mixes readers all.merged old new
+    whole : WroteMerge (merging gives IsWanted base Mixes readers) all.merged old new
     whole = record { line = line; out = out; merges = all_merge; mixes = all_mixed; written = written }
 
     outcomes_are : merged_outcomes all.merged ≡ outcomes_in ends
     outcomes_are = all.outcomes_are ∙ ap outcomes_in (sym are)
 
     merged_so : (counts : List ℕ) → (first_refusal 1 (outcomes_in ends) ≡ None) × (counts ≡ totals_in ends)
-        → MergedAll gives IsWanted base Mixes readers counts old new
+        → MergedAll (merging gives IsWanted base Mixes readers) counts old new
     merged_so counts says = (
       all.merged,
       whole,
@@ -124,16 +124,16 @@ module _ {R : Type 0} (gives : Giving R) (IsWanted : FeatureValue → Type 0) (b
     )
 
     refused_so : (refusal : MergeFault) → first_refusal 1 (outcomes_in ends) ≡ Some refusal
-        → IsRefusedMerge gives IsWanted base Mixes readers refusal old new
+        → IsRefusedMerge (merging gives IsWanted base Mixes readers) refusal old new
     refused_so refusal says = inr (inr (all.merged, whole, ap (first_refusal 1) outcomes_are ∙ says))
 
     pub merged_result : IfOk result
         (λ report. (first_refusal 1 (outcomes_in ends) ≡ None) × (report.counts ≡ totals_in ends))
-        → IfOk result (λ report. MergedAll gives IsWanted base Mixes readers report.counts old new)
+        → IfOk result (λ report. MergedAll (merging gives IsWanted base Mixes readers) report.counts old new)
     merged_result says = if_ok result (λ report. merged_so report.counts) says
 
     pub refused_result : IfErr result (λ e. first_refusal 1 (outcomes_in ends) ≡ Some e)
-        → IfErr result (λ e. IsRefusedMerge gives IsWanted base Mixes readers e old new)
+        → IfErr result (λ e. IsRefusedMerge (merging gives IsWanted base Mixes readers) e old new)
     refused_result says = if_err result refused_so says
 
 -- ---- what the report says ----

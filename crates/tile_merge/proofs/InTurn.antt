@@ -6,7 +6,7 @@ use Rattle.std.proofs.KnownBytes.{Appends-trans}
 use Rattle.city_feature.specs.Feature.{FeatureValue}
 use Rattle.city_feature.specs.declared.base.Base.{Base}
 use Rattle.tile_merge.specs.Feeds.{FeedState}
-use Rattle.tile_merge.specs.Giving.{Giving}
+use Rattle.tile_merge.specs.Giving.{Giving, merging}
 use Rattle.tile_merge.specs.Interleaves.{Interleaves}
 use Rattle.tile_merge.specs.Merged.{MergedAll, merged_texts}
 use Rattle.tile_merge.specs.Rounds.{MayTakeAll, SomeCourses, WroteTurns, WroteTurnsFront, course_texts, lines_of}
@@ -57,8 +57,8 @@ module _ {R : Type 0} (gives : Giving R) (IsWanted : FeatureValue → Type 0) (h
 -- a merge in turn is a merge that interleaves
 pub interleaved_result : {R : Type 0} (gives : Giving R) (IsWanted : FeatureValue → Type 0)
     (base : Base) (readers : List R) (old new : Option (List ℕ)) (result : Result Report MergeFault)
-    → IfOk result (λ report. MergedAll gives IsWanted base AreTurns readers report.counts old new)
-    → IfOk result (λ report. MergedAll gives IsWanted base Interleaves readers report.counts old new)
+    → IfOk result (λ report. MergedAll (merging gives IsWanted base AreTurns readers) report.counts old new)
+    → IfOk result (λ report. MergedAll (merging gives IsWanted base Interleaves readers) report.counts old new)
 interleaved_result gives IsWanted base readers old new (Ok report) all =
     let wrote = all.1 in
     let lists = merged_texts all.0 in

@@ -1,8 +1,8 @@
 pub mod Answering
+pub mod Ends
 pub mod FaultNumbers
 pub mod Feeder
 pub mod Feeding
-pub mod Feeds
 pub mod InTurn
 pub mod Joining
 pub mod MergedTiles

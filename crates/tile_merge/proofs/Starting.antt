@@ -9,7 +9,7 @@ use Rattle.city_feature.specs.Joined.{IsJoined}
 use Rattle.city_feature.specs.declared.base.Base.{Base}
 use Rattle.city_feature.specs.declared.choices.Choice.{Choice}
 use Rattle.city_grid.specs.Axes.{Triple}
-use Rattle.tile_merge.specs.Giving.{Giving}
+use Rattle.tile_merge.specs.Giving.{Giving, merging}
 use Rattle.tile_merge.specs.Interleaves.{Interleaves}
 use Rattle.tile_merge.specs.Merged.{IsRefusedEarly, IsRefusedMerge}
 use Rattle.tile_merge.specs.Opened.{AllThree, AreJoined, OpenState, IsOpened}
@@ -69,7 +69,7 @@ module _ {R : Type 0} (gives : Giving R) (base : Base) (readers : List R) where
       inr (of_early gives IsWanted base Interleaves readers refusal old early)
 
   pub refused_all : (IsWanted : FeatureValue → Type 0) (old new : Option (List ℕ)) (result : Result Report MergeFault)
-      → IfErr result (λ e. IsRefusedMerge gives IsWanted base Interleaves readers e old new)
+      → IfErr result (λ e. IsRefusedMerge (merging gives IsWanted base Interleaves readers) e old new)
       → IfErr result (λ e. IsRefusedThreaded gives IsWanted base readers e old new)
   refused_all IsWanted old new (Ok report) refused = tt
   refused_all IsWanted old new (Err e) refused = inr refused

@@ -10,7 +10,7 @@ use Rattle.city_feature.specs.Feature.{FeatureValue}
 use Rattle.city_feature.specs.declared.base.Base.{Base}
 use Rattle.city_feature.specs.declared.choices.Choice.{Choice}
 use Rattle.city_grid.specs.Axes.{Triple}
-use Rattle.tile_merge.specs.Giving.{Giving}
+use Rattle.tile_merge.specs.Giving.{Giving, merging}
 use Rattle.tile_merge.specs.EndNotes.{outcomes_in, totals_in}
 use Rattle.tile_merge.specs.Feeds.{Course}
 use Rattle.tile_merge.specs.Interleaves.{Interleaves}
@@ -27,7 +27,7 @@ use Rattle.byte_streams.specs.Failures.{after_call}
 use Rattle.tile_merge.specs.Threaded.{WroteInterleaved}
 use Rattle.tile_stream.specs.Filtered.{failures_after_merge}
 use Rattle.tile_merge.proofs.Answering.{merged_result, no_failed_write, of_write, refused_result}
-use Rattle.tile_merge.proofs.Feeds.{all_ended}
+use Rattle.tile_merge.proofs.Ends.{all_ended}
 use Rattle.tile_merge.proofs.MergedTiles.{MayGive}
 use Rattle.tile_merge.proofs.Mixing.{AreParted, flat, mixed_on}
 use Rattle.tile_stream.proofs.Steps.{first_of_longer}
@@ -145,7 +145,7 @@ module _ {R : Type 0} (gives : Giving R) (choice : Choice) (base : Base) (reader
   -- a write failed
   pub refused_write : (fault : Fault) → wrote ≡ Err fault → (refusal : MergeFault)
       → refusal ≡ record { tile = 0; line = 0; fault = fault }
-      → IsRefusedMerge gives (IsChosen choice) base Interleaves readers refusal old new
+      → IsRefusedMerge (merging gives (IsChosen choice) base Interleaves readers) refusal old new
   refused_write fault was refusal is =
       let part = subst (λ (r : Result (Unit {0}) Fault). WroteUnless r (stream line so_far.out) old new) was
       so_far.written in
@@ -173,12 +173,12 @@ module _ {R : Type 0} (gives : Giving R) (choice : Choice) (base : Base) (reader
 
     pub all_merged : IfOk result
         (λ report. (first_refusal 1 (outcomes_in ends) ≡ None) × (report.counts ≡ totals_in ends))
-        → IfOk result (λ report. MergedAll gives (IsChosen choice) base Interleaves readers report.counts old new)
+        → IfOk result (λ report. MergedAll (merging gives (IsChosen choice) base Interleaves readers) report.counts old new)
     all_merged says = merged_result gives (IsChosen choice) base Interleaves readers tiles shifts line joined courses
         given so_far.out mixes old new written ends ends_are result says
 
     pub tile_refused : IfErr result (λ e. first_refusal 1 (outcomes_in ends) ≡ Some e)
-        → IfErr result (λ e. IsRefusedMerge gives (IsChosen choice) base Interleaves readers e old new)
+        → IfErr result (λ e. IsRefusedMerge (merging gives (IsChosen choice) base Interleaves readers) e old new)
     tile_refused says = refused_result gives (IsChosen choice) base Interleaves readers tiles shifts line joined courses
         given so_far.out mixes old new written ends ends_are result says
 
@@ -210,7 +210,7 @@ appended (Some xs) (Some ys) bytes before wrote is =
 -- where the bytes are known, an interleaving was written
 pub interleaved : {R : Type 0} (gives : Giving R) (IsWanted : FeatureValue → Type 0) (base : Base) (readers : List R)
     (old new : Option (List ℕ)) (result : Result Report MergeFault)
-    → IfOk result (λ report. MergedAll gives IsWanted base Interleaves readers report.counts old new)
+    → IfOk result (λ report. MergedAll (merging gives IsWanted base Interleaves readers) report.counts old new)
     → OnOk result (WroteInterleaved gives IsWanted base readers old new)
 interleaved gives IsWanted base readers old new (Ok report) merged = λ before is.
     let wrote = merged.1 in (

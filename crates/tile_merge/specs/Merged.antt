@@ -1,5 +1,4 @@
--- What a merge of several tiles may answer, and what was written then. `Mixes lists out` says in
--- which order the texts of the tiles stand in the stream.
+-- What a merge of several tiles may answer, and what was written then.
 use Rattle.std.specs.Prelude.{◌≡◌, ◌⊎◌, ◌<◌, ◌+◌, ◌++◌, ℕ, List, ◌∷◌, Option, Some, None, length, map, take}
 use Rattle.std.specs.Io.KnownBytes.{Appends, Keeps}
 use Rattle.std.specs.List.{AllZip, AllByRecursion}
@@ -16,7 +15,7 @@ use Rattle.tile_stream.specs.Stream.{stream}
 use Rattle.tile_stream.specs.Texts.{Outcome}
 use Rattle.tile_stream.specs.Tile.{TileLines, stream_limits}
 use Rattle.tile_stream.specs.Unread.{IsOfTile}
-use Rattle.tile_merge.specs.Giving.{Giving, Mixing}
+use Rattle.tile_merge.specs.Giving.{Giving, Merging}
 use Rattle.tile_merge.specs.Told.{first_refusal}
 use Rattle.byte_streams.specs.declared.places.MergeFault.{MergeFault}
 
@@ -71,36 +70,36 @@ pub record Merges {R : Type 0} (gives : Giving R) (IsWanted : FeatureValue → T
 -- ---- what was written ----
 
 -- the stream of all texts was written
-pub record WroteMerge {R : Type 0} (gives : Giving R) (IsWanted : FeatureValue → Type 0) (base : Base) (Mixes : Mixing) (readers : List R) (tiles : List MergedTile) (old new : Option (List ℕ)) : Type 0 where
+pub record WroteMerge {R : Type 0} (asked : Merging R) (tiles : List MergedTile) (old new : Option (List ℕ)) : Type 0 where
   pub line : List ℕ
   pub out : List (List ℕ)
-  pub merges : Merges gives IsWanted base readers tiles line
-  pub mixes : Mixes (merged_texts tiles) out
+  pub merges : Merges asked.gives asked.IsWanted asked.base asked.readers tiles line
+  pub mixes : asked.Mixes (merged_texts tiles) out
   pub written : Appends old new (stream line out)
 
 -- nothing is wrong with any tile, and their stream was written; so many texts are of each
-abbrev pub MergedAll : {R : Type 0} → Giving R → (FeatureValue → Type 0) → Base → Mixing → List R → List ℕ → Option (List ℕ) → Option (List ℕ) → Type 0
-MergedAll gives IsWanted base Mixes readers counts old new =
+abbrev pub MergedAll : {R : Type 0} → Merging R → List ℕ → Option (List ℕ) → Option (List ℕ) → Type 0
+MergedAll asked counts old new =
     (tiles : List MergedTile)
-    × WroteMerge gives IsWanted base Mixes readers tiles old new
+    × WroteMerge asked tiles old new
     × (first_refusal 1 (merged_outcomes tiles) ≡ None)
     × (counts ≡ map length (merged_texts tiles))
 
 -- this is told of a tile that stopped, and the stream of the texts before the ends was written
-abbrev pub StoppedAtTile : {R : Type 0} → Giving R → (FeatureValue → Type 0) → Base → Mixing → List R → MergeFault → Option (List ℕ) → Option (List ℕ) → Type 0
-StoppedAtTile gives IsWanted base Mixes readers refusal old new =
+abbrev pub StoppedAtTile : {R : Type 0} → Merging R → MergeFault → Option (List ℕ) → Option (List ℕ) → Type 0
+StoppedAtTile asked refusal old new =
     (tiles : List MergedTile)
-    × WroteMerge gives IsWanted base Mixes readers tiles old new
+    × WroteMerge asked tiles old new
     × (first_refusal 1 (merged_outcomes tiles) ≡ Some refusal)
 
 -- the first bytes of such a stream were written, and nothing else
-pub record WroteFrontOf {R : Type 0} (gives : Giving R) (IsWanted : FeatureValue → Type 0) (base : Base) (Mixes : Mixing) (readers : List R) (old new : Option (List ℕ)) : Type 0 where
+pub record WroteFrontOf {R : Type 0} (asked : Merging R) (old new : Option (List ℕ)) : Type 0 where
   pub tiles : List MergedTile
   pub line : List ℕ
   pub out : List (List ℕ)
   pub count : ℕ
-  pub merges : Merges gives IsWanted base readers tiles line
-  pub mixes : Mixes (merged_texts tiles) out
+  pub merges : Merges asked.gives asked.IsWanted asked.base asked.readers tiles line
+  pub mixes : asked.Mixes (merged_texts tiles) out
   pub written : Appends old new (take count (stream line out))
 
 -- ---- refusals before a byte is written ----
@@ -153,8 +152,8 @@ IsOutputFault refusal =
 
 -- Why a merge is refused, and what was written: nothing; or the first bytes of a stream, where the
 -- output failed; or the whole stream of the texts before the ends, where a tile stopped.
-abbrev pub IsRefusedMerge : {R : Type 0} → Giving R → (FeatureValue → Type 0) → Base → Mixing → List R → MergeFault → Option (List ℕ) → Option (List ℕ) → Type 0
-IsRefusedMerge gives IsWanted base Mixes readers refusal old new =
-    (IsRefusedEarly gives base readers refusal × Keeps old new)
-    ⊎ (IsOutputFault refusal × WroteFrontOf gives IsWanted base Mixes readers old new)
-    ⊎ StoppedAtTile gives IsWanted base Mixes readers refusal old new
+abbrev pub IsRefusedMerge : {R : Type 0} → Merging R → MergeFault → Option (List ℕ) → Option (List ℕ) → Type 0
+IsRefusedMerge asked refusal old new =
+    (IsRefusedEarly asked.gives asked.base asked.readers refusal × Keeps old new)
+    ⊎ (IsOutputFault refusal × WroteFrontOf asked old new)
+    ⊎ StoppedAtTile asked refusal old new

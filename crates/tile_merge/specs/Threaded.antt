@@ -6,7 +6,7 @@ use Rattle.city_feature.specs.Feature.{FeatureValue}
 use Rattle.city_feature.specs.Joined.{IsJoined}
 use Rattle.city_feature.specs.declared.base.Base.{Base}
 use Rattle.city_grid.specs.Axes.{Triple}
-use Rattle.tile_merge.specs.Giving.{Giving}
+use Rattle.tile_merge.specs.Giving.{Giving, merging}
 use Rattle.tile_merge.specs.Interleaves.{Interleaves}
 use Rattle.tile_merge.specs.Merged.{HeadedTile, HaveHeads, headers_of, MergedTile, Merges, merged_outcomes, merged_texts, IsRefusedMerge}
 use Rattle.tile_stream.specs.Stream.{stream}
@@ -36,7 +36,7 @@ HasNoThread gives base readers refusal =
 abbrev pub IsRefusedThreaded : {R : Type 0} → Giving R → (FeatureValue → Type 0) → Base → List R → MergeFault → Option (List ℕ) → Option (List ℕ) → Type 0
 IsRefusedThreaded gives IsWanted base readers refusal old new =
     (HasNoThread gives base readers refusal × Keeps old new)
-    ⊎ IsRefusedMerge gives IsWanted base Interleaves readers refusal old new
+    ⊎ IsRefusedMerge (merging gives IsWanted base Interleaves readers) refusal old new
 
 -- These bytes are a merged header and an interleaving of all wanted, moved features of the tiles,
 -- each tile in its own order, every feature in its line; no tile stopped before its end.

@@ -3,6 +3,7 @@ ghost use Rattle.byte_streams.specs.Failures.{after_call};
 ghost use Rattle.city_feature.specs.Choice.{IsChosen};
 ghost use Rattle.tile_stream.specs.Filtered.{failures_after_merge};
 ghost use Rattle.tile_stream.specs.Stream.{with_newline};
+ghost use Rattle.tile_merge.specs.Giving.{merging};
 ghost use Rattle.tile_merge.specs.Interleaves.{Interleaves};
 ghost use Rattle.tile_merge.specs.Merged.{MergedAll, IsOutputFault, IsRefusedEarly, IsRefusedMerge};
 ghost use Rattle.tile_merge.specs.Opened.{AllThree};
@@ -43,16 +44,16 @@ pub fn merge_in_turn<R: Source + Drop, W: Sink>(
 ) -> Result<Report, MergeFault>
     requires some { 0 < length readers.items }
     requires capacity { (0 < capacity) × (capacity ≤ MAX_CAPACITY) }
-    ensures ok { IfOk result (λ report. MergedAll R.gives (IsChosen choice.now) base AreTurns
-        readers.items report.counts (W.taken output.old) (W.taken output.new)) }
+    ensures ok { IfOk result (λ report. MergedAll (merging R.gives (IsChosen choice.now) base AreTurns
+        readers.items) report.counts (W.taken output.old) (W.taken output.new)) }
     ensures flushed { OnOk result (W.is_flushed output.new) }
-    ensures refused { IfErr result (λ e. IsRefusedMerge R.gives (IsChosen choice.now) base AreTurns
-        readers.items e (W.taken output.old) (W.taken output.new)) }
+    ensures refused { IfErr result (λ e. IsRefusedMerge (merging R.gives (IsChosen choice.now) base AreTurns
+        readers.items) e (W.taken output.old) (W.taken output.new)) }
 
     // Where it succeeds, the stream is the joined header and an interleaving of the tiles' chosen,
     // moved features, each tile in its own order.
-    ensures interleaved { IfOk result (λ report. MergedAll R.gives (IsChosen choice.now) base
-        Interleaves readers.items report.counts (W.taken output.old) (W.taken output.new)) }
+    ensures interleaved { IfOk result (λ report. MergedAll (merging R.gives (IsChosen choice.now) base
+        Interleaves readers.items) report.counts (W.taken output.old) (W.taken output.new)) }
 
     // The fault of a tile that stopped is answered once what was written was passed on.
     ensures passed_on { IfErr result (λ e. IsRefusedEarly R.gives base readers.items e

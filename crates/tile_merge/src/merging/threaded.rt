@@ -1,5 +1,6 @@
 ghost use Rattle.std.specs.Prelude.{◌≡◌, ◌⊎◌, ◌≤◌, ◌<◌, ◌+◌, List, All, Err, true, length, IfOk, IfErr, OnOk};
 ghost use Rattle.city_feature.specs.Choice.{IsChosen};
+ghost use Rattle.tile_merge.specs.Giving.{merging};
 ghost use Rattle.tile_merge.specs.Feeds.{Course};
 ghost use Rattle.tile_stream.specs.Filtered.{failures_after_merge};
 ghost use Rattle.tile_merge.specs.Interleaves.{Interleaves};
@@ -58,8 +59,8 @@ where
     W: Sink,
     requires some { 0 < length readers.items }
     requires capacity { (0 < capacity) × (capacity ≤ MAX_CAPACITY) }
-    ensures ok { IfOk result (λ report. MergedAll R.gives (IsChosen choice.now) base Interleaves
-        readers.items report.counts (W.taken output.old) (W.taken output.new)) }
+    ensures ok { IfOk result (λ report. MergedAll (merging R.gives (IsChosen choice.now) base Interleaves
+        readers.items) report.counts (W.taken output.old) (W.taken output.new)) }
     ensures flushed { OnOk result (W.is_flushed output.new) }
     ensures refused { IfErr result (λ e. IsRefusedThreaded R.gives (IsChosen choice.now) base
         readers.items e (W.taken output.old) (W.taken output.new)) }

@@ -1,5 +1,4 @@
 use Rattle.std.proofs.Common.{◌∙◌, arith}
-use Rattle.std.proofs.lemmas.Grind.{common_steps}
 use Rattle.std.proofs.lemmas.Result.{err_from_is_err_and}
 use Rattle.document_stream.proofs.StreamWritten.{all_texts, next_failed, next_written}
 use Rattle.document_stream.proofs.writing.write_texts.Goals as goal

@@ -7,7 +7,7 @@ use Rattle.tile_merge.specs.Feeds.{fresh_feed}
 use Rattle.tile_merge.specs.Opened.{OpenState}
 use Rattle.tile_merge.specs.Rounds.{IsFeedOf}
 use Rattle.tile_stream.specs.TileState.{most_to_come, most_texts}
-use Rattle.tile_merge.proofs.Feeds.{all_at}
+use Rattle.tile_merge.proofs.Ends.{all_at}
 use Rattle.tile_stream.proofs.GoneThrough.{goes_on, is_longer}
 use Rattle.tile_merge.proofs.Opening.{all_three_long}
 use Rattle.tile_merge.proofs.Threes.{threes_all, threes_more}

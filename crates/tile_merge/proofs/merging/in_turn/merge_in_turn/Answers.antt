@@ -6,7 +6,7 @@ use Rattle.tile_merge.specs.Merged.{IsOutputFault, IsRefusedEarly}
 use Rattle.tile_merge.specs.Rounds.{IsFeedOf, course_ends, course_texts}
 use Rattle.tile_merge.specs.Turns.{AreTurns, turns}
 use Rattle.tile_merge.proofs.Answering.{lent_back, merged_result, no_failed_write, of_early, of_memory, of_write, refused_result, when_ok, when_refused}
-use Rattle.tile_merge.proofs.Feeds.{all_ended}
+use Rattle.tile_merge.proofs.Ends.{all_ended}
 use Rattle.tile_merge.proofs.InTurn.{interleaved_result}
 use Rattle.tile_merge.proofs.MergedTiles.{given_all, some_ahead}
 use Rattle.tile_merge.proofs.Opening.{all_three_same}

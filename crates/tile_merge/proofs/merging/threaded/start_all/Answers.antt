@@ -5,7 +5,7 @@ use Rattle.std.proofs.lemmas.Iterator.Consumers.{YieldsList-end}
 use Rattle.tile_merge.specs.Opened.{OpenState}
 use Rattle.tile_merge.specs.Threads.{IsRunOf}
 use Rattle.tile_stream.specs.TileState.{most_to_come, most_texts}
-use Rattle.tile_merge.proofs.Feeds.{all_at}
+use Rattle.tile_merge.proofs.Ends.{all_at}
 use Rattle.tile_stream.proofs.GoneThrough.{goes_on, is_longer}
 use Rattle.tile_merge.proofs.Opening.{all_three_long}
 use Rattle.tile_merge.proofs.Starting.{unstarted}

@@ -1,7 +1,7 @@
 use Rattle.std.proofs.Common.{Some, None, [], ◌∷◌, ◌++◌, ◌∙◌, sym, ap, append-nil, filter_map, take, take_all, length, arith}
 use Rattle.std.proofs.lemmas.List.{length-take-le}
 use Rattle.tile_merge.specs.EndNotes.{EndsState}
-use Rattle.tile_merge.proofs.Feeds.{ends_few, ends_more}
+use Rattle.tile_merge.proofs.Ends.{ends_few, ends_more}
 use Rattle.tile_merge.proofs.merging.report.Ends.gather.Goals as goal
 
 pub loop-tile-preserved-in_default : goal.loop-tile-preserved-in_default
