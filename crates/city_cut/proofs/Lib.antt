@@ -18,7 +18,8 @@ mod QuickCopies
 mod QuickDocuments
 mod QuickFeatures
 mod QuickHeaders
-mod QuickKin
+mod QuickGraphs
+mod QuickNames
 mod QuickMembers
 mod QuickObjects
 mod QuickOverviews

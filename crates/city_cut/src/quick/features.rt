@@ -125,7 +125,7 @@ fn append_objects(
 }
 
 /// The text of the name that stands in a member's name and its colon.
-pub(super) fn without_colon(name: &[u8]) -> Option<&[u8]>
+fn without_colon(name: &[u8]) -> Option<&[u8]>
     ensures { IfSome result (λ found. (text : List ℕ) → name.now ≡ text ++ colon ∷ [] → found.now ≡ text) }
 {
     if name.is_empty() {
@@ -135,7 +135,7 @@ pub(super) fn without_colon(name: &[u8]) -> Option<&[u8]>
 }
 
 /// The name of the object at a place, with its marks.
-fn id_of<'a>(text: &'a [u8], parts: &[Part], at: usize) -> Option<&'a [u8]>
+pub(super) fn id_of<'a>(text: &'a [u8], parts: &[Part], at: usize) -> Option<&'a [u8]>
     ensures { IfSome result (λ found. (pairs : List (List ℕ × Tree))
         → IsCompactOf text.now (object (member_trees pairs)) → AreParts 1 parts.now (member_trees pairs)
         → found.now ≡ quoted (pair_at pairs at).0) }
