@@ -2,6 +2,8 @@ pub mod Answered
 pub mod Assembly
 pub mod Checking
 pub mod Choosing
+mod CopiedArrays
+mod CopiedLeaves
 mod CopiedTexts
 pub mod Copies
 pub mod FeatureList
@@ -17,6 +19,7 @@ mod QuickAddresses
 mod QuickCopies
 mod QuickDocuments
 mod QuickFeatures
+mod QuickGeometries
 mod QuickHeaders
 mod QuickGraphs
 mod QuickNames

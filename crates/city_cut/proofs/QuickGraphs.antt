@@ -14,7 +14,7 @@ use Rattle.city_json.specs.Tree.{Tree, null, boolean, number, string, array, obj
 use Rattle.city_json.specs.Writable.{AreWritableMembers}
 use Rattle.city_json.specs.declared.compacting.parts.Part.{Part}
 use Rattle.city_feature.specs.Shapes.{WhereThere}
-use Rattle.city_cut.specs.Chosen.{pair_at}
+use Rattle.city_cut.specs.Chosen.{named_at}
 use Rattle.city_cut.specs.CityObjects.{AreCityObjects, AreTexts, children, has_parents}
 use Rattle.city_cut.specs.Families.{AreRelated}
 use Rattle.city_cut.specs.Graphs.{HasRow, HaveRows}
@@ -46,7 +46,7 @@ quoted_same a b first second same = string_same a b (compact-tells (string a) (s
 
 -- ---- the table
 pub quoted_at : (pairs : List (List ℕ × Tree)) (at : ℕ) (id : List ℕ) → at < length pairs
-    → id ≡ quoted (pair_at pairs at).0 → slice_get (map (λ (pair : List ℕ × Tree). quoted pair.0) pairs) at ≡ Some id
+    → id ≡ quoted (named_at pairs at).0 → slice_get (map (λ (pair : List ℕ × Tree). quoted pair.0) pairs) at ≡ Some id
 quoted_at pairs at id inside is = rw (slice_get-map, slice_get-get_or pairs at ([], null) inside) (ap Some (sym is))
 
 -- ---- the places of names

@@ -3,7 +3,7 @@ use Rattle.std.proofs.Common.{◌≡◌, ◌∙◌, ◌++◌, ◌<◌, ◌≤◌
 use Rattle.std.specs.Borrow.{Bor}
 use Rattle.std.specs.List.{AllZip, flat_map}
 use Rattle.std.specs.Prelude.{nat_eq, not}
-use Rattle.city_json.proofs.CompactEnds.{number_other, other_head}
+use Rattle.city_json.proofs.CompactEnds.{items_some, number_other, other_head}
 use Rattle.city_json.proofs.Places.{drop_one}
 use Rattle.city_json.proofs.StringEnds.{others_same}
 use Rattle.city_json.specs.Bytes.{comma, close_bracket, open_bracket, open_brace, quotation_mark}
@@ -50,18 +50,7 @@ pub texts_none : (text : List ℕ) (found : List (Bor (List ℕ))) → found ≡
 texts_none text found none inside here no_items w is =
     (no_items, refl, subst (λ l. AllZip IsQuoted l []) (sym none) tt)
 texts_none text found none inside here (item first others) w is =
-    absurd (some_first first others w (sym (ap (drop 1) is) ∙ drop_one text 1 close_bracket inside here))
-  where
-    some_first : (first : Tree) (others : ItemTrees) → AreWritableItems (item first others)
-        → compact_items (item first others) ++ close_bracket ∷ [] ≡ close_bracket ∷ drop 2 text → ⊥
-    some_first null others w e = other_head 110 close_bracket _ _ (omega arith) e
-    some_first (boolean true) others w e = other_head 116 close_bracket _ _ (omega arith) e
-    some_first (boolean false) others w e = other_head 102 close_bracket _ _ (omega arith) e
-    some_first (number text) others w e = number_other text (compact_more_items others ++ close_bracket ∷ []) _
-        close_bracket w.0 refl (sym (append_assoc text (compact_more_items others) (close_bracket ∷ [])) ∙ e)
-    some_first (string text) others w e = other_head quotation_mark close_bracket _ _ (omega arith) e
-    some_first (array items) others w e = other_head open_bracket close_bracket _ _ (omega arith) e
-    some_first (object members) others w e = other_head open_brace close_bracket _ _ (omega arith) e
+    absurd (items_some text [] 1 first others inside here w (ap (drop 1) is))
 
 -- a text is taken, and this is left
 record TextTaken (after : List ℕ) (first : Tree) (others : ItemTrees) (one : Bor (List ℕ)) : Type 0 where

@@ -5,7 +5,7 @@ use Rattle.city_json.specs.CompactMembers.{HasParts}
 use Rattle.city_json.specs.Parts.{AreParts}
 use Rattle.city_json.specs.Tree.{Tree, member_trees, null, object}
 use Rattle.city_json.specs.declared.compacting.parts.Part.{Part}
-use Rattle.city_cut.specs.Chosen.{pair_at}
+use Rattle.city_cut.specs.Chosen.{named_at}
 use Rattle.city_cut.specs.Overviews.{AreHolders, HasHolders}
 use Rattle.city_cut.specs.Texts.{IsCompactOf}
 use Rattle.city_cut.specs.declared.quick.holders.HeldParts.{HeldParts}
@@ -82,11 +82,11 @@ said_there : {A : Type 0} (R : Tree → A → Type 0) (text : List ℕ) (places 
     (pairs : List (List ℕ × Tree)) (i : ℕ) (d : A)
     → AllZip (SaidIn R text) places found → IsCompactOf text (object (member_trees pairs))
     → AreParts 1 places (member_trees pairs) → i < length found → i < length places
-    → R (pair_at pairs i).1 (get_or found i d)
+    → R (named_at pairs i).1 (get_or found i d)
 said_there R text places found pairs i d all of are within inside =
     let p : Part = some_part places i inside in
     let there = value_there text _ places i p pairs inside refl of are in
-    zip_at (SaidIn R text) places found i p d all within (pair_at pairs i).1 there.2
+    zip_at (SaidIn R text) places found i p d all within (named_at pairs i).1 there.2
 
 pub said_all : {A : Type 0} (R : Tree → A → Type 0) (text : List ℕ) (places : List Part) (found : List A)
     (pairs : List (List ℕ × Tree)) → AllZip (SaidIn R text) places found → IsCompactOf text (object (member_trees pairs))

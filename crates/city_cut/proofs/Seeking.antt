@@ -10,7 +10,7 @@ use Rattle.std.specs.Global.{Global}
 use Rattle.city_json.specs.Members.{names}
 use Rattle.city_json.specs.declared.json.Member.{Member}
 use Rattle.city_json.specs.Tree.{Tree, null, MemberTrees, member_trees, members_tree, named_tree}
-use Rattle.city_cut.specs.Chosen.{pair_at}
+use Rattle.city_cut.specs.Chosen.{named_at}
 use Rattle.byte_streams.specs.declared.fault.Fault.{Fault}
 use Rattle.byte_streams.specs.declared.fault.Fault.TheVariants.{Memory, Orphan}
 use Rattle.city_cut.specs.CityObjects.{AllBelong, HasOrphan, LacksChild, IsReached, has_parents, roots}
@@ -124,11 +124,11 @@ roots_push (first ∷ others) pair = by (has_parents first.1) refl (roots_push o
     by false e later = rw e (ap (λ l. first.0 ∷ l) later)
 
 pub roots_more : (pairs : List (List ℕ × Tree)) (i : ℕ) → i < length pairs
-    → roots (member_trees (take (i + 1) pairs)) ≡ roots (member_trees (take i pairs)) ++ begun_by (pair_at pairs i)
-roots_more pairs i within = rw (take_more pairs i ([], null) within) (roots_push (take i pairs) (pair_at pairs i))
+    → roots (member_trees (take (i + 1) pairs)) ≡ roots (member_trees (take i pairs)) ++ begun_by (named_at pairs i)
+roots_more pairs i within = rw (take_more pairs i ([], null) within) (roots_push (take i pairs) (named_at pairs i))
 
 name_of_pair : (pairs : List (List ℕ × Tree)) (i : ℕ) → i < length pairs
-    → name_at (member_trees pairs) i ≡ (pair_at pairs i).0
+    → name_at (member_trees pairs) i ≡ (named_at pairs i).0
 name_of_pair [] i within = absurd (omega (arith, within))
 name_of_pair (p ∷ ps) zero within = refl
 name_of_pair (p ∷ ps) (suc i) within = name_of_pair ps i (omega (arith, within))
@@ -143,16 +143,16 @@ name_here objects i m within at =
 -- whether the object at a place has parents
 pub parted_here : (pairs : List (List ℕ × Tree)) (parents : List Bool) (i : ℕ) (has d : Bool)
     → parents ≡ map (λ (pair : List ℕ × Tree). has_parents pair.1) pairs → i < length parents
-    → get_or parents i d ≡ has → has_parents (pair_at pairs i).1 ≡ has
+    → get_or parents i d ≡ has → has_parents (named_at pairs i).1 ≡ has
 parted_here pairs parents i has d all within at =
     sym (sym at ∙ (get_or_default parents i d (has_parents null) within ∙ (ap (λ l. get_or l i (has_parents null)) all
     ∙ get_or-map (λ (pair : List ℕ × Tree). has_parents pair.1) pairs i ([], null))))
 
-pub root_same : (pairs : List (List ℕ × Tree)) (i : ℕ) → i < length pairs → has_parents (pair_at pairs i).1 ≡ true
+pub root_same : (pairs : List (List ℕ × Tree)) (i : ℕ) → i < length pairs → has_parents (named_at pairs i).1 ≡ true
     → roots (member_trees (take (i + 1) pairs)) ≡ roots (member_trees (take i pairs))
 root_same pairs i within has = rw (roots_more pairs i within, has) (append-nil (roots (member_trees (take i pairs))))
 
-pub root_more : (pairs : List (List ℕ × Tree)) (i : ℕ) → i < length pairs → has_parents (pair_at pairs i).1 ≡ false
+pub root_more : (pairs : List (List ℕ × Tree)) (i : ℕ) → i < length pairs → has_parents (named_at pairs i).1 ≡ false
     → roots (member_trees (take (i + 1) pairs))
     ≡ roots (member_trees (take i pairs)) ++ name_at (member_trees pairs) i ∷ []
 root_more pairs i within has = rw (roots_more pairs i within, has)
