@@ -9,7 +9,7 @@ use Rattle.city_json.specs.Tree.{Tree, MemberTrees, no_members, member, member_t
 use Rattle.city_grid.specs.Axes.{Triple}
 use Rattle.city_feature.specs.Feature.{FeatureValue}
 use Rattle.city_cut.specs.Boundaries.{IsBounded}
-use Rattle.city_cut.specs.Chosen.{pair_at}
+use Rattle.city_cut.specs.Chosen.{named_at}
 use Rattle.city_cut.specs.CityObjects.{AllBelong, IsReached, roots}
 use Rattle.city_cut.specs.Cut.{IsFeatureOf}
 use Rattle.city_cut.specs.Families.{Begins}
@@ -72,18 +72,18 @@ features_all objects appearance points families i features begun all past =
 -- ---- the boundaries of the families before a place
 abbrev pub BoundedBefore : ℕ → List (List ℕ × Tree) → List Family → ℕ → Type 0
 BoundedBefore count objects families i = (j : ℕ) (d : Family) → j < i → j < length families → (k : ℕ)
-    → Contains (get_or families j d).places.items k → IsBounded count (pair_at objects k).1
+    → Contains (get_or families j d).places.items k → IsBounded count (named_at objects k).1
 
 pub bounded_more : (count : ℕ) (objects : List (List ℕ × Tree)) (families : List Family) (i : ℕ) (family : Family)
     → BoundedBefore count objects families i → i < length families → family ≡ get_or families i family
-    → ((k : ℕ) → Contains family.places.items k → IsBounded count (pair_at objects k).1)
+    → ((k : ℕ) → Contains family.places.items k → IsBounded count (named_at objects k).1)
     → BoundedBefore count objects families (i + 1)
 bounded_more count objects families i family all within is one =
     λ j d below inside k c. by j d below inside k c (j == i) refl
   where
     by : (j : ℕ) (d : Family) → j < i + 1 → j < length families → (k : ℕ)
         → Contains (get_or families j d).places.items k → (b : Bool) → (j == i) ≡ b
-        → IsBounded count (pair_at objects k).1
+        → IsBounded count (named_at objects k).1
     by j d below inside k c true e =
         let same : get_or families j d ≡ family =
         ap (λ n. get_or families n d) (eqb-true j i e) ∙ (get_or_default families i d family within ∙ sym is) in
@@ -93,7 +93,7 @@ bounded_more count objects families i family all within is one =
 -- where the object of a name stands
 first_place : (objects : List (List ℕ × Tree)) (name : List ℕ) (value : Tree)
     → first_named name (member_trees objects) ≡ Some value → (k : ℕ) × (k < length objects)
-    × (name_at (member_trees objects) k ≡ name) × ((pair_at objects k).1 ≡ value)
+    × (name_at (member_trees objects) k ≡ name) × ((named_at objects k).1 ≡ value)
 first_place [] name value is = cc
 first_place (m ∷ ms) name value is = by (bytes_eq m.0 name) refl (λ later. first_place ms name value later)
   where
@@ -101,8 +101,8 @@ first_place (m ∷ ms) name value is = by (bytes_eq m.0 name) refl (λ later. fi
     some_same e = cc
 
     by : (b : Bool) → bytes_eq m.0 name ≡ b → (first_named name (member_trees ms) ≡ Some value → (k : ℕ)
-        × (k < length ms) × (name_at (member_trees ms) k ≡ name) × ((pair_at ms k).1 ≡ value)) → (k : ℕ)
-        × (k < length (m ∷ ms)) × (name_at (member_trees (m ∷ ms)) k ≡ name) × ((pair_at (m ∷ ms) k).1 ≡ value)
+        × (k < length ms) × (name_at (member_trees ms) k ≡ name) × ((named_at ms k).1 ≡ value)) → (k : ℕ)
+        × (k < length (m ∷ ms)) × (name_at (member_trees (m ∷ ms)) k ≡ name) × ((named_at (m ∷ ms) k).1 ≡ value)
     by true e later = (0, omega arith, (bytes_eq-Decides m.0 name).0 e, some_same (rw e at is))
     by false e later = let there = later (rw e at is) in (suc there.0, omega (arith, there.1), there.2, there.3)
 
@@ -126,7 +126,7 @@ bounded_all count objects families i begun all past id name value c far is =
         first_family (f ∷ fs) k below = f
 
     of_family : (family : Family) → Begins (member_trees objects) (get_or (roots (member_trees objects)) c.0 id) family
-        → ((k : ℕ) → Contains family.places.items k → IsBounded count (pair_at objects k).1) → IsBounded count value
+        → ((k : ℕ) → Contains family.places.items k → IsBounded count (named_at objects k).1) → IsBounded count value
     of_family family begins bounded =
         let there = first_place objects name value is in
         let root : id ≡ name_at (member_trees objects) family.root = sym (begins.0 ∙ c.2) in

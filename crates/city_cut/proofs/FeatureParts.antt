@@ -17,7 +17,7 @@ use Rattle.city_grid.specs.Vertex.{IsInteger, IsVertex, RefusesVertex, vertex_tr
 use Rattle.city_feature.specs.Feature.{AreReadAgain, AreVertices, HasFeatureShape, IsFeature, RefusesFeature, RefusesFirst, vertices_tree}
 use Rattle.city_feature.specs.Values.{FeatureJson, feature_value}
 use Rattle.city_cut.specs.Assembled.{IsAssembled}
-use Rattle.city_cut.specs.Chosen.{object_at, pair_at}
+use Rattle.city_cut.specs.Chosen.{named_tree_at, named_at}
 use Rattle.city_cut.specs.CityObjects.{IsReached}
 use Rattle.city_cut.specs.Cut.{AreThose, IsFeatureOf, feature_tree}
 use Rattle.city_cut.specs.Items.{values}
@@ -118,23 +118,23 @@ module _ (json : Tree) (id : List ℕ) (objects : List (List ℕ × Tree)) (vert
 
 -- ---- the objects of a family
 pub object_name : (objects : List (List ℕ × Tree)) (k : ℕ) → k < length objects
-    → (pair_at objects k).0 ≡ name_at (member_trees objects) k
+    → (named_at objects k).0 ≡ name_at (member_trees objects) k
 object_name objects k below = go objects k below
   where
     go : (objects : List (List ℕ × Tree)) (k : ℕ) → k < length objects
-        → (pair_at objects k).0 ≡ name_at (member_trees objects) k
+        → (named_at objects k).0 ≡ name_at (member_trees objects) k
     go [] k below = absurd (omega (arith, below))
     go (m ∷ ms) zero below = refl
     go (m ∷ ms) (suc k) below = go ms k (omega (arith, below))
 
 pub value_at : (P : Tree → Type 0) (objects : List (List ℕ × Tree)) (k : ℕ)
-    → AllByRecursion P (values (member_trees objects)) → k < length objects → P (pair_at objects k).1
+    → AllByRecursion P (values (member_trees objects)) → k < length objects → P (named_at objects k).1
 value_at P [] k all below = absurd (omega (arith, below))
 value_at P (m ∷ ms) zero all below = all.0
 value_at P (m ∷ ms) (suc k) all below = value_at P ms k all.1 (omega (arith, below))
 
 distinct_at : (objects : List (List ℕ × Tree)) (k : ℕ) → AreDistinctMembers (member_trees objects) → k < length objects
-    → IsDistinct (pair_at objects k).1
+    → IsDistinct (named_at objects k).1
 distinct_at [] k all below = absurd (omega (arith, below))
 distinct_at (m ∷ ms) zero all below = all.0
 distinct_at (m ∷ ms) (suc k) all below = distinct_at ms k all.1 (omega (arith, below))
@@ -169,25 +169,25 @@ place_inside objects root places k family c = let inside =
 
 pub chosen_distinct : (objects : List (List ℕ × Tree)) (root : ℕ) (places : List ℕ)
     → IsDistinct (object (member_trees objects)) → IsFamily (member_trees objects) root places
-    → AllByRecursion (λ named. IsDistinct named.1) (map (pair_at objects) places)
+    → AllByRecursion (λ named. IsDistinct named.1) (map (named_at objects) places)
 chosen_distinct objects root places distinct family =
-    all_map (λ named. IsDistinct named.1) (pair_at objects) places
+    all_map (λ named. IsDistinct named.1) (named_at objects) places
     (λ k c. distinct_at objects k distinct.1 (place_inside objects root places k family c))
 
 pub chosen_all : (P : Tree → Type 0) (objects : List (List ℕ × Tree)) (root : ℕ) (places : List ℕ)
     → IsFamily (member_trees objects) root places → AllByRecursion P (values (member_trees objects))
-    → AllByRecursion (λ named. P named.1) (map (pair_at objects) places)
+    → AllByRecursion (λ named. P named.1) (map (named_at objects) places)
 chosen_all P objects root places family all =
-    all_map (λ named. P named.1) (pair_at objects) places
+    all_map (λ named. P named.1) (named_at objects) places
     (λ k c. value_at P objects k all (place_inside objects root places k family c))
 
 pub chosen_are_those : (objects : List (List ℕ × Tree)) (root : ℕ) (places : List ℕ)
     → IsFamily (member_trees objects) root places
     → AreThose (IsReached (member_trees objects) (name_at (member_trees objects) root)) (member_trees objects)
-    (map (pair_at objects) places)
+    (map (named_at objects) places)
 chosen_are_those objects root places family =
-    those (IsReached (member_trees objects) (name_at (member_trees objects) root)) (objects) 0 places (pair_at objects)
-    (λ k d below. ap (pair_at objects) (omega arith) ∙ get_or_default (objects) k ([], null) d below)
+    those (IsReached (member_trees objects) (name_at (member_trees objects) root)) (objects) 0 places (named_at objects)
+    (λ k d below. ap (named_at objects) (omega arith) ∙ get_or_default (objects) k ([], null) d below)
     (rises_from 0 places family.rises (λ some. omega arith))
     (λ k c. let inside = place_inside objects root places k family c in omega (arith, inside, long))
     (λ k low high c. subst (IsReached (member_trees objects) (name_at (member_trees objects) root))
@@ -210,7 +210,7 @@ member_places objects root places family = λ i d below. let inside =
 pub feature_is : (objects : List Member) (root : ℕ) (places : List ℕ) (points : List Triple)
     (own_objects : List (List ℕ × Tree)) (vertices : Tree) (appearance : Option Tree) (json : Json) (f : FeatureJson)
     → IsFamily (members_tree objects) root places
-    → IsAssembled points (map (object_at objects) places) own_objects vertices
+    → IsAssembled points (map (named_tree_at objects) places) own_objects vertices
     → tree json ≡ feature_tree (name_at (members_tree objects) root) own_objects vertices appearance
     → f.json ≡ json
     → IsFeature (tree json) f.vertices
@@ -219,10 +219,10 @@ feature_is objects root places points own_objects vertices appearance json f fam
     let own : f.vertices ≡ assembled.own = own_vertices (tree json) (name_at (members_tree objects) root) own_objects
     vertices appearance assembled.own made assembled.written assembled.again f.vertices feature in
     record {
-      chosen = map (object_at objects) places;
+      chosen = map (named_tree_at objects) places;
       objects = own_objects;
       reached = chosen_are_those (map named_tree objects) root places family;
-      same_points = subst (λ ps. SamePoints points (map (object_at objects) places) ps own_objects) (sym own)
+      same_points = subst (λ ps. SamePoints points (map (named_tree_at objects) places) ps own_objects) (sym own)
           assembled.same_points;
       is = ap tree same ∙ (made ∙ ap (λ v. feature_tree (name_at (members_tree objects) root) own_objects v appearance)
           (assembled.written ∙ ap vertices_tree (sym own)));

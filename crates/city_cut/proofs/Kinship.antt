@@ -61,9 +61,9 @@ first_at (member first v others) (suc k) name value distinct is at =
     rw (apart_test first name (λ e. new_apart first others k distinct.0 (is ∙ ap Some (sym e))))
     (first_at others k name value distinct.1 is at)
 
-pub named_at : (objects : MemberTrees) (k : ℕ) → k < length (names objects)
+pub has_name_at : (objects : MemberTrees) (k : ℕ) → k < length (names objects)
     → slice_get (names objects) k ≡ Some (name_at objects k)
-named_at objects k inside = slice_get-get_or (names objects) k [] inside
+has_name_at objects k inside = slice_get-get_or (names objects) k [] inside
 
 -- where names differ, one stands at one place
 one_place : (objects : MemberTrees) (j k : ℕ) (name : List ℕ) → HasDistinctNames objects
@@ -271,14 +271,14 @@ module _ (objects : MemberTrees) (graph : List (Vec ℕ Global)) (distinct : Has
   reached_at root k root_in k_in = (
     λ far.
         let there = names_of_places objects graph distinct is_graph root k (name_at objects root)
-        (named_at objects root root_in) far in
+        (has_name_at objects root root_in) far in
         subst (IsReached objects (name_at objects root))
-        (some_same there.0 (name_at objects k) (sym there.1 ∙ named_at objects k k_in)) there.2,
+        (some_same there.0 (name_at objects k) (sym there.1 ∙ has_name_at objects k k_in)) there.2,
     λ far.
         let there = places_of_names objects graph distinct is_graph root (name_at objects root) (name_at objects k)
-        (named_at objects root root_in) far in
+        (has_name_at objects root root_in) far in
         subst (Reached (After graph) root) (one_place objects there.0 k (name_at objects k) distinct there.1
-        (named_at objects k k_in)) there.2,
+        (has_name_at objects k k_in)) there.2,
   )
 
   pub family_is : (root : ℕ) (found sorted places : List ℕ) → root < length graph
@@ -306,7 +306,7 @@ module _ (objects : MemberTrees) (graph : List (Vec ℕ Global)) (distinct : Has
       within : (k : ℕ) → Contains places k → k < length (names objects)
       within k c =
           let there = names_of_places objects graph distinct is_graph root k (name_at objects root)
-          (named_at objects root (omega (arith, inside, is_graph.long))) (far k c) in
+          (has_name_at objects root (omega (arith, inside, is_graph.long))) (far k c) in
           slice_get_within (names objects) k there.0 there.1
 
 -- ---- children that are not there

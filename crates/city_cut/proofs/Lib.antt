@@ -2,6 +2,8 @@ pub mod Answered
 pub mod Assembly
 pub mod Checking
 pub mod Choosing
+mod CopiedArrays
+mod CopiedLeaves
 mod CopiedTexts
 pub mod Copies
 pub mod FeatureList
@@ -17,8 +19,10 @@ mod QuickAddresses
 mod QuickCopies
 mod QuickDocuments
 mod QuickFeatures
+mod QuickGeometries
 mod QuickHeaders
-mod QuickKin
+mod QuickGraphs
+mod QuickNames
 mod QuickMembers
 mod QuickObjects
 mod QuickOverviews

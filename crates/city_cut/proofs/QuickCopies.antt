@@ -1,106 +1,29 @@
--- Boundaries, geometries and objects that are copied from their compact texts.
-use Rattle.std.proofs.Common.{◌≡◌, ◌∙◌, ◌++◌, ◌<◌, ◌≤◌, ◌+◌, ℕ, true, false, List, [], ◌∷◌, None, length, take, drop, get_or, slice_range, refl, sym, ap, subst, arith, append_assoc, append-nil, length-drop, inl, inr, codes}
+-- Arrays of geometries and of addresses that are copied from their compact texts.
+use Rattle.std.proofs.Common.{◌≡◌, ◌∙◌, ◌++◌, ◌<◌, ◌≤◌, ◌+◌, ℕ, true, false, List, [], ◌∷◌, length, drop, get_or, slice_range, refl, sym, ap, subst, arith, append_assoc, append-nil, length-drop, inl, inr}
 use Rattle.std.proofs.lemmas.Grind.{flat_map-append}
 use Rattle.std.specs.List.{flat_map, AllByRecursion}
-use Rattle.city_json.proofs.CompactEnds.{items_some}
-use Rattle.city_json.proofs.Places.{drop_one, shown_one}
-use Rattle.city_json.specs.Bytes.{colon, comma, open_bracket, close_bracket, open_brace, quotation_mark}
-use Rattle.city_json.specs.Compact.{compact, compact_items, compact_more_items, quoted}
+use Rattle.city_json.proofs.CompactEnds.{items_some, number_other, other_head}
+use Rattle.city_json.proofs.Places.{drop_one}
+use Rattle.city_json.proofs.StringEnds.{first_same, others_same}
+use Rattle.city_json.specs.Bytes.{comma, open_bracket, close_bracket, open_brace, quotation_mark}
+use Rattle.city_json.specs.Compact.{compact, compact_items, compact_more_items}
 use Rattle.city_json.specs.CompactEnds.{IsStopped, LeavesValue}
-use Rattle.city_json.specs.Compacting.{shown}
 use Rattle.city_json.specs.Fits.{AreDistinctItems, depth, items_depth}
 use Rattle.byte_streams.specs.Limits.{max_depth}
-use Rattle.city_json.specs.Members.{first_named}
-use Rattle.city_json.specs.Parts.{AreParts}
-use Rattle.city_json.specs.Tree.{Tree, null, boolean, number, string, array, object, ItemTrees, no_items, item, MemberTrees}
+use Rattle.city_json.specs.Tree.{Tree, null, boolean, number, string, array, object, ItemTrees, no_items, item}
 use Rattle.city_json.specs.Writable.{AreWritableItems, IsWritable}
-use Rattle.city_json.specs.declared.compacting.parts.Part.{Part}
-use Rattle.city_feature.proofs.QuickLines.{utf8}
-use Rattle.city_feature.specs.Quick.{IsPartNamed}
-use Rattle.city_cut.specs.Boundaries.{IsBounded, IsGeometry, boundaries, changed_items, changed_members, own_boundary, relabelled_boundary, relabelled_object}
-use Rattle.city_cut.specs.Copied.{Copies, CopiesItems}
+use Rattle.city_cut.specs.Boundaries.{IsBounded, boundaries, changed_items, relabelled_object}
+use Rattle.city_cut.specs.Copied.{Copies}
 use Rattle.city_cut.specs.Holders.{AreHeld, IsHeld, IsShaped, boundary_in, held_uses, relabelled_held, relabelled_in}
 use Rattle.city_cut.specs.declared.quick.holders.Holder.{Holder}
 use Rattle.city_cut.specs.declared.quick.holders.Holder.TheVariants.{Geometry, Address}
 use Rattle.city_cut.specs.Items.{item_list}
-use Rattle.city_cut.specs.Leaves.{IsBoundary, IsNested, leaves, relabelled}
+use Rattle.city_cut.specs.Leaves.{leaves}
 use Rattle.city_cut.specs.Texts.{IsCompactOf}
-use Rattle.city_cut.proofs.CopiedTexts.{copies_both, copies_so, copies_text, first_of, number_not_array, other_first, others_of, part_array, shown_here}
-use Rattle.city_cut.proofs.QuickTexts.{changed_absent, copies_exchanged, member_there, slice_first}
-
-part_boundary : (count : ℕ) (value : Tree) (tail : List ℕ) → IsWritable value
-    → compact value ++ [] ≡ open_bracket ∷ tail → IsNested count value → IsBoundary count value
-part_boundary count null tail w is part = absurd part
-part_boundary count (boolean b) tail w is part = absurd part
-part_boundary count (number text) tail w is part = absurd (number_not_array text [] tail w is)
-part_boundary count (string text) tail w is part = absurd part
-part_boundary count (array items) tail w is part = part
-part_boundary count (object members) tail w is part = absurd part
-
-pub boundary_made : (count : ℕ) (text t o line t' o' line' line₃ : List ℕ) (from end : ℕ) → 0 < length text
-    → get_or text 0 0 ≡ open_bracket
-    → CopiesItems count (drop 1 text) (drop end text)
-    (Copies t o (shown line text 0 1) t' o' (shown line' text from end)) → length text ≤ end
-    → line₃ ≡ line' ++ slice_range text from end
-    → (value : Tree) → IsWritable value → text ≡ compact value → IsBoundary count value
-    × Copies t o line t' o' line₃ (leaves value) (λ change. compact (relabelled change value))
-boundary_made count text t o line t' o' line' line₃ from end some here items past last value writable is =
-    let begins : text ≡ open_bracket ∷ drop 1 text = drop_one text 0 open_bracket some here in
-    let opened : shown line text 0 1 ≡ line ++ open_bracket ∷ [] =
-    shown_one line text 0 0 open_bracket (omega arith) some here
-    ∙ ap (λ l. l ++ open_bracket ∷ []) (shown_here line text 0 0 refl) in
-    let made = part_array count t o line (shown line text 0 1) t' o' (shown line' text from end) text (drop 1 text)
-    (drop end text) begins opened items value [] writable tt (is ∙ sym (append-nil (compact value))) in (
-      part_boundary count value (drop 1 text) writable (append-nil (compact value) ∙ (sym is ∙ begins)) made.1,
-      subst (λ l. Copies t o line t' o' l (leaves value) (λ change. compact (relabelled change value))) (sym last)
-          made.2,
-    )
-
--- ---- a geometry
-pub geometry_absent : (count : ℕ) (text t o line line' : List ℕ) (members : MemberTrees)
-    → text ≡ compact (object members) → first_named (codes "boundaries") members ≡ None → line' ≡ line ++ text
-    → IsGeometry count (object members) × Copies t o line t o line' (flat_map leaves (own_boundary (object members)))
-    (λ change. compact (relabelled_boundary change (object members)))
-geometry_absent count text t o line line' members is none appended =
-    let none_there : own_boundary (object members) ≡ [] = rw none refl in (
-      (tt, subst (AllByRecursion (IsBoundary count)) (sym none_there) tt),
-      copies_so t o line t o line' [] (flat_map leaves (own_boundary (object members))) (λ change. text)
-          (λ change. compact (relabelled_boundary change (object members))) (copies_text t o line line' text appended)
-          (sym (ap (flat_map leaves) none_there))
-          (λ change. is ∙ ap (λ m. compact (object m))
-          (sym (changed_absent (codes "boundaries") (relabelled change) members none))),
-    )
-
-pub geometry_made : (count : ℕ) (text given t o line line₁ t' o' line₂ line₃ : List ℕ) (parts : List Part) (part : Part)
-    (members : MemberTrees) → IsCompactOf text (object members) → AreParts 1 parts members
-    → IsPartNamed text parts (quoted (codes "boundaries") ++ colon ∷ []) part
-    → given ≡ slice_range text part.value part.end
-    → line₁ ≡ line ++ take part.value text
-    → ((value : Tree) → IsWritable value → given ≡ compact value → IsBoundary count value
-    × Copies t o line₁ t' o' line₂ (leaves value) (λ change. compact (relabelled change value)))
-    → line₃ ≡ line₂ ++ drop part.end text
-    → IsGeometry count (object members) × Copies t o line t' o' line₃ (flat_map leaves (own_boundary (object members)))
-    (λ change. compact (relabelled_boundary change (object members)))
-geometry_made count text given t o line line₁ t' o' line₂ line₃ parts part members of are named lies front made back =
-    let found = member_there text parts members (codes "boundaries") part given (utf8 (codes "boundaries") refl) of are
-    named lies in
-    let inner = made found.value found.of.writable found.of.is in
-    let there : own_boundary (object members) ≡ found.value ∷ [] = rw found.is refl in
-    let all = copies_exchanged t o line line₁ t' o' line₂ line₃ text part members (codes "boundaries") found.value
-    (leaves found.value) relabelled of.distinct.0 found.is found.exchanged front inner.1 back in (
-      (tt, subst (AllByRecursion (IsBoundary count)) (sym there) (inner.0, tt)),
-      copies_so t o line t' o' line₃ (leaves found.value) (flat_map leaves (own_boundary (object members)))
-          (λ change. compact (object (changed_members (codes "boundaries") (relabelled change) members)))
-          (λ change. compact (relabelled_boundary change (object members))) all
-          (sym (append-nil (leaves found.value)) ∙ sym (ap (flat_map leaves) there)) (λ change. refl),
-    )
+use Rattle.city_cut.proofs.CopiedTexts.{copies_both, copies_so, copies_text}
+use Rattle.city_cut.proofs.QuickTexts.{slice_first}
 
 -- ---- what is made of values
-abbrev pub GeometryMade : ℕ → List ℕ → List ℕ → List ℕ → List ℕ → List ℕ → List ℕ → Tree → Type 0
-GeometryMade count t o line t' o' line' value = IsGeometry count value
-    × Copies t o line t' o' line' (flat_map leaves (own_boundary value))
-    (λ change. compact (relabelled_boundary change value))
-
 abbrev pub ItemMade : Holder → ℕ → List ℕ → List ℕ → List ℕ → List ℕ → List ℕ → List ℕ → Tree → Type 0
 ItemMade holder count t o line t' o' line' value = IsHeld holder count value
     × Copies t o line t' o' line' (flat_map leaves (boundary_in holder value))
@@ -122,13 +45,13 @@ shaped Address items = tt
 -- ---- geometries or addresses, one after another
 array_here : (value : Tree) (tail : List ℕ) → IsWritable value → compact value ≡ open_bracket ∷ tail
     → (items : ItemTrees) × (value ≡ array items)
-array_here null tail w is = absurd (other_first 110 open_bracket _ tail (omega arith) is)
-array_here (boolean true) tail w is = absurd (other_first 116 open_bracket _ tail (omega arith) is)
-array_here (boolean false) tail w is = absurd (other_first 102 open_bracket _ tail (omega arith) is)
-array_here (number text) tail w is = absurd (number_not_array text [] tail w (append-nil text ∙ is))
-array_here (string text) tail w is = absurd (other_first quotation_mark open_bracket _ tail (omega arith) is)
+array_here null tail w is = absurd (other_head 110 open_bracket _ tail (omega arith) is)
+array_here (boolean true) tail w is = absurd (other_head 116 open_bracket _ tail (omega arith) is)
+array_here (boolean false) tail w is = absurd (other_head 102 open_bracket _ tail (omega arith) is)
+array_here (number text) tail w is = absurd (number_other text [] tail open_bracket w refl (append-nil text ∙ is))
+array_here (string text) tail w is = absurd (other_head quotation_mark open_bracket _ tail (omega arith) is)
 array_here (array items) tail w is = (items, refl)
-array_here (object members) tail w is = absurd (other_first open_brace open_bracket _ tail (omega arith) is)
+array_here (object members) tail w is = absurd (other_head open_brace open_bracket _ tail (omega arith) is)
 
 -- for each array, it is enough to know what is made of it
 pub of_array : (P : Tree → Type 0) (text : List ℕ) → 0 < length text → get_or text 0 0 ≡ open_bracket
@@ -140,7 +63,7 @@ of_array P text some here made value of =
 
 items_there : (text : List ℕ) (items : ItemTrees) → 0 < length text → get_or text 0 0 ≡ open_bracket
     → IsCompactOf text (array items) → drop 1 text ≡ compact_items items ++ close_bracket ∷ []
-items_there text items some here of = others_of _ _ _ _ (sym (drop_one text 0 open_bracket some here) ∙ of.is)
+items_there text items some here of = others_same _ _ _ _ (sym (drop_one text 0 open_bracket some here) ∙ of.is)
 
 pub items_made_none : (holder : Holder) (count : ℕ) (text t o line line' : List ℕ) → 0 < length text
     → get_or text 0 0 ≡ open_bracket → 1 < length text → get_or text 1 0 ≡ close_bracket → line' ≡ line ++ text
@@ -179,7 +102,7 @@ pub items_begin : (holder : Holder) (count : ℕ) (text t o line line' : List �
 items_begin holder count text t o line line' some here other opened no_items of =
     let is = items_there text no_items some here of in
     let inside : 1 < length text = omega (arith, ap length is, length-drop 1 text) in
-    absurd (other inside (first_of _ _ _ _ (sym (drop_one text 1 (get_or text 1 0) inside refl) ∙ is)))
+    absurd (other inside (first_same _ _ _ _ (sym (drop_one text 1 (get_or text 1 0) inside refl) ∙ is)))
 items_begin holder count text t o line line' some here other opened (item first others) of = record {
   first = first;
   others = others;
@@ -253,7 +176,7 @@ module _ (holder : Holder) (count : ℕ) (items : ItemTrees) (text given t o lin
           → drop end text ≡ compact_more_items so_far.others ++ close_bracket ∷ []
           → HeldMade holder count t o line t₂ o₂ line₃ (array items)
       by_others (item next others) same rest =
-          absurd (other_first comma close_bracket _ (drop (end + 1) text) (omega arith)
+          absurd (other_head comma close_bracket _ (drop (end + 1) text) (omega arith)
           (ap (λ l. compact_more_items l ++ close_bracket ∷ []) same
           ∙ (sym rest ∙ drop_one text end close_bracket inside here)))
       by_others no_items same rest =
@@ -293,7 +216,7 @@ module _ (holder : Holder) (count : ℕ) (items : ItemTrees) (text given t o lin
       by_others : (others : ItemTrees) → others ≡ so_far.others
           → drop end text ≡ compact_more_items so_far.others ++ close_bracket ∷ []
           → ItemsMade holder count items (drop (end + 1) text) t o line t₂ o₂ line₃
-      by_others no_items same rest = absurd (other_first close_bracket comma [] (drop (end + 1) text) (omega arith)
+      by_others no_items same rest = absurd (other_head close_bracket comma [] (drop (end + 1) text) (omega arith)
           (ap (λ l. compact_more_items l ++ close_bracket ∷ []) same
           ∙ (sym rest ∙ drop_one text end comma inside here)))
       by_others (item next others) same rest =
@@ -308,7 +231,7 @@ module _ (holder : Holder) (count : ℕ) (items : ItemTrees) (text given t o lin
             distinct = subst AreDistinctItems (sym same) so_far.distinct.1;
             within = subst (λ l. items_depth l ≤ max_depth) (sym same)
                 (others_within so_far.first so_far.others so_far.within);
-            is = others_of _ _ _ _ (sym (drop_one text end comma inside here)
+            is = others_same _ _ _ _ (sym (drop_one text end comma inside here)
                 ∙ (rest ∙ ap (λ l. compact_more_items l ++ close_bracket ∷ []) (sym same)));
             uses = (so_far.uses ++ flat_map leaves (boundary_in holder so_far.first)) ++ [];
             own = λ change. (so_far.own change ++ compact (relabelled_in holder change so_far.first)) ++ comma ∷ [];

@@ -168,8 +168,8 @@ objects_there objects places members of listed =
     }
 
 -- a document without vertices or city objects has none
-pub no_vertices : IsCompactOf (open_bracket ∷ close_bracket ∷ []) (array no_items)
-no_vertices = record { is = refl; writable = tt; distinct = tt; within = omega arith }
+pub empty_array : IsCompactOf (open_bracket ∷ close_bracket ∷ []) (array no_items)
+empty_array = record { is = refl; writable = tt; distinct = tt; within = omega arith }
 
 pub no_objects : IsCompactOf (open_brace ∷ close_brace ∷ []) (object no_members)
 no_objects = record { is = refl; writable = tt; distinct = (tt, tt); within = omega arith }

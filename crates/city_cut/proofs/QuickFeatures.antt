@@ -17,7 +17,7 @@ use Rattle.city_json.specs.declared.compacting.parts.Part.{Part}
 use Rattle.city_grid.specs.Axes.{Triple, triple}
 use Rattle.city_feature.specs.Feature.{FeatureValue, vertices_tree}
 use Rattle.city_cut.specs.Boundaries.{IsBounded, boundaries, relabelled_object, relabelled_objects, uses}
-use Rattle.city_cut.specs.Chosen.{pair_at, point_at}
+use Rattle.city_cut.specs.Chosen.{named_at, point_at}
 use Rattle.city_cut.specs.Copied.{Copies}
 use Rattle.city_cut.specs.Cut.{IsFeatureOf, feature_tree, last_members}
 use Rattle.city_cut.specs.FeatureText.{head_text, middle_text, tail_text}
@@ -41,7 +41,7 @@ use Rattle.city_cut.proofs.SamePoints.{same_points}
 value_fits : (pairs : List (List ℕ × Tree)) (k : ℕ) (name text : List ℕ) (value : Tree)
     → HasMember k name value (member_trees pairs) → AreWritableMembers (member_trees pairs)
     → AreDistinctMembers (member_trees pairs) → members_depth (member_trees pairs) ≤ max_depth → text ≡ compact value
-    → (k < length pairs) × (name ≡ (pair_at pairs k).0) × IsCompactOf text (pair_at pairs k).1
+    → (k < length pairs) × (name ≡ (named_at pairs k).0) × IsCompactOf text (named_at pairs k).1
 value_fits [] k name text value has writable distinct within is = absurd has
 value_fits (p ∷ ps) zero name text value has writable distinct within is = (
   omega arith,
@@ -65,9 +65,9 @@ pub named_made : (count : ℕ) (text name given t o line line₁ t' o' line₂ :
     → name ≡ slice_range text part.at part.value → given ≡ slice_range text part.value part.end
     → line₁ ≡ line ++ name → ((value : Tree) → IsCompactOf given value → ObjectMade count t o line₁ t' o' line₂ value)
     → IsCompactOf text (object (member_trees pairs)) → AreParts 1 parts (member_trees pairs)
-    → (at < length pairs) × IsBounded count (pair_at pairs at).1
-    × Copies t o line t' o' line₂ (flat_map leaves (boundaries (pair_at pairs at).1))
-    (λ change. quoted (pair_at pairs at).0 ++ colon ∷ compact (relabelled_object change (pair_at pairs at).1))
+    → (at < length pairs) × IsBounded count (named_at pairs at).1
+    × Copies t o line t' o' line₂ (flat_map leaves (boundaries (named_at pairs at).1))
+    (λ change. quoted (named_at pairs at).0 ++ colon ∷ compact (relabelled_object change (named_at pairs at).1))
 named_made count text name given t o line line₁ t' o' line₂ parts at part d pairs within here named lies front made of
     are =
     let found = member_in_part (member_trees pairs) (open_brace ∷ []) (close_brace ∷ []) parts at d are within in
@@ -80,20 +80,20 @@ named_made count text name given t o line line₁ t' o' line₂ parts at part d 
     ∙ (ap (λ (p : Part). slice_range (compact (object (member_trees pairs))) p.at p.value) here ∙ found.named)) in
     let fits = value_fits pairs at found.name given found.value found.has of.writable of.distinct.1
     (omega (arith, of.within)) given_is in
-    let inner = made (pair_at pairs at).1 fits.2 in
+    let inner = made (named_at pairs at).1 fits.2 in
     let first = copies_text t o line line₁ name front in
-    let both = copies_both t o line t o line₁ t' o' line₂ [] (flat_map leaves (boundaries (pair_at pairs at).1))
-    (λ change. name) (λ change. compact (relabelled_object change (pair_at pairs at).1)) first inner.1 in (
+    let both = copies_both t o line t o line₁ t' o' line₂ [] (flat_map leaves (boundaries (named_at pairs at).1))
+    (λ change. name) (λ change. compact (relabelled_object change (named_at pairs at).1)) first inner.1 in (
       fits.0,
       inner.0,
-      copies_so t o line t' o' line₂ (flat_map leaves (boundaries (pair_at pairs at).1))
-          (flat_map leaves (boundaries (pair_at pairs at).1))
-          (λ change. name ++ compact (relabelled_object change (pair_at pairs at).1))
-          (λ change. quoted (pair_at pairs at).0 ++ colon ∷ compact (relabelled_object change (pair_at pairs at).1))
+      copies_so t o line t' o' line₂ (flat_map leaves (boundaries (named_at pairs at).1))
+          (flat_map leaves (boundaries (named_at pairs at).1))
+          (λ change. name ++ compact (relabelled_object change (named_at pairs at).1))
+          (λ change. quoted (named_at pairs at).0 ++ colon ∷ compact (relabelled_object change (named_at pairs at).1))
           both refl
-          (λ change. ap (λ l. l ++ compact (relabelled_object change (pair_at pairs at).1))
+          (λ change. ap (λ l. l ++ compact (relabelled_object change (named_at pairs at).1))
           (name_is ∙ ap (λ n. quoted n ++ colon ∷ []) fits.1)
-          ∙ named_split (quoted (pair_at pairs at).0) (compact (relabelled_object change (pair_at pairs at).1))),
+          ∙ named_split (quoted (named_at pairs at).0) (compact (relabelled_object change (named_at pairs at).1))),
     )
 
 -- ---- one after another
@@ -148,10 +148,10 @@ others_more count t o line t₁ o₁ line₁ line₂ t₂ o₂ line₃ chosen x 
     )
 
 pub places_more : (pairs : List (List ℕ × Tree)) (places : List ℕ) (i : ℕ) → i < length places
-    → map (pair_at pairs) (take i places) ++ pair_at pairs (get_or places i 0) ∷ []
-    ≡ map (pair_at pairs) (take (i + 1) places)
-places_more pairs places i within = sym (ap (map (pair_at pairs)) (take_more places i 0 within)
-    ∙ map-append (pair_at pairs) (take i places) (get_or places i 0 ∷ []))
+    → map (named_at pairs) (take i places) ++ named_at pairs (get_or places i 0) ∷ []
+    ≡ map (named_at pairs) (take (i + 1) places)
+places_more pairs places i within = sym (ap (map (named_at pairs)) (take_more places i 0 within)
+    ∙ map-append (named_at pairs) (take i places) (get_or places i 0 ∷ []))
 
 -- the first and the others
 abbrev pub ObjectsMade : ℕ → List ℕ → List ℕ → List ℕ → List ℕ → List ℕ → List ℕ → List (List ℕ × Tree) → Type 0
@@ -179,7 +179,7 @@ first_and_others (p ∷ ps) some = ap (λ l. p ∷ l) (take_all (length (p ∷ p
 pub name_there : (text name : List ℕ) (parts : List Part) (at : ℕ) (d : Part) (pairs : List (List ℕ × Tree))
     → at < length parts → name ≡ slice_range text (get_or parts at d).at (get_or parts at d).value
     → IsCompactOf text (object (member_trees pairs)) → AreParts 1 parts (member_trees pairs)
-    → name ≡ quoted (pair_at pairs at).0 ++ colon ∷ []
+    → name ≡ quoted (named_at pairs at).0 ++ colon ∷ []
 name_there text name parts at d pairs within named of are =
     let found = member_in_part (member_trees pairs) (open_brace ∷ []) (close_brace ∷ []) parts at d are within in
     let fits = value_fits pairs at found.name (compact found.value) found.value found.has of.writable of.distinct.1
@@ -188,7 +188,7 @@ name_there text name parts at d pairs within named of are =
     ∙ (found.named ∙ ap (λ n. quoted n ++ colon ∷ []) fits.1))
 
 utf8_at : (pairs : List (List ℕ × Tree)) (k : ℕ) → k < length pairs → AreWritableMembers (member_trees pairs)
-    → IsUtf8 (pair_at pairs k).0
+    → IsUtf8 (named_at pairs k).0
 utf8_at [] k within all = absurd (omega (arith, within))
 utf8_at (p ∷ ps) zero within all = all.0
 utf8_at (p ∷ ps) (suc k) within all = utf8_at ps k (omega (arith, within)) all.2
@@ -196,7 +196,7 @@ utf8_at (p ∷ ps) (suc k) within all = utf8_at ps k (omega (arith, within)) all
 pub value_there : (text given : List ℕ) (parts : List Part) (at : ℕ) (d : Part) (pairs : List (List ℕ × Tree))
     → at < length parts → given ≡ slice_range text (get_or parts at d).value (get_or parts at d).end
     → IsCompactOf text (object (member_trees pairs)) → AreParts 1 parts (member_trees pairs) → (at < length pairs)
-    × IsUtf8 (pair_at pairs at).0 × IsCompactOf given (pair_at pairs at).1
+    × IsUtf8 (named_at pairs at).0 × IsCompactOf given (named_at pairs at).1
 value_there text given parts at d pairs within lies of are =
     let found = member_in_part (member_trees pairs) (open_brace ∷ []) (close_brace ∷ []) parts at d are within in
     let fits = value_fits pairs at found.name given found.value found.has of.writable of.distinct.1
@@ -237,12 +237,12 @@ feature_text id objects vertices appearance =
 module _ (pairs : List (List ℕ × Tree)) (points : List Triple) (root : ℕ) (places table t' o' line₁ line₂ : List ℕ)
     (family : IsFamily (member_trees pairs) root places) (distinct : IsDistinct (object (member_trees pairs)))
     (long : length table ≡ length points) (small : length t' < 2 ^ 64)
-    (made : ObjectsMade (length table) table [] line₁ t' o' line₂ (map (pair_at pairs) places)) where
-  numbered : AreNumbered (uses (map (pair_at pairs) places)) t' o'
+    (made : ObjectsMade (length table) table [] line₁ t' o' line₂ (map (named_at pairs) places)) where
+  numbered : AreNumbered (uses (map (named_at pairs) places)) t' o'
   numbered = made.1.numbered [] (numbered_none table)
 
-  bounded : AllByRecursion (λ named. IsBounded (length t') named.1) (map (pair_at pairs) places)
-  bounded = subst (λ n. AllByRecursion (λ named. IsBounded n named.1) (map (pair_at pairs) places))
+  bounded : AllByRecursion (λ named. IsBounded (length t') named.1) (map (named_at pairs) places)
+  bounded = subst (λ n. AllByRecursion (λ named. IsBounded n named.1) (map (named_at pairs) places))
       (sym made.1.extends.long) made.0
 
   each : (i : ℕ) → i < length o' → slice_get (map (point_at points) o') i ≡ slice_get points (slice_index o' i)
@@ -252,53 +252,53 @@ module _ (pairs : List (List ℕ × Tree)) (points : List Triple) (root : ℕ) (
       rw (slice_get-map, slice_get-get_or o' i 0 below)
       (sym (slice_get-get_or points (slice_index o' i) (triple (pos 0) (pos 0) (pos 0)) inside))
 
-  points_same : SamePoints points (map (pair_at pairs) places) (map (point_at points) o')
-      (relabelled_objects (own_text t') (map (pair_at pairs) places))
+  points_same : SamePoints points (map (named_at pairs) places) (map (point_at points) o')
+      (relabelled_objects (own_text t') (map (named_at pairs) places))
   points_same =
-      same_points points (map (pair_at pairs) places) (map (point_at points) o')
-      (relabelled_objects (own_text t') (map (pair_at pairs) places)) t' o' numbered
-      (objects_same t' small (map (pair_at pairs) places) (chosen_distinct pairs root places distinct family) bounded)
+      same_points points (map (named_at pairs) places) (map (point_at points) o')
+      (relabelled_objects (own_text t') (map (named_at pairs) places)) t' o' numbered
+      (objects_same t' small (map (named_at pairs) places) (chosen_distinct pairs root places distinct family) bounded)
       (length-map o' (point_at points)) each
 
   pub feature_made : (appearance : Option Tree) (line line₃ : List ℕ) (own : List Triple)
-      → line₁ ≡ line ++ head_text (pair_at pairs root).0 → own ≡ map (point_at points) o'
+      → line₁ ≡ line ++ head_text (named_at pairs root).0 → own ≡ map (point_at points) o'
       → line₃ ≡ line₂ ++ (middle_text ++ compact (vertices_tree own))
       → (feature : FeatureValue) × IsFeatureOf (member_trees pairs) appearance points
       (name_at (member_trees pairs) root) feature
       × HasGrown line line₃ (tail_text appearance) (compact feature.value)
-      × ((k : ℕ) → Contains places k → IsBounded (length points) (pair_at pairs k).1)
+      × ((k : ℕ) → Contains places k → IsBounded (length points) (named_at pairs k).1)
   feature_made appearance line line₃ own head own_is rest =
       let inside : root < length pairs = omega (arith, family.root_inside, names_pairs pairs) in
-      let name : (pair_at pairs root).0 ≡ name_at (member_trees pairs) root = object_name pairs root inside in
+      let name : (named_at pairs root).0 ≡ name_at (member_trees pairs) root = object_name pairs root inside in
       let written = made.1.written t' o' (extends_same t' o') in
-      let text : line₃ ≡ line ++ own_part (pair_at pairs root).0
-      (relabelled_objects (own_text t') (map (pair_at pairs) places)) (vertices_tree own) =
-      three line line₁ line₂ line₃ (head_text (pair_at pairs root).0)
-      (compact_members (member_trees (relabelled_objects (own_text t') (map (pair_at pairs) places))))
+      let text : line₃ ≡ line ++ own_part (named_at pairs root).0
+      (relabelled_objects (own_text t') (map (named_at pairs) places)) (vertices_tree own) =
+      three line line₁ line₂ line₃ (head_text (named_at pairs root).0)
+      (compact_members (member_trees (relabelled_objects (own_text t') (map (named_at pairs) places))))
       (middle_text ++ compact (vertices_tree own)) head written rest in
       let value : Tree = feature_tree (name_at (member_trees pairs) root)
-      (relabelled_objects (own_text t') (map (pair_at pairs) places)) (vertices_tree (map (point_at points) o'))
+      (relabelled_objects (own_text t') (map (named_at pairs) places)) (vertices_tree (map (point_at points) o'))
       appearance in (
         record { value = value; vertices = map (point_at points) o' },
         record {
-          chosen = map (pair_at pairs) places;
-          objects = relabelled_objects (own_text t') (map (pair_at pairs) places);
+          chosen = map (named_at pairs) places;
+          objects = relabelled_objects (own_text t') (map (named_at pairs) places);
           reached = chosen_are_those pairs root places family;
           same_points = points_same;
           is = refl;
         },
         (
-          own_part (name_at (member_trees pairs) root) (relabelled_objects (own_text t') (map (pair_at pairs) places))
+          own_part (name_at (member_trees pairs) root) (relabelled_objects (own_text t') (map (named_at pairs) places))
               (vertices_tree (map (point_at points) o')),
           text
-              ∙ (ap (λ o. line ++ own_part (pair_at pairs root).0
-              (relabelled_objects (own_text t') (map (pair_at pairs) places)) (vertices_tree o)) own_is
-              ∙ ap (λ n. line ++ own_part n (relabelled_objects (own_text t') (map (pair_at pairs) places))
+              ∙ (ap (λ o. line ++ own_part (named_at pairs root).0
+              (relabelled_objects (own_text t') (map (named_at pairs) places)) (vertices_tree o)) own_is
+              ∙ ap (λ n. line ++ own_part n (relabelled_objects (own_text t') (map (named_at pairs) places))
               (vertices_tree (map (point_at points) o'))) name),
           feature_text (name_at (member_trees pairs) root)
-              (relabelled_objects (own_text t') (map (pair_at pairs) places)) (vertices_tree (map (point_at points) o'))
+              (relabelled_objects (own_text t') (map (named_at pairs) places)) (vertices_tree (map (point_at points) o'))
               appearance,
         ),
-        λ k there. from_map (λ named. IsBounded (length points) named.1) (pair_at pairs) places k
-            (subst (λ n. AllByRecursion (λ named. IsBounded n named.1) (map (pair_at pairs) places)) long made.0) there,
+        λ k there. from_map (λ named. IsBounded (length points) named.1) (named_at pairs) places k
+            (subst (λ n. AllByRecursion (λ named. IsBounded n named.1) (map (named_at pairs) places)) long made.0) there,
       )

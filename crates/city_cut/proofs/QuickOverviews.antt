@@ -1,19 +1,16 @@
 -- What is looked at of each city object.
-use Rattle.std.proofs.Common.{◌≡◌, ◌∙◌, ◌++◌, ◌<◌, ℕ, suc, List, [], ◌∷◌, IsUtf8, get_or, length, slice_range, refl, ap, sym, subst, arith}
+use Rattle.std.proofs.Common.{◌≡◌, ◌∙◌, ◌++◌, ◌<◌, ℕ, suc, List, [], ◌∷◌, get_or, length, slice_range, refl, ap, sym, subst, arith}
 use Rattle.std.specs.List.{AllZip}
-use Rattle.city_json.specs.Bytes.{colon}
-use Rattle.city_json.specs.Compact.{quoted}
 use Rattle.city_json.specs.CompactMembers.{HasParts}
 use Rattle.city_json.specs.Parts.{AreParts}
 use Rattle.city_json.specs.Tree.{Tree, member_trees, null, object}
 use Rattle.city_json.specs.declared.compacting.parts.Part.{Part}
-use Rattle.city_cut.specs.Chosen.{pair_at}
-use Rattle.city_cut.specs.Kin.{IsSameObject}
-use Rattle.city_cut.specs.Overviews.{AreHolders, HasHolders, IsKinIn}
+use Rattle.city_cut.specs.Chosen.{named_at}
+use Rattle.city_cut.specs.Overviews.{AreHolders, HasHolders}
 use Rattle.city_cut.specs.Texts.{IsCompactOf}
 use Rattle.city_cut.specs.declared.quick.holders.HeldParts.{HeldParts}
 use Rattle.city_cut.proofs.FeatureList.{zip_at, zip_long}
-use Rattle.city_cut.proofs.QuickFeatures.{as_many_parts, name_there, value_there}
+use Rattle.city_cut.proofs.QuickFeatures.{as_many_parts, value_there}
 use Rattle.city_cut.proofs.Seeking.{zip_push}
 
 pub none_yet : {A B : Type 0} (R : A → B → Type 0) (xs : List A) (ys : List B) → xs ≡ [] → ys ≡ [] → AllZip R xs ys
@@ -25,29 +22,23 @@ parts_given : (text given : List ℕ) (part : Part) (parts listed : List Part)
 parts_given text given part parts listed lies same has =
     subst (λ t. HasParts t listed) (sym lies) (subst (HasParts (slice_range text part.value part.end)) (sym same) has)
 
-kin_here : (text name given : List ℕ) (part : Part) (parts listed : List Part) (one : List ℕ × Tree)
-    → name ≡ slice_range text part.at part.value → given ≡ slice_range text part.value part.end → listed ≡ parts
-    → HasParts (slice_range text part.value part.end) parts
-    → (HasParts given listed → (id : List ℕ) (value : Tree) → IsUtf8 id → name ≡ quoted id ++ colon ∷ []
-    → IsCompactOf given value → IsSameObject one (id, value))
-    → IsKinIn text part one
-kin_here text name given part parts listed one stands lies same has made = λ id value utf8 named of.
-    made (parts_given text given part parts listed lies same has) id value utf8 (stands ∙ named)
-    (subst (λ t. IsCompactOf t value) (sym lies) of)
+-- what is said of whatever object lies in a part
+abbrev pub SaidIn : {A : Type 0} → (Tree → A → Type 0) → List ℕ → Part → A → Type 0
+SaidIn R text part x = (value : Tree) → IsCompactOf (slice_range text part.value part.end) value → R value x
 
-pub kin_more : (text name given : List ℕ) (part : Part) (parts listed places places' : List Part)
-    (kin kin' : List (List ℕ × Tree)) (one : List ℕ × Tree)
-    → name ≡ slice_range text part.at part.value → given ≡ slice_range text part.value part.end → listed ≡ parts
+pub said_more : {A : Type 0} (R : Tree → A → Type 0) (text given : List ℕ) (part : Part)
+    (parts listed places places' : List Part) (found found' : List A) (one : A)
+    → given ≡ slice_range text part.value part.end → listed ≡ parts
     → HasParts (slice_range text part.value part.end) parts
-    → (HasParts given listed → (id : List ℕ) (value : Tree) → IsUtf8 id → name ≡ quoted id ++ colon ∷ []
-    → IsCompactOf given value → IsSameObject one (id, value))
-    → places' ≡ places ++ part ∷ [] → kin' ≡ kin ++ one ∷ []
-    → AllZip (IsKinIn text) places kin → AllZip (IsKinIn text) places' kin'
-kin_more text name given part parts listed places places' kin kin' one stands lies same has made pushed pushed₂ all =
-    subst (λ l. AllZip (IsKinIn text) l kin') (sym pushed)
-    (subst (λ l. AllZip (IsKinIn text) (places ++ part ∷ []) l) (sym pushed₂)
-    (zip_push (IsKinIn text) places kin part one all
-    (kin_here text name given part parts listed one stands lies same has made)))
+    → (HasParts given listed → (value : Tree) → IsCompactOf given value → R value one)
+    → places' ≡ places ++ part ∷ [] → found' ≡ found ++ one ∷ []
+    → AllZip (SaidIn R text) places found → AllZip (SaidIn R text) places' found'
+said_more R text given part parts listed places places' found found' one lies same has made pushed pushed₂ all =
+    subst (λ l. AllZip (SaidIn R text) l found') (sym pushed)
+    (subst (λ l. AllZip (SaidIn R text) (places ++ part ∷ []) l) (sym pushed₂)
+    (zip_push (SaidIn R text) places found part one all
+    (λ value of. made (parts_given text given part parts listed lies same has) value
+    (subst (λ t. IsCompactOf t value) (sym lies) of))))
 
 pub holders_more : (text given : List ℕ) (part : Part) (parts listed places places' : List Part)
     (held held' : List HeldParts) (one : HeldParts)
@@ -87,21 +78,21 @@ some_part : (parts : List Part) (k : ℕ) → k < length parts → Part
 some_part [] k within = absurd (omega (arith, within))
 some_part (p ∷ ps) k within = p
 
-kin_there : (text : List ℕ) (places : List Part) (kin pairs : List (List ℕ × Tree)) (i : ℕ) (d : List ℕ × Tree)
-    → AllZip (IsKinIn text) places kin → IsCompactOf text (object (member_trees pairs))
-    → AreParts 1 places (member_trees pairs) → i < length kin → i < length places
-    → IsSameObject (get_or kin i d) (get_or pairs i ([], null))
-kin_there text places kin pairs i d all of are within inside =
+said_there : {A : Type 0} (R : Tree → A → Type 0) (text : List ℕ) (places : List Part) (found : List A)
+    (pairs : List (List ℕ × Tree)) (i : ℕ) (d : A)
+    → AllZip (SaidIn R text) places found → IsCompactOf text (object (member_trees pairs))
+    → AreParts 1 places (member_trees pairs) → i < length found → i < length places
+    → R (named_at pairs i).1 (get_or found i d)
+said_there R text places found pairs i d all of are within inside =
     let p : Part = some_part places i inside in
     let there = value_there text _ places i p pairs inside refl of are in
-    zip_at (IsKinIn text) places kin i p d all within (pair_at pairs i).0 (pair_at pairs i).1 there.1
-    (name_there text _ places i p pairs inside refl of are) there.2
+    zip_at (SaidIn R text) places found i p d all within (named_at pairs i).1 there.2
 
-pub kin_all : (text : List ℕ) (places : List Part) (kin pairs : List (List ℕ × Tree))
-    → AllZip (IsKinIn text) places kin → IsCompactOf text (object (member_trees pairs))
-    → AreParts 1 places (member_trees pairs) → AllZip IsSameObject kin pairs
-kin_all text places kin pairs all of are =
-    let long = zip_long (IsKinIn text) places kin all in
+pub said_all : {A : Type 0} (R : Tree → A → Type 0) (text : List ℕ) (places : List Part) (found : List A)
+    (pairs : List (List ℕ × Tree)) → AllZip (SaidIn R text) places found → IsCompactOf text (object (member_trees pairs))
+    → AreParts 1 places (member_trees pairs) → AllZip (λ (x : A) (pair : List ℕ × Tree). R pair.1 x) found pairs
+said_all R text places found pairs all of are =
+    let long = zip_long (SaidIn R text) places found all in
     let many = as_many_parts 1 places pairs are in
-    zip_from IsSameObject kin pairs ([], null) (omega (arith, long, many))
-    (λ i d within. kin_there text places kin pairs i d all of are within (omega (arith, within, long)))
+    zip_from (λ x (pair : List ℕ × Tree). R pair.1 x) found pairs ([], null) (omega (arith, long, many))
+    (λ i d within. said_there R text places found pairs i d all of are within (omega (arith, within, long)))

@@ -15,11 +15,11 @@ abbrev pub point_at : List Triple → ℕ → Triple
 point_at points k = slice_index_or points k (triple (pos 0) (pos 0) (pos 0))
 
 -- the object at a place
-abbrev pub pair_at : List (List ℕ × Tree) → ℕ → List ℕ × Tree
-pair_at pairs place = slice_index_or pairs place ([], null)
+abbrev pub named_at : List (List ℕ × Tree) → ℕ → List ℕ × Tree
+named_at pairs place = slice_index_or pairs place ([], null)
 
-abbrev pub object_at : List Member → ℕ → List ℕ × Tree
-object_at objects place = pair_at (map named_tree objects) place
+abbrev pub named_tree_at : List Member → ℕ → List ℕ × Tree
+named_tree_at objects place = named_at (map named_tree objects) place
 
 -- with the appearance as another member, where there is one
 abbrev pub appearance_added : Option Tree → Tree → Tree

@@ -1,20 +1,30 @@
--- City objects with their parents and children alone.
-use Rattle.std.specs.Prelude.{◌≡◌, ℕ, List, Option, Some, None, codes}
+-- What the text of a city object says of its parents and its children.
+use Rattle.std.specs.Prelude.{◌≡◌, ℕ, Bool, List, IsUtf8, unwrap_or, codes}
+use Rattle.std.specs.Borrow.{Bor}
+use Rattle.std.specs.List.{AllZip}
+use Rattle.city_json.specs.Compact.{quoted}
 use Rattle.city_json.specs.Members.{member_of}
-use Rattle.city_json.specs.Tree.{Tree}
-use Rattle.city_feature.specs.Changes.{with_member}
-use Rattle.city_feature.specs.Shapes.{IsObject}
+use Rattle.city_json.specs.Tree.{Tree, string, array, ItemTrees, no_items}
+use Rattle.city_feature.specs.Shapes.{IsObject, WhereThere}
+use Rattle.city_cut.specs.CityObjects.{AreTexts, has_parents}
+use Rattle.city_cut.specs.Items.{item_list}
+use Rattle.city_cut.specs.Texts.{IsCompactOf}
 
-abbrev pub with_there : List ℕ → Option Tree → Tree → Tree
-with_there name None value = value
-with_there name (Some found) value = with_member name found value
+-- the text with its marks
+abbrev pub IsQuoted : Bor (List ℕ) → Tree → Type 0
+IsQuoted given (string text) = (given.now ≡ quoted text) × IsUtf8 text
+IsQuoted given other = ⊥
 
--- two objects with the same parents and children
-pub record IsKin (kin value : Tree) : Type 0 where
-  pub is_kin_object : IsObject kin
+-- an array of texts, each of which is given with its marks
+abbrev pub AreQuoted : List (Bor (List ℕ)) → Tree → Type 0
+AreQuoted given value = (items : ItemTrees) × (value ≡ array items) × AllZip IsQuoted given (item_list items)
+
+-- an object whose parents are an array of texts where they are there, and whether these are some
+pub record HasParents (value : Tree) (has : Bool) : Type 0 where
   pub is_object : IsObject value
-  pub parents : member_of (codes "parents") kin ≡ member_of (codes "parents") value
-  pub children : member_of (codes "children") kin ≡ member_of (codes "children") value
+  pub texts : WhereThere AreTexts (member_of (codes "parents") value)
+  pub is_so : has ≡ has_parents value
 
-abbrev pub IsSameObject : List ℕ × Tree → List ℕ × Tree → Type 0
-IsSameObject kin pair = (kin.0 ≡ pair.0) × IsKin kin.1 pair.1
+-- the text of what stands in the member `children`, or of an empty array
+abbrev pub HasChildrenText : Tree → Bor (List ℕ) → Type 0
+HasChildrenText value given = IsCompactOf given.now (unwrap_or (member_of (codes "children") value) (array no_items))

@@ -7,6 +7,7 @@ pub mod Cut
 pub mod Families
 pub mod FeatureText
 pub mod FrontMembers
+pub mod Graphs
 pub mod HeaderText
 pub mod HeldTexts
 pub mod Holders

@@ -1,5 +1,6 @@
 -- What one walk over the texts of city objects finds of each.
-use Rattle.std.specs.Prelude.{◌≡◌, ◌++◌, ◌∷◌, [], ℕ, List, Option, None, MatchOption, IsUtf8, slice_range}
+use Rattle.std.specs.Prelude.{◌≡◌, ◌++◌, ◌∷◌, [], ℕ, Bool, List, Option, None, MatchOption, slice_range}
+use Rattle.std.specs.Borrow.{Bor}
 use Rattle.std.specs.List.{AllZip}
 use Rattle.city_json.specs.Bytes.{colon}
 use Rattle.city_json.specs.Compact.{quoted}
@@ -9,7 +10,7 @@ use Rattle.city_json.specs.Tree.{Tree, MemberTrees, object}
 use Rattle.city_json.specs.declared.compacting.parts.Part.{Part}
 use Rattle.city_feature.specs.Quick.{IsPartNamed}
 use Rattle.city_cut.specs.Holders.{name_of}
-use Rattle.city_cut.specs.Kin.{IsSameObject}
+use Rattle.city_cut.specs.Kin.{HasChildrenText, HasParents}
 use Rattle.city_cut.specs.Texts.{IsCompactOf}
 use Rattle.city_cut.specs.declared.quick.holders.Holder.{Holder}
 use Rattle.city_cut.specs.declared.quick.holders.Holder.TheVariants.{Geometry, Address}
@@ -39,8 +40,12 @@ abbrev pub AreHolders : List ℕ → List Part → List HeldParts → Type 0
 AreHolders text places held = AllZip
     (λ (part : Part) (there : HeldParts). HasHolders (slice_range text part.value part.end) there) places held
 
--- whatever object lies in this part of a text, this one has its name, its parents and its children
-abbrev pub IsKinIn : List ℕ → Part → List ℕ × Tree → Type 0
-IsKinIn text part kin = (name : List ℕ) (value : Tree) → IsUtf8 name
-    → slice_range text part.at part.value ≡ quoted name ++ colon ∷ []
-    → IsCompactOf (slice_range text part.value part.end) value → IsSameObject kin (name, value)
+-- whatever object lies in this part of a text, it has parents as it is said
+abbrev pub HasParentsIn : List ℕ → Part → Bool → Type 0
+HasParentsIn text part has = (value : Tree) → IsCompactOf (slice_range text part.value part.end) value
+    → HasParents value has
+
+-- and this is the text of its children
+abbrev pub HasChildrenIn : List ℕ → Part → Bor (List ℕ) → Type 0
+HasChildrenIn text part given = (value : Tree) → IsCompactOf (slice_range text part.value part.end) value
+    → HasChildrenText value given

@@ -52,7 +52,7 @@ fn is_city_object(value: &Json) -> bool
         && are_texts_where_there(value, "children")
 }
 
-pub(crate) fn are_city_objects(objects: &[Member]) -> bool
+fn are_city_objects(objects: &[Member]) -> bool
     ensures { IsTrue result ↔ AreCityObjects (members_tree objects.now) }
 {
     for member in objects {

@@ -10,7 +10,7 @@ ghost use Rattle.city_feature.specs.Changes.{with_member};
 ghost use Rattle.city_feature.specs.Feature.{AreVertices, FeatureValue};
 ghost use Rattle.city_feature.specs.Values.{feature_value};
 ghost use Rattle.city_cut.specs.Boundaries.{IsBounded};
-ghost use Rattle.city_cut.specs.Chosen.{appearance_added, chosen_objects, object_at};
+ghost use Rattle.city_cut.specs.Chosen.{appearance_added, chosen_objects, named_tree_at};
 ghost use Rattle.city_cut.specs.CityObjects.{IsReached, roots};
 ghost use Rattle.city_cut.specs.Cut.{AreFeatures, IsFeatureOf, feature_tree};
 ghost use Rattle.city_cut.specs.Families.{Begins};
@@ -35,7 +35,7 @@ fn objects_at<'a>(
 ) -> Result<Vec<&'a Member>, Fault>
     requires { All (λ k. k < length objects.now) places.now }
     ensures ok { IfOk result (λ chosen.
-        chosen_objects chosen.items ≡ map (object_at objects.now) places.now) }
+        chosen_objects chosen.items ≡ map (named_tree_at objects.now) places.now) }
     ensures fault { IfErr result (λ fault. fault ≡ Fault.Memory) }
 {
     let mut chosen = Vec::with_capacity(alloc, places.len())?;
@@ -138,7 +138,7 @@ fn feature_of(
         → IsFeatureOf (members_tree objects.now) (option_map tree (option_copied appearance.entry))
         points (name_at (members_tree objects.now) family.now.root) (feature_value feature)) }
     ensures bounded { OnOk result ((k : ℕ) → Contains family.now.places.items k
-        → IsBounded (length vertices.now) (object_at objects.now k).1) }
+        → IsBounded (length vertices.now) (named_tree_at objects.now k).1) }
     ensures fault { IfErr result (λ fault. (points : List Triple)
         → AreVertices (items_tree vertices.now) points → (fault ≡ Fault.Memory)
         ⊎ ((fault ≡ Fault.BoundaryIndex) × ¬ AllByRecursion (IsBounded (length vertices.now))

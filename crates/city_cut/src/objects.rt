@@ -15,20 +15,20 @@ use city_json::{Json, Member};
 use std::alloc::Global;
 
 /// The names of the objects with their places, in the order of the names. The only fault is [`Fault::Memory`].
-pub(crate) fn table(alloc: Global, objects: &[Member]) -> Result<Vec<(&str, usize)>, Fault>
+pub(crate) fn table(alloc: Global, objects: &[Member]) -> Result<Vec<(&[u8], usize)>, Fault>
     ensures ok { IfOk result (λ pairs. IsTable (names (members_tree objects.now)) pairs.items) }
     ensures fault { IfErr result (λ fault. fault ≡ Fault.Memory) }
 {
     let mut pairs = Vec::with_capacity(alloc, objects.len())?;
     for (at, member) in objects.iter().enumerate() {
-        pairs.push_reserved((name_of(member), at));
+        pairs.push_reserved((name_of(member).as_bytes(), at));
     }
     pairs.sort_unstable();
     Ok(pairs)
 }
 
 /// The place of a name.
-pub(crate) fn place(table: &[(&str, usize)], name: &str) -> Option<usize>
+pub(crate) fn place(table: &[(&[u8], usize)], name: &[u8]) -> Option<usize>
     ensures { (names : List (List ℕ)) → IsTable names table.now
         → MatchOption result ((k : ℕ) → slice_get names k ≢ Some name.now)
         (λ k. slice_get names k ≡ Some name.now) }
@@ -40,7 +40,7 @@ pub(crate) fn place(table: &[(&str, usize)], name: &str) -> Option<usize>
 }
 
 /// The places of the names that stand among the values.
-fn places_of(alloc: Global, named: &[Json], table: &[(&str, usize)]) -> Result<Vec<usize>, Fault>
+fn places_of(alloc: Global, named: &[Json], table: &[(&[u8], usize)]) -> Result<Vec<usize>, Fault>
     ensures ok { IfOk result (λ places. (names : List (List ℕ)) → IsTable names table.now
         → ArePlaced names (map tree named.now) places.items) }
     ensures fault { IfErr result (λ fault. (fault ≡ Fault.Memory)
@@ -53,7 +53,7 @@ fn places_of(alloc: Global, named: &[Json], table: &[(&str, usize)]) -> Result<V
         let Some(name) = text_of(value) else {
             continue;
         };
-        let Some(place) = place(table, name) else {
+        let Some(place) = place(table, name.as_bytes()) else {
             return Err(Fault::ChildMissing);
         };
         places.push(place)?;
@@ -62,7 +62,7 @@ fn places_of(alloc: Global, named: &[Json], table: &[(&str, usize)]) -> Result<V
 }
 
 /// The places of an object's children.
-fn children_of(alloc: Global, object: &Json, table: &[(&str, usize)]) -> Result<Vec<usize>, Fault>
+fn children_of(alloc: Global, object: &Json, table: &[(&[u8], usize)]) -> Result<Vec<usize>, Fault>
     ensures ok { IfOk result (λ places. (names : List (List ℕ)) → IsTable names table.now
         → ArePlaced names (children (tree object.now)) places.items) }
     ensures fault { IfErr result (λ fault. (fault ≡ Fault.Memory)
@@ -108,4 +108,16 @@ pub(crate) fn has_parents(object: &Json) -> bool
         Some(found) => is_filled(found),
         None => false,
     }
+}
+
+/// Whether each object names parents. The only fault is [`Fault::Memory`].
+pub(crate) fn parents(alloc: Global, objects: &[Member]) -> Result<Vec<bool>, Fault>
+    ensures ok { IfOk result (λ parents. parents.items ≡ map (λ pair. has_parents pair.1) (map named_tree objects.now)) }
+    ensures fault { IfErr result (λ fault. fault ≡ Fault.Memory) }
+{
+    let mut parents = Vec::with_capacity(alloc, objects.len())?;
+    for member in objects {
+        parents.push(has_parents(value_of(member)))?;
+    }
+    Ok(parents)
 }

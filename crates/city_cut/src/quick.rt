@@ -4,6 +4,7 @@
 
 mod drafts;
 mod features;
+mod graph;
 mod headers;
 mod holders;
 mod items;
@@ -33,20 +34,20 @@ ghost use Rattle.city_cut.specs.Cut.{IsCut, IsCuttable};
 ghost use Rattle.city_cut.specs.Families.{Begins};
 ghost use Rattle.city_cut.specs.FeatureText.{tail_text};
 ghost use Rattle.city_cut.specs.HeldTexts.{texts_in};
-ghost use Rattle.city_cut.specs.Kin.{IsSameObject};
+ghost use Rattle.city_cut.specs.Overviews.{HasChildrenIn, HasParentsIn};
 ghost use Rattle.city_cut.specs.Lines.{texts_of};
 ghost use Rattle.city_cut.specs.Texts.{IsCompactOf};
 ghost use Rattle.city_cut.specs.VertexTexts.{HasPoints, StandAt};
 
 use crate::cuts::CutTexts;
-use crate::documents::are_city_objects;
-use crate::families::{Family, families};
+use crate::families::{Family, families_among};
 use byte_streams::Line;
 use city_feature::{between, part_named};
-use city_json::{Members, Part, compact_parts};
+use city_json::{Part, compact_parts};
 use features::feature_texts;
+use graph::{graph_of, table_of};
 use headers::header_of;
-use overview::overview_of;
+use overview::{Overview, overview_of};
 use points::{VertexTexts, starts_of, write_anew};
 use std::alloc::Global;
 use texts::{append_text, is_absent, member_or};
@@ -80,24 +81,25 @@ fn vertices_text<'a>(text: &'a [u8], parts: &[Part]) -> Option<&'a [u8]>
     member_or(text, parts, b"\"vertices\":", b"[]")
 }
 
-/// The families of the city objects of which the parents and children are given. `None`: undecided.
-fn families_of(alloc: Global, kin: Members) -> Option<Vec<Family>>
-    requires { (pairs : List (List ℕ × Tree)) × AllZip IsSameObject (map named_tree kin.items) pairs
-        × IsDistinct (object (member_trees pairs)) }
-    ensures { IfSome result (λ found. (pairs : List (List ℕ × Tree))
-        → AllZip IsSameObject (map named_tree kin.items) pairs
+/// The families of the city objects of this text. `None`: undecided.
+fn families_of(alloc: Global, text: &[u8], found: &Overview<'_>) -> Option<Vec<Family>>
+    requires objects { (pairs : List (List ℕ × Tree)) × IsCompactOf text.now (object (member_trees pairs))
+        × AreParts 1 found.now.places.items (member_trees pairs) }
+    requires parents { AllZip (HasParentsIn text.now) found.now.places.items found.now.parents.items }
+    requires children { AllZip (HasChildrenIn text.now) found.now.places.items found.now.children.items }
+    ensures { IfSome result (λ families. (pairs : List (List ℕ × Tree))
+        → IsCompactOf text.now (object (member_trees pairs)) → AreParts 1 found.now.places.items (member_trees pairs)
         → AreCityObjects (member_trees pairs)
         × (¬ LacksChild (member_trees pairs))
         × AllBelong (member_trees pairs)
-        × AllZip (Begins (member_trees pairs)) (roots (member_trees pairs)) found.items) }
+        × AllZip (Begins (member_trees pairs)) (roots (member_trees pairs)) families.items) }
 {
-    if !are_city_objects(&kin) {
-        return None;
-    }
-    let Ok(found) = families(alloc, &kin) else {
+    let table = table_of(alloc, text, &found.places)?;
+    let graph = graph_of(alloc, &found.children, &table)?;
+    let Ok(families) = families_among(alloc, &graph, &found.parents) else {
         return None;
     };
-    Some(found)
+    Some(families)
 }
 
 /// Cuts the document into features on these vertices, which are its own.
@@ -119,7 +121,7 @@ fn cut_on(
     let tail = tail_of(alloc, line, parts)?;
     let objects = member_or(line, parts, b"\"CityObjects\":", b"{}")?;
     let found = overview_of(alloc, objects)?;
-    let families = families_of(alloc, found.kin)?;
+    let families = families_of(alloc, objects, &found)?;
     let texts = feature_texts(
         alloc,
         objects,

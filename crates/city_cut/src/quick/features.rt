@@ -9,7 +9,7 @@ ghost use Rattle.city_json.specs.Tree.{Tree, member_trees, object};
 ghost use Rattle.city_grid.specs.Axes.{Triple};
 ghost use Rattle.city_feature.specs.Feature.{FeatureValue, vertices_tree};
 ghost use Rattle.city_cut.specs.Boundaries.{IsBounded, boundaries, relabelled_object, relabelled_objects, uses};
-ghost use Rattle.city_cut.specs.Chosen.{pair_at, point_at};
+ghost use Rattle.city_cut.specs.Chosen.{named_at, point_at};
 ghost use Rattle.city_cut.specs.CityObjects.{IsReached, roots};
 ghost use Rattle.city_cut.specs.Copied.{Copies};
 ghost use Rattle.city_cut.specs.Cut.{AreFeatures, IsFeatureOf};
@@ -51,11 +51,11 @@ fn append_named(
     ensures made { OnSome result ((pairs : List (List ℕ × Tree))
         → IsCompactOf text.now (object (member_trees pairs)) → AreParts 1 parts.now (member_trees pairs)
         → (at < length pairs)
-        × IsBounded (length numbering.old.table.items) (pair_at pairs at).1
+        × IsBounded (length numbering.old.table.items) (named_at pairs at).1
         × Copies numbering.old.table.items numbering.old.order.items draft.old.line
         numbering.new.table.items numbering.new.order.items draft.new.line
-        (flat_map leaves (boundaries (pair_at pairs at).1))
-        (λ change. quoted (pair_at pairs at).0 ++ colon ∷ compact (relabelled_object change (pair_at pairs at).1))) }
+        (flat_map leaves (boundaries (named_at pairs at).1))
+        (λ change. quoted (named_at pairs at).0 ++ colon ∷ compact (relabelled_object change (named_at pairs at).1))) }
 {
     if at >= parts.len() {
         return None;
@@ -84,11 +84,11 @@ fn append_others(
     ensures long { OnSome result (length numbering.new.table.items ≡ length numbering.old.table.items) }
     ensures made { OnSome result ((pairs : List (List ℕ × Tree))
         → IsCompactOf text.now (object (member_trees pairs)) → AreParts 1 parts.now (member_trees pairs)
-        → AllByRecursion (λ named. IsBounded (length numbering.old.table.items) named.1) (map (pair_at pairs) places.now)
+        → AllByRecursion (λ named. IsBounded (length numbering.old.table.items) named.1) (map (named_at pairs) places.now)
         × Copies numbering.old.table.items numbering.old.order.items draft.old.line
         numbering.new.table.items numbering.new.order.items draft.new.line
-        (uses (map (pair_at pairs) places.now))
-        (λ change. compact_more_members (member_trees (relabelled_objects change (map (pair_at pairs) places.now))))) }
+        (uses (map (named_at pairs) places.now))
+        (λ change. compact_more_members (member_trees (relabelled_objects change (map (named_at pairs) places.now))))) }
 {
     for at in places {
         append_text(b",", &mut draft.line)?;
@@ -111,11 +111,11 @@ fn append_objects(
     ensures long { OnSome result (length numbering.new.table.items ≡ length numbering.old.table.items) }
     ensures made { OnSome result ((pairs : List (List ℕ × Tree))
         → IsCompactOf text.now (object (member_trees pairs)) → AreParts 1 parts.now (member_trees pairs)
-        → AllByRecursion (λ named. IsBounded (length numbering.old.table.items) named.1) (map (pair_at pairs) places.now)
+        → AllByRecursion (λ named. IsBounded (length numbering.old.table.items) named.1) (map (named_at pairs) places.now)
         × Copies numbering.old.table.items numbering.old.order.items draft.old.line
         numbering.new.table.items numbering.new.order.items draft.new.line
-        (uses (map (pair_at pairs) places.now))
-        (λ change. compact_members (member_trees (relabelled_objects change (map (pair_at pairs) places.now))))) }
+        (uses (map (named_at pairs) places.now))
+        (λ change. compact_members (member_trees (relabelled_objects change (map (named_at pairs) places.now))))) }
 {
     let [first, others @ ..] = places else {
         return None;
@@ -125,7 +125,7 @@ fn append_objects(
 }
 
 /// The text of the name that stands in a member's name and its colon.
-pub(super) fn without_colon(name: &[u8]) -> Option<&[u8]>
+fn without_colon(name: &[u8]) -> Option<&[u8]>
     ensures { IfSome result (λ found. (text : List ℕ) → name.now ≡ text ++ colon ∷ [] → found.now ≡ text) }
 {
     if name.is_empty() {
@@ -135,10 +135,10 @@ pub(super) fn without_colon(name: &[u8]) -> Option<&[u8]>
 }
 
 /// The name of the object at a place, with its marks.
-fn id_of<'a>(text: &'a [u8], parts: &[Part], at: usize) -> Option<&'a [u8]>
+pub(super) fn id_of<'a>(text: &'a [u8], parts: &[Part], at: usize) -> Option<&'a [u8]>
     ensures { IfSome result (λ found. (pairs : List (List ℕ × Tree))
         → IsCompactOf text.now (object (member_trees pairs)) → AreParts 1 parts.now (member_trees pairs)
-        → found.now ≡ quoted (pair_at pairs at).0) }
+        → found.now ≡ quoted (named_at pairs at).0) }
 {
     if at >= parts.len() {
         return None;
@@ -187,7 +187,7 @@ fn append_feature(
         → (feature : FeatureValue)
         × IsFeatureOf (member_trees pairs) appearance points (name_at (member_trees pairs) family.now.root) feature
         × HasGrown draft.old.line draft.new.line (tail_text appearance) (compact feature.value)
-        × ((k : ℕ) → Contains family.now.places.items k → IsBounded (length points) (pair_at pairs k).1)) }
+        × ((k : ℕ) → Contains family.now.places.items k → IsBounded (length points) (named_at pairs k).1)) }
 {
     let id = id_of(text, parts, family.root)?;
     append_head(id, &mut draft.line)?;

@@ -1,16 +1,15 @@
 //! What is looked at of each city object, in one walk over their texts.
-ghost use Rattle.std.specs.Prelude.{◌≡◌, ◌++◌, ◌∷◌, [], ◌<◌, ◌≤◌, length, drop, map, slice_range, IfSome, OnSome};
+ghost use Rattle.std.specs.Prelude.{◌≡◌, ◌++◌, ◌∷◌, [], ◌<◌, ◌≤◌, length, drop, slice_range, IfSome, OnSome};
 ghost use Rattle.std.specs.List.{AllZip};
 ghost use Rattle.city_json.specs.CompactMembers.{HasParts, LeavesMember};
-ghost use Rattle.city_json.specs.Tree.{named_tree};
-ghost use Rattle.city_cut.specs.Overviews.{AreHolders, HasHolders, IsHolderPart, IsKinIn};
+ghost use Rattle.city_cut.specs.Overviews.{AreHolders, HasChildrenIn, HasHolders, HasParentsIn, IsHolderPart};
 
 use super::holders::{HeldParts, Holder};
-use super::kin::{named_kin, push_member};
+use super::kin::{children_text, has_parents, push_text};
 use super::members::{list_part, members_at};
 use super::texts::is_absent;
 use city_feature::{between, part_named};
-use city_json::{Members, Part, string_end};
+use city_json::{Part, string_end};
 use std::alloc::Global;
 
 /// How many bytes the text of a city object has mostly at least.
@@ -18,11 +17,13 @@ const COMMON_LEN: usize = 256;
 
 /// The city objects, each at its place.
 #[derive(Drop)]
-pub(super) struct Overview {
+pub(super) struct Overview<'a> {
     /// Where each lies.
     pub places: Vec<Part>,
-    /// Each with its parents and children alone.
-    pub kin: Members,
+    /// Whether each names parents.
+    pub parents: Vec<bool>,
+    /// The text of the children of each; of an empty array, where there are none.
+    pub children: Vec<&'a [u8]>,
     /// Where boundaries may stand in each.
     pub held: Vec<HeldParts>,
 }
@@ -85,6 +86,15 @@ fn held_parts(text: &[u8], parts: &[Part]) -> Option<HeldParts>
     Some(HeldParts { geometry, address })
 }
 
+fn list_parents(one: bool, to: &mut Vec<bool>) -> Option<()>
+    ensures { OnSome result (to.new.items ≡ to.old.items ++ one ∷ []) }
+{
+    let Ok(_) = to.push(one) else {
+        return None;
+    };
+    Some(())
+}
+
 fn list_held(one: HeldParts, to: &mut Vec<HeldParts>) -> Option<()>
     ensures { OnSome result (to.new.items ≡ to.old.items ++ one ∷ []) }
 {
@@ -95,46 +105,53 @@ fn list_held(one: HeldParts, to: &mut Vec<HeldParts>) -> Option<()>
 }
 
 /// Looks at the object that begins at `at`: where it lies.
-fn add_object(alloc: Global, text: &[u8], at: usize, to: &mut Overview) -> Option<Part>
+fn add_object<'a>(alloc: Global, text: &'a [u8], at: usize, to: &mut Overview<'a>) -> Option<Part>
     ensures onward { IfSome result (λ part. at < part.end) }
     ensures within { IfSome result (λ part. part.end < length text.now) }
     ensures is { IfSome result (λ part. LeavesMember at part (drop at text.now) (drop part.end text.now)) }
     ensures places { IfSome result (λ part. to.new.places.items ≡ to.old.places.items ++ part ∷ []) }
-    ensures kin { OnSome result (AllZip (IsKinIn text.now) to.old.places.items (map named_tree to.old.kin.items)
-        → AllZip (IsKinIn text.now) to.new.places.items (map named_tree to.new.kin.items)) }
+    ensures parents { OnSome result (AllZip (HasParentsIn text.now) to.old.places.items to.old.parents.items
+        → AllZip (HasParentsIn text.now) to.new.places.items to.new.parents.items) }
+    ensures children { OnSome result (AllZip (HasChildrenIn text.now) to.old.places.items to.old.children.items
+        → AllZip (HasChildrenIn text.now) to.new.places.items to.new.children.items) }
     ensures held { OnSome result (AreHolders text.now to.old.places.items to.old.held.items
         → AreHolders text.now to.new.places.items to.new.held.items) }
 {
     let found = object_at(alloc, text, at)?;
-    let name = between(text, found.part.at, found.part.value)?;
     let value = between(text, found.part.value, found.part.end)?;
-    let member = named_kin(alloc, name, value, &found.members)?;
+    let parents = has_parents(alloc, value, &found.members)?;
+    let children = children_text(value, &found.members)?;
     let held = held_parts(value, &found.members)?;
     list_part(found.part, &mut to.places)?;
-    push_member(member, &mut to.kin)?;
+    list_parents(parents, &mut to.parents)?;
+    push_text(children, &mut to.children)?;
     list_held(held, &mut to.held)?;
     Some(found.part)
 }
 
 /// No objects, with room for those of a text of this length.
-fn no_objects(alloc: Global, len: usize) -> Option<Overview>
+fn no_objects<'a>(alloc: Global, len: usize) -> Option<Overview<'a>>
     ensures places { IfSome result (λ found. found.places.items ≡ []) }
-    ensures kin { IfSome result (λ found. map named_tree found.kin.items ≡ []) }
+    ensures parents { IfSome result (λ found. found.parents.items ≡ []) }
+    ensures children { IfSome result (λ found. found.children.items ≡ []) }
     ensures held { IfSome result (λ found. found.held.items ≡ []) }
 {
     let room = len / COMMON_LEN;
     Some(Overview {
         places: Vec::with_capacity(alloc, room).ok()?,
-        kin: Vec::with_capacity(alloc, room).ok()?,
+        parents: Vec::with_capacity(alloc, room).ok()?,
+        children: Vec::with_capacity(alloc, room).ok()?,
         held: Vec::with_capacity(alloc, room).ok()?,
     })
 }
 
 /// What is looked at of the city objects, whose compact text this is.
-pub(super) fn overview_of(alloc: Global, text: &[u8]) -> Option<Overview>
+pub(super) fn overview_of(alloc: Global, text: &[u8]) -> Option<Overview<'_>>
     ensures places { IfSome result (λ found. HasParts text.now found.places.items) }
-    ensures kin { IfSome result (λ found.
-        AllZip (IsKinIn text.now) found.places.items (map named_tree found.kin.items)) }
+    ensures parents { IfSome result (λ found.
+        AllZip (HasParentsIn text.now) found.places.items found.parents.items) }
+    ensures children { IfSome result (λ found.
+        AllZip (HasChildrenIn text.now) found.places.items found.children.items) }
     ensures held { IfSome result (λ found. AreHolders text.now found.places.items found.held.items) }
 {
     if text.len() < 2 {

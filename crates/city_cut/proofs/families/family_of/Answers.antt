@@ -1,26 +1,19 @@
 use Rattle.std.proofs.Common.{arith}
 use Rattle.std.proofs.lemmas.List.Filters.{dedup_is}
 use Rattle.std.specs.Prelude.{eqb}
-use Rattle.city_json.specs.Tree.{members_tree}
-use Rattle.city_cut.proofs.Kinship.{family_is, graph_in_range, reached_at}
+use Rattle.city_cut.proofs.Kinship.{family_is, reached_at}
 use Rattle.city_cut.proofs.families.family_of.Goals as goal
 
-pub reached-requires-clause-graph : goal.reached-requires-clause-graph
-reached-requires-clause-graph c = graph_in_range (members_tree c.args.objects.now) c.args.graph.now c.requires.distinct
-    c.requires.graph
-
 pub returns-clause-family : goal.returns-clause-family
-returns-clause-family c =
-    family_is (members_tree c.args.objects.now) c.args.graph.now c.requires.distinct c.requires.graph c.args.root
-    c.in_ok-places.places.items c.sort_unstable.new.self.items _ c.requires.root c.in_ok-places.ensures.ok
-    c.sort_unstable.ensures.permutation c.sort_unstable.ensures.sorted
-    (dedup_is eqb c.sort_unstable.new.self.items _ c.dedup.ensures.filtered)
+returns-clause-family c = λ objects distinct is_graph.
+    family_is objects c.args.graph.now distinct is_graph c.args.root c.in_ok-places.places.items
+    c.sort_unstable.new.self.items _ c.requires.root c.in_ok-places.ensures.ok c.sort_unstable.ensures.permutation
+    c.sort_unstable.ensures.sorted (dedup_is eqb c.sort_unstable.new.self.items _ c.dedup.ensures.filtered)
 
 pub returns-clause-marks : goal.returns-clause-marks
-returns-clause-marks c = λ k below.
-    let at = reached_at (members_tree c.args.objects.now) c.args.graph.now c.requires.distinct c.requires.graph
-    c.args.root k (omega (arith, c.requires.root, c.requires.graph.long))
-    (omega (arith, below, c.requires.marks, c.requires.graph.long)) in (
+returns-clause-marks c = λ objects distinct is_graph k below.
+    let at = reached_at objects c.args.graph.now distinct is_graph c.args.root k
+    (omega (arith, c.requires.root, is_graph.long)) (omega (arith, below, c.requires.marks, is_graph.long)) in (
       λ is. at.0 ((c.in_ok-places.ensures.marks k).0 (omega (arith, below, c.in_ok-places.ensures.long), is)),
       λ far. ((c.in_ok-places.ensures.marks k).1 (at.1 far)).1,
     )

@@ -6,7 +6,7 @@ use Rattle.city_json.specs.Fits.{IsDistinct}
 use Rattle.city_json.specs.Tree.{array, items_tree, members_tree, named_tree, tree}
 use Rattle.city_cut.specs.Assembled.{IsAssembled}
 use Rattle.city_cut.specs.Boundaries.{IsBounded}
-use Rattle.city_cut.specs.Chosen.{chosen_objects, object_at}
+use Rattle.city_cut.specs.Chosen.{chosen_objects, named_tree_at}
 use Rattle.city_cut.specs.Places.{name_at}
 use Rattle.city_cut.proofs.Answered.{if_err, if_ok, on_ok}
 use Rattle.city_cut.proofs.FeatureParts.{chosen_all, chosen_distinct, feature_is, from_map, member_places, only_memory}
@@ -20,9 +20,9 @@ objects_at-requires c = rw c.deref.ensures.value
 pub assemble-requires-clause-distinct : goal.assemble-requires-clause-distinct
 assemble-requires-clause-distinct c =
     let chosen : chosen_objects c.deref-2.result.now
-    ≡ map (object_at c.args.objects.now) c.args.family.now.places.items =
+    ≡ map (named_tree_at c.args.objects.now) c.args.family.now.places.items =
     ap chosen_objects c.deref-2.ensures.value
-    ∙ (c.in_ok-chosen.ensures.ok ∙ ap (map (object_at c.args.objects.now)) c.deref.ensures.value) in
+    ∙ (c.in_ok-chosen.ensures.ok ∙ ap (map (named_tree_at c.args.objects.now)) c.deref.ensures.value) in
     subst (AllByRecursion (λ named. IsDistinct named.1)) (sym chosen)
     (chosen_distinct (map named_tree c.args.objects.now) c.args.family.now.root c.args.family.now.places.items
     c.requires.distinct c.requires.family)
@@ -31,9 +31,9 @@ pub returns-in_err-assembled-clause-fault : goal.returns-in_err-assembled-clause
 returns-in_err-assembled-clause-fault c =
     let p = err_from_is_err_and c.from_residual-in_err-assembled.result c.from_residual-in_err-assembled.ensures.1 in
     let chosen : chosen_objects c.deref-2.result.now
-    ≡ map (object_at c.args.objects.now) c.args.family.now.places.items =
+    ≡ map (named_tree_at c.args.objects.now) c.args.family.now.places.items =
     ap chosen_objects c.deref-2.ensures.value
-    ∙ (c.in_ok-chosen.ensures.ok ∙ ap (map (object_at c.args.objects.now)) c.deref.ensures.value) in
+    ∙ (c.in_ok-chosen.ensures.ok ∙ ap (map (named_tree_at c.args.objects.now)) c.deref.ensures.value) in
     rw (p.1, p.2) (λ points all. elim (c.in_err-assembled.ensures.fault points all) [
       | inl memory ↦ inl memory
       | inr wrong ↦ inr (
@@ -47,9 +47,9 @@ returns-in_err-assembled-clause-fault c =
 pub returns-clause-ok : goal.returns-clause-ok
 returns-clause-ok c =
     let chosen : chosen_objects c.deref-2.result.now
-    ≡ map (object_at c.args.objects.now) c.args.family.now.places.items =
+    ≡ map (named_tree_at c.args.objects.now) c.args.family.now.places.items =
     ap chosen_objects c.deref-2.ensures.value
-    ∙ (c.in_ok-chosen.ensures.ok ∙ ap (map (object_at c.args.objects.now)) c.deref.ensures.value) in
+    ∙ (c.in_ok-chosen.ensures.ok ∙ ap (map (named_tree_at c.args.objects.now)) c.deref.ensures.value) in
     let id : c.name_of-id.result.now ≡ name_at (members_tree c.args.objects.now) c.args.family.now.root =
     c.name_of-id.ensures ∙ sym (name_here c.args.objects.now c.args.family.now.root c.index-objects-family.result
     c.requires.root c.index-objects-family.is) in
@@ -76,10 +76,10 @@ returns-clause-fault c =
 pub returns-clause-bounded : goal.returns-clause-bounded
 returns-clause-bounded c =
     let chosen : chosen_objects c.deref-2.result.now
-    ≡ map (object_at c.args.objects.now) c.args.family.now.places.items =
+    ≡ map (named_tree_at c.args.objects.now) c.args.family.now.places.items =
     ap chosen_objects c.deref-2.ensures.value
-    ∙ (c.in_ok-chosen.ensures.ok ∙ ap (map (object_at c.args.objects.now)) c.deref.ensures.value) in
+    ∙ (c.in_ok-chosen.ensures.ok ∙ ap (map (named_tree_at c.args.objects.now)) c.deref.ensures.value) in
     on_ok c.feature.result (λ k in_family. from_map (λ named. IsBounded (length c.args.vertices.now) named.1)
-    (object_at c.args.objects.now) c.args.family.now.places.items k
+    (named_tree_at c.args.objects.now) c.args.family.now.places.items k
     (subst (AllByRecursion (λ named. IsBounded (length c.args.vertices.now) named.1)) chosen
     c.in_ok-assembled.ensures.bounded) in_family)

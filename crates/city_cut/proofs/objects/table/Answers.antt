@@ -13,11 +13,11 @@ loop-at-preserved c =
     let here : slice_get objects c.loop-at.at ≡ Some c.index-objects-at.result =
     slice_get_read objects (length objects) c.loop-at.at c.index-objects-at.result refl (omega arith)
     c.index-objects-at.is in
-    let name : slice_get (names (members_tree objects)) c.loop-at.at ≡ Some c.name_of.result.now =
-    rw (names_map objects, slice_get-map, here, c.name_of.ensures) refl in (
+    let name : slice_get (names (members_tree objects)) c.loop-at.at ≡ Some c.as_bytes.result.now =
+    rw (names_map objects, slice_get-map, here, c.as_bytes.ensures.value, c.name_of.ensures) refl in (
       search rules,
       search rules,
-      listed_more _ _ _ c.name_of.result c.loop-at.at c.loop-at.invariant.2 (omega arith)
+      listed_more _ _ _ c.as_bytes.result c.loop-at.at c.loop-at.invariant.2 (omega arith)
           (search rules) name,
     )
 

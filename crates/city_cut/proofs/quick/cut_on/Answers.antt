@@ -7,18 +7,17 @@ use Rattle.city_feature.proofs.QuickLines.{utf8}
 use Rattle.city_cut.specs.CityObjects.{roots}
 use Rattle.city_cut.specs.Families.{Begins}
 use Rattle.city_cut.proofs.QuickDocuments.{no_objects, objects_there, whole}
-use Rattle.city_cut.proofs.QuickOverviews.{kin_all}
 use Rattle.city_cut.proofs.quick.cut_on.Goals as goal
 
-pub families_of-requires : goal.families_of-requires
-families_of-requires c =
+pub families_of-requires-clause-objects : goal.families_of-requires-clause-objects
+families_of-requires-clause-objects c =
     let (members, of, are) = c.requires in
     let objects = c.in_ok-objects.objects.now in
     let places = c.in_ok-found.found.places.items in
     let there = objects_there objects places members
     (c.in_ok-objects.ensures members of are (codes "CityObjects") (utf8 (codes "CityObjects") refl) refl
     (object no_members) no_objects) (λ value lies. c.in_ok-found.ensures.places value lies.writable lies.within lies.is) in
-    (there.pairs, kin_all objects places _ there.pairs c.in_ok-found.ensures.kin there.of there.are, there.of.distinct)
+    (there.pairs, there.of, there.are)
 
 pub returns : goal.returns
 returns c = λ members points of are has stand.
@@ -28,8 +27,7 @@ returns c = λ members points of are has stand.
     (c.in_ok-objects.ensures members of are (codes "CityObjects") (utf8 (codes "CityObjects") refl) refl
     (object no_members) no_objects) (λ value lies. c.in_ok-found.ensures.places value lies.writable lies.within lies.is) in
     let objects = member_trees there.pairs in
-    let (city, lacks, belong, begins) = c.in_ok-families.ensures there.pairs
-    (kin_all text places _ there.pairs c.in_ok-found.ensures.kin there.of there.are) in
+    let (city, lacks, belong, begins) = c.in_ok-families.ensures there.pairs there.of there.are in
     let begun = subst (AllZip (Begins objects) (roots objects)) (sym c.deref-3.ensures.value) begins in
     let listed = subst (λ p. AreParts 1 p objects) (sym c.deref.ensures.value) there.are in
     let (items, vertices, are_vertices) = has in

@@ -4,7 +4,8 @@ use Rattle.city_json.specs.Compacting.{shown}
 use Rattle.city_json.proofs.PassScalars.{if_some}
 use Rattle.city_json.proofs.Places.{drop_one, shown_one}
 use Rattle.city_cut.specs.Copied.{Copies, CopiesPart}
-use Rattle.city_cut.proofs.CopiedTexts.{copied_begin, copied_more, copied_none, copied_stop, not_both, part_array}
+use Rattle.city_cut.proofs.CopiedArrays.{copied_begin, copied_more, copied_none, copied_stop, part_array}
+use Rattle.city_cut.proofs.CopiedTexts.{not_both}
 use Rattle.city_cut.proofs.quick.drafts.+copy.Goals as goal
 
 pub copy_items-returns-then-byte_is-clause-made : goal.copy_items-returns-then-byte_is-clause-made

@@ -4,7 +4,7 @@ use Rattle.city_json.specs.Compact.{compact_items}
 use Rattle.city_json.specs.Compacting.{shown}
 use Rattle.city_json.specs.Tree.{ItemTrees}
 use Rattle.city_json.specs.Writable.{AreWritableItems}
-use Rattle.city_cut.proofs.CopiedTexts.{ItemsCopied}
+use Rattle.city_cut.proofs.CopiedArrays.{ItemsCopied}
 use Rattle.city_cut.proofs.quick.drafts.+copy.Given as goal
 
 abbrev pub decreases-copy_part : goal.decreases-copy_part

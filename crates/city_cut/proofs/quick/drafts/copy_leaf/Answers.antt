@@ -3,7 +3,8 @@ use Rattle.std.proofs.lemmas.List.{get_or_default}
 use Rattle.std.proofs.lemmas.List.Folds.{drop_split}
 use Rattle.std.specs.Fmt.{decimal}
 use Rattle.city_json.specs.Compacting.{shown}
-use Rattle.city_cut.proofs.CopiedTexts.{part_leaf, shown_here, stopped_at}
+use Rattle.city_cut.proofs.CopiedLeaves.{part_leaf}
+use Rattle.city_cut.proofs.CopiedTexts.{shown_here, stopped_at}
 use Rattle.city_cut.proofs.quick.drafts.copy_leaf.Goals as goal
 
 pub returns-clause-made : goal.returns-clause-made

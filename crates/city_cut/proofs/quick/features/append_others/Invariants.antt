@@ -1,7 +1,7 @@
 use Rattle.std.proofs.Common.{◌≡◌, ℕ, List, length, map, take}
 use Rattle.city_json.specs.Parts.{AreParts}
 use Rattle.city_json.specs.Tree.{Tree, member_trees, object}
-use Rattle.city_cut.specs.Chosen.{pair_at}
+use Rattle.city_cut.specs.Chosen.{named_at}
 use Rattle.city_cut.specs.Texts.{IsCompactOf}
 use Rattle.city_cut.proofs.QuickFeatures.{OthersMade}
 use Rattle.city_cut.proofs.quick.features.append_others.Given as goal
@@ -13,5 +13,5 @@ invariant-loop-at l = record {
       → AreParts 1 l.parts (member_trees pairs)
       → OthersMade (length l.fn.numbering.table.items) l.fn.numbering.table.items l.fn.numbering.order.items
       l.fn.draft.line l.numbering.table.items l.numbering.order.items l.draft.line
-      (map (pair_at pairs) (take l.at-index l.places));
+      (map (named_at pairs) (take l.at-index l.places));
 }

@@ -1,6 +1,6 @@
 use Rattle.std.proofs.Common.{◌<◌, ◌≡◌, ◌∙◌, ◌++◌, ap, arith, length, get_or}
 use Rattle.city_json.specs.Bytes.{open_bracket}
-use Rattle.city_cut.proofs.QuickCopies.{boundary_made}
+use Rattle.city_cut.proofs.QuickGeometries.{boundary_made}
 use Rattle.city_cut.proofs.QuickTexts.{on_some_more}
 use Rattle.city_cut.proofs.quick.items.append_boundary.Goals as goal
 

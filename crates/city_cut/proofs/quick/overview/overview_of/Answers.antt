@@ -15,7 +15,8 @@ objects-init c = record {
   within = omega (arith, c.if-text-lt2.false);
   goes_on = members_begin c.args.text.now _ c.in_ok-found.ensures.places (omega (arith, c.if-text-lt2.false))
       c.if-text-eq125.false;
-  kin = none_yet _ _ _ c.in_ok-found.ensures.places c.in_ok-found.ensures.kin;
+  parents = none_yet _ _ _ c.in_ok-found.ensures.places c.in_ok-found.ensures.parents;
+  children = none_yet _ _ _ c.in_ok-found.ensures.places c.in_ok-found.ensures.children;
   held = none_yet _ _ _ c.in_ok-found.ensures.places c.in_ok-found.ensures.held;
 }
 
@@ -33,6 +34,7 @@ objects-preserved c = record {
   goes_on = members_go_on c.args.text.now c.objects.at c.in_ok-part.part c.objects.found.places.items _
       c.objects.invariant.goes_on c.in_ok-part.ensures.is c.in_ok-part.ensures.within c.if-text-part-eq125.false
       c.in_ok-part.ensures.places;
-  kin = c.in_ok-part.ensures.kin c.objects.invariant.kin;
+  parents = c.in_ok-part.ensures.parents c.objects.invariant.parents;
+  children = c.in_ok-part.ensures.children c.objects.invariant.children;
   held = c.in_ok-part.ensures.held c.objects.invariant.held;
 }

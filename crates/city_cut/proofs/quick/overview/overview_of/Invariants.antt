@@ -1,7 +1,6 @@
-use Rattle.std.proofs.Common.{◌≤◌, ◌-◌, length, map}
+use Rattle.std.proofs.Common.{◌≤◌, ◌-◌, length}
 use Rattle.std.specs.List.{AllZip}
-use Rattle.city_json.specs.Tree.{named_tree}
-use Rattle.city_cut.specs.Overviews.{AreHolders, IsKinIn}
+use Rattle.city_cut.specs.Overviews.{AreHolders, HasChildrenIn, HasParentsIn}
 use Rattle.city_cut.proofs.QuickMembers.{GoesOn}
 use Rattle.city_cut.proofs.quick.overview.overview_of.Given as goal
 
@@ -9,7 +8,8 @@ abbrev pub invariant-objects : goal.invariant-objects
 invariant-objects l = record {
   within : l.at ≤ length l.text;
   goes_on : GoesOn l.at l.text l.found.places.items;
-  kin : AllZip (IsKinIn l.text) l.found.places.items (map named_tree l.found.kin.items);
+  parents : AllZip (HasParentsIn l.text) l.found.places.items l.found.parents.items;
+  children : AllZip (HasChildrenIn l.text) l.found.places.items l.found.children.items;
   held : AreHolders l.text l.found.places.items l.found.held.items;
 }
 

@@ -1,0 +1,82 @@
+//! Which city objects are children of which, by their texts.
+ghost use Rattle.std.specs.Prelude.{◌≡◌, ◌+◌, ℕ, List, IfSome, IsUtf8, map};
+ghost use Rattle.std.specs.Borrow.{Bor};
+ghost use Rattle.std.specs.List.{AllByRecursion};
+ghost use Rattle.city_json.specs.Compact.{quoted};
+ghost use Rattle.city_json.specs.Parts.{AreParts};
+ghost use Rattle.city_json.specs.Tree.{Tree, member_trees, object, string};
+ghost use Rattle.city_cut.specs.Graphs.{HasRow, HaveRows};
+ghost use Rattle.city_cut.specs.Places.{ArePlaced};
+ghost use Rattle.city_cut.specs.Table.{IsTable};
+ghost use Rattle.city_cut.specs.Texts.{IsCompactOf};
+
+use super::features::id_of;
+use super::kin::texts_of;
+use crate::objects::place;
+use city_json::Part;
+use std::alloc::Global;
+
+/// The names of the objects that lie in these parts, each with its marks, with their places, in the order of the
+/// names.
+pub(super) fn table_of<'a>(
+    alloc: Global,
+    text: &'a [u8],
+    parts: &[Part],
+) -> Option<Vec<(&'a [u8], usize)>>
+    ensures { IfSome result (λ table. (pairs : List (List ℕ × Tree)) → IsCompactOf text.now (object (member_trees pairs))
+        → AreParts 1 parts.now (member_trees pairs)
+        → IsTable (map (λ (pair : List ℕ × Tree). quoted pair.0) pairs) table.items) }
+{
+    let mut table = Vec::with_capacity(alloc, parts.len()).ok()?;
+    for at in 0..parts.len() {
+        let id = id_of(text, parts, at)?;
+        let Ok(_) = table.push((id, at)) else {
+            return None;
+        };
+    }
+    table.sort_unstable();
+    Some(table)
+}
+
+/// The places of these names. `None`: one is not there, or out of memory.
+fn places_of(alloc: Global, named: &[&[u8]], table: &[(&[u8], usize)]) -> Option<Vec<usize>>
+    ensures { IfSome result (λ places. (names : List (List ℕ)) → IsTable names table.now
+        → ArePlaced names (map (λ (one : Bor (List ℕ)). string one.now) named.now) places.items) }
+{
+    let mut places = Vec::new(alloc);
+    for name in named {
+        let place = place(table, name)?;
+        let Ok(_) = places.push(place) else {
+            return None;
+        };
+    }
+    Some(places)
+}
+
+/// The places of the children that this text of an array names.
+fn row_of(alloc: Global, text: &[u8], table: &[(&[u8], usize)]) -> Option<Vec<usize>>
+    ensures { IfSome result (λ row. (names : List (List ℕ)) → AllByRecursion IsUtf8 names
+        → IsTable (map quoted names) table.now → HasRow names text.now row) }
+{
+    let named = texts_of(alloc, text)?;
+    places_of(alloc, &named, table)
+}
+
+/// For each object the places of its children, of which the texts are given.
+pub(super) fn graph_of(
+    alloc: Global,
+    children: &[&[u8]],
+    table: &[(&[u8], usize)],
+) -> Option<Vec<Vec<usize>>>
+    ensures { IfSome result (λ graph. (names : List (List ℕ)) → AllByRecursion IsUtf8 names
+        → IsTable (map quoted names) table.now → HaveRows names children.now graph.items) }
+{
+    let mut graph = Vec::with_capacity(alloc, children.len()).ok()?;
+    for text in children {
+        let row = row_of(alloc, text, table)?;
+        let Ok(_) = graph.push(row) else {
+            return None;
+        };
+    }
+    Some(graph)
+}
