@@ -2,9 +2,9 @@
 //! [`Fault::Memory`].
 ghost use Rattle.std.specs.Prelude.{◌≡◌, map, IfOk, IfErr, codes};
 ghost use Rattle.std.specs.Fmt.{decimal};
-ghost use Rattle.city_json.specs.Tree.{tree, named_tree, items_tree};
-ghost use Rattle.city_cut.specs.Boundaries.{changed, in_member, relabelled_addresses};
-ghost use Rattle.city_cut.specs.Boundaries.{relabelled_boundary, relabelled_geometries, relabelled_object};
+ghost use Rattle.city_json.specs.Tree.{Tree, tree, named_tree, items_tree};
+ghost use Rattle.city_cut.specs.Boundaries.{changed, in_items, in_member, relabelled_addresses};
+ghost use Rattle.city_cut.specs.Boundaries.{relabelled_geometries, relabelled_object};
 ghost use Rattle.city_cut.specs.Boundaries.{relabelled_part};
 ghost use Rattle.city_cut.specs.Leaves.{relabelled, relabelled_items};
 ghost use Rattle.city_cut.specs.Relabelling.{own_text};
@@ -61,135 +61,150 @@ fn relabelled_items(alloc: Global, items: &[Json], table: &[usize]) -> Result<It
     Ok(copies)
 }
 
-/// A copy of a member, relabelled if it is a boundary.
-fn with_boundary(alloc: Global, member: &Member, table: &[usize]) -> Result<Member, Fault>
-    ensures ok { IfOk result (λ new. named_tree new
-        ≡ changed (codes "boundaries") (relabelled (own_text table.now)) (named_tree member.now)) }
-    ensures fault { IfErr result (λ fault. fault ≡ Fault.Memory) }
-{
-    let name = name_of(member);
-    if name == "boundaries" {
-        let value = relabelled(alloc, value_of(member), table)?;
-        return named(alloc, name, value);
-    }
-    let value = value_of(member).copy(alloc)?;
-    named(alloc, name, value)
+/// A change of values, of which copies are made.
+trait Change {
+    // What becomes of a value.
+    ghost change: { Self → Tree → Tree };
+
+    /// The changed value.
+    fn changed(&self, alloc: Global, value: &Json) -> Result<Json, Fault>
+        ensures ok { IfOk result (λ new. tree new ≡ change self.now (tree value.now)) }
+        ensures fault { IfErr result (λ fault. fault ≡ Fault.Memory) };
 }
 
-fn members_with_boundary(
+/// Other numbers at the leaves of a boundary.
+#[derive(Clone, Copy, Drop)]
+struct AtLeaves<'a> {
+    table: &'a [usize],
+}
+
+impl Change for AtLeaves<'_> {
+    ghost change = { λ leaves. relabelled (own_text leaves.table.now) };
+
+    fn changed(&self, alloc: Global, value: &Json) -> Result<Json, Fault> {
+        relabelled(alloc, value, self.table)
+    }
+}
+
+/// A change of the member of this name, in an object.
+#[derive(Drop)]
+struct InMember<C> {
+    name: &'static str,
+    inner: C,
+}
+
+impl<C: Change> Change for InMember<C> {
+    ghost change = { λ held. in_member held.name.now (C.change held.inner) };
+
+    fn changed(&self, alloc: Global, value: &Json) -> Result<Json, Fault> {
+        let Json::Map(members) = value else {
+            return value.copy(alloc);
+        };
+        Ok(Json::Map(changed_members(alloc, members, self.name, &self.inner)?))
+    }
+}
+
+/// A change of each item, in an array.
+#[derive(Drop)]
+struct InItems<C> {
+    inner: C,
+}
+
+impl<C: Change> Change for InItems<C> {
+    ghost change = { λ held. in_items (C.change held.inner) };
+
+    fn changed(&self, alloc: Global, value: &Json) -> Result<Json, Fault> {
+        let Json::List(items) = value else {
+            return value.copy(alloc);
+        };
+        Ok(Json::List(changed_items(alloc, items, &self.inner)?))
+    }
+}
+
+/// A copy of a member, changed if it has this name.
+fn changed_member<C: Change>(
+    alloc: Global,
+    member: &Member,
+    name: &str,
+    change: &C,
+) -> Result<Member, Fault>
+    ensures ok { IfOk result (λ new. named_tree new
+        ≡ changed name.now (C.change change.now) (named_tree member.now)) }
+    ensures fault { IfErr result (λ fault. fault ≡ Fault.Memory) }
+{
+    let own = name_of(member);
+    if own == name {
+        let value = change.changed(alloc, value_of(member))?;
+        return named(alloc, own, value);
+    }
+    let value = value_of(member).copy(alloc)?;
+    named(alloc, own, value)
+}
+
+fn changed_members<C: Change>(
     alloc: Global,
     members: &[Member],
-    table: &[usize],
+    name: &str,
+    change: &C,
 ) -> Result<Members, Fault>
     ensures ok { IfOk result (λ new. map named_tree new.items
-        ≡ map (changed (codes "boundaries") (relabelled (own_text table.now))) (map named_tree members.now)) }
+        ≡ map (changed name.now (C.change change.now)) (map named_tree members.now)) }
     ensures fault { IfErr result (λ fault. fault ≡ Fault.Memory) }
 {
     let mut copies = Vec::with_capacity(alloc, members.len())?;
     for member in members {
-        copies.push(with_boundary(alloc, member, table)?)?;
+        copies.push(changed_member(alloc, member, name, change)?)?;
     }
     Ok(copies)
 }
 
-/// A copy of a geometry or a location with its boundary relabelled.
-fn with_boundaries(alloc: Global, value: &Json, table: &[usize]) -> Result<Json, Fault>
-    ensures ok { IfOk result (λ new. tree new
-        ≡ relabelled_boundary (own_text table.now) (tree value.now)) }
-    ensures fault { IfErr result (λ fault. fault ≡ Fault.Memory) }
-{
-    let Json::Map(members) = value else {
-        return value.copy(alloc);
-    };
-    Ok(Json::Map(members_with_boundary(alloc, members, table)?))
-}
-
-fn items_with_boundaries(alloc: Global, items: &[Json], table: &[usize]) -> Result<Items, Fault>
-    ensures ok { IfOk result (λ new. map tree new.items
-        ≡ map (relabelled_boundary (own_text table.now)) (map tree items.now)) }
+fn changed_items<C: Change>(alloc: Global, items: &[Json], change: &C) -> Result<Items, Fault>
+    ensures ok { IfOk result (λ new. map tree new.items ≡ map (C.change change.now) (map tree items.now)) }
     ensures fault { IfErr result (λ fault. fault ≡ Fault.Memory) }
 {
     let mut copies = Vec::with_capacity(alloc, items.len())?;
     for item in items {
-        copies.push(with_boundaries(alloc, item, table)?)?;
+        copies.push(change.changed(alloc, item)?)?;
     }
     Ok(copies)
 }
 
+/// What becomes of a geometry or a location.
+fn in_boundaries(table: &[usize]) -> InMember<AtLeaves<'_>>
+    ensures name { result.name.now ≡ codes "boundaries" }
+    ensures table { result.inner.table.now ≡ table.now }
+{
+    InMember {
+        name: "boundaries",
+        inner: AtLeaves { table },
+    }
+}
+
+/// A copy of the geometries of an object with their boundaries relabelled.
 fn with_geometries(alloc: Global, value: &Json, table: &[usize]) -> Result<Json, Fault>
     ensures ok { IfOk result (λ new. tree new
         ≡ relabelled_geometries (own_text table.now) (tree value.now)) }
     ensures fault { IfErr result (λ fault. fault ≡ Fault.Memory) }
 {
-    let Json::List(items) = value else {
-        return value.copy(alloc);
+    let geometries = InItems {
+        inner: in_boundaries(table),
     };
-    Ok(Json::List(items_with_boundaries(alloc, items, table)?))
+    geometries.changed(alloc, value)
 }
 
-/// A copy of a member, with its boundary relabelled if it is a location.
-fn with_location(alloc: Global, member: &Member, table: &[usize]) -> Result<Member, Fault>
-    ensures ok { IfOk result (λ new. named_tree new
-        ≡ changed (codes "location") (relabelled_boundary (own_text table.now)) (named_tree member.now)) }
-    ensures fault { IfErr result (λ fault. fault ≡ Fault.Memory) }
-{
-    let name = name_of(member);
-    if name == "location" {
-        let value = with_boundaries(alloc, value_of(member), table)?;
-        return named(alloc, name, value);
-    }
-    let value = value_of(member).copy(alloc)?;
-    named(alloc, name, value)
-}
-
-fn members_with_location(
-    alloc: Global,
-    members: &[Member],
-    table: &[usize],
-) -> Result<Members, Fault>
-    ensures ok { IfOk result (λ new. map named_tree new.items
-        ≡ map (changed (codes "location") (relabelled_boundary (own_text table.now))) (map named_tree members.now)) }
-    ensures fault { IfErr result (λ fault. fault ≡ Fault.Memory) }
-{
-    let mut copies = Vec::with_capacity(alloc, members.len())?;
-    for member in members {
-        copies.push(with_location(alloc, member, table)?)?;
-    }
-    Ok(copies)
-}
-
-fn with_locations(alloc: Global, value: &Json, table: &[usize]) -> Result<Json, Fault>
-    ensures ok { IfOk result (λ new. tree new
-        ≡ in_member (codes "location") (relabelled_boundary (own_text table.now)) (tree value.now)) }
-    ensures fault { IfErr result (λ fault. fault ≡ Fault.Memory) }
-{
-    let Json::Map(members) = value else {
-        return value.copy(alloc);
-    };
-    Ok(Json::Map(members_with_location(alloc, members, table)?))
-}
-
-fn items_with_locations(alloc: Global, items: &[Json], table: &[usize]) -> Result<Items, Fault>
-    ensures ok { IfOk result (λ new. map tree new.items
-        ≡ map (in_member (codes "location") (relabelled_boundary (own_text table.now))) (map tree items.now)) }
-    ensures fault { IfErr result (λ fault. fault ≡ Fault.Memory) }
-{
-    let mut copies = Vec::with_capacity(alloc, items.len())?;
-    for item in items {
-        copies.push(with_locations(alloc, item, table)?)?;
-    }
-    Ok(copies)
-}
-
+/// A copy of the addresses of an object with the boundaries of their locations relabelled.
 fn with_addresses(alloc: Global, value: &Json, table: &[usize]) -> Result<Json, Fault>
     ensures ok { IfOk result (λ new. tree new
         ≡ relabelled_addresses (own_text table.now) (tree value.now)) }
     ensures fault { IfErr result (λ fault. fault ≡ Fault.Memory) }
 {
-    let Json::List(items) = value else {
-        return value.copy(alloc);
+    let addresses = InItems {
+        inner: InMember {
+            name: "location",
+            inner: in_boundaries(table),
+        },
     };
-    Ok(Json::List(items_with_locations(alloc, items, table)?))
+    addresses.changed(alloc, value)
 }
 
 /// A copy of a member of a city object.

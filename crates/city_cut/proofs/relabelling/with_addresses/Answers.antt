@@ -1,15 +1,4 @@
-use Rattle.std.proofs.Common.{map, refl, ap, ◌∙◌}
-use Rattle.std.specs.Prelude.{codes}
-use Rattle.city_cut.specs.Relabelling.{own_text}
-use Rattle.city_json.specs.Tree.{tree}
-use Rattle.city_cut.specs.Boundaries.{in_member, relabelled_boundary}
-use Rattle.city_cut.proofs.Copies.{in_list}
 use Rattle.city_cut.proofs.relabelling.with_addresses.Goals as goal
 
 pub returns-clause-ok : goal.returns-clause-ok
-returns-clause-ok c =
-    in_list (in_member (codes "location") (relabelled_boundary (own_text c.args.table.now))) _ _ c.in-List.items
-    c.in_ok-items_with_locations.field-0 c.in-List.is refl
-    (c.in_ok-items_with_locations.ensures.ok
-    ∙ ap (λ l. map (in_member (codes "location") (relabelled_boundary (own_text c.args.table.now))) (map tree l))
-    c.deref.ensures.value)
+returns-clause-ok c = rw (c.in_boundaries.ensures.name, c.in_boundaries.ensures.table) at c.changed.ensures.ok
