@@ -2,7 +2,7 @@
 ghost use Rattle.std.specs.Prelude.{◌≡◌, ◌⊎◌, ◌↔◌, ◌++◌, ℕ, List, map, length, IsTrue, OnOk, IfErr};
 ghost use Rattle.std.specs.List.{flat_map, AllByRecursion};
 ghost use Rattle.city_json.specs.Members.{member_of};
-ghost use Rattle.city_json.specs.Tree.{tree, items_tree};
+ghost use Rattle.city_json.specs.Tree.{Tree, tree, items_tree};
 ghost use Rattle.city_feature.specs.Shapes.{IsArray, IsObject, WhereThere};
 ghost use Rattle.city_cut.specs.Boundaries.{IsAddress, IsBounded, IsGeometry};
 ghost use Rattle.city_cut.specs.Boundaries.{address_boundary, boundaries, own_boundary};
@@ -37,72 +37,74 @@ fn number_boundaries(value: &Json, numbering: &mut Numbering) -> Result<(), Faul
     number_items(items, numbering)
 }
 
-fn number_geometry(value: &Json, numbering: &mut Numbering) -> Result<(), Fault>
-    ensures long { length numbering.new.table.items ≡ length numbering.old.table.items }
-    ensures bounded { OnOk result (IsGeometry (length numbering.old.table.items) (tree value.now)) }
-    ensures ok { OnOk result ((uses : List ℕ)
-        → AreNumbered uses numbering.old.table.items numbering.old.order.items
-        → AreNumbered (uses ++ flat_map leaves (own_boundary (tree value.now)))
-        numbering.new.table.items numbering.new.order.items) }
-    ensures fault { IfErr result (λ fault. (fault ≡ Fault.Memory)
-        ⊎ ((fault ≡ Fault.BoundaryIndex)
-        × ¬ (IsGeometry (length numbering.old.table.items) (tree value.now)))) }
-{
-    if !is_object(value) {
-        return Err(Fault::BoundaryIndex);
-    }
-    number_boundaries(value, numbering)
+/// Values in which boundaries may stand.
+trait Held {
+    // The boundaries in one, and whether these are right, of so many vertices.
+    ghost held: { Self → Tree → List Tree };
+
+    ghost is_held: { Self → ℕ → Tree → Type 0 };
+
+    /// Numbers the vertices that one names.
+    fn number(&self, value: &Json, numbering: &mut Numbering) -> Result<(), Fault>
+        ensures long { length numbering.new.table.items ≡ length numbering.old.table.items }
+        ensures bounded { OnOk result
+            (is_held self.now (length numbering.old.table.items) (tree value.now)) }
+        ensures ok { OnOk result ((uses : List ℕ)
+            → AreNumbered uses numbering.old.table.items numbering.old.order.items
+            → AreNumbered (uses ++ flat_map leaves (held self.now (tree value.now)))
+            numbering.new.table.items numbering.new.order.items) }
+        ensures fault { IfErr result (λ fault. (fault ≡ Fault.Memory)
+            ⊎ ((fault ≡ Fault.BoundaryIndex)
+            × ¬ (is_held self.now (length numbering.old.table.items) (tree value.now)))) };
 }
 
-fn number_geometries(items: &[Json], numbering: &mut Numbering) -> Result<(), Fault>
+#[derive(Clone, Copy, Drop)]
+struct Geometry;
+
+impl Held for Geometry {
+    ghost held = { λ kind. own_boundary };
+
+    ghost is_held = { λ kind. IsGeometry };
+
+    fn number(&self, value: &Json, numbering: &mut Numbering) -> Result<(), Fault> {
+        if !is_object(value) {
+            return Err(Fault::BoundaryIndex);
+        }
+        number_boundaries(value, numbering)
+    }
+}
+
+#[derive(Clone, Copy, Drop)]
+struct Address;
+
+impl Held for Address {
+    ghost held = { λ kind. address_boundary };
+
+    ghost is_held = { λ kind. IsAddress };
+
+    fn number(&self, value: &Json, numbering: &mut Numbering) -> Result<(), Fault> {
+        let Some(location) = value.get("location") else {
+            return Ok(());
+        };
+        number_boundaries(location, numbering)
+    }
+}
+
+/// Numbers the vertices that the items name, each of this kind.
+fn number_each<H: Held>(kind: &H, items: &[Json], numbering: &mut Numbering) -> Result<(), Fault>
     ensures long { length numbering.new.table.items ≡ length numbering.old.table.items }
-    ensures bounded { OnOk result
-        (AllByRecursion (IsGeometry (length numbering.old.table.items)) (map tree items.now)) }
+    ensures bounded { OnOk result (AllByRecursion
+        (H.is_held kind.now (length numbering.old.table.items)) (map tree items.now)) }
     ensures ok { OnOk result ((uses : List ℕ)
         → AreNumbered uses numbering.old.table.items numbering.old.order.items
-        → AreNumbered (uses ++ flat_map leaves (flat_map own_boundary (map tree items.now)))
+        → AreNumbered (uses ++ flat_map leaves (flat_map (H.held kind.now) (map tree items.now)))
         numbering.new.table.items numbering.new.order.items) }
     ensures fault { IfErr result (λ fault. (fault ≡ Fault.Memory)
-        ⊎ ((fault ≡ Fault.BoundaryIndex)
-        × ¬ (AllByRecursion (IsGeometry (length numbering.old.table.items)) (map tree items.now)))) }
+        ⊎ ((fault ≡ Fault.BoundaryIndex) × ¬ (AllByRecursion
+        (H.is_held kind.now (length numbering.old.table.items)) (map tree items.now)))) }
 {
     for item in items {
-        number_geometry(item, numbering)?;
-    }
-    Ok(())
-}
-
-fn number_address(value: &Json, numbering: &mut Numbering) -> Result<(), Fault>
-    ensures long { length numbering.new.table.items ≡ length numbering.old.table.items }
-    ensures bounded { OnOk result (IsAddress (length numbering.old.table.items) (tree value.now)) }
-    ensures ok { OnOk result ((uses : List ℕ)
-        → AreNumbered uses numbering.old.table.items numbering.old.order.items
-        → AreNumbered (uses ++ flat_map leaves (address_boundary (tree value.now)))
-        numbering.new.table.items numbering.new.order.items) }
-    ensures fault { IfErr result (λ fault. (fault ≡ Fault.Memory)
-        ⊎ ((fault ≡ Fault.BoundaryIndex)
-        × ¬ (IsAddress (length numbering.old.table.items) (tree value.now)))) }
-{
-    let Some(location) = value.get("location") else {
-        return Ok(());
-    };
-    number_boundaries(location, numbering)
-}
-
-fn number_addresses(items: &[Json], numbering: &mut Numbering) -> Result<(), Fault>
-    ensures long { length numbering.new.table.items ≡ length numbering.old.table.items }
-    ensures bounded { OnOk result
-        (AllByRecursion (IsAddress (length numbering.old.table.items)) (map tree items.now)) }
-    ensures ok { OnOk result ((uses : List ℕ)
-        → AreNumbered uses numbering.old.table.items numbering.old.order.items
-        → AreNumbered (uses ++ flat_map leaves (flat_map address_boundary (map tree items.now)))
-        numbering.new.table.items numbering.new.order.items) }
-    ensures fault { IfErr result (λ fault. (fault ≡ Fault.Memory)
-        ⊎ ((fault ≡ Fault.BoundaryIndex)
-        × ¬ (AllByRecursion (IsAddress (length numbering.old.table.items)) (map tree items.now)))) }
-{
-    for item in items {
-        number_address(item, numbering)?;
+        kind.number(item, numbering)?;
     }
     Ok(())
 }
@@ -132,6 +134,6 @@ pub(crate) fn number_object(value: &Json, numbering: &mut Numbering) -> Result<(
     if !is_array_where_there(value, "geometry") {
         return Err(Fault::BoundaryIndex);
     }
-    number_geometries(items_named(value, "geometry"), numbering)?;
-    number_addresses(items_named(value, "address"), numbering)
+    number_each(&Geometry, items_named(value, "geometry"), numbering)?;
+    number_each(&Address, items_named(value, "address"), numbering)
 }
