@@ -4,6 +4,7 @@ ghost use Rattle.city_json.specs.Bytes.{colon};
 ghost use Rattle.city_json.specs.Compact.{quoted};
 ghost use Rattle.city_cut.specs.Holders.{name_of, other_than, part_unless};
 
+use super::short_parts::ShortPlaces;
 use city_json::Part;
 use std::marker::Model;
 
@@ -44,14 +45,7 @@ pub(super) struct HeldParts {
     pub address: Option<Part>,
 }
 
-/// Where a part lies in a text of less than 2^32 bytes; it ends at 0 where there is none.
-#[derive(Clone, Copy, Drop)]
-struct ShortPlaces {
-    at: u32,
-    value: u32,
-    end: u32,
-}
-
+/// The places of a part; it ends at 0 where there is none.
 fn short_places(part: Option<Part>) -> Option<ShortPlaces>
     ensures { IfSome result (λ short. part_unless short.at short.value short.end ≡ part) }
 {
@@ -65,16 +59,7 @@ fn short_places(part: Option<Part>) -> Option<ShortPlaces>
     if part.end == 0 {
         return None;
     }
-    let Ok(at) = u32::try_from(part.at) else {
-        return None;
-    };
-    let Ok(value) = u32::try_from(part.value) else {
-        return None;
-    };
-    let Ok(end) = u32::try_from(part.end) else {
-        return None;
-    };
-    Some(ShortPlaces { at, value, end })
+    ShortPlaces::new(part)
 }
 
 fn part_at(short: &ShortPlaces) -> Option<Part>
@@ -83,11 +68,7 @@ fn part_at(short: &ShortPlaces) -> Option<Part>
     if short.end == 0 {
         return None;
     }
-    Some(Part {
-        at: short.at as usize,
-        value: short.value as usize,
-        end: short.end as usize,
-    })
+    Some(short.part())
 }
 
 /// Where they lie, in less than half the room: as many are held as a document has objects.
