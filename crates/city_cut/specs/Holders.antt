@@ -1,7 +1,8 @@
 -- The members of a city object in whose items boundaries stand, each with its own rules.
-use Rattle.std.specs.Prelude.{ℕ, List, Some, codes}
+use Rattle.std.specs.Prelude.{ℕ, List, Option, Some, None, codes, if◌then◌else◌, ◌==◌}
 use Rattle.std.specs.List.{flat_map, AllByRecursion}
 use Rattle.city_json.specs.Tree.{Tree}
+use Rattle.city_json.specs.declared.compacting.parts.Part.{Part}
 use Rattle.city_feature.specs.Shapes.{IsArray}
 use Rattle.city_cut.specs.Boundaries.{IsAddress, IsGeometry, address_boundary, in_items, in_member, own_boundary, relabelled_boundary}
 use Rattle.city_cut.specs.Items.{items_of}
@@ -46,3 +47,7 @@ AreHeld holder count value = IsShaped holder value × AllByRecursion (IsHeld hol
 -- the vertices that the items name
 abbrev pub held_uses : Holder → Tree → List ℕ
 held_uses holder value = flat_map leaves (flat_map (boundary_in holder) (items_of (Some value)))
+
+-- a part; none, where it ends at 0
+abbrev pub part_unless : ℕ → ℕ → ℕ → Option Part
+part_unless at value end = if end == 0 then None else Some (record { at = at; value = value; end = end })

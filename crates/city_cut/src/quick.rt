@@ -14,6 +14,7 @@ mod numbers;
 mod objects;
 mod overview;
 mod points;
+mod short_parts;
 mod texts;
 
 ghost use Rattle.std.specs.Prelude.{◌≡◌, ◌++◌, ◌∷◌, [], ℕ, List, IfSome, OnSome, All, Some, codes, length, map};

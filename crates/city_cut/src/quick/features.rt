@@ -24,24 +24,24 @@ ghost use Rattle.city_cut.specs.Texts.{IsCompactOf};
 ghost use Rattle.city_cut.specs.VertexTexts.{StandAt};
 
 use super::drafts::Draft;
-use super::holders::HeldParts;
+use super::holders::ShortHeld;
 use super::objects::append_object;
 use super::points::{VertexTexts, append_points};
+use super::short_parts::ShortPart;
 use super::texts::append_text;
 use crate::families::Family;
 use crate::held::FeatureTexts;
 use crate::numbering::Numbering;
 use byte_streams::Line;
 use city_feature::between;
-use city_json::Part;
 use std::alloc::Global;
 
 /// Copies the object at a place, with its name.
 fn append_named(
     alloc: Global,
     text: &[u8],
-    parts: &[Part],
-    held: &[HeldParts],
+    parts: &[ShortPart],
+    held: &[ShortHeld],
     at: usize,
     numbering: &mut Numbering,
     draft: &mut Draft,
@@ -63,19 +63,19 @@ fn append_named(
     if at >= held.len() {
         return None;
     }
-    let part = parts[at];
+    let part = parts[at].part();
     let name = between(text, part.at, part.value)?;
     let value = between(text, part.value, part.end)?;
     append_text(name, &mut draft.line)?;
-    append_object(alloc, value, &held[at], numbering, draft)
+    append_object(alloc, value, &held[at].parts(), numbering, draft)
 }
 
 /// Copies the objects at these places, with a comma before each.
 fn append_others(
     alloc: Global,
     text: &[u8],
-    parts: &[Part],
-    held: &[HeldParts],
+    parts: &[ShortPart],
+    held: &[ShortHeld],
     places: &[usize],
     numbering: &mut Numbering,
     draft: &mut Draft,
@@ -101,8 +101,8 @@ fn append_others(
 fn append_objects(
     alloc: Global,
     text: &[u8],
-    parts: &[Part],
-    held: &[HeldParts],
+    parts: &[ShortPart],
+    held: &[ShortHeld],
     places: &[usize],
     numbering: &mut Numbering,
     draft: &mut Draft,
@@ -135,7 +135,7 @@ fn without_colon(name: &[u8]) -> Option<&[u8]>
 }
 
 /// The name of the object at a place, with its marks.
-pub(super) fn id_of<'a>(text: &'a [u8], parts: &[Part], at: usize) -> Option<&'a [u8]>
+pub(super) fn id_of<'a>(text: &'a [u8], parts: &[ShortPart], at: usize) -> Option<&'a [u8]>
     ensures { IfSome result (λ found. (pairs : List (List ℕ × Tree))
         → IsCompactOf text.now (object (member_trees pairs)) → AreParts 1 parts.now (member_trees pairs)
         → found.now ≡ quoted (named_at pairs at).0) }
@@ -143,7 +143,7 @@ pub(super) fn id_of<'a>(text: &'a [u8], parts: &[Part], at: usize) -> Option<&'a
     if at >= parts.len() {
         return None;
     }
-    let part = parts[at];
+    let part = parts[at].part();
     let name = between(text, part.at, part.value)?;
     without_colon(name)
 }
@@ -170,8 +170,8 @@ fn append_rest(vertices: &VertexTexts<'_>, numbers: &[usize], line: &mut Line) -
 fn append_feature(
     alloc: Global,
     text: &[u8],
-    parts: &[Part],
-    held: &[HeldParts],
+    parts: &[ShortPart],
+    held: &[ShortHeld],
     vertices: &VertexTexts<'_>,
     family: &Family,
     numbering: &mut Numbering,
@@ -215,8 +215,8 @@ fn note_end(before: usize, line: &Line, ends: &mut Vec<usize>) -> Option<()>
 pub(super) fn feature_texts(
     alloc: Global,
     text: &[u8],
-    parts: &[Part],
-    held: &[HeldParts],
+    parts: &[ShortPart],
+    held: &[ShortHeld],
     vertices: &VertexTexts<'_>,
     tail: Line,
     families: &[Family],

@@ -12,8 +12,8 @@ ghost use Rattle.city_cut.specs.Texts.{IsCompactOf};
 
 use super::features::id_of;
 use super::kin::texts_of;
+use super::short_parts::ShortPart;
 use crate::objects::place;
-use city_json::Part;
 use std::alloc::Global;
 
 /// The names of the objects that lie in these parts, each with its marks, with their places, in the order of the
@@ -21,7 +21,7 @@ use std::alloc::Global;
 pub(super) fn table_of<'a>(
     alloc: Global,
     text: &'a [u8],
-    parts: &[Part],
+    parts: &[ShortPart],
 ) -> Option<Vec<(&'a [u8], usize)>>
     ensures { IfSome result (λ table. (pairs : List (List ℕ × Tree)) → IsCompactOf text.now (object (member_trees pairs))
         → AreParts 1 parts.now (member_trees pairs)

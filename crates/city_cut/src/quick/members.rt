@@ -54,7 +54,7 @@ fn no_parts(alloc: Global) -> Option<Vec<Part>>
 
 /// Puts a part after the parts.
 #[inline(always)]
-pub(super) fn list_part(part: Part, parts: &mut Vec<Part>) -> Option<()>
+fn list_part(part: Part, parts: &mut Vec<Part>) -> Option<()>
     ensures { OnSome result (parts.new.items ≡ parts.old.items ++ part ∷ []) }
 {
     let Ok(_) = parts.push(part) else {

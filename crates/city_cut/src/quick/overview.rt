@@ -4,9 +4,10 @@ ghost use Rattle.std.specs.List.{AllZip};
 ghost use Rattle.city_json.specs.CompactMembers.{HasParts, LeavesMember};
 ghost use Rattle.city_cut.specs.Overviews.{AreHolders, HasChildrenIn, HasHolders, HasParentsIn, IsHolderPart};
 
-use super::holders::{HeldParts, Holder};
+use super::holders::{HeldParts, Holder, ShortHeld};
 use super::kin::{children_text, has_parents, push_text};
-use super::members::{list_part, members_at};
+use super::members::members_at;
+use super::short_parts::{ShortPart, list_short};
 use super::texts::is_absent;
 use city_feature::{between, part_named};
 use city_json::{Part, string_end};
@@ -19,13 +20,13 @@ const COMMON_LEN: usize = 256;
 #[derive(Drop)]
 pub(super) struct Overview<'a> {
     /// Where each lies.
-    pub places: Vec<Part>,
+    pub places: Vec<ShortPart>,
     /// Whether each names parents.
     pub parents: Vec<bool>,
     /// The text of the children of each; of an empty array, where there are none.
     pub children: Vec<&'a [u8]>,
     /// Where boundaries may stand in each.
-    pub held: Vec<HeldParts>,
+    pub held: Vec<ShortHeld>,
 }
 
 /// A city object with its name, and its members.
@@ -95,10 +96,11 @@ fn list_parents(one: bool, to: &mut Vec<bool>) -> Option<()>
     Some(())
 }
 
-fn list_held(one: HeldParts, to: &mut Vec<HeldParts>) -> Option<()>
+fn list_held(one: HeldParts, to: &mut Vec<ShortHeld>) -> Option<()>
     ensures { OnSome result (to.new.items ≡ to.old.items ++ one ∷ []) }
 {
-    let Ok(_) = to.push(one) else {
+    let short = ShortHeld::new(one)?;
+    let Ok(_) = to.push(short) else {
         return None;
     };
     Some(())
@@ -122,7 +124,7 @@ fn add_object<'a>(alloc: Global, text: &'a [u8], at: usize, to: &mut Overview<'a
     let parents = has_parents(alloc, value, &found.members)?;
     let children = children_text(value, &found.members)?;
     let held = held_parts(value, &found.members)?;
-    list_part(found.part, &mut to.places)?;
+    list_short(found.part, &mut to.places)?;
     list_parents(parents, &mut to.parents)?;
     push_text(children, &mut to.children)?;
     list_held(held, &mut to.held)?;

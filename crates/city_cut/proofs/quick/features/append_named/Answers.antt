@@ -1,4 +1,4 @@
-use Rattle.std.proofs.Common.{arith, refl}
+use Rattle.std.proofs.Common.{◌∙◌, arith}
 use Rattle.city_cut.proofs.QuickFeatures.{named_made}
 use Rattle.city_cut.proofs.QuickOverviews.{holders_at}
 use Rattle.city_cut.proofs.QuickTexts.{on_some_more}
@@ -6,10 +6,11 @@ use Rattle.city_cut.proofs.quick.features.append_named.Goals as goal
 
 pub append_object-requires : goal.append_object-requires
 append_object-requires c = holders_at c.args.text.now c.in_ok-value.value.now c.args.parts.now c.args.held.now
-    c.args.at _ _ _ _ c.requires (omega (arith, c.if-at-held.false)) refl refl c.in_ok-value.ensures.some
+    c.args.at c.part-part.result _ c.parts.result _ c.requires (omega (arith, c.if-at-held.false)) (c.part-part.ensures ∙ c.index-parts-at.is)
+    (c.parts.ensures ∙ c.index-held-at.is) c.in_ok-value.ensures.some
 
 pub returns-clause-made : goal.returns-clause-made
 returns-clause-made c = on_some_more c.append_object.result (λ made pairs of are.
     named_made _ c.args.text.now c.in_ok-name.name.now c.in_ok-value.value.now _ _ _ _ _ _ _ c.args.parts.now c.args.at
-    _ _ pairs (omega (arith, c.if-at-parts.false)) refl c.in_ok-name.ensures.some c.in_ok-value.ensures.some
+    c.part-part.result _ pairs (omega (arith, c.if-at-parts.false)) (c.part-part.ensures ∙ c.index-parts-at.is) c.in_ok-name.ensures.some c.in_ok-value.ensures.some
     c.in_ok-append_text.ensures made of are) c.append_object.ensures.made

@@ -1,0 +1,85 @@
+//! Where members lie, in half the room: as many are held as a document has objects.
+ghost use Rattle.std.specs.Prelude.{◌≡◌, ◌++◌, ◌∷◌, [], IfSome, OnSome};
+
+use city_json::Part;
+use std::marker::Model;
+
+/// The places of a part of a text of less than 2^32 bytes.
+#[derive(Clone, Copy, Drop)]
+pub(super) struct ShortPlaces {
+    pub at: u32,
+    pub value: u32,
+    pub end: u32,
+}
+
+impl ShortPlaces {
+    /// Those of a part, where they are below 2^32.
+    pub(super) fn new(part: Part) -> Option<ShortPlaces>
+        ensures at { IfSome result (λ short. short.at ≡ part.at) }
+        ensures value { IfSome result (λ short. short.value ≡ part.value) }
+        ensures end { IfSome result (λ short. short.end ≡ part.end) }
+    {
+        let Ok(at) = u32::try_from(part.at) else {
+            return None;
+        };
+        let Ok(value) = u32::try_from(part.value) else {
+            return None;
+        };
+        let Ok(end) = u32::try_from(part.end) else {
+            return None;
+        };
+        Some(ShortPlaces { at, value, end })
+    }
+
+    pub(super) fn part(&self) -> Part
+        ensures { result ≡ record { at = self.now.at; value = self.now.value; end = self.now.end } }
+    {
+        Part {
+            at: self.at as usize,
+            value: self.value as usize,
+            end: self.end as usize,
+        }
+    }
+}
+
+/// A part, which contracts see as one.
+#[derive(Clone, Copy)]
+pub(super) struct ShortPart {
+    places: ShortPlaces,
+}
+
+impl Model for ShortPart {
+    ghost use Rattle.city_json.specs.declared.compacting.parts.Part.{Part};
+
+    ghost Value = { Part };
+
+    ghost view = { λ short. record { at = short.places.at; value = short.places.value; end = short.places.end } };
+
+    ghost inverse = { λ part. record { places = record { at = part.at; value = part.value; end = part.end } } };
+}
+
+impl ShortPart {
+    pub(super) fn new(part: Part) -> Option<ShortPart>
+        ensures { IfSome result (λ short. short ≡ part) }
+    {
+        let places = ShortPlaces::new(part)?;
+        Some(ShortPart { places })
+    }
+
+    pub(super) fn part(&self) -> Part
+        ensures { result ≡ self.now }
+    {
+        self.places.part()
+    }
+}
+
+/// Puts a part after the parts.
+pub(super) fn list_short(part: Part, to: &mut Vec<ShortPart>) -> Option<()>
+    ensures { OnSome result (to.new.items ≡ to.old.items ++ part ∷ []) }
+{
+    let short = ShortPart::new(part)?;
+    let Ok(_) = to.push(short) else {
+        return None;
+    };
+    Some(())
+}
