@@ -10,11 +10,11 @@ use Rattle.std.specs.Ordering.{nat_cmp}
 use Rattle.std.specs.List.Sorted.{IsPermutation, IsSorted, IsStrictlyIncreasing}
 use Rattle.std.specs.List.{dedup}
 use Rattle.std.specs.Prelude.{eqb, ◌↔◌}
-use Rattle.std.proofs.lemmas.List.Elements.{Contains-get_or, Contains-append_left, Contains-push, Contains-push_cases}
+use Rattle.std.proofs.lemmas.List.Elements.{All-from_recursion, Contains-get_or, Contains-append_left, Contains-push, Contains-push_cases}
 use Rattle.std.proofs.lemmas.Option.{slice_get_within, slice_get-get_or, slice_get_cases, slice_get-map, slice_get_read, get_or_from_slice_get}
 use Rattle.std.proofs.lemmas.Slice.Eq.{bytes_eq-Decides}
 use Rattle.std.specs.Global.{Global}
-use Rattle.std.specs.List.{Contains, slice_get}
+use Rattle.std.specs.List.{AllByRecursion, Contains, slice_get}
 use Rattle.std.specs.Prelude.{Vec}
 use Rattle.city_json.specs.Fits.{HasDistinctNames, IsNewName}
 use Rattle.city_json.specs.Members.{first_named, names}
@@ -332,3 +332,13 @@ lacks_none objects graph is_graph lacks =
           )
       | inr past ↦ absurd (omega (arith, past.0, lacks.1.1, is_graph.long, long_values objects))
     ]
+
+-- what holds of the value of each member holds of that at a place
+pub at_value : (P : Tree → Type 0) (objects : List Member) (i : ℕ) (m : Member)
+    → AllByRecursion P (values (members_tree objects)) → i < length objects → m ≡ get_or objects i m
+    → P (named_tree m).1
+at_value P objects i m all within at =
+    let value : Member → Tree = λ m. (named_tree m).1 in
+    subst P (get_or-map value objects i m ∙ ap value (sym at))
+    (All-from_recursion P (map value objects) (subst (AllByRecursion P) (values_map objects) all) i (value m)
+    (omega (arith, within, length-map objects value)))

@@ -2,18 +2,20 @@
 ghost use Rattle.std.specs.Prelude.{◌≡◌, ◌⊎◌, ◌↔◌, ◌++◌, ℕ, List, map, length, IsTrue, OnOk, IfErr};
 ghost use Rattle.std.specs.List.{flat_map, AllByRecursion};
 ghost use Rattle.city_json.specs.Members.{member_of};
-ghost use Rattle.city_json.specs.Tree.{Tree, tree, items_tree};
+ghost use Rattle.city_json.specs.Tree.{Tree, members_tree, named_tree, tree, items_tree};
 ghost use Rattle.city_feature.specs.Shapes.{IsArray, IsObject, WhereThere};
 ghost use Rattle.city_cut.specs.Boundaries.{IsAddress, IsBounded, IsGeometry};
 ghost use Rattle.city_cut.specs.Boundaries.{address_boundary, boundaries, own_boundary};
+ghost use Rattle.city_cut.specs.Items.{values};
 ghost use Rattle.city_cut.specs.Leaves.{IsBoundary, leaves};
 ghost use Rattle.city_cut.specs.Numbered.{AreNumbered};
 
 use crate::leaves::number_items;
 use crate::numbering::Numbering;
-use crate::values::{is_object, items_named};
+use crate::values::{is_object, items_named, value_of};
 use byte_streams::Fault;
-use city_json::Json;
+use city_json::{Json, Member};
+use std::alloc::Global;
 
 /// Numbers the vertices of the member `boundaries`, if there is one.
 fn number_boundaries(value: &Json, numbering: &mut Numbering) -> Result<(), Fault>
@@ -136,4 +138,28 @@ pub(crate) fn number_object(value: &Json, numbering: &mut Numbering) -> Result<(
     }
     number_each(&Geometry, items_named(value, "geometry"), numbering)?;
     number_each(&Address, items_named(value, "address"), numbering)
+}
+
+/// Refuses objects of which one has a boundary that is none of so many vertices, before anything is made of them.
+///
+/// # Errors
+///
+/// [`Fault::BoundaryIndex`] where a boundary index is invalid, and [`Fault::Memory`].
+pub(crate) fn check_boundaries(
+    alloc: Global,
+    objects: &[Member],
+    vertices: usize,
+) -> Result<(), Fault>
+    ensures fault { IfErr result (λ fault. (fault ≡ Fault.Memory)
+        ⊎ ((fault ≡ Fault.BoundaryIndex)
+        × ¬ AllByRecursion (IsBounded vertices) (values (members_tree objects.now)))) }
+{
+    let mut numbering = Numbering {
+        table: vec![in alloc; 0usize; vertices]?,
+        order: Vec::new(alloc),
+    };
+    for member in objects {
+        number_object(value_of(member), &mut numbering)?;
+    }
+    Ok(())
 }

@@ -7,6 +7,7 @@ ghost use Rattle.city_cut.specs.Cut.{HasFeatures, IsCut, IsCuttable, RefusesCut}
 ghost use Rattle.city_cut.specs.HeldTexts.{texts_in};
 ghost use Rattle.city_cut.specs.Lines.{texts_of};
 
+use crate::boundaries::check_boundaries;
 use crate::cuts::{Cut, CutTexts};
 use crate::documents::check_document;
 use crate::families::families;
@@ -32,6 +33,7 @@ fn keep_document<K: Keep>(alloc: Global, document: &Json, kept: &mut K) -> Resul
     let objects = members_named(document, "CityObjects");
     let families = families(alloc, objects)?;
     let vertices = items_named(document, "vertices");
+    check_boundaries(alloc, objects, vertices.len())?;
     let appearance = document.get("appearance");
     keep_features(alloc, objects, vertices, appearance, &families, kept)?;
     Ok(())

@@ -24,6 +24,15 @@ keep_features-requires-clause-distinct g c =
 pub keep_features-requires-clause-families : goal.keep_features-requires-clause-families
 keep_features-requires-clause-families g c = rw c.deref.ensures.value c.in_ok-families.ensures.ok
 
+pub returns-in_err-check_boundaries-clause-refusal : goal.returns-in_err-check_boundaries-clause-refusal
+returns-in_err-check_boundaries-clause-refusal g c =
+    let p = err_from_is_err_and c.from_residual-in_err-check_boundaries.result
+    c.from_residual-in_err-check_boundaries.ensures.1 in
+    rw (p.1, p.2) (is_refused (tree c.args.document.now) c.members_named-objects.result.now
+    c.items_named-vertices.result.now c.members_named-objects.ensures c.items_named-vertices.ensures.items _
+    c.in_ok-check_document.ensures.ok c.in_ok-families.ensures.children c.in_ok-families.ensures.belong
+    (λ points are. c.in_err-check_boundaries.ensures.fault))
+
 pub returns-in_err-keep_features-clause-refusal : goal.returns-in_err-keep_features-clause-refusal
 returns-in_err-keep_features-clause-refusal g c =
     let p = err_from_is_err_and c.from_residual-in_err-keep_features.result
