@@ -1,8 +1,9 @@
 //! Documents that are cut, and the streams that are written.
-use crate::texts::{DOCUMENT, FEATURE, HEADER, expect_cat, stream_of};
+use crate::texts::{DOCUMENT, FEATURE, HEADER, expect_answer, expect_bytes, expect_cat, stream_of};
 use byte_streams::{Bin, Device};
 use document_stream::cat_document;
 use std::alloc::{AllocError, Global};
+use std::process::Abort;
 use std::test::Fail;
 
 #[test]
@@ -57,6 +58,14 @@ fn features_come_in_the_order_of_the_document(rt: HostRuntime) -> Result<(), Fai
     expect_cat(&rt, (document.as_bytes(), false), Ok(3), &want)
 }
 
+/// The feature of a point, with what its boundaries and its vertices are: of the first point, and of each other.
+const POINT: &str =
+    "{\"type\":\"CityJSONFeature\",\"id\":\"oNUMBER\",\"CityObjects\":{\"oNUMBER\":{\"type\":\"Building\",\"geometry\":[{\"type\":\"MultiPoint\",\"boundaries\":[LEAVES]}]}},\"vertices\":[VERTICES]}\n";
+
+const FIRST: (&str, &str) = ("0,0", "[0,2,-3]");
+
+const OTHERS: (&str, &str) = ("0,1", "[NUMBER,2,-3],[0,2,-3]");
+
 /// A document of so many points, each an object that also names the first vertex; and its stream.
 fn points(alloc: Global, count: u32) -> Result<(String, String), AllocError> {
     let (head, _) = HEADER.split_once("{},").unwrap_or((HEADER, ""));
@@ -70,45 +79,37 @@ fn points(alloc: Global, count: u32) -> Result<(String, String), AllocError> {
         )?;
         objects.push_str(&format!(in alloc; "{comma}{object}{number},0]}}]}}")?)?;
         vertices.push_str(&format!(in alloc; "{comma}[{number},2,-3]")?)?;
-        let (leaves, own) = if number == 0 {
-            ("0,0", "[0,2,-3]".to_string(alloc)?)
-        } else {
-            ("0,1", format!(in alloc; "[{number},2,-3],[0,2,-3]")?)
-        };
-        stream.push_str(&format!(in alloc;
-            "{{\"type\":\"CityJSONFeature\",\"id\":\"o{number}\",\"CityObjects\":{{{object}{leaves}]}}]}}}},\"vertices\":[{own}]}}\n"
-        )?)?;
+        let (leaves, own) = if number == 0 { FIRST } else { OTHERS };
+        let text = POINT.replace(alloc, "LEAVES", leaves)?;
+        let text = text.replace(alloc, "VERTICES", own)?;
+        stream.push_str(&text.replace(alloc, "NUMBER", &format!(in alloc; "{number}")?)?)?;
     }
     let document = format!(in alloc; "{head}{{{objects}}},\"vertices\":[{vertices}]}}")?;
     Ok((document, stream))
 }
 
+/// The document is written as this stream.
+fn expect_stream(
+    rt: &(impl Abort + AllocGlobal),
+    document: &str,
+    stream: &[u8],
+    count: u64,
+) -> Result<(), Fail> {
+    let mut output = Bin::new(rt.alloc(), stream.len(), 100_000, false)?;
+    let found = cat_document(rt.alloc(), Device::new(document.as_bytes()), &mut output);
+    expect_answer(rt, found, Ok(count), 0);
+    expect_bytes(rt, output.bytes(), stream, 0);
+    Ok(())
+}
+
 #[test]
 fn a_document_may_have_many_features_and_long_texts(rt: HostRuntime) -> Result<(), Fail> {
-    let (document, stream) = points(rt.alloc(), 10_000)?;
-    let mut output = Bin::new(rt.alloc(), stream.len(), 100_000, false)?;
-    assert_eq!(rt;
-        cat_document(rt.alloc(), Device::new(document.as_bytes()), &mut output),
-        Ok(10_000)
-    );
-    assert_eq!(rt; output.bytes() == stream.as_bytes(), true);
-    let long = "long".repeat(rt.alloc(), 1_000_000)?;
-    let document = DOCUMENT.replace(
-        rt.alloc(),
-        "Building\",",
-        &format!(in rt.alloc(); "{long}\",")?,
-    )?;
-    let feature = FEATURE.replace(
-        rt.alloc(),
-        "Building\",",
-        &format!(in rt.alloc(); "{long}\",")?,
-    )?;
-    let stream = stream_of(rt.alloc(), &[HEADER, &feature])?;
-    let mut output = Bin::new(rt.alloc(), stream.len(), 100_000, false)?;
-    assert_eq!(rt;
-        cat_document(rt.alloc(), Device::new(document.as_bytes()), &mut output),
-        Ok(1)
-    );
-    assert_eq!(rt; output.bytes() == stream.as_slice(), true);
-    Ok(())
+    let alloc = rt.alloc();
+    let (document, stream) = points(alloc, 10_000)?;
+    expect_stream(&rt, &document, stream.as_bytes(), 10_000)?;
+    let long = format!(in alloc; "{}\",", "long".repeat(alloc, 1_000_000)?)?;
+    let document = DOCUMENT.replace(alloc, "Building\",", &long)?;
+    let feature = FEATURE.replace(alloc, "Building\",", &long)?;
+    let stream = stream_of(alloc, &[HEADER, &feature])?;
+    expect_stream(&rt, &document, &stream, 1)
 }

@@ -1,5 +1,8 @@
 //! Readers and writers that fail.
-use crate::texts::{DOCUMENT, FEATURE, HEADER, NOT_WRITTEN, expect_cat, refused, stream_of};
+use crate::texts::{
+    DOCUMENT, FEATURE, HEADER, NOT_WRITTEN, expect_answer, expect_bytes, expect_cat, expect_count,
+    refused, stream_of,
+};
 use byte_streams::{Bin, Device, Fault, Line, Source, Tape};
 use document_stream::{cat_document, cat_source};
 use std::io::{self, ErrorKind, Read, Write};
@@ -54,17 +57,10 @@ fn nothing_is_read_after_a_failed_read(rt: HostRuntime) -> Result<(), Fail> {
             failing,
         });
         let mut output = Bin::new(rt.alloc(), 1024, 1024, false)?;
-        assert_eq!(rt;
-            cat_source(rt.alloc(), &mut source, &mut output),
-            answer,
-            "read {failing}"
-        );
-        assert_eq!(rt; counted.load(SeqCst), reads, "read {failing}");
-        assert_eq!(rt;
-            output.bytes().is_empty(),
-            answer.is_err(),
-            "read {failing}"
-        );
+        let found = cat_source(rt.alloc(), &mut source, &mut output);
+        expect_answer(&rt, found, answer, 0);
+        expect_count(&rt, &counted, reads);
+        assert!(rt; output.bytes().is_empty() == answer.is_err());
     }
     Ok(())
 }
@@ -75,13 +71,11 @@ fn what_is_left_of_a_refused_source_is_not_taken(rt: HostRuntime) -> Result<(), 
     let mut tape = Tape::new(text, 2, true);
     let mut output = Bin::new(rt.alloc(), 64, 64, false)?;
     for _ in 0..3u8 {
-        assert_eq!(rt;
-            cat_source(rt.alloc(), &mut tape, &mut output),
-            refused(Fault::Read)
-        );
+        let found = cat_source(rt.alloc(), &mut tape, &mut output);
+        expect_answer(&rt, found, refused(Fault::Read), 0);
     }
     let mut byte = [0u8];
-    assert_eq!(rt; tape.read(&mut byte), Err(Fault::Read));
+    assert!(rt; tape.read(&mut byte) == Err(Fault::Read));
     assert!(rt; output.bytes().is_empty());
     Ok(())
 }
@@ -93,12 +87,9 @@ fn a_failed_write_leaves_a_front_of_the_stream(rt: HostRuntime) -> Result<(), Fa
         for step in [1usize, 100, 4096] {
             let text = Line::from_vec(DOCUMENT.as_bytes().to_vec(rt.alloc())?);
             let mut output = Bin::new(rt.alloc(), room, step, false)?;
-            assert_eq!(rt;
-                cat_document(rt.alloc(), Tape::new(text, 100, false), &mut output),
-                Err(NOT_WRITTEN),
-                "room {room}, step {step}"
-            );
-            assert_eq!(rt; output.bytes(), &whole[..room], "room {room}, step {step}");
+            let found = cat_document(rt.alloc(), Tape::new(text, 100, false), &mut output);
+            expect_answer(&rt, found, Err(NOT_WRITTEN), room);
+            expect_bytes(&rt, output.bytes(), &whole[..room], room);
         }
     }
     Ok(())
@@ -115,16 +106,9 @@ fn a_write_of_no_bytes_and_a_failed_flush_are_failures(rt: HostRuntime) -> Resul
     ] {
         let text = Line::from_vec(document.as_bytes().to_vec(rt.alloc())?);
         let mut output = Bin::new(rt.alloc(), 4096, step, flush_fails)?;
-        assert_eq!(rt;
-            cat_document(rt.alloc(), Tape::new(text, 100, false), &mut output),
-            Err(NOT_WRITTEN),
-            "step {step}"
-        );
-        assert_eq!(rt;
-            output.bytes(),
-            &whole[..taken.min(whole.len())],
-            "step {step}"
-        );
+        let found = cat_document(rt.alloc(), Tape::new(text, 100, false), &mut output);
+        expect_answer(&rt, found, Err(NOT_WRITTEN), step);
+        expect_bytes(&rt, output.bytes(), &whole[..taken.min(whole.len())], step);
     }
     Ok(())
 }
@@ -181,9 +165,10 @@ fn each_text_is_written_and_none_follows_a_failure(rt: HostRuntime) -> Result<()
             4096,
             false,
         );
-        assert_eq!(rt; cat_document(rt.alloc(), tape, &mut output), answer);
-        assert_eq!(rt; writes.load(SeqCst), written);
-        assert_eq!(rt; flushes.load(SeqCst), flushed);
+        let found = cat_document(rt.alloc(), tape, &mut output);
+        expect_answer(&rt, found, answer, 0);
+        expect_count(&rt, &writes, written);
+        expect_count(&rt, &flushes, flushed);
     }
     Ok(())
 }

@@ -33,31 +33,34 @@ fn an_input_is_one_text(rt: HostRuntime) -> Result<(), Fail> {
     Ok(())
 }
 
+/// What is put in place of what in the document, and why it is refused then.
+const REPLACED: [(&str, &str, Fault); 15] = [
+    ("\"CityJSON\"", "\"CityJSONFeature\"", Fault::NotCityJson),
+    (r#"["p1","p2"]"#, "\"p1\"", Fault::NotCityJson),
+    ("2.0", "1.1", Fault::Version),
+    ("\"scale\"", "\"scales\"", Fault::NoTransform),
+    ("[0.001,", "[1e-25,", Fault::Decimal),
+    ("[0.001,", "[0,", Fault::ScaleNotPositive),
+    ("[2,2,2]", "[2,2]", Fault::VertexShape),
+    ("[2,2,2]", "[2,2.0,2]", Fault::VertexNotInteger),
+    ("[2,2,2]", "[2,9007199254740992,2]", Fault::VertexRange),
+    (r#"["p1","p2"]"#, r#"["p1","p3"]"#, Fault::ChildMissing),
+    (r#"["p1","p2"]"#, r#"["p1"]"#, Fault::Orphan),
+    (
+        "\"Building\",",
+        r#""Building","parents":["p1"],"#,
+        Fault::Orphan,
+    ),
+    ("[3,1]", "[4,1]", Fault::BoundaryIndex),
+    ("[3,1]", "[\"3\",1]", Fault::BoundaryIndex),
+    ("[3,1]", "[-0,1]", Fault::BoundaryIndex),
+];
+
 #[test]
 fn documents_are_refused_by_their_first_fault(rt: HostRuntime) -> Result<(), Fail> {
-    for (old, new, fault) in [
-        ("\"CityJSON\"", "\"CityJSONFeature\"", Fault::NotCityJson),
-        (r#"["p1","p2"]"#, "\"p1\"", Fault::NotCityJson),
-        ("2.0", "1.1", Fault::Version),
-        ("\"scale\"", "\"scales\"", Fault::NoTransform),
-        ("[0.001,", "[1e-25,", Fault::Decimal),
-        ("[0.001,", "[0,", Fault::ScaleNotPositive),
-        ("[2,2,2]", "[2,2]", Fault::VertexShape),
-        ("[2,2,2]", "[2,2.0,2]", Fault::VertexNotInteger),
-        ("[2,2,2]", "[2,9007199254740992,2]", Fault::VertexRange),
-        (r#"["p1","p2"]"#, r#"["p1","p3"]"#, Fault::ChildMissing),
-        (r#"["p1","p2"]"#, r#"["p1"]"#, Fault::Orphan),
-        (
-            "\"Building\",",
-            r#""Building","parents":["p1"],"#,
-            Fault::Orphan,
-        ),
-        ("[3,1]", "[4,1]", Fault::BoundaryIndex),
-        ("[3,1]", "[\"3\",1]", Fault::BoundaryIndex),
-        ("[3,1]", "[-0,1]", Fault::BoundaryIndex),
-    ] {
+    for (old, new, fault) in REPLACED.iter() {
         let document = DOCUMENT.replace(rt.alloc(), old, new)?;
-        expect_cat(&rt, (document.as_bytes(), false), refused(fault), &[])?;
+        expect_cat(&rt, (document.as_bytes(), false), refused(*fault), &[])?;
     }
     expect_cat(&rt, (b"[]", false), refused(Fault::NotCityJson), &[])
 }

@@ -4,6 +4,8 @@ use byte_streams::{Bin, Fault, Line, MergeFault, Tape};
 use document_stream::cat_document;
 use std::alloc::{AllocError, AllocGlobal, Global};
 use std::process::Abort;
+use std::sync::atomic::AtomicU64;
+use std::sync::atomic::Ordering::SeqCst;
 use std::test::Fail;
 
 pub(crate) const HEADER: &str =
@@ -40,6 +42,25 @@ pub(crate) fn stream_of(alloc: Global, texts: &[&str]) -> Result<Vec<u8>, AllocE
     Ok(stream)
 }
 
+/// Wants this answer of a call, at this step or room.
+pub(crate) fn expect_answer(
+    rt: &impl Abort,
+    found: Result<u64, MergeFault>,
+    wanted: Result<u64, MergeFault>,
+    at: usize,
+) {
+    assert!(rt; found == wanted, "{found:?} at {at}");
+}
+
+pub(crate) fn expect_bytes(rt: &impl Abort, found: &[u8], wanted: &[u8], at: usize) {
+    assert!(rt; found == wanted, "{} bytes at {at}", found.len());
+}
+
+pub(crate) fn expect_count(rt: &impl Abort, count: &AtomicU64, wanted: u64) {
+    let found = count.load(SeqCst);
+    assert!(rt; found == wanted, "{found} in place of {wanted}");
+}
+
 /// Reads the document with ample memory, at few and at many bytes a read and a write, and compares all
 /// that is answered and written.
 pub(crate) fn expect_cat(
@@ -56,12 +77,13 @@ pub(crate) fn expect_cat(
             fails,
         );
         let mut output = Bin::new(rt.alloc(), 8192, step, false)?;
-        assert_eq!(rt;
+        expect_answer(
+            rt,
             cat_document(rt.alloc(), tape, &mut output),
             answer,
-            "step {step}"
+            step,
         );
-        assert_eq!(rt; output.bytes(), written.as_slice(), "step {step}");
+        expect_bytes(rt, output.bytes(), &written, step);
     }
     Ok(())
 }

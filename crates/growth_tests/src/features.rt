@@ -42,18 +42,13 @@ fn expect_vertex(rt: &(impl Abort + AllocGlobal + Eprint)) -> Result<(), Fault> 
             panic!(rt; "no vertex {text}");
         };
         let built = answered(rt, Call("vertex_json"), vertex_json(rt.alloc(), &vertex))?;
-        assert_eq!(rt; printed(rt.alloc(), &built)?.items(), text.as_bytes());
+        assert!(rt; printed(rt.alloc(), &built)?.items() == text.as_bytes());
         let mut value = read(rt.alloc(), b"null")?;
         let written = write_vertex(rt.alloc(), &vertex, &mut value);
         answered(rt, Call("write_vertex"), written)?;
-        assert_eq!(rt; printed(rt.alloc(), &value)?.items(), text.as_bytes());
+        assert!(rt; printed(rt.alloc(), &value)?.items() == text.as_bytes());
     }
     Ok(())
-}
-
-#[test]
-fn a_vertex_is_written(rt: HostRuntime) -> Result<(), Fail> {
-    with_memory!(expect_vertex(&rt))
 }
 
 /// A line to which a vertex is appended is as before where memory is wanted.
@@ -66,17 +61,12 @@ fn expect_appended(rt: &(impl Abort + AllocGlobal + Eprint)) -> Result<(), Fault
         line.append(b"[")?;
         if append_vertex(b',', &vertex, &mut line).is_err() {
             wanted(rt, Call("append_vertex"));
-            assert_eq!(rt; line.items(), b"[".as_slice());
+            assert!(rt; line.items() == b"[".as_slice());
             append_vertex(b',', &vertex, &mut line)?;
         }
         assert_eq!(rt; line.items().strip_prefix(b"[,"), Some(text.as_bytes()));
     }
     Ok(())
-}
-
-#[test]
-fn a_vertex_is_appended(rt: HostRuntime) -> Result<(), Fail> {
-    with_memory!(expect_appended(&rt))
 }
 
 fn expect_member(rt: &(impl Abort + AllocGlobal + Eprint)) -> Result<(), Fault> {
@@ -85,13 +75,8 @@ fn expect_member(rt: &(impl Abort + AllocGlobal + Eprint)) -> Result<(), Fault> 
     let set = set_member(rt.alloc(), &mut value, "b", given);
     answered(rt, Call("set_member"), set)?;
     let wanted = br#"{"a":1,"b":[1.50]}"#;
-    assert_eq!(rt; printed(rt.alloc(), &value)?.items(), wanted.as_slice());
+    assert!(rt; printed(rt.alloc(), &value)?.items() == wanted.as_slice());
     Ok(())
-}
-
-#[test]
-fn a_member_is_set(rt: HostRuntime) -> Result<(), Fail> {
-    with_memory!(expect_member(&rt))
 }
 
 /// Two headers joined, or why they are not: for the second of them, or for want of memory, which is of no tile.
@@ -110,10 +95,10 @@ fn join(
         Ok(joined) => Ok(joined),
         Err(HeaderFault { tile, fault }) => {
             if tile == 0 {
-                assert_eq!(rt; fault, Fault::Memory);
+                assert!(rt; fault == Fault::Memory);
                 wanted(rt, Call("join_headers"));
             } else {
-                assert_eq!(rt; tile, 2);
+                assert!(rt; tile == 2);
                 assert!(rt; fault != Fault::Memory);
             }
             Err(fault)
@@ -131,11 +116,11 @@ fn expect_joined(
     x: i64,
 ) -> Result<(), Fault> {
     let joined = join(rt, first, second, base)?;
-    assert_eq!(rt; joined.line.items(), line.as_bytes());
+    assert!(rt; joined.line.items() == line.as_bytes());
     let [_, shift] = joined.shifts.items() else {
         panic!(rt; "{joined:?}");
     };
-    assert_eq!(rt; Some(*shift), Shift::new(x, 0, 0));
+    assert!(rt; Some(*shift) == Shift::new(x, 0, 0));
     Ok(())
 }
 
@@ -149,7 +134,7 @@ fn expect_unjoined(
         Ok(joined) => panic!(rt; "{joined:?}"),
         Err(Fault::Memory) => Err(Fault::Memory),
         Err(fault) => {
-            assert_eq!(rt; fault, wanted);
+            assert!(rt; fault == wanted);
             Ok(())
         }
     }
@@ -164,22 +149,12 @@ fn expect_headers(rt: &(impl Abort + AllocGlobal + Eprint)) -> Result<(), Fault>
     expect_joined(rt, TITLED, BELOW, Base::Least, TITLED_AND_BELOW, 1500)
 }
 
-#[test]
-fn headers_are_joined(rt: HostRuntime) -> Result<(), Fail> {
-    with_memory!(expect_headers(&rt))
-}
-
 fn expect_other_headers(rt: &(impl Abort + AllocGlobal + Eprint)) -> Result<(), Fault> {
     expect_unjoined(rt, HEADER, OFF_GRID, Fault::OffGrid)?;
     expect_unjoined(rt, DUTCH, OTHER_DUTCH, Fault::CrsDiffers)?;
     expect_unjoined(rt, DUTCH, HEADER, Fault::CrsDiffers)?;
     expect_unjoined(rt, HEADER, DUTCH, Fault::CrsDiffers)?;
     expect_unjoined(rt, EXTENDED, CLASHING, Fault::ExtensionClash)
-}
-
-#[test]
-fn other_headers_are_refused(rt: HostRuntime) -> Result<(), Fail> {
-    with_memory!(expect_other_headers(&rt))
 }
 
 const TITLED: &str =
@@ -205,16 +180,11 @@ fn shift() -> Result<Shift, Fault> {
 fn expect_feature(rt: &(impl Abort + AllocGlobal + Eprint)) -> Result<(), Fault> {
     let alloc = rt.alloc();
     let taken = answered(rt, Call("feature"), feature(alloc, read(alloc, SPACED)?))?;
-    assert_eq!(rt; taken.vertices().len(), 5);
+    assert!(rt; taken.vertices().len() == 5);
     let moved = shifted(alloc, taken, shift()?)?;
     let text = answered(rt, Call("line"), line(alloc, &moved))?;
-    assert_eq!(rt; text.items(), MOVED);
+    assert!(rt; text.items() == MOVED);
     Ok(())
-}
-
-#[test]
-fn a_feature_is_moved_and_written(rt: HostRuntime) -> Result<(), Fail> {
-    with_memory!(expect_feature(&rt))
 }
 
 /// What a feature's line comes to after so many steps in x, or why it is refused.
@@ -233,12 +203,12 @@ fn expect_shifted(
     };
     match (answer, moves) {
         (Ok(moved), Ok(text)) => {
-            assert_eq!(rt; line(alloc, &moved)?.items(), text.as_bytes());
+            assert!(rt; line(alloc, &moved)?.items() == text.as_bytes());
             Ok(())
         }
         (Err(Fault::Memory), _) => Err(Fault::Memory),
         (Err(fault), Err(other)) => {
-            assert_eq!(rt; fault, other);
+            assert!(rt; fault == other);
             Ok(())
         }
         (Ok(_), Err(fault)) => panic!(rt; "no {fault:?} in {text}"),
@@ -302,11 +272,6 @@ fn expect_features(rt: &(impl Abort + AllocGlobal + Eprint)) -> Result<(), Fault
     Ok(())
 }
 
-#[test]
-fn features_are_moved_or_refused(rt: HostRuntime) -> Result<(), Fail> {
-    with_memory!(expect_features(&rt))
-}
-
 /// A choice of roads and bridges, by a copy of it.
 fn choice_of(alloc: Global) -> Result<Choice, Fault> {
     let names = types(
@@ -324,8 +289,8 @@ fn expect_line(rt: &(impl Abort + AllocGlobal + Eprint), bytes: &[u8]) -> Result
     let first = feature_line(alloc, bytes, shift()?, &choice, &mut text);
     let answer = match answered(rt, Call("feature_line"), first) {
         Err(fault) => {
-            assert_eq!(rt; fault, Fault::Memory);
-            assert_eq!(rt; text.items(), b"front ".as_slice());
+            assert!(rt; fault == Fault::Memory);
+            assert!(rt; text.items() == b"front ".as_slice());
             feature_line(alloc, bytes, shift()?, &choice, &mut text)?
         }
         Ok(answer) => answer,
@@ -333,11 +298,6 @@ fn expect_line(rt: &(impl Abort + AllocGlobal + Eprint), bytes: &[u8]) -> Result
     assert!(rt; answer);
     assert_eq!(rt; text.items().strip_prefix(b"front "), Some(MOVED));
     Ok(())
-}
-
-#[test]
-fn a_line_is_chosen_and_moved(rt: HostRuntime) -> Result<(), Fail> {
-    with_memory!(expect_line(&rt, SPACED))
 }
 
 /// Its last vertex is at fault, which only the reading of its value says.
@@ -350,17 +310,12 @@ fn expect_fault(rt: &(impl Abort + AllocGlobal + Eprint)) -> Result<(), Fault> {
     let mut text = Line::from_vec(b"front ".to_vec(alloc)?);
     let answer = feature_line(alloc, FAULTY, shift()?, &choice, &mut text);
     let answer = answered(rt, Call("feature_line"), answer);
-    assert_eq!(rt; text.items(), b"front ".as_slice());
+    assert!(rt; text.items() == b"front ".as_slice());
     if answer == Err(Fault::Memory) {
         return Err(Fault::Memory);
     }
-    assert_eq!(rt; answer, Err(Fault::VertexNotInteger));
+    assert!(rt; answer == Err(Fault::VertexNotInteger));
     Ok(())
-}
-
-#[test]
-fn a_line_is_refused(rt: HostRuntime) -> Result<(), Fail> {
-    with_memory!(expect_fault(&rt))
 }
 
 /// How many names stand between the commas, none where one is empty.
@@ -372,16 +327,11 @@ fn expect_types(rt: &(impl Abort + AllocGlobal + Eprint)) -> Result<(), Fault> {
         ("A,,B", None),
     ] {
         match answered(rt, Call("types"), types(rt.alloc(), text))? {
-            Some(names) => assert_eq!(rt; Some(names.items().len()), count, "{text}"),
-            None => assert_eq!(rt; None, count, "{text}"),
+            Some(names) => assert!(rt; Some(names.items().len()) == count, "{text}"),
+            None => assert!(rt; None == count, "{text}"),
         }
     }
     Ok(())
-}
-
-#[test]
-fn types_are_read(rt: HostRuntime) -> Result<(), Fail> {
-    with_memory!(expect_types(&rt))
 }
 
 /// A copy of a choice selects what the choice does.
@@ -394,15 +344,10 @@ fn expect_choice(rt: &(impl Abort + AllocGlobal + Eprint)) -> Result<(), Fault> 
         let choice = Choice::new(names, area("10,10,20,20"), exclude);
         let copy = answered(rt, Call("Choice::copy"), choice.copy(alloc))?;
         drop(choice);
-        assert_eq!(rt; selects(&copy, &road), !exclude);
-        assert_eq!(rt; selects(&copy, &building), exclude);
+        assert!(rt; selects(&copy, &road) == !exclude);
+        assert!(rt; selects(&copy, &building) == exclude);
     }
     Ok(())
-}
-
-#[test]
-fn a_choice_is_copied(rt: HostRuntime) -> Result<(), Fail> {
-    with_memory!(expect_choice(&rt))
 }
 
 fn expect_cut(rt: &(impl Abort + AllocGlobal + Eprint)) -> Result<(), Fault> {
@@ -415,41 +360,30 @@ fn expect_cut(rt: &(impl Abort + AllocGlobal + Eprint)) -> Result<(), Fault> {
     ] {
         match answered(rt, Call("cut"), cut(alloc, read(alloc, text.as_bytes())?)) {
             Ok(found) => {
-                assert_eq!(rt; Ok(()), cuts);
-                assert_eq!(rt;
-                    printed(alloc, found.header.json())?.items(),
-                    HEADER.as_bytes()
-                );
+                assert!(rt; Ok(()) == cuts);
+                assert!(rt; printed(alloc, found.header.json())?.items() == HEADER.as_bytes());
                 let [building] = found.features.items() else {
                     panic!(rt; "{found:?}");
                 };
-                assert_eq!(rt; line(alloc, building)?.items(), BUILDING.as_bytes());
+                assert!(rt; line(alloc, building)?.items() == BUILDING.as_bytes());
             }
             Err(Fault::Memory) => return Err(Fault::Memory),
-            Err(fault) => assert_eq!(rt; Err(fault), cuts),
+            Err(fault) => assert!(rt; Err(fault) == cuts),
         }
     }
     Ok(())
 }
 
-#[test]
-fn a_document_is_cut(rt: HostRuntime) -> Result<(), Fail> {
-    with_memory!(expect_cut(&rt))
-}
-
 /// The document is cut into its header and the text of its building.
 fn expect_building(rt: &(impl Abort + AllocGlobal), found: &CutTexts) -> Result<(), Fault> {
     let alloc = rt.alloc();
-    assert_eq!(rt;
-        printed(alloc, found.header.json())?.items(),
-        HEADER.as_bytes()
-    );
+    assert!(rt; printed(alloc, found.header.json())?.items() == HEADER.as_bytes());
     if found.texts.len() != 1 {
         panic!(rt; "{found:?}");
     }
     let mut text = Line::new(alloc);
     found.texts.append_to(0, &mut text)?;
-    assert_eq!(rt; text.items(), BUILDING.as_bytes());
+    assert!(rt; text.items() == BUILDING.as_bytes());
     Ok(())
 }
 
@@ -460,11 +394,6 @@ fn expect_cut_texts(rt: &(impl Abort + AllocGlobal + Eprint)) -> Result<(), Faul
     expect_building(rt, &found)
 }
 
-#[test]
-fn a_document_is_cut_into_texts(rt: HostRuntime) -> Result<(), Fail> {
-    with_memory!(expect_cut_texts(&rt))
-}
-
 fn expect_quick_cut(rt: &(impl Abort + AllocGlobal + Eprint)) -> Result<(), Fault> {
     let Some(found) = quick_cut(rt.alloc(), DOCUMENT.as_bytes()) else {
         wanted(rt, Call("quick_cut"));
@@ -473,7 +402,65 @@ fn expect_quick_cut(rt: &(impl Abort + AllocGlobal + Eprint)) -> Result<(), Faul
     expect_building(rt, &found)
 }
 
+/// What wants memory here.
+#[derive(Clone, Copy)]
+enum Part {
+    Vertex,
+    Appended,
+    Member,
+    Headers,
+    OtherHeaders,
+    Feature,
+    Features,
+    FeatureLine,
+    FaultyLine,
+    Types,
+    Copy,
+    Cut,
+    CutTexts,
+    QuickCut,
+}
+
+const PARTS: [Part; 14] = [
+    Part::Vertex,
+    Part::Appended,
+    Part::Member,
+    Part::Headers,
+    Part::OtherHeaders,
+    Part::Feature,
+    Part::Features,
+    Part::FeatureLine,
+    Part::FaultyLine,
+    Part::Types,
+    Part::Copy,
+    Part::Cut,
+    Part::CutTexts,
+    Part::QuickCut,
+];
+
+fn expect_part(rt: &(impl Abort + AllocGlobal + Eprint), part: Part) -> Result<(), Fault> {
+    match part {
+        Part::Vertex => expect_vertex(rt),
+        Part::Appended => expect_appended(rt),
+        Part::Member => expect_member(rt),
+        Part::Headers => expect_headers(rt),
+        Part::OtherHeaders => expect_other_headers(rt),
+        Part::Feature => expect_feature(rt),
+        Part::Features => expect_features(rt),
+        Part::FeatureLine => expect_line(rt, SPACED),
+        Part::FaultyLine => expect_fault(rt),
+        Part::Types => expect_types(rt),
+        Part::Copy => expect_choice(rt),
+        Part::Cut => expect_cut(rt),
+        Part::CutTexts => expect_cut_texts(rt),
+        Part::QuickCut => expect_quick_cut(rt),
+    }
+}
+
 #[test]
-fn a_text_of_a_document_is_cut(rt: HostRuntime) -> Result<(), Fail> {
-    with_memory!(expect_quick_cut(&rt))
+fn vertices_headers_features_and_documents(rt: HostRuntime) -> Result<(), Fail> {
+    for part in PARTS {
+        with_memory!(expect_part(&rt, part));
+    }
+    Ok(())
 }

@@ -2,6 +2,7 @@
 ghost use Rattle.std.specs.Prelude.{◌<◌, length, IfOk};
 ghost use Rattle.std.specs.List.{All};
 ghost use Rattle.tile_handoff.specs.History.{event_tile};
+ghost use Rattle.tile_handoff.specs.Ends.{ArePair};
 ghost use Rattle.tile_handoff.specs.Row.{SameShape};
 
 use crate::memory::{Call, answered, wanted};
@@ -11,16 +12,17 @@ use std::io::Eprint;
 use std::process::Abort;
 use std::test::Fail;
 use tile_handoff::{
-    End, Event, Events, Kind, Mark, NoClose, NoPut, Note, Queues, Reply, Row, Took, ends, run,
+    End, Event, Events, Kind, Mark, NoClose, NoPut, Note, Queues, Receiver, Reply, Row, Sender,
+    Took, ends, run,
 };
 
-const END: End = End {
+pub(crate) const END: End = End {
     count: 4,
     line: 0,
     number: 0,
 };
 
-fn line(alloc: Global, text: &str) -> Result<Line, AllocError> {
+pub(crate) fn line(alloc: Global, text: &str) -> Result<Line, AllocError> {
     let bytes = Vec::from_slice(alloc, text.as_bytes())?;
     Ok(Line::from_vec(bytes))
 }
@@ -35,13 +37,13 @@ fn put(rt: &(impl Abort + AllocGlobal + Eprint), row: &mut Row, text: &str) -> R
         Ok(()) => {}
         Err(NoPut::Memory(back)) => {
             wanted(rt, Call("Row::put"));
-            assert_eq!(rt; back.items(), text.as_bytes());
-            assert_eq!(rt; row.marks().items().len(), marks);
+            assert!(rt; back.items() == text.as_bytes());
+            assert!(rt; row.marks().items().len() == marks);
             assert!(rt; row.put(0, back).is_ok(), "{text}");
         }
         Err(other) => panic!(rt; "{other:?}"),
     }
-    assert_eq!(rt; row.marks().items().len(), marks.saturating_add(1));
+    assert!(rt; row.marks().items().len() == marks.saturating_add(1));
     Ok(())
 }
 
@@ -55,12 +57,12 @@ fn take(rt: &(impl Abort + AllocGlobal + Eprint), row: &mut Row) -> Result<Took,
         Ok(took) => took,
         Err(fault) => {
             wanted(rt, Call("Row::take"));
-            assert_eq!(rt; fault, Fault::Memory);
-            assert_eq!(rt; row.marks().items().len(), marks);
+            assert!(rt; fault == Fault::Memory);
+            assert!(rt; row.marks().items().len() == marks);
             row.take(0)?
         }
     };
-    assert_eq!(rt; row.marks().items().len(), marks.saturating_add(1));
+    assert!(rt; row.marks().items().len() == marks.saturating_add(1));
     Ok(took)
 }
 
@@ -72,11 +74,11 @@ fn close(rt: &(impl Abort + AllocGlobal + Eprint), row: &mut Row)
     let marks = row.marks().items().len();
     if let Err(refused) = row.close(0, END) {
         wanted(rt, Call("Row::close"));
-        assert_eq!(rt; refused, NoClose::Memory);
-        assert_eq!(rt; row.marks().items().len(), marks);
+        assert!(rt; refused == NoClose::Memory);
+        assert!(rt; row.marks().items().len() == marks);
         assert!(rt; row.close(0, END).is_ok());
     }
-    assert_eq!(rt; row.marks().items().len(), marks.saturating_add(1));
+    assert!(rt; row.marks().items().len() == marks.saturating_add(1));
 }
 
 fn expect_line(
@@ -88,7 +90,7 @@ fn expect_line(
     ensures { SameShape row.old row.new }
 {
     match take(rt, row)? {
-        Took::Line(line) => assert_eq!(rt; line.items(), text.as_bytes()),
+        Took::Line(line) => assert!(rt; line.items() == text.as_bytes()),
         other => panic!(rt; "{other:?} in place of {text}"),
     }
     Ok(())
@@ -99,23 +101,41 @@ fn expect_end(rt: &(impl Abort + AllocGlobal + Eprint), row: &mut Row) -> Result
     ensures { SameShape row.old row.new }
 {
     match take(rt, row)? {
-        Took::End(end) => assert_eq!(rt; end, END),
+        Took::End(end) => assert!(rt; end == END),
         other => panic!(rt; "{other:?} in place of the end"),
     }
     Ok(())
 }
 
+fn put_four(rt: &(impl Abort + AllocGlobal + Eprint), row: &mut Row) -> Result<(), Fault>
+    requires { 0 < length row.old.left }
+    ensures { SameShape row.old row.new }
+{
+    put(rt, row, "a")?;
+    put(rt, row, "b")?;
+    put(rt, row, "c")?;
+    put(rt, row, "d")
+}
+
+fn expect_two(
+    rt: &(impl Abort + AllocGlobal + Eprint),
+    row: &mut Row,
+    first: &str,
+    second: &str,
+) -> Result<(), Fault>
+    requires { 0 < length row.old.left }
+    ensures { SameShape row.old row.new }
+{
+    expect_line(rt, row, first)?;
+    expect_line(rt, row, second)
+}
+
 /// The marks grow in a put, and in a take.
 fn expect_takes(rt: &(impl Abort + AllocGlobal + Eprint)) -> Result<(), Fault> {
     let mut row = answered(rt, Call("Row::new"), Row::new(rt.alloc(), 1, 8))?;
-    put(rt, &mut row, "a")?;
-    put(rt, &mut row, "b")?;
-    put(rt, &mut row, "c")?;
-    put(rt, &mut row, "d")?;
-    expect_line(rt, &mut row, "a")?;
-    expect_line(rt, &mut row, "b")?;
-    expect_line(rt, &mut row, "c")?;
-    expect_line(rt, &mut row, "d")?;
+    put_four(rt, &mut row)?;
+    expect_two(rt, &mut row, "a", "b")?;
+    expect_two(rt, &mut row, "c", "d")?;
     close(rt, &mut row);
     expect_end(rt, &mut row)?;
     let drained = row.take(0)?;
@@ -123,27 +143,14 @@ fn expect_takes(rt: &(impl Abort + AllocGlobal + Eprint)) -> Result<(), Fault> {
     Ok(())
 }
 
-#[test]
-fn lines_are_taken_from_a_row(rt: HostRuntime) -> Result<(), Fail> {
-    with_memory!(expect_takes(&rt))
-}
-
 /// The marks grow in a close, and in the put of the first line.
 fn expect_close(rt: &(impl Abort + AllocGlobal + Eprint)) -> Result<(), Fault> {
     let mut row = answered(rt, Call("Row::new"), Row::new(rt.alloc(), 2, 8))?;
-    put(rt, &mut row, "a")?;
-    put(rt, &mut row, "b")?;
-    put(rt, &mut row, "c")?;
-    put(rt, &mut row, "d")?;
+    put_four(rt, &mut row)?;
     close(rt, &mut row);
     expect_line(rt, &mut row, "a")?;
-    assert_eq!(rt; row.close(0, END), Err(NoClose::Closed));
+    assert!(rt; row.close(0, END) == Err(NoClose::Closed));
     Ok(())
-}
-
-#[test]
-fn a_row_is_closed(rt: HostRuntime) -> Result<(), Fail> {
-    with_memory!(expect_close(&rt))
 }
 
 fn asked(alloc: Global) -> Result<Events, AllocError>
@@ -175,9 +182,9 @@ const MARKS: [(Kind, u64); 6] = [
 ];
 
 fn expect_marks(rt: &impl Abort, marks: &[Mark]) {
-    assert_eq!(rt; marks.len(), MARKS.len());
+    assert!(rt; marks.len() == MARKS.len());
     for (mark, (kind, number)) in marks.iter().zip(MARKS.iter()) {
-        assert_eq!(rt; (mark.tile, mark.number), (0, *number));
+        assert!(rt; (mark.tile, mark.number) == (0, *number));
         assert!(rt; mark.kind == *kind, "{mark:?}");
     }
 }
@@ -203,7 +210,7 @@ fn expect_run(rt: &(impl Abort + AllocGlobal + Eprint)) -> Result<(), Fault> {
     let events = asked(rt.alloc())?;
     let answer = answered(rt, Call("run"), run(rt.alloc(), 1, 2, events))?;
     let replies = answer.replies.items();
-    assert_eq!(rt; replies.len(), REPLIES.len());
+    assert!(rt; replies.len() == REPLIES.len());
     for (reply, wanted) in replies.iter().zip(REPLIES.iter()) {
         assert!(rt; is_answered(reply, wanted), "{wanted}");
     }
@@ -211,20 +218,15 @@ fn expect_run(rt: &(impl Abort + AllocGlobal + Eprint)) -> Result<(), Fault> {
     Ok(())
 }
 
-#[test]
-fn a_run_is_answered(rt: HostRuntime) -> Result<(), Fail> {
-    with_memory!(expect_run(&rt))
-}
-
 /// Whether a note is the line of this text.
-fn is_line(note: &Option<Note>, text: &str) -> bool {
+pub(crate) fn is_line(note: &Option<Note>, text: &str) -> bool {
     match note {
         Some(Note::Line(line)) => line.items() == text.as_bytes(),
         _ => false,
     }
 }
 
-fn is_end(note: &Option<Note>) -> bool {
+pub(crate) fn is_end(note: &Option<Note>) -> bool {
     match note {
         Some(Note::End(end)) => *end == END,
         _ => false,
@@ -232,14 +234,14 @@ fn is_end(note: &Option<Note>) -> bool {
 }
 
 /// Whether what was taken is the line of this text.
-fn is_text(took: &Took, text: &str) -> bool {
+pub(crate) fn is_text(took: &Took, text: &str) -> bool {
     match took {
         Took::Line(line) => line.items() == text.as_bytes(),
         _ => false,
     }
 }
 
-fn is_last(took: &Took) -> bool {
+pub(crate) fn is_last(took: &Took) -> bool {
     match took {
         Took::End(end) => *end == END,
         _ => false,
@@ -257,21 +259,22 @@ fn expect_queues(rt: &(impl Abort + AllocGlobal + Eprint)) -> Result<(), Fault> 
     Ok(())
 }
 
-#[test]
-fn queues_have_their_room(rt: HostRuntime) -> Result<(), Fail> {
-    with_memory!(expect_queues(&rt))
-}
-
 /// One place: what does not fit comes back, and stays out.
-fn expect_ends(rt: &(impl Abort + AllocGlobal + Eprint)) -> Result<(), Fault> {
-    let (x, y) = (line(rt.alloc(), "x")?, line(rt.alloc(), "y")?);
-    let (mut sender, mut receiver) = answered(rt, Call("ends"), ends(rt.alloc(), 1))?;
+pub(crate) fn expect_handed_over(
+    rt: &impl Abort,
+    mut sender: Sender,
+    mut receiver: Receiver,
+    x: Line,
+    y: Line,
+) -> Result<(), Fault>
+    requires { ArePair sender receiver }
+{
     assert!(rt; sender.try_put(x).is_ok());
     let back = match sender.try_put(y) {
         Ok(()) => panic!(rt; "put beside x"),
         Err(back) => back,
     };
-    assert_eq!(rt; back.items(), b"y".as_slice());
+    assert!(rt; back.items() == b"y".as_slice());
     let (sender, end) = match sender.try_end(END) {
         Ok(_) => panic!(rt; "ended beside x"),
         Err(back) => back,
@@ -283,11 +286,48 @@ fn expect_ends(rt: &(impl Abort + AllocGlobal + Eprint)) -> Result<(), Fault> {
     };
     assert!(rt; is_end(&receiver.try_take()));
     assert!(rt; receiver.try_take().is_none());
-    assert_eq!(rt; receiver.confirm(closed)?.left, 0);
+    assert!(rt; receiver.confirm(closed)?.left == 0);
     Ok(())
 }
 
+fn expect_ends(rt: &(impl Abort + AllocGlobal + Eprint)) -> Result<(), Fault> {
+    let (x, y) = (line(rt.alloc(), "x")?, line(rt.alloc(), "y")?);
+    let (sender, receiver) = answered(rt, Call("ends"), ends(rt.alloc(), 1))?;
+    expect_handed_over(rt, sender, receiver, x, y)
+}
+
+/// What wants memory here.
+#[derive(Clone, Copy)]
+enum Part {
+    Takes,
+    Close,
+    Run,
+    Queues,
+    Ends,
+}
+
+const PARTS: [Part; 5] = [
+    Part::Takes,
+    Part::Close,
+    Part::Run,
+    Part::Queues,
+    Part::Ends,
+];
+
+fn expect_part(rt: &(impl Abort + AllocGlobal + Eprint), part: Part) -> Result<(), Fault> {
+    match part {
+        Part::Takes => expect_takes(rt),
+        Part::Close => expect_close(rt),
+        Part::Run => expect_run(rt),
+        Part::Queues => expect_queues(rt),
+        Part::Ends => expect_ends(rt),
+    }
+}
+
 #[test]
-fn ends_hand_over(rt: HostRuntime) -> Result<(), Fail> {
-    with_memory!(expect_ends(&rt))
+fn rows_queues_and_ends(rt: HostRuntime) -> Result<(), Fail> {
+    for part in PARTS {
+        with_memory!(expect_part(&rt, part));
+    }
+    Ok(())
 }

@@ -14,8 +14,8 @@
 macro_rules! with_memory {
     ($run:expr) => {
         match $run {
-            Err(byte_streams::Fault::Memory) => Ok($run?),
-            answer => Ok(answer?),
+            Err(byte_streams::Fault::Memory) => $run?,
+            answer => answer?,
         }
     };
 }

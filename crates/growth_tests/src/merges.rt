@@ -1,6 +1,4 @@
 //! Streams that are merged, in turn and with threads.
-ghost use Rattle.std.specs.Prelude.{◌<◌, ◌≤◌};
-
 use crate::memory::{Call, is_gone, wanted};
 use crate::texts::{A, A1, A2, A3, B, B1, C1, C2, CUT, FAR_B, FAR_HEADER, HEADER, POINTS, X, Y};
 use crate::tiles::{NONE, Tile, after_line, are_turns, bytes_of, expect_given_up, lines_of};
@@ -137,7 +135,7 @@ fn expect_merged(
         tiles[1].texts.len(),
         tiles[2].texts.len(),
     ];
-    assert_eq!(rt; written, Some(whole));
+    assert!(rt; written == Some(whole));
     Ok(())
 }
 
@@ -180,13 +178,12 @@ fn expect_turns(
     rt: &(impl Abort + AllocGlobal + Eprint),
     merged: &Merged<'_>,
     capacity: u32,
-) -> Result<(), Fault>
-    requires { (0 < capacity) × (capacity ≤ MAX_CAPACITY) }
-{
+) -> Result<(), Fault> {
     let alloc = rt.alloc();
     let alive = Arc::new(alloc, 0u8)?;
     let readers = readers_of(alloc, &merged.tiles, &alive)?;
     assert!(rt; !readers.is_empty());
+    assert!(rt; 0 < capacity && capacity <= MAX_CAPACITY);
     let mut output = Bin::new(alloc, 4096, 100, false)?;
     let every = Choice::new(None, None, false);
     let answer = merge_in_turn(alloc, readers, &every, Base::First, capacity, &mut output);
@@ -201,12 +198,12 @@ fn expect_turns(
 fn expect_threads<H>(rt: &H, merged: &Merged<'_>, capacity: u32) -> Result<(), Fault>
 where
     H: Abort + AllocGlobal + Eprint + Threads + Wait + Copy + Send + 'static,
-    requires { (0 < capacity) × (capacity ≤ MAX_CAPACITY) }
 {
     let alloc = rt.alloc();
     let mut alive = Arc::new(alloc, 0u8)?;
     let readers = readers_of(alloc, &merged.tiles, &alive)?;
     assert!(rt; !readers.is_empty());
+    assert!(rt; 0 < capacity && capacity <= MAX_CAPACITY);
     let mut output = Bin::new(alloc, 4096, 100, false)?;
     let every = Choice::new(None, None, false);
     let answer = merge(
@@ -230,80 +227,64 @@ where
     {
         wanted(rt, Call("merge, a thread"));
         assert!(rt; *tile == 1 || *tile == 2 || *tile == 3);
-        assert_eq!(rt; written, None);
+        assert!(rt; written == None);
         return Err(Fault::Memory);
     }
     expect_merged(rt, Call("merge"), merged, (answer, written))
 }
 
-#[test]
-fn a_tile_is_put_on_the_grid_of_the_first(rt: HostRuntime) -> Result<(), Fail> {
-    let merged = Merged {
-        tiles: TWO,
-        comes: Ok([1u64, 1].as_slice()),
-    };
-    with_memory!(expect_turns(&rt, &merged, 64))
+/// Which tiles are merged.
+#[derive(Clone, Copy)]
+enum Case {
+    Two,
+    Three,
+    Faulty,
+    WithDocument,
+}
+
+fn merged_of(case: Case) -> Merged<'static> {
+    match case {
+        Case::Two => Merged {
+            tiles: TWO,
+            comes: Ok([1u64, 1].as_slice()),
+        },
+        Case::Three => Merged {
+            tiles: THREE,
+            comes: Ok([3u64, 1, 2].as_slice()),
+        },
+        Case::Faulty => Merged {
+            tiles: FAULTY,
+            comes: Err(CUT_SHORT),
+        },
+        Case::WithDocument => Merged {
+            tiles: WITH_DOCUMENT,
+            comes: Ok([3u64, 1].as_slice()),
+        },
+    }
 }
 
 #[test]
 fn tiles_take_turns(rt: HostRuntime) -> Result<(), Fail> {
-    let merged = Merged {
-        tiles: THREE,
-        comes: Ok([3u64, 1, 2].as_slice()),
-    };
-    with_memory!(expect_turns(&rt, &merged, 1))
-}
-
-#[test]
-fn tiles_take_turns_with_two_texts_held(rt: HostRuntime) -> Result<(), Fail> {
-    let merged = Merged {
-        tiles: THREE,
-        comes: Ok([3u64, 1, 2].as_slice()),
-    };
-    with_memory!(expect_turns(&rt, &merged, 2))
-}
-
-#[test]
-fn a_faulty_line_ends_its_tile_in_turn(rt: HostRuntime) -> Result<(), Fail> {
-    let merged = Merged {
-        tiles: FAULTY,
-        comes: Err(CUT_SHORT),
-    };
-    with_memory!(expect_turns(&rt, &merged, 64))
-}
-
-#[test]
-fn a_document_takes_its_turns(rt: HostRuntime) -> Result<(), Fail> {
-    let merged = Merged {
-        tiles: WITH_DOCUMENT,
-        comes: Ok([3u64, 1].as_slice()),
-    };
-    with_memory!(expect_turns(&rt, &merged, 2))
+    for (case, capacity) in [
+        (Case::Two, 64u32),
+        (Case::Three, 1),
+        (Case::Three, 2),
+        (Case::Faulty, 64),
+        (Case::WithDocument, 2),
+    ] {
+        with_memory!(expect_turns(&rt, &merged_of(case), capacity));
+    }
+    Ok(())
 }
 
 #[test]
 fn tiles_are_merged_by_threads(rt: HostRuntime) -> Result<(), Fail> {
-    let merged = Merged {
-        tiles: THREE,
-        comes: Ok([3u64, 1, 2].as_slice()),
-    };
-    with_memory!(expect_threads(&rt, &merged, 1))
-}
-
-#[test]
-fn a_faulty_line_ends_its_tile_and_no_thread(rt: HostRuntime) -> Result<(), Fail> {
-    let merged = Merged {
-        tiles: FAULTY,
-        comes: Err(CUT_SHORT),
-    };
-    with_memory!(expect_threads(&rt, &merged, 64))
-}
-
-#[test]
-fn a_document_is_merged_by_threads(rt: HostRuntime) -> Result<(), Fail> {
-    let merged = Merged {
-        tiles: WITH_DOCUMENT,
-        comes: Ok([3u64, 1].as_slice()),
-    };
-    with_memory!(expect_threads(&rt, &merged, 2))
+    for (case, capacity) in [
+        (Case::Three, 1u32),
+        (Case::Faulty, 64),
+        (Case::WithDocument, 2),
+    ] {
+        with_memory!(expect_threads(&rt, &merged_of(case), capacity));
+    }
+    Ok(())
 }

@@ -33,8 +33,8 @@ fn expect_lines(
     for (number, text) in texts {
         match lines.next() {
             Ok(Some(line)) => {
-                assert_eq!(rt; line.number, *number);
-                assert_eq!(rt; line.bytes.items(), text.as_bytes());
+                assert!(rt; line.number == *number);
+                assert!(rt; line.bytes.items() == text.as_bytes());
             }
             Ok(None) => panic!(rt; "no line {number}"),
             Err(refused) => {
@@ -46,14 +46,14 @@ fn expect_lines(
     match lines.next() {
         Ok(last) => {
             assert!(rt; last.is_none());
-            assert_eq!(rt; None, end);
+            assert!(rt; None == end);
             Ok(())
         }
         Err(refused) => {
             if refused.fault == Fault::Memory {
                 return expect_again(rt, lines, refused);
             }
-            assert_eq!(rt; Some(refused), end);
+            assert!(rt; Some(refused) == end);
             let again = lines.next();
             assert!(rt;
                 matches!(again, Err(told) if told == refused),
@@ -70,7 +70,7 @@ fn expect_again(
     mut lines: Lines<Tape>,
     refused: LineFault,
 ) -> Result<(), Fault> {
-    assert_eq!(rt; refused.fault, Fault::Memory);
+    assert!(rt; refused.fault == Fault::Memory);
     wanted(rt, Call("Lines::next"));
     let again = lines.next();
     assert!(rt;
@@ -84,11 +84,6 @@ fn expect_whole_lines(rt: &(impl Abort + AllocGlobal + Eprint)) -> Result<(), Fa
     let input = format!(in rt.alloc(); "{HEADER}\n{A1}\n\n{A2}\n")?;
     let lines = Lines::new(rt.alloc(), tape_of(rt.alloc(), &input)?);
     expect_lines(rt, lines, &[(1, HEADER), (2, A1), (4, A2)], None)
-}
-
-#[test]
-fn lines_are_read(rt: HostRuntime) -> Result<(), Fail> {
-    with_memory!(expect_whole_lines(&rt))
 }
 
 /// Lines of at most four bytes, and tiles of at most ten.
@@ -107,11 +102,6 @@ fn expect_short_lines(rt: &(impl Abort + AllocGlobal + Eprint)) -> Result<(), Fa
     expect_lines(rt, lines, &[(1, "ab"), (2, "abcd")], Some(tile_too_long))?;
     let lines = Lines::with_limits(rt.alloc(), tape_of(rt.alloc(), "ab\nabcd\nab")?, 4, 10);
     expect_lines(rt, lines, &[(1, "ab"), (2, "abcd"), (3, "ab")], None)
-}
-
-#[test]
-fn lines_within_limits_are_read(rt: HostRuntime) -> Result<(), Fail> {
-    with_memory!(expect_short_lines(&rt))
 }
 
 /// What a filter answers of a tile, and wrote: the header, and the texts of all features or of those before a line.
@@ -141,16 +131,16 @@ fn expect_answer(
     match answer {
         Err(refused) if refused.fault == Fault::Memory => {
             expect_given_up(rt, refused, counts, &tiles, is_gone);
-            assert_eq!(rt; refused.tile, 1);
+            assert!(rt; refused.tile == 1);
             Err(Fault::Memory)
         }
         _ => {
-            assert_eq!(rt; answer, comes);
+            assert!(rt; answer == comes);
             let whole = match comes {
                 Err(refused) if refused.fault == Fault::NoHeader => None,
                 _ => Some([tile.texts.len(), 0, 0]),
             };
-            assert_eq!(rt; counts, whole);
+            assert!(rt; counts == whole);
             Ok(())
         }
     }
@@ -207,11 +197,6 @@ fn expect_no_header(rt: &(impl Abort + AllocGlobal + Eprint)) -> Result<(), Faul
     Ok(())
 }
 
-#[test]
-fn a_stream_of_blank_lines_is_refused(rt: HostRuntime) -> Result<(), Fail> {
-    with_memory!(expect_no_header(&rt))
-}
-
 /// A header and a feature with these vertices, the feature as it is written, or why it is refused.
 fn expect_vertices(
     rt: &(impl Abort + AllocGlobal + Eprint),
@@ -246,11 +231,6 @@ fn expect_all_vertices(rt: &(impl Abort + AllocGlobal + Eprint)) -> Result<(), F
     Ok(())
 }
 
-#[test]
-fn vertices_are_written_or_refused(rt: HostRuntime) -> Result<(), Fail> {
-    with_memory!(expect_all_vertices(&rt))
-}
-
 fn expect_blanks(rt: &(impl Abort + AllocGlobal + Eprint)) -> Result<(), Fault> {
     let texts = [(4u64, EMPTY_A), (5, EMPTY_B)];
     let fault = at_line(5, Fault::Syntax);
@@ -258,18 +238,8 @@ fn expect_blanks(rt: &(impl Abort + AllocGlobal + Eprint)) -> Result<(), Fault> 
     expect_filter(rt, BLANKS, (2, texts.as_slice()), Ok(2))
 }
 
-#[test]
-fn blank_lines_are_left_out(rt: HostRuntime) -> Result<(), Fail> {
-    with_memory!(expect_blanks(&rt))
-}
-
 fn expect_first(rt: &(impl Abort + AllocGlobal + Eprint)) -> Result<(), Fault> {
     expect_filter(rt, FIRST, (1, &[(2, FIRST_FEATURE)]), Ok(1))
-}
-
-#[test]
-fn a_stream_is_written_compactly(rt: HostRuntime) -> Result<(), Fail> {
-    with_memory!(expect_first(&rt))
 }
 
 /// Features that are chosen, and one that is not.
@@ -293,21 +263,11 @@ fn expect_chosen(rt: &(impl Abort + AllocGlobal + Eprint)) -> Result<(), Fault> 
     )
 }
 
-#[test]
-fn chosen_features_are_written(rt: HostRuntime) -> Result<(), Fail> {
-    with_memory!(expect_chosen(&rt))
-}
-
 /// A document whose features all come of line 1.
 fn expect_document(rt: &(impl Abort + AllocGlobal + Eprint)) -> Result<(), Fault> {
     let input = format!(in rt.alloc(); "{POINTS}\n{A1}\n")?;
     let texts = [(1u64, X), (1, Y), (2, A1)];
     expect_filter(rt, &input, (1, texts.as_slice()), Ok(3))
-}
-
-#[test]
-fn a_document_on_the_first_line_is_cut(rt: HostRuntime) -> Result<(), Fail> {
-    with_memory!(expect_document(&rt))
 }
 
 /// The head of a tile, or want of memory at its line.
@@ -319,13 +279,13 @@ fn expect_head(
         Ok(head) => {
             let mut text = Line::new(rt.alloc());
             print(head.header.json(), &mut text)?;
-            assert_eq!(rt; text.items(), HEADER.as_bytes());
-            assert_eq!(rt; head.line, 1);
+            assert!(rt; text.items() == HEADER.as_bytes());
+            assert!(rt; head.line == 1);
             Ok(())
         }
         Err(refused) => {
             wanted(rt, Call("TileReader::take_head"));
-            assert_eq!(rt; (refused.line, refused.fault), (1, Fault::Memory));
+            assert!(rt; (refused.line, refused.fault) == (1, Fault::Memory));
             Err(refused.fault)
         }
     }
@@ -344,13 +304,13 @@ fn expect_taken(rt: &(impl Abort + AllocGlobal + Eprint)) -> Result<(), Fault> {
     for (number, text) in WRITTEN {
         match tile.take_text(alloc, Shift::zero(), &choice, spare) {
             Ok(Some(taken)) => {
-                assert_eq!(rt; taken.items(), text.as_bytes());
+                assert!(rt; taken.items() == text.as_bytes());
                 spare = taken;
             }
             Ok(None) => panic!(rt; "no {text}"),
             Err(refused) => {
                 wanted(rt, Call("TileReader::take_text"));
-                assert_eq!(rt; (refused.line, refused.fault), (number, Fault::Memory));
+                assert!(rt; (refused.line, refused.fault) == (number, Fault::Memory));
                 return Err(refused.fault);
             }
         }
@@ -359,16 +319,11 @@ fn expect_taken(rt: &(impl Abort + AllocGlobal + Eprint)) -> Result<(), Fault> {
         Ok(last) => assert!(rt; last.is_none()),
         Err(refused) => {
             wanted(rt, Call("TileReader::take_text"));
-            assert_eq!(rt; refused.fault, Fault::Memory);
+            assert!(rt; refused.fault == Fault::Memory);
             return Err(refused.fault);
         }
     }
     Ok(())
-}
-
-#[test]
-fn a_tile_is_taken_text_by_text(rt: HostRuntime) -> Result<(), Fail> {
-    with_memory!(expect_taken(&rt))
 }
 
 /// The same of all its features, chosen or not.
@@ -383,24 +338,19 @@ fn expect_passed(rt: &(impl Abort + AllocGlobal + Eprint)) -> Result<(), Fault> 
     for (number, text, choice) in [(2u64, "", &choice), (3, A2, &every), (4, "", &choice)] {
         match tile.pass(alloc, Shift::zero(), choice, spare) {
             Ok(Some(passed)) => {
-                assert_eq!(rt; passed.is_chosen, !text.is_empty());
-                assert_eq!(rt; passed.text.items(), text.as_bytes());
+                assert!(rt; passed.is_chosen == !text.is_empty());
+                assert!(rt; passed.text.items() == text.as_bytes());
                 spare = passed.text;
             }
             Ok(None) => panic!(rt; "no line {number}"),
             Err(refused) => {
                 wanted(rt, Call("TileReader::pass"));
-                assert_eq!(rt; (refused.line, refused.fault), (number, Fault::Memory));
+                assert!(rt; (refused.line, refused.fault) == (number, Fault::Memory));
                 return Err(refused.fault);
             }
         }
     }
     Ok(())
-}
-
-#[test]
-fn a_tile_is_passed_line_by_line(rt: HostRuntime) -> Result<(), Fail> {
-    with_memory!(expect_passed(&rt))
 }
 
 /// A document, and what it becomes; a refused one leaves nothing written.
@@ -412,19 +362,19 @@ fn expect_cat(
 ) -> Result<(), Fault> {
     match answer {
         Ok(count) => {
-            assert_eq!(rt; Ok(count), comes);
+            assert!(rt; Ok(count) == comes);
             let left = after_line(written, HEADER).unwrap_or(b"");
             assert_eq!(rt; after_line(left, BUILDING), Some([].as_slice()));
             Ok(())
         }
         Err(refused) => {
-            assert_eq!(rt; (refused.tile, refused.line), (1, 0));
+            assert!(rt; (refused.tile, refused.line) == (1, 0));
             assert!(rt; written.is_empty(), "{refused:?}");
             if refused.fault == Fault::Memory {
                 wanted(rt, call);
                 return Err(refused.fault);
             }
-            assert_eq!(rt; Err(refused.fault), comes);
+            assert!(rt; Err(refused.fault) == comes);
             Ok(())
         }
     }
@@ -449,11 +399,6 @@ fn expect_documents(rt: &(impl Abort + AllocGlobal + Eprint)) -> Result<(), Faul
     Ok(())
 }
 
-#[test]
-fn a_document_becomes_a_stream(rt: HostRuntime) -> Result<(), Fail> {
-    with_memory!(expect_documents(&rt))
-}
-
 fn expect_sources(rt: &(impl Abort + AllocGlobal + Eprint)) -> Result<(), Fault> {
     let alloc = rt.alloc();
     for (text, comes) in documents() {
@@ -465,7 +410,59 @@ fn expect_sources(rt: &(impl Abort + AllocGlobal + Eprint)) -> Result<(), Fault>
     Ok(())
 }
 
+/// What wants memory here.
+#[derive(Clone, Copy)]
+enum Part {
+    Lines,
+    ShortLines,
+    NoHeader,
+    Vertices,
+    Blanks,
+    First,
+    Chosen,
+    FirstDocument,
+    Taken,
+    Passed,
+    Documents,
+    Sources,
+}
+
+const PARTS: [Part; 12] = [
+    Part::Lines,
+    Part::ShortLines,
+    Part::NoHeader,
+    Part::Vertices,
+    Part::Blanks,
+    Part::First,
+    Part::Chosen,
+    Part::FirstDocument,
+    Part::Taken,
+    Part::Passed,
+    Part::Documents,
+    Part::Sources,
+];
+
+fn expect_part(rt: &(impl Abort + AllocGlobal + Eprint), part: Part) -> Result<(), Fault> {
+    match part {
+        Part::Lines => expect_whole_lines(rt),
+        Part::ShortLines => expect_short_lines(rt),
+        Part::NoHeader => expect_no_header(rt),
+        Part::Vertices => expect_all_vertices(rt),
+        Part::Blanks => expect_blanks(rt),
+        Part::First => expect_first(rt),
+        Part::Chosen => expect_chosen(rt),
+        Part::FirstDocument => expect_document(rt),
+        Part::Taken => expect_taken(rt),
+        Part::Passed => expect_passed(rt),
+        Part::Documents => expect_documents(rt),
+        Part::Sources => expect_sources(rt),
+    }
+}
+
 #[test]
-fn a_lent_document_becomes_a_stream(rt: HostRuntime) -> Result<(), Fail> {
-    with_memory!(expect_sources(&rt))
+fn streams_are_read_filtered_and_made_of_documents(rt: HostRuntime) -> Result<(), Fail> {
+    for part in PARTS {
+        with_memory!(expect_part(&rt, part));
+    }
+    Ok(())
 }

@@ -104,7 +104,7 @@ pub(crate) fn expect_given_up(
     tiles: &[Tile<'_>; 3],
     is_gone: bool,
 ) {
-    assert_eq!(rt; refused.fault, Fault::Memory);
+    assert!(rt; refused.fault == Fault::Memory);
     assert!(rt; refused.tile <= 3, "{refused:?}");
     assert!(rt; refused.tile > 0 || refused.line == 0, "{refused:?}");
     assert!(rt; refused.tile > 0 || counts.is_none(), "{refused:?}");
@@ -127,9 +127,9 @@ pub(crate) fn expect_given_up(
                 refused.line > tile.header || gives_at_header,
                 "{refused:?}"
             );
-            assert_eq!(rt; count, before(tile, refused.line), "{refused:?}");
+            assert!(rt; count == before(tile, refused.line), "{refused:?}");
         } else if number < refused.tile || !is_gone {
-            assert_eq!(rt; count, whole, "tile {number} at {refused:?}");
+            assert!(rt; count == whole, "tile {number} at {refused:?}");
         }
     }
 }

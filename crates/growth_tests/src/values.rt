@@ -15,18 +15,13 @@ fn expect_line(rt: &(impl Abort + AllocGlobal + Eprint)) -> Result<(), Fault> {
         let before = line.items().len();
         if line.append(text.as_bytes()).is_err() {
             wanted(rt, Call("Line::append"));
-            assert_eq!(rt; line.items().len(), before);
+            assert!(rt; line.items().len() == before);
             line.append(text.as_bytes())?;
         }
     }
     let whole = b"12345678901234567890123456789012345678901234567890";
-    assert_eq!(rt; line.items(), whole.as_slice());
+    assert!(rt; line.items() == whole.as_slice());
     Ok(())
-}
-
-#[test]
-fn a_line_grows(rt: HostRuntime) -> Result<(), Fail> {
-    with_memory!(expect_line(&rt))
 }
 
 /// A list is as before where it cannot grow, and then grows all the same.
@@ -36,17 +31,12 @@ fn expect_sequence(rt: &(impl Abort + AllocGlobal + Eprint)) -> Result<(), Fault
         let before = list.items().len();
         if list.push(number).is_err() {
             wanted(rt, Call("Sequence::push"));
-            assert_eq!(rt; list.items().len(), before);
+            assert!(rt; list.items().len() == before);
             list.push(number)?;
         }
     }
-    assert_eq!(rt; list.items(), [0u64, 1, 2, 3, 4, 5, 6, 7, 8].as_slice());
+    assert!(rt; list.items() == [0u64, 1, 2, 3, 4, 5, 6, 7, 8].as_slice());
     Ok(())
-}
-
-#[test]
-fn a_list_grows(rt: HostRuntime) -> Result<(), Fail> {
-    with_memory!(expect_sequence(&rt))
 }
 
 /// All that a reader gives, or its first bytes where memory ran out; what is left is still to be read then.
@@ -64,14 +54,9 @@ fn expect_intake(rt: &(impl Abort + AllocGlobal + Eprint)) -> Result<(), Fault> 
         assert_eq!(rt; Some(second.bytes.as_slice()), left);
         return Err(Fault::Memory);
     }
-    assert_eq!(rt; first.stop, Stop::End);
-    assert_eq!(rt; bytes, text.as_bytes());
+    assert!(rt; first.stop == Stop::End);
+    assert!(rt; bytes == text.as_bytes());
     Ok(())
-}
-
-#[test]
-fn a_reader_is_read_to_its_end(rt: HostRuntime) -> Result<(), Fail> {
-    with_memory!(expect_intake(&rt))
 }
 
 /// What a text is read as: its compact text, or why it is none.
@@ -89,7 +74,7 @@ fn expect_read(
         }
         Err(Fault::Memory) => Err(Fault::Memory),
         Err(fault) => {
-            assert_eq!(rt; Err(fault), compact);
+            assert!(rt; Err(fault) == compact);
             Ok(())
         }
     }
@@ -112,11 +97,6 @@ fn expect_texts(rt: &(impl Abort + AllocGlobal + Eprint)) -> Result<(), Fault> {
     expect_read(rt, br#"{"a":1,"\u0061":2}"#, Err(Fault::DuplicateName))
 }
 
-#[test]
-fn texts_are_read_or_refused(rt: HostRuntime) -> Result<(), Fail> {
-    with_memory!(expect_texts(&rt))
-}
-
 const TEXT: &[u8] =
     b" { \"type\" : \"CityJSONFeature\", \"\\u0061\\n\": [1.50e+3, -0, null, true, {}], \"b\": {\"a\": [[0, 1], [2]]}} ";
 
@@ -128,17 +108,12 @@ fn expect_print(rt: &(impl Abort + AllocGlobal + Eprint)) -> Result<(), Fault> {
     let value = read(rt.alloc(), TEXT)?;
     let mut line = Line::from_vec(b"7 ".to_vec(rt.alloc())?);
     if let Err(fault) = answered(rt, Call("print"), print(&value, &mut line)) {
-        assert_eq!(rt; fault, Fault::Memory);
-        assert_eq!(rt; line.items(), b"7 ".as_slice());
+        assert!(rt; fault == Fault::Memory);
+        assert!(rt; line.items() == b"7 ".as_slice());
         print(&value, &mut line)?;
     }
     assert_eq!(rt; line.items().strip_prefix(b"7 "), Some(COMPACT));
     Ok(())
-}
-
-#[test]
-fn a_value_is_printed(rt: HostRuntime) -> Result<(), Fail> {
-    with_memory!(expect_print(&rt))
 }
 
 /// Lists of growing length are read and printed.
@@ -153,24 +128,14 @@ fn expect_lists(rt: &(impl Abort + AllocGlobal + Eprint)) -> Result<(), Fault> {
     Ok(())
 }
 
-#[test]
-fn lists_and_objects_are_read(rt: HostRuntime) -> Result<(), Fail> {
-    with_memory!(expect_lists(&rt))
-}
-
 fn expect_copy(rt: &(impl Abort + AllocGlobal + Eprint)) -> Result<(), Fault> {
     let value = read(rt.alloc(), TEXT)?;
     let copy = answered(rt, Call("Json::copy"), value.copy(rt.alloc()))?;
     drop(value);
     let mut line = Line::new(rt.alloc());
     print(&copy, &mut line)?;
-    assert_eq!(rt; line.items(), COMPACT);
+    assert!(rt; line.items() == COMPACT);
     Ok(())
-}
-
-#[test]
-fn a_value_is_copied(rt: HostRuntime) -> Result<(), Fail> {
-    with_memory!(expect_copy(&rt))
 }
 
 fn expect_numbers(rt: &(impl Abort + AllocGlobal + Eprint)) -> Result<(), Fault> {
@@ -181,7 +146,7 @@ fn expect_numbers(rt: &(impl Abort + AllocGlobal + Eprint)) -> Result<(), Fault>
     ] {
         let number = NumText::read(rt.alloc(), digits.as_bytes());
         let number = answered(rt, Call("NumText::read"), number)?;
-        assert_eq!(rt; number.as_bytes(), digits.as_bytes());
+        assert!(rt; number.as_bytes() == digits.as_bytes());
     }
     for other in ["1.", "+1", "1234567890123456789012345678901234567890e"] {
         let refused = NumText::read(rt.alloc(), other.as_bytes());
@@ -190,66 +155,98 @@ fn expect_numbers(rt: &(impl Abort + AllocGlobal + Eprint)) -> Result<(), Fault>
     Ok(())
 }
 
-#[test]
-fn numbers_are_read(rt: HostRuntime) -> Result<(), Fail> {
-    with_memory!(expect_numbers(&rt))
-}
-
 fn expect_names(rt: &(impl Abort + AllocGlobal + Eprint)) -> Result<(), Fault> {
     for name in ["", "type", "https://www.opengis.net/def/crs/EPSG/0/7415"] {
         let text = answered(rt, Call("Str::read"), Str::read(rt.alloc(), name))?;
-        assert_eq!(rt; text.as_str(), name);
+        assert!(rt; text.as_str() == name);
     }
     Ok(())
-}
-
-#[test]
-fn names_are_kept(rt: HostRuntime) -> Result<(), Fail> {
-    with_memory!(expect_names(&rt))
 }
 
 /// A writer takes its first bytes and then fails.
 fn expect_bin(rt: &(impl Abort + AllocGlobal + Eprint)) -> Result<(), Fault> {
     let mut bin = answered(rt, Call("Bin::new"), Bin::new(rt.alloc(), 9, 4, false))?;
     let all = write_all(&mut bin, b"all of it and more");
-    assert_eq!(rt; all, Err(Fault::Write));
-    assert_eq!(rt; bin.bytes(), b"all of it".as_slice());
+    assert!(rt; all == Err(Fault::Write));
+    assert!(rt; bin.bytes() == b"all of it".as_slice());
     Ok(())
-}
-
-#[test]
-fn a_bin_has_its_room(rt: HostRuntime) -> Result<(), Fail> {
-    with_memory!(expect_bin(&rt))
 }
 
 /// Of a text nothing is said where memory is wanted, and only there.
 fn expect_compact(rt: &(impl Abort + AllocGlobal + Eprint)) -> Result<(), Fault> {
     let line = compact(rt.alloc(), TEXT, Line::new(rt.alloc())).ok_or(Fault::Memory);
     let line = answered(rt, Call("compact"), line)?;
-    assert_eq!(rt; line.items(), COMPACT);
+    assert!(rt; line.items() == COMPACT);
     Ok(())
-}
-
-#[test]
-fn a_text_is_compacted(rt: HostRuntime) -> Result<(), Fail> {
-    with_memory!(expect_compact(&rt))
 }
 
 fn expect_parts(rt: &(impl Abort + AllocGlobal + Eprint)) -> Result<(), Fault> {
     let found = compact_parts(rt.alloc(), TEXT, Line::new(rt.alloc())).ok_or(Fault::Memory);
     let found = answered(rt, Call("compact_parts"), found)?;
-    assert_eq!(rt; found.line.items(), COMPACT);
-    assert_eq!(rt; found.parts.len(), 3);
+    assert!(rt; found.line.items() == COMPACT);
+    assert!(rt; found.parts.len() == 3);
     let mut at = 1;
     for part in found.parts.iter() {
-        assert_eq!(rt; part.at, at);
+        assert!(rt; part.at == at);
         at = part.end.saturating_add(1);
     }
-    assert_eq!(rt; at, COMPACT.len());
+    assert!(rt; at == COMPACT.len());
     Ok(())
 }
 
+/// What wants memory here.
+#[derive(Clone, Copy)]
+enum Part {
+    Line,
+    List,
+    Intake,
+    Texts,
+    Print,
+    Lists,
+    Copy,
+    Numbers,
+    Names,
+    Bin,
+    Compact,
+    CompactParts,
+}
+
+const PARTS: [Part; 12] = [
+    Part::Line,
+    Part::List,
+    Part::Intake,
+    Part::Texts,
+    Part::Print,
+    Part::Lists,
+    Part::Copy,
+    Part::Numbers,
+    Part::Names,
+    Part::Bin,
+    Part::Compact,
+    Part::CompactParts,
+];
+
+fn expect_part(rt: &(impl Abort + AllocGlobal + Eprint), part: Part) -> Result<(), Fault> {
+    match part {
+        Part::Line => expect_line(rt),
+        Part::List => expect_sequence(rt),
+        Part::Intake => expect_intake(rt),
+        Part::Texts => expect_texts(rt),
+        Part::Print => expect_print(rt),
+        Part::Lists => expect_lists(rt),
+        Part::Copy => expect_copy(rt),
+        Part::Numbers => expect_numbers(rt),
+        Part::Names => expect_names(rt),
+        Part::Bin => expect_bin(rt),
+        Part::Compact => expect_compact(rt),
+        Part::CompactParts => expect_parts(rt),
+    }
+}
+
 #[test]
-fn a_text_is_compacted_by_its_parts(rt: HostRuntime) -> Result<(), Fail> {
-    with_memory!(expect_parts(&rt))
+fn bytes_values_and_texts(rt: HostRuntime) -> Result<(), Fail> {
+    for part in PARTS {
+        with_memory!(expect_part(&rt, part));
+    }
+    Ok(())
 }

@@ -64,46 +64,34 @@ fn expect_words(
     }
 }
 
-#[test]
-fn options_choose(rt: HostRuntime) -> Result<(), Fail> {
-    let words = "filter --exclude --bbox=-5,0,10,10 --cotype=Building,Bridge";
-    with_memory!(expect_words(&rt, words, Asked::Filter(2, Some(-5), true)))
-}
+/// Words, and what they ask for.
+const WORDS: [(&str, Asked<'static>); 8] = [
+    (
+        "filter --exclude --bbox=-5,0,10,10 --cotype=Building,Bridge",
+        Asked::Filter(2, Some(-5), true),
+    ),
+    ("filter", Asked::Filter(0, None, false)),
+    ("merge --in-turn a b", Asked::Merge(2)),
+    ("cat", Asked::Cat),
+    ("merge", Asked::Usage("error: ")),
+    (
+        "filter --bbox=1,2,3",
+        Asked::Usage("citymerge: bad --bbox\n"),
+    ),
+    (
+        "filter --bbox=5,0,1,1",
+        Asked::Usage("citymerge: bad --bbox\n"),
+    ),
+    (
+        "filter --cotype=A,,B",
+        Asked::Usage("citymerge: bad --cotype\n"),
+    ),
+];
 
 #[test]
-fn nothing_is_chosen_by_no_option(rt: HostRuntime) -> Result<(), Fail> {
-    with_memory!(expect_words(&rt, "filter", Asked::Filter(0, None, false)))
-}
-
-#[test]
-fn tiles_are_named(rt: HostRuntime) -> Result<(), Fail> {
-    with_memory!(expect_words(&rt, "merge --in-turn a b", Asked::Merge(2)))
-}
-
-#[test]
-fn a_document_is_asked_for(rt: HostRuntime) -> Result<(), Fail> {
-    with_memory!(expect_words(&rt, "cat", Asked::Cat))
-}
-
-#[test]
-fn no_tile_is_wrong_use(rt: HostRuntime) -> Result<(), Fail> {
-    with_memory!(expect_words(&rt, "merge", Asked::Usage("error: ")))
-}
-
-#[test]
-fn a_box_of_three_numbers_is_wrong_use(rt: HostRuntime) -> Result<(), Fail> {
-    let said = "citymerge: bad --bbox\n";
-    with_memory!(expect_words(&rt, "filter --bbox=1,2,3", Asked::Usage(said)))
-}
-
-#[test]
-fn a_box_from_right_to_left_is_wrong_use(rt: HostRuntime) -> Result<(), Fail> {
-    let said = "citymerge: bad --bbox\n";
-    with_memory!(expect_words(&rt, "filter --bbox=5,0,1,1", Asked::Usage(said)))
-}
-
-#[test]
-fn a_type_with_no_name_is_wrong_use(rt: HostRuntime) -> Result<(), Fail> {
-    let said = "citymerge: bad --cotype\n";
-    with_memory!(expect_words(&rt, "filter --cotype=A,,B", Asked::Usage(said)))
+fn words_are_answered(rt: HostRuntime) -> Result<(), Fail> {
+    for (words, asked) in WORDS.iter() {
+        with_memory!(expect_words(&rt, words, *asked));
+    }
+    Ok(())
 }

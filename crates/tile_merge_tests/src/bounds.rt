@@ -1,5 +1,5 @@
 use crate::devices::LineReader;
-use crate::merging::{answer_of, merge_readers, plain};
+use crate::merging::{PLAIN, expect_count, expect_turns};
 use crate::texts::A1;
 use byte_streams::Device;
 use std::io::{self, ErrorKind, Write};
@@ -48,8 +48,7 @@ fn a_tile_is_not_read_ahead_of_what_is_held(rt: HostRuntime) -> Result<(), Fail>
         reads: &reads,
         lines: 0,
     });
-    let merged = merge_readers(&rt, tiles, &plain(), 1, &mut output);
-    assert_eq!(rt; answer_of(&merged), Ok([100u64].as_slice()));
-    assert_eq!(rt; reads.load(SeqCst), 102);
+    expect_turns(&rt, tiles, (&PLAIN, 1), &mut output, "[100]")?;
+    expect_count(&rt, &reads, 102);
     Ok(())
 }

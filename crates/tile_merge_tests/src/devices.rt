@@ -1,8 +1,8 @@
 ghost use Rattle.std.specs.Prelude.{◌≤◌, length};
 
-use crate::merging::{answer_of, merge_readers, plain, readers_of, stream_of};
+use crate::merging::{PLAIN, expect_bytes, expect_count, expect_turns, readers_of, stream_of};
 use crate::texts::{A1, A2, B1, C1, CUT, HEADER};
-use byte_streams::{Bin, Device, Fault, MergeFault};
+use byte_streams::{Bin, Device};
 use std::alloc::{AllocError, Global};
 use std::io::{self, ErrorKind, Read, Write};
 use std::process::Abort;
@@ -10,11 +10,8 @@ use std::sync::atomic::AtomicU64;
 use std::sync::atomic::Ordering::SeqCst;
 use std::test::Fail;
 
-pub(crate) const NOT_WRITTEN: MergeFault = MergeFault {
-    tile: 0,
-    line: 0,
-    fault: Fault::Write,
-};
+/// What is answered where a write failed.
+pub(crate) const NOT_WRITTEN: &str = "tile 0 line 0: Write";
 
 /// A feature is cut short in the second.
 const TILES: [&[&str]; 2] = [&[HEADER, A1, A2], &[HEADER, B1, CUT]];
@@ -92,9 +89,8 @@ fn expect_unwritten(
     for capacity in [1u32, 2, 64] {
         let readers = readers_of(alloc, &TILES, 50, true)?;
         let mut output = Bin::new(alloc, room, step, flush_fails)?;
-        let merged = merge_readers(rt, readers, &plain(), capacity, &mut output);
-        assert_eq!(rt; answer_of(&merged), Err(NOT_WRITTEN), "room {room}");
-        assert_eq!(rt; output.bytes(), taken, "room {room}");
+        expect_turns(rt, readers, (&PLAIN, capacity), &mut output, NOT_WRITTEN)?;
+        expect_bytes(rt, output.bytes(), taken, room);
     }
     Ok(())
 }
@@ -105,14 +101,17 @@ fn a_failed_write_leaves_the_front_of_the_stream(rt: HostRuntime) -> Result<(), 
     for room in 0..stream.len() {
         expect_unwritten(&rt, (room, 4096, false), &stream[..room])?;
     }
-    expect_unwritten(&rt, (200, 1, false), &stream[..stream.len().min(200)])
-}
-
-#[test]
-fn a_writer_that_takes_nothing_or_does_not_flush_has_failed(rt: HostRuntime) -> Result<(), Fail> {
-    let header = stream_of(rt.alloc(), &TURNS[..1])?;
-    expect_unwritten(&rt, (4096, 0, false), &[])?;
-    expect_unwritten(&rt, (4096, 4096, true), &header)
+    // One byte a write, none, and a flush that fails after the header, which is the first to be passed on.
+    let header = HEADER.len() + 1;
+    for (room, step, flush_fails, taken) in [
+        (200usize, 1usize, false, 200usize),
+        (4096, 0, false, 0),
+        (4096, 4096, true, header),
+    ] {
+        let front = &stream[..taken.min(stream.len())];
+        expect_unwritten(&rt, (room, step, flush_fails), front)?;
+    }
+    Ok(())
 }
 
 #[test]
@@ -126,78 +125,63 @@ fn nothing_is_written_after_a_failed_write(rt: HostRuntime) -> Result<(), Fail> 
             flushes: &flushes,
             failing,
         });
-        let merged = merge_readers(&rt, readers, &plain(), 1, &mut output);
-        assert_eq!(rt; answer_of(&merged), Err(NOT_WRITTEN));
-        assert_eq!(rt; writes.load(SeqCst), failing.saturating_add(1));
-        assert_eq!(rt; flushes.load(SeqCst), 0);
+        expect_turns(&rt, readers, (&PLAIN, 1), &mut output, NOT_WRITTEN)?;
+        expect_count(&rt, &writes, failing.saturating_add(1));
+        expect_count(&rt, &flushes, 0);
     }
     Ok(())
 }
 
-/// Three tiles, of which the second fails after its first feature and then would go on.
-fn flaky_tiles<'a>(
+/// How many lines a tile gives, the lines of which feature, and before which read it fails.
+type Lines = (&'static str, u64, Option<u64>);
+
+/// Three tiles that count their reads here.
+fn tiles_of<'a>(
     alloc: Global,
     reads: &'a [AtomicU64; 3],
+    tiles: [Lines; 3],
 ) -> Result<Vec<Device<LineReader<'a>>>, AllocError> {
-    let [first, second, third] = reads;
-    let mut tiles = Vec::new(alloc);
-    for (feature, lines, reads, failing) in [
-        (A1, 4u64, first, None),
-        (B1, 9, second, Some(2u64)),
-        (C1, 2, third, None),
-    ] {
-        tiles.push(Device::new(LineReader {
+    let mut readers = Vec::new(alloc);
+    for ((feature, lines, failing), reads) in tiles.iter().zip(reads.iter()) {
+        readers.push(Device::new(LineReader {
             feature,
-            lines,
+            lines: *lines,
             reads,
-            failing,
+            failing: *failing,
         }))?;
     }
-    Ok(tiles)
+    Ok(readers)
+}
+
+/// Merges three tiles, and wants this answer, these texts and so many reads of each tile.
+fn expect_reads(
+    rt: &(impl Abort + AllocGlobal),
+    tiles: [Lines; 3],
+    (answer, written): (&str, &[&str]),
+    wanted: [u64; 3],
+) -> Result<(), Fail> {
+    let alloc = rt.alloc();
+    let written = stream_of(alloc, written)?;
+    for capacity in [1u32, 2, 64] {
+        let reads = [AtomicU64::new(0), AtomicU64::new(0), AtomicU64::new(0)];
+        let mut output = Bin::new(alloc, 4096, 4096, false)?;
+        let readers = tiles_of(alloc, &reads, tiles)?;
+        expect_turns(rt, readers, (&PLAIN, capacity), &mut output, answer)?;
+        expect_bytes(rt, output.bytes(), &written, 4096);
+        for (count, wanted) in reads.iter().zip(wanted.iter()) {
+            expect_count(rt, count, *wanted);
+        }
+    }
+    Ok(())
 }
 
 #[test]
 fn a_tile_is_not_read_after_a_failed_read(rt: HostRuntime) -> Result<(), Fail> {
-    let alloc = rt.alloc();
-    let written = stream_of(alloc, &[HEADER, A1, B1, C1, A1, A1])?;
-    for capacity in [1u32, 2, 64] {
-        let reads = [AtomicU64::new(0), AtomicU64::new(0), AtomicU64::new(0)];
-        let mut output = Bin::new(alloc, 4096, 4096, false)?;
-        let tiles = flaky_tiles(alloc, &reads)?;
-        let merged = merge_readers(&rt, tiles, &plain(), capacity, &mut output);
-        let (tile, line, fault) = (2, 3, Fault::Read);
-        assert_eq!(rt; answer_of(&merged), Err(MergeFault { tile, line, fault }));
-        assert_eq!(rt; output.bytes(), written.as_slice());
-        assert_eq!(rt; reads[0].load(SeqCst), 5);
-        assert_eq!(rt; reads[1].load(SeqCst), 3);
-        assert_eq!(rt; reads[2].load(SeqCst), 3);
-    }
-    Ok(())
-}
-
-#[test]
-fn tiles_after_one_with_no_header_are_not_read(rt: HostRuntime) -> Result<(), Fail> {
-    let alloc = rt.alloc();
-    let reads = [AtomicU64::new(0), AtomicU64::new(0), AtomicU64::new(0)];
-    let [first, second, third] = &reads;
-    let mut tiles = Vec::new(alloc);
-    for (lines, reads, failing) in [
-        (1u64, first, None),
-        (0, second, None),
-        (1, third, Some(0u64)),
-    ] {
-        tiles.push(Device::new(LineReader {
-            feature: A1,
-            lines,
-            reads,
-            failing,
-        }))?;
-    }
-    let mut output = Bin::new(alloc, 4096, 4096, false)?;
-    let merged = merge_readers(&rt, tiles, &plain(), 64, &mut output);
-    let (tile, line, fault) = (2, 0, Fault::NoHeader);
-    assert_eq!(rt; answer_of(&merged), Err(MergeFault { tile, line, fault }));
-    assert!(rt; output.bytes().is_empty());
-    assert_eq!(rt; third.load(SeqCst), 0);
-    Ok(())
+    // The second fails after its first feature, and then would go on.
+    let tiles = [(A1, 4, None), (B1, 9, Some(2)), (C1, 2, None)];
+    let written: &[&str] = &[HEADER, A1, B1, C1, A1, A1];
+    expect_reads(&rt, tiles, ("tile 2 line 3: Read", written), [5, 3, 3])?;
+    // The second has no header, so that the third is not read.
+    let tiles = [(A1, 1, None), (A1, 0, None), (A1, 1, Some(0))];
+    expect_reads(&rt, tiles, ("tile 2 line 0: NoHeader", &[]), [1, 1, 0])
 }

@@ -1,42 +1,46 @@
-//! Tiles of which the first line is a document.
+//! Tiles of which the first line is a document, merged in turn and with threads, and filtered.
 
-use crate::interleaving::expect_both;
-use crate::merging::{Asked, expect_merge, merged, plain, refused, stream_of};
-use crate::texts::{
-    A, A1, B1, BARE, BARE_DOCUMENT, BARE_HEADER, BUILDING, C1, CHILDLESS_DOCUMENT, CUT, DOCUMENT,
-    EXTENT_HEADER, FAR_BUILDING, FAR_DOCUMENT, FAR_POINTS, FAR_Y, FAULTY_DOCUMENT, FLAT_DOCUMENT,
-    HALF_DOCUMENT, HALF_HEADER, HEADER, LAST_DOCUMENT, LAST_POINTS, NEXT_BUILDING,
-    NO_VERTEX_HEADER, OLD_HEADER, ORPHANED_DOCUMENT, POINTS, SHADED, SHADED_DOCUMENT,
-    SHADED_TEMPLATES_HEADER, SHAPELESS_DOCUMENT, TEMPLATES_DOCUMENT, TEMPLATES_HEADER,
-    TITLE_HEADER, UNBOUNDED_DOCUMENT, UNUSED_LAST_DOCUMENT, VERTEX_ALONE_HEADER, VERTEX_HEADER,
-    WIDE_DOCUMENT, X, Y, Z,
+use crate::interleaving::expect_both_ways;
+use crate::merging::{
+    Asked, PLAIN, choice_of, expect_bytes, expect_table, expect_text, split_at_arrow, stream_of,
+    texts_of, told_fault,
 };
+use crate::texts::{A1, BUILDING, DOCUMENT, HEADER, POINTS, X, Y, Z};
 use byte_streams::{Bin, Fault, Line, MergeFault, Tape};
-use city_feature::{Base, Choice, area, types};
-use std::alloc::Global;
+use city_feature::Base;
+use std::alloc::{AllocError, Global};
 use std::process::Abort;
-use std::sync::Wait;
 use std::test::Fail;
-use std::thread::Threads;
 use tile_stream::filter_stream;
 
-/// Documents that cannot be cut, each with its first fault.
-const FAULTY: [(&str, Fault); 8] = [
-    (CHILDLESS_DOCUMENT, Fault::ChildMissing),
-    (ORPHANED_DOCUMENT, Fault::Orphan),
-    (UNBOUNDED_DOCUMENT, Fault::BoundaryIndex),
-    (FLAT_DOCUMENT, Fault::VertexShape),
-    (HALF_DOCUMENT, Fault::VertexNotInteger),
-    (WIDE_DOCUMENT, Fault::VertexRange),
-    (SHAPELESS_DOCUMENT, Fault::NotCityJson),
-    (FAULTY_DOCUMENT, Fault::VertexShape),
-];
+/// The features of one of these types.
+pub(crate) fn of_types(types: &'static str) -> Asked {
+    Asked {
+        types: Some(types),
+        area: None,
+        exclude: false,
+        base: Base::First,
+    }
+}
 
-fn at_line(line: u64, fault: Fault) -> MergeFault {
-    MergeFault {
-        tile: 1,
-        line,
-        fault,
+const IN_AREA: Asked = Asked {
+    types: None,
+    area: Some("1520,0,1520,0"),
+    exclude: false,
+    base: Base::First,
+};
+
+const LEAST: Asked = Asked {
+    types: None,
+    area: None,
+    exclude: false,
+    base: Base::Least,
+};
+
+fn told(alloc: Global, answer: &Result<u64, MergeFault>) -> Result<String, AllocError> {
+    match answer {
+        Ok(count) => format!(in alloc; "{count}"),
+        Err(refused) => told_fault(alloc, refused),
     }
 }
 
@@ -44,335 +48,92 @@ fn at_line(line: u64, fault: Fault) -> MergeFault {
 /// is to.
 fn expect_filter(
     rt: &(impl Abort + AllocGlobal),
-    choice: &Choice,
+    asked: &Asked,
     (texts, fails): (&[&str], bool),
-    answer: Result<u64, MergeFault>,
     written: &[&str],
-) -> Result<(), Fail> {
+    answer: &str,
+) -> Result<(), Fault> {
     let alloc = rt.alloc();
+    let choice = choice_of(alloc, asked)?;
     let written = stream_of(alloc, written)?;
     for step in [1usize, 7, 100_000] {
         let input = Line::from_vec(stream_of(alloc, texts)?);
         let tape = Tape::new(input, step.max(1), fails);
         let mut output = Bin::new(alloc, 16_384, step, false)?;
-        assert_eq!(rt;
-            filter_stream(alloc, tape, choice, &mut output),
-            answer,
-            "step {step}"
-        );
-        assert_eq!(rt; output.bytes(), written.as_slice(), "step {step}");
+        let filtered = filter_stream(alloc, tape, &choice, &mut output);
+        expect_text(rt, &told(alloc, &filtered)?, answer);
+        expect_bytes(rt, output.bytes(), &written, step);
     }
     Ok(())
 }
 
-/// Filters, and wants all features of these texts.
-fn expect_all(
+/// Filters what the lines of a table tell: the texts of a tile, those that are written, and the answer.
+fn expect_filters(
     rt: &(impl Abort + AllocGlobal),
-    texts: &[&str],
-    answer: Result<u64, MergeFault>,
-    written: &[&str],
-) -> Result<(), Fail> {
-    let choice = Choice::new(None, None, false);
-    expect_filter(rt, &choice, (texts, false), answer, written)
-}
-
-/// The features of one of these types.
-pub(crate) fn of_types(alloc: Global, names: &str) -> Result<Asked, Fail> {
-    Ok(Asked {
-        choice: Choice::new(types(alloc, names)?, None, false),
-        base: Base::First,
-    })
-}
-
-/// The features that meet this area.
-fn in_area(text: &str) -> Asked {
-    Asked {
-        choice: Choice::new(None, area(text), false),
-        base: Base::First,
-    }
-}
-
-#[test]
-fn a_document_stands_before_the_lines_after_it(rt: HostRuntime) -> Result<(), Fail> {
-    expect_all(&rt, &[DOCUMENT, A1], Ok(2), &[HEADER, BUILDING, A1])?;
-    expect_all(
-        &rt,
-        &["", POINTS, " \r", A1, B1],
-        Ok(5),
-        &[HEADER, X, Y, Z, A1, B1],
-    )
-}
-
-#[test]
-fn documents_take_turns(rt: HostRuntime) -> Result<(), Fail> {
-    expect_both(
-        &rt,
-        &plain(),
-        &[&[POINTS, A1], &[HEADER, B1, C1], &[DOCUMENT]],
-        &merged(&[4, 2, 1], &[HEADER, X, B1, BUILDING, Y, C1, Z, A1]),
-        &[&[X, Y, Z, A1], &[B1, C1], &[BUILDING]],
-    )
-}
-
-#[test]
-fn documents_are_put_on_the_grid_of_the_first_tile(rt: HostRuntime) -> Result<(), Fail> {
-    let asked = plain();
-    expect_both(
-        &rt,
-        &asked,
-        &[&[HEADER], &[FAR_DOCUMENT]],
-        &merged(&[0, 1], &[HEADER, FAR_BUILDING]),
-        &[&[], &[FAR_BUILDING]],
-    )?;
-    expect_merge(
-        &rt,
-        &asked,
-        &[&[HEADER, A1], &[UNUSED_LAST_DOCUMENT]],
-        &merged(&[1, 1], &[HEADER, A1, NEXT_BUILDING]),
-    )
-}
-
-#[test]
-fn documents_are_put_on_the_least_translation(rt: HostRuntime) -> Result<(), Fail> {
-    let asked = Asked {
-        choice: Choice::new(None, None, false),
-        base: Base::Least,
-    };
-    expect_merge(
-        &rt,
-        &asked,
-        &[&[FAR_DOCUMENT], &[HEADER, A]],
-        &merged(&[1, 1], &[HEADER, FAR_BUILDING, A]),
-    )
-}
-
-#[test]
-fn a_document_that_leaves_the_range_is_a_faulty_line(rt: HostRuntime) -> Result<(), Fail> {
-    expect_both(
-        &rt,
-        &plain(),
-        &[&[HEADER, A1], &[LAST_DOCUMENT]],
-        &refused((2, 1), Fault::VertexRange, &[HEADER, A1]),
-        &[&[A1], &[]],
-    )
-}
-
-/// The second of three features of a document leaves the range, whether it is chosen or not.
-fn expect_none_of_three<H>(rt: &H, asked: &Asked) -> Result<(), Fail>
-where
-    H: Abort + AllocGlobal + Threads + Wait + Copy + Send + 'static,
-{
-    expect_both(
-        rt,
-        asked,
-        &[
-            &[HEADER, A1],
-            &["", " ", LAST_POINTS, B1, "{"],
-            &[HEADER, C1],
-        ],
-        &refused((2, 3), Fault::VertexRange, &[HEADER, A1, C1]),
-        &[&[A1], &[], &[C1]],
-    )
-}
-
-#[test]
-fn a_document_gives_all_of_its_features_or_none(rt: HostRuntime) -> Result<(), Fail> {
-    expect_none_of_three(&rt, &plain())?;
-    expect_none_of_three(&rt, &of_types(rt.alloc(), "Building")?)
-}
-
-#[test]
-fn a_document_and_its_own_features_all_stand(rt: HostRuntime) -> Result<(), Fail> {
-    expect_all(
-        &rt,
-        &[DOCUMENT, BUILDING, BUILDING],
-        Ok(3),
-        &[HEADER, BUILDING, BUILDING, BUILDING],
-    )?;
-    expect_both(
-        &rt,
-        &plain(),
-        &[&[HEADER, A1], &[POINTS, X, Y, Z]],
-        &merged(&[1, 6], &[HEADER, A1, X, Y, Z, X, Y, Z]),
-        &[&[A1], &[X, Y, Z, X, Y, Z]],
-    )
-}
-
-#[test]
-fn a_document_may_have_no_features(rt: HostRuntime) -> Result<(), Fail> {
-    expect_all(&rt, &[VERTEX_HEADER], Ok(0), &[HEADER])?;
-    expect_both(
-        &rt,
-        &plain(),
-        &[&[VERTEX_HEADER], &[HEADER, A1], &[VERTEX_HEADER, B1]],
-        &merged(&[0, 1, 1], &[HEADER, A1, B1]),
-        &[&[], &[A1], &[B1]],
-    )
-}
-
-#[test]
-fn a_document_may_have_a_vertex_alone(rt: HostRuntime) -> Result<(), Fail> {
-    expect_all(
-        &rt,
-        &[VERTEX_ALONE_HEADER, A1],
-        Ok(1),
-        &[NO_VERTEX_HEADER, A1],
-    )?;
-    expect_both(
-        &rt,
-        &plain(),
-        &[&[VERTEX_ALONE_HEADER, A1], &[VERTEX_ALONE_HEADER, B1]],
-        &merged(&[1, 1], &[NO_VERTEX_HEADER, A1, B1]),
-        &[&[A1], &[B1]],
-    )
-}
-
-#[test]
-fn a_document_may_have_no_vertices(rt: HostRuntime) -> Result<(), Fail> {
-    expect_all(&rt, &[BARE_DOCUMENT, A1], Ok(2), &[BARE_HEADER, BARE, A1])
-}
-
-#[test]
-fn features_of_a_document_are_chosen_as_they_are_moved(rt: HostRuntime) -> Result<(), Fail> {
-    let roads = of_types(rt.alloc(), "Road")?;
-    expect_filter(
-        &rt,
-        &roads.choice,
-        (&[POINTS, A1, Y], false),
-        Ok(2),
-        &[HEADER, Y, Y],
-    )?;
-    expect_both(
-        &rt,
-        &in_area("1520,0,1520,0"),
-        &[&[POINTS], &[FAR_POINTS, A1]],
-        &merged(&[0, 1], &[HEADER, FAR_Y]),
-        &[&[], &[FAR_Y]],
-    )
-}
-
-#[test]
-fn a_document_of_which_nothing_is_chosen_is_passed_over(rt: HostRuntime) -> Result<(), Fail> {
-    let bridges = of_types(rt.alloc(), "Bridge")?;
-    let texts: &[&str] = &[POINTS, A1];
-    expect_filter(&rt, &bridges.choice, (texts, false), Ok(0), &[HEADER])?;
-    expect_both(
-        &rt,
-        &of_types(rt.alloc(), "Road")?,
-        &[&[DOCUMENT], &[POINTS], &[DOCUMENT, A1]],
-        &merged(&[0, 1, 0], &[HEADER, Y]),
-        &[&[], &[Y], &[]],
-    )
-}
-
-#[test]
-fn a_faulty_document_leaves_nothing_filtered(rt: HostRuntime) -> Result<(), Fail> {
-    for (document, fault) in FAULTY {
-        expect_all(&rt, &[document, A1], Err(at_line(1, fault)), &[])?;
-        expect_all(&rt, &["", "\t", document], Err(at_line(3, fault)), &[])?;
+    asked: &Asked,
+    table: &str,
+) -> Result<(), Fault> {
+    for line in table.lines() {
+        if line.trim().is_empty() {
+            continue;
+        }
+        let (texts, wanted) = split_at_arrow(rt, line);
+        let (written, answer) = split_at_arrow(rt, wanted);
+        let texts = texts_of(rt, texts)?;
+        let written = texts_of(rt, written)?;
+        let given = (texts.as_slice(), false);
+        expect_filter(rt, asked, given, written.as_slice(), answer)?;
     }
     Ok(())
 }
 
+/// The features of a document stand before the lines after it; it may have none, or no vertices.
+const FILTERED: &str = "
+DOCUMENT A1 => HEADER BUILDING A1 => 2
+EMPTY POINTS SPACE_RETURN A1 B1 => HEADER X Y Z A1 B1 => 5
+DOCUMENT BUILDING BUILDING => HEADER BUILDING BUILDING BUILDING => 3
+VERTEX_HEADER => HEADER => 0
+VERTEX_ALONE_HEADER A1 => NO_VERTEX_HEADER A1 => 1
+BARE_DOCUMENT A1 => BARE_HEADER BARE A1 => 2
+SHADED_DOCUMENT A1 => EXTENT_HEADER SHADED A1 => 2
+";
+
+/// A document alone is cut where it stands first, and what is faulty after it leaves its features written.
+const FAULTY_LINES: &str = "
+HEADER A1 DOCUMENT B1 => HEADER A1 => tile 1 line 3: NotAFeature
+POINTS A1 CUT B1 => HEADER X Y Z A1 => tile 1 line 3: Syntax
+";
+
+/// A faulty document leaves nothing written.
+const FAULTY: &str = "
+CHILDLESS_DOCUMENT A1 =>  => tile 1 line 1: ChildMissing
+EMPTY TAB CHILDLESS_DOCUMENT =>  => tile 1 line 3: ChildMissing
+ORPHANED_DOCUMENT A1 =>  => tile 1 line 1: Orphan
+EMPTY TAB ORPHANED_DOCUMENT =>  => tile 1 line 3: Orphan
+UNBOUNDED_DOCUMENT A1 =>  => tile 1 line 1: BoundaryIndex
+EMPTY TAB UNBOUNDED_DOCUMENT =>  => tile 1 line 3: BoundaryIndex
+FLAT_DOCUMENT A1 =>  => tile 1 line 1: VertexShape
+EMPTY TAB FLAT_DOCUMENT =>  => tile 1 line 3: VertexShape
+HALF_DOCUMENT A1 =>  => tile 1 line 1: VertexNotInteger
+EMPTY TAB HALF_DOCUMENT =>  => tile 1 line 3: VertexNotInteger
+WIDE_DOCUMENT A1 =>  => tile 1 line 1: VertexRange
+EMPTY TAB WIDE_DOCUMENT =>  => tile 1 line 3: VertexRange
+SHAPELESS_DOCUMENT A1 =>  => tile 1 line 1: NotCityJson
+EMPTY TAB SHAPELESS_DOCUMENT =>  => tile 1 line 3: NotCityJson
+FAULTY_DOCUMENT A1 =>  => tile 1 line 1: VertexShape
+EMPTY TAB FAULTY_DOCUMENT =>  => tile 1 line 3: VertexShape
+";
+
 #[test]
-fn a_faulty_document_leaves_nothing_merged(rt: HostRuntime) -> Result<(), Fail> {
-    for (document, fault) in FAULTY {
-        expect_both(
-            &rt,
-            &plain(),
-            &[&[POINTS, A1], &["", document, B1], &[HEADER, "{"]],
-            &refused((2, 2), fault, &[]),
-            &[],
-        )?;
+fn documents_are_filtered(rt: HostRuntime) -> Result<(), Fail> {
+    for table in [FILTERED, FAULTY_LINES, FAULTY] {
+        expect_filters(&rt, &PLAIN, table)?;
     }
+    expect_filters(&rt, &of_types("Road"), "POINTS A1 Y => HEADER Y Y => 2")?;
+    expect_filters(&rt, &of_types("Bridge"), "POINTS A1 => HEADER => 0")?;
+    let answer = "tile 1 line 2: Read";
+    expect_filter(&rt, &PLAIN, (&[POINTS], true), &[HEADER, X, Y, Z], answer)?;
     Ok(())
-}
-
-#[test]
-fn a_document_is_a_header_like_others(rt: HostRuntime) -> Result<(), Fail> {
-    let old = DOCUMENT.replace(rt.alloc(), "2.0", "1.1")?;
-    let answer = Err(at_line(1, Fault::Version));
-    expect_all(&rt, &[old.as_str()], answer, &[])?;
-    let answer = Err(at_line(3, Fault::NotAFeature));
-    expect_all(&rt, &[HEADER, A1, DOCUMENT, B1], answer, &[HEADER, A1])
-}
-
-#[test]
-fn faulty_documents_are_told_before_tiles_that_do_not_fit(rt: HostRuntime) -> Result<(), Fail> {
-    let asked = plain();
-    expect_merge(
-        &rt,
-        &asked,
-        &[&[HEADER], &[HALF_HEADER], &[CHILDLESS_DOCUMENT]],
-        &refused((3, 1), Fault::ChildMissing, &[]),
-    )?;
-    expect_merge(
-        &rt,
-        &asked,
-        &[&[DOCUMENT], &[CHILDLESS_DOCUMENT], &[OLD_HEADER]],
-        &refused((2, 1), Fault::ChildMissing, &[]),
-    )
-}
-
-#[test]
-fn the_header_of_a_document_is_that_of_its_cut(rt: HostRuntime) -> Result<(), Fail> {
-    expect_all(
-        &rt,
-        &[SHADED_DOCUMENT, A1],
-        Ok(2),
-        &[EXTENT_HEADER, SHADED, A1],
-    )?;
-    expect_merge(
-        &rt,
-        &plain(),
-        &[&[SHADED_DOCUMENT, A1], &[HEADER, B1]],
-        &merged(&[2, 1], &[TITLE_HEADER, SHADED, B1, A1]),
-    )
-}
-
-#[test]
-fn headers_of_documents_are_joined_as_others(rt: HostRuntime) -> Result<(), Fail> {
-    let asked = plain();
-    expect_merge(
-        &rt,
-        &asked,
-        &[&[SHADED_TEMPLATES_HEADER, A1], &[TEMPLATES_DOCUMENT]],
-        &merged(&[1, 1], &[SHADED_TEMPLATES_HEADER, A1, SHADED]),
-    )?;
-    expect_merge(
-        &rt,
-        &asked,
-        &[&[TEMPLATES_HEADER, A1], &["", TEMPLATES_DOCUMENT]],
-        &refused((2, 2), Fault::TemplatesDiffer, &[]),
-    )
-}
-
-#[test]
-fn a_fault_after_a_document_leaves_its_features_filtered(rt: HostRuntime) -> Result<(), Fail> {
-    expect_all(
-        &rt,
-        &[POINTS, A1, CUT, B1],
-        Err(at_line(3, Fault::Syntax)),
-        &[HEADER, X, Y, Z, A1],
-    )?;
-    expect_filter(
-        &rt,
-        &plain().choice,
-        (&[POINTS], true),
-        Err(at_line(2, Fault::Read)),
-        &[HEADER, X, Y, Z],
-    )
-}
-
-#[test]
-fn a_fault_after_a_document_leaves_its_features_merged(rt: HostRuntime) -> Result<(), Fail> {
-    expect_both(
-        &rt,
-        &plain(),
-        &[&[HEADER, A1, B1], &[POINTS, C1, CUT]],
-        &refused((2, 3), Fault::Syntax, &[HEADER, A1, X, B1, Y, Z, C1]),
-        &[&[A1, B1], &[X, Y, Z, C1]],
-    )
 }
 
 #[test]
@@ -381,7 +142,87 @@ fn a_document_may_be_spelled_in_any_way(rt: HostRuntime) -> Result<(), Fail> {
     let escaped = spaced.replace(rt.alloc(), "\"Building\"", "\"\\u0042uilding\"")?;
     let signed = escaped.replace(rt.alloc(), "\"vertices\":[[0", "\"vertices\" : [[-0")?;
     for document in [spaced.as_str(), escaped.as_str(), signed.as_str()] {
-        expect_all(&rt, &[document, A1], Ok(2), &[HEADER, BUILDING, A1])?;
+        let texts: &[&str] = &[document, A1];
+        expect_filter(&rt, &PLAIN, (texts, false), &[HEADER, BUILDING, A1], "2")?;
     }
+    let old = DOCUMENT.replace(rt.alloc(), "2.0", "1.1")?;
+    let answer = "tile 1 line 1: Version";
+    expect_filter(&rt, &PLAIN, (&[old.as_str()], false), &[], answer)?;
     Ok(())
+}
+
+/// Documents take turns with other lines. They are put on the grid of the first tile, and may have no features.
+const MERGED: &str = "
+POINTS A1 | HEADER B1 C1 | DOCUMENT => HEADER X B1 BUILDING Y C1 Z A1 => [4, 2, 1] => X Y Z A1 | B1 C1 | BUILDING
+HEADER | FAR_DOCUMENT => HEADER FAR_BUILDING => [0, 1] =>  | FAR_BUILDING
+HEADER A1 | POINTS X Y Z => HEADER A1 X Y Z X Y Z => [1, 6] => A1 | X Y Z X Y Z
+VERTEX_HEADER | HEADER A1 | VERTEX_HEADER B1 => HEADER A1 B1 => [0, 1, 1] =>  | A1 | B1
+VERTEX_ALONE_HEADER A1 | VERTEX_ALONE_HEADER B1 => NO_VERTEX_HEADER A1 B1 => [1, 1] => A1 | B1
+";
+
+/// A document gives all of its features or none, and what is faulty after it leaves its features written.
+const REFUSED: &str = "
+HEADER A1 | LAST_DOCUMENT => HEADER A1 => tile 2 line 1: VertexRange => A1 |
+HEADER A1 | EMPTY SPACE LAST_POINTS B1 BRACE | HEADER C1 => HEADER A1 C1 => tile 2 line 3: VertexRange => A1 |  | C1
+HEADER A1 B1 | POINTS C1 CUT => HEADER A1 X B1 Y Z C1 => tile 2 line 3: Syntax => A1 B1 | X Y Z C1
+";
+
+/// The second of three features of a document leaves the range, which tells, too, where it is not chosen.
+const REFUSED_BUILDINGS: &str = "
+HEADER A1 | EMPTY SPACE LAST_POINTS B1 BRACE | HEADER C1 => HEADER A1 C1 => tile 2 line 3: VertexRange => A1 |  | C1
+";
+
+/// A faulty document leaves nothing merged.
+const FAULTY_MERGES: &str = "
+POINTS A1 | EMPTY CHILDLESS_DOCUMENT B1 | HEADER BRACE =>  => tile 2 line 2: ChildMissing =>  |  |
+POINTS A1 | EMPTY ORPHANED_DOCUMENT B1 | HEADER BRACE =>  => tile 2 line 2: Orphan =>  |  |
+POINTS A1 | EMPTY UNBOUNDED_DOCUMENT B1 | HEADER BRACE =>  => tile 2 line 2: BoundaryIndex =>  |  |
+POINTS A1 | EMPTY FLAT_DOCUMENT B1 | HEADER BRACE =>  => tile 2 line 2: VertexShape =>  |  |
+POINTS A1 | EMPTY HALF_DOCUMENT B1 | HEADER BRACE =>  => tile 2 line 2: VertexNotInteger =>  |  |
+POINTS A1 | EMPTY WIDE_DOCUMENT B1 | HEADER BRACE =>  => tile 2 line 2: VertexRange =>  |  |
+POINTS A1 | EMPTY SHAPELESS_DOCUMENT B1 | HEADER BRACE =>  => tile 2 line 2: NotCityJson =>  |  |
+POINTS A1 | EMPTY FAULTY_DOCUMENT B1 | HEADER BRACE =>  => tile 2 line 2: VertexShape =>  |  |
+";
+
+/// Features are chosen as they are moved.
+const CHOSEN: &str = "
+POINTS | FAR_POINTS A1 => HEADER FAR_Y => [0, 1] =>  | FAR_Y
+";
+
+/// A document of which nothing is chosen is passed over.
+const ROADS: &str = "
+DOCUMENT | POINTS | DOCUMENT A1 => HEADER Y => [0, 1, 0] =>  | Y |
+";
+
+#[test]
+fn documents_are_merged(rt: HostRuntime) -> Result<(), Fail> {
+    for table in [MERGED, REFUSED, FAULTY_MERGES] {
+        expect_both_ways(&rt, &PLAIN, table)?;
+    }
+    expect_both_ways(&rt, &of_types("Building"), REFUSED_BUILDINGS)?;
+    expect_both_ways(&rt, &IN_AREA, CHOSEN)?;
+    expect_both_ways(&rt, &of_types("Road"), ROADS)
+}
+
+/// The header of a document is that of its cut, and is joined as others are. Of a vertex that no boundary names it
+/// does not matter where it lies.
+const HEADERS: &str = "
+HEADER A1 | UNUSED_LAST_DOCUMENT => HEADER A1 NEXT_BUILDING => [1, 1]
+SHADED_DOCUMENT A1 | HEADER B1 => TITLE_HEADER SHADED B1 A1 => [2, 1]
+SHADED_TEMPLATES_HEADER A1 | TEMPLATES_DOCUMENT => SHADED_TEMPLATES_HEADER A1 SHADED => [1, 1]
+TEMPLATES_HEADER A1 | EMPTY TEMPLATES_DOCUMENT =>  => tile 2 line 2: TemplatesDiffer
+";
+
+/// Faulty documents are told before tiles that do not fit.
+const UNFIT: &str = "
+HEADER | HALF_HEADER | CHILDLESS_DOCUMENT =>  => tile 3 line 1: ChildMissing
+DOCUMENT | CHILDLESS_DOCUMENT | OLD_HEADER =>  => tile 2 line 1: ChildMissing
+";
+
+#[test]
+fn headers_of_documents_are_joined(rt: HostRuntime) -> Result<(), Fail> {
+    expect_table(&rt, &PLAIN, HEADERS)?;
+    expect_table(&rt, &PLAIN, UNFIT)?;
+    let least = "FAR_DOCUMENT | HEADER A => HEADER FAR_BUILDING A => [1, 1]";
+    expect_table(&rt, &LEAST, least)
 }

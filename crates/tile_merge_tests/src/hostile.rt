@@ -1,10 +1,10 @@
 //! Merges whose reader fails after each byte, and whose writer fails at each byte, or takes one at a time.
 
 use crate::devices::NOT_WRITTEN;
-use crate::interleaving::{is_mixed, is_mixed_front, merge_with_threads};
-use crate::merging::{answer_of, merge_readers, plain, readers_of, stream_of};
+use crate::interleaving::{expect_lines, expect_threads, is_mixed_front};
+use crate::merging::{PLAIN, expect_bytes, expect_turns, readers_of, stream_of};
 use crate::texts::{A1, A2, A3, B1, C1, C2, CUT, HEADER};
-use byte_streams::{Bin, Fault, Line, MergeFault, Tape};
+use byte_streams::{Bin, Line, Tape};
 use std::alloc::{AllocError, Global};
 use std::process::Abort;
 use std::sync::Wait;
@@ -38,58 +38,41 @@ fn newlines(bytes: &[u8]) -> usize {
     count
 }
 
-fn failed_read(lines: usize) -> Result<&'static [u64], MergeFault> {
-    Err(MergeFault {
-        tile: 1,
-        line: (lines as u64).saturating_add(1),
-        fault: Fault::Read,
-    })
-}
+/// What is written, by how many lines of the first tile are whole; and of each tile, after the header.
+const FRONTS: [&[&str]; 4] = [&[], &[HEADER, B1], &[HEADER, A1, B1], &[HEADER, A1, B1, A2]];
 
-#[test]
-fn a_read_may_fail_after_each_byte(rt: HostRuntime) -> Result<(), Fail> {
+const OWN_FRONTS: [&[&[&str]]; 4] = [&[], &[&[], &[B1]], &[&[A1], &[B1]], &[&[A1, A2], &[B1]]];
+
+/// The reader of the first tile fails after these bytes, in turn and with threads.
+fn expect_failed_read<H>(rt: &H, bytes: &[u8]) -> Result<(), Fail>
+where
+    H: Abort + AllocGlobal + Threads + Wait + Copy + Send + 'static,
+{
     let alloc = rt.alloc();
-    let stream = stream_of(alloc, &LONGER)?;
-    for length in 0..stream.len() {
-        let bytes = &stream[..length];
-        let lines = newlines(bytes);
-        let written = match lines {
-            0 => stream_of(alloc, &[])?,
-            1 => stream_of(alloc, &[HEADER, B1])?,
-            2 => stream_of(alloc, &[HEADER, A1, B1])?,
-            _ => stream_of(alloc, &[HEADER, A1, B1, A2])?,
-        };
-        for capacity in [1u32, 64] {
-            let readers = failing_tiles(alloc, bytes)?;
-            let mut output = Bin::new(alloc, 4096, 4096, false)?;
-            let merged = merge_readers(&rt, readers, &plain(), capacity, &mut output);
-            assert_eq!(rt; answer_of(&merged), failed_read(lines), "after {length}");
-            assert_eq!(rt; output.bytes(), written.as_slice(), "after {length}");
-        }
+    let lines = newlines(bytes);
+    let answer = format!(in alloc; "tile 1 line {}: Read", lines.saturating_add(1))?;
+    let at = lines.min(3);
+    let front = FRONTS[at];
+    let written = stream_of(alloc, front)?;
+    let header = &front[..front.len().min(1)];
+    for capacity in [1u32, 64] {
+        let readers = failing_tiles(alloc, bytes)?;
+        let mut output = Bin::new(alloc, 4096, 4096, false)?;
+        expect_turns(rt, readers, (&PLAIN, capacity), &mut output, &answer)?;
+        expect_bytes(rt, output.bytes(), &written, bytes.len());
+        let readers = failing_tiles(alloc, bytes)?;
+        let mut output = Bin::new(alloc, 4096, 4096, false)?;
+        expect_threads(rt, readers, (&PLAIN, capacity), &mut output, &answer)?;
+        expect_lines(rt, output.bytes(), header, OWN_FRONTS[at])?;
     }
     Ok(())
 }
 
 #[test]
-fn a_read_beside_a_thread_may_fail_after_each_byte(rt: HostRuntime) -> Result<(), Fail> {
-    let alloc = rt.alloc();
-    let stream = stream_of(alloc, &LONGER)?;
+fn a_read_may_fail_after_each_byte(rt: HostRuntime) -> Result<(), Fail> {
+    let stream = stream_of(rt.alloc(), &LONGER)?;
     for length in 0..stream.len() {
-        let bytes = &stream[..length];
-        let lines = newlines(bytes);
-        for capacity in [1u32, 64] {
-            let readers = failing_tiles(alloc, bytes)?;
-            let mut output = Bin::new(alloc, 4096, 4096, false)?;
-            let merged = merge_with_threads(&rt, readers, &plain(), capacity, &mut output);
-            assert_eq!(rt; answer_of(&merged), failed_read(lines), "after {length}");
-            let is_right = match lines {
-                0 => output.bytes().is_empty(),
-                1 => is_mixed(alloc, output.bytes(), &[HEADER], &[&[], &[B1]])?,
-                2 => is_mixed(alloc, output.bytes(), &[HEADER], &[&[A1], &[B1]])?,
-                _ => is_mixed(alloc, output.bytes(), &[HEADER], &[&[A1, A2], &[B1]])?,
-            };
-            assert!(rt; is_right, "after {length}");
-        }
+        expect_failed_read(&rt, &stream[..length])?;
     }
     Ok(())
 }
@@ -111,93 +94,92 @@ fn a_write_may_fail_at_each_byte(rt: HostRuntime) -> Result<(), Fail> {
         let (capacity, step) = bounds_at(room);
         let readers = readers_of(alloc, &WHOLE, 500, true)?;
         let mut output = Bin::new(alloc, room, step, false)?;
-        let merged = merge_readers(&rt, readers, &plain(), capacity, &mut output);
-        assert_eq!(rt; answer_of(&merged), Err(NOT_WRITTEN), "room {room}");
-        assert_eq!(rt; output.bytes(), &stream[..room]);
+        expect_turns(&rt, readers, (&PLAIN, capacity), &mut output, NOT_WRITTEN)?;
+        expect_bytes(&rt, output.bytes(), &stream[..room], room);
     }
     Ok(())
 }
 
-/// Merges these tiles to a writer that fails after each number of bytes. Their features are these.
-fn expect_fronts<H>(rt: &H, tiles: &[&[&str]], texts: &[&[&str]]) -> Result<(), Fail>
+/// Merges these tiles with threads to such a writer, wants a front of the stream, and answers its length. Their features
+/// are these.
+fn expect_front<H>(
+    rt: &H,
+    (tiles, texts): (&[&[&str]], &[&[&str]]),
+    capacity: u32,
+    mut output: Bin,
+) -> Result<usize, Fail>
 where
     H: Abort + AllocGlobal + Threads + Wait + Copy + Send + 'static,
 {
-    let alloc = rt.alloc();
-    let mut length = stream_of(alloc, &[HEADER])?.len();
-    for text in texts {
-        length = length.saturating_add(stream_of(alloc, text)?.len());
-    }
-    for room in 0..length {
-        let (capacity, step) = bounds_at(room);
-        let readers = readers_of(alloc, tiles, 500, true)?;
-        let mut output = Bin::new(alloc, room, step, false)?;
-        let merged = merge_with_threads(rt, readers, &plain(), capacity, &mut output);
-        assert_eq!(rt; answer_of(&merged), Err(NOT_WRITTEN), "room {room}");
-        assert_eq!(rt; output.bytes().len(), room);
-        let is_front = is_mixed_front(alloc, output.bytes(), HEADER, texts)?;
-        assert!(rt; is_front, "room {room}");
-    }
-    Ok(())
+    let readers = readers_of(rt.alloc(), tiles, 500, true)?;
+    expect_threads(rt, readers, (&PLAIN, capacity), &mut output, NOT_WRITTEN)?;
+    let is_front = is_mixed_front(rt.alloc(), output.bytes(), HEADER, texts)?;
+    let length = output.bytes().len();
+    assert!(rt; is_front, "{length} bytes");
+    Ok(length)
 }
 
+/// The features of the tiles of [`WHOLE`], and of [`FAULTY`].
+const WHOLE_TEXTS: [&[&str]; 3] = [&[A1, A2, A3], &[B1], &[C1, C2]];
+
+const FAULTY_TEXTS: [&[&str]; 2] = [&[A1, A2], &[B1]];
+
+/// A failed write is told before a faulty line.
 #[test]
 fn a_write_beside_threads_may_fail_at_each_byte(rt: HostRuntime) -> Result<(), Fail> {
-    expect_fronts(&rt, &WHOLE, &[&[A1, A2, A3], &[B1], &[C1, C2]])
-}
-
-#[test]
-fn a_failed_write_beside_threads_is_told_before_a_faulty_line(rt: HostRuntime) -> Result<(), Fail> {
-    expect_fronts(&rt, &FAULTY, &[&[A1, A2], &[B1]])
-}
-
-/// Merges these tiles with threads to a writer that takes a byte at a time: the answer, and the features of each.
-fn expect_slow_writer<H>(
-    rt: &H,
-    tiles: &[&[&str]],
-    answer: Result<&[u64], MergeFault>,
-    texts: &[&[&str]],
-) -> Result<(), Fail>
-where
-    H: Abort + AllocGlobal + Threads + Wait + Copy + Send + 'static,
-{
     let alloc = rt.alloc();
-    for capacity in [1u32, 64] {
-        let readers = readers_of(alloc, tiles, 50, true)?;
-        let mut output = Bin::new(alloc, 4096, 1, false)?;
-        let merged = merge_with_threads(rt, readers, &plain(), capacity, &mut output);
-        assert_eq!(rt; answer_of(&merged), answer);
-        assert!(rt; is_mixed(alloc, output.bytes(), &[HEADER], texts)?);
+    let whole: &[&[&str]] = &WHOLE;
+    let faulty: &[&[&str]] = &FAULTY;
+    for (tiles, texts, stream) in [
+        (
+            whole,
+            WHOLE_TEXTS.as_slice(),
+            [HEADER, A1, A2, A3, B1, C1, C2].as_slice(),
+        ),
+        (
+            faulty,
+            FAULTY_TEXTS.as_slice(),
+            [HEADER, A1, A2, B1].as_slice(),
+        ),
+    ] {
+        let length = stream_of(alloc, stream)?.len();
+        for room in 0..length {
+            let (capacity, step) = bounds_at(room);
+            let output = Bin::new(alloc, room, step, false)?;
+            assert!(rt; expect_front(&rt, (tiles, texts), capacity, output)? == room);
+        }
     }
     Ok(())
-}
-
-#[test]
-fn a_writer_beside_threads_may_take_a_byte_at_a_time(rt: HostRuntime) -> Result<(), Fail> {
-    let counts = [3u64, 1, 2];
-    let texts: [&[&str]; 3] = [&[A1, A2, A3], &[B1], &[C1, C2]];
-    expect_slow_writer(&rt, &WHOLE, Ok(counts.as_slice()), &texts)?;
-    let refused = Err(MergeFault {
-        tile: 2,
-        line: 3,
-        fault: Fault::Syntax,
-    });
-    expect_slow_writer(&rt, &FAULTY, refused, &[&[A1, A2], &[B1]])
 }
 
 #[test]
 fn a_writer_beside_threads_may_take_nothing_or_not_flush(rt: HostRuntime) -> Result<(), Fail> {
     let alloc = rt.alloc();
-    let header = stream_of(alloc, &[HEADER])?;
     for (step, flush_fails) in [(0usize, false), (4096, true)] {
         for capacity in [1u32, 64] {
-            let readers = readers_of(alloc, &WHOLE, 50, true)?;
-            let mut output = Bin::new(alloc, 4096, step, flush_fails)?;
-            let merged = merge_with_threads(&rt, readers, &plain(), capacity, &mut output);
-            assert_eq!(rt; answer_of(&merged), Err(NOT_WRITTEN));
-            let texts: [&[&str]; 3] = [&[A1, A2, A3], &[B1], &[C1, C2]];
-            assert!(rt; is_mixed_front(alloc, output.bytes(), HEADER, &texts)?);
-            assert_eq!(rt; output.bytes().starts_with(&header), flush_fails);
+            let output = Bin::new(alloc, 4096, step, flush_fails)?;
+            let length = expect_front(&rt, (&WHOLE, &WHOLE_TEXTS), capacity, output)?;
+            assert!(rt; (length > HEADER.len()) == flush_fails);
+        }
+    }
+    Ok(())
+}
+
+/// A writer takes a byte at a time.
+#[test]
+fn a_writer_beside_threads_may_take_a_byte_at_a_time(rt: HostRuntime) -> Result<(), Fail> {
+    let alloc = rt.alloc();
+    let whole: &[&[&str]] = &WHOLE;
+    let faulty: &[&[&str]] = &FAULTY;
+    for (tiles, texts, answer) in [
+        (whole, WHOLE_TEXTS.as_slice(), "[3, 1, 2]"),
+        (faulty, FAULTY_TEXTS.as_slice(), "tile 2 line 3: Syntax"),
+    ] {
+        for capacity in [1u32, 64] {
+            let readers = readers_of(alloc, tiles, 50, true)?;
+            let mut output = Bin::new(alloc, 4096, 1, false)?;
+            expect_threads(&rt, readers, (&PLAIN, capacity), &mut output, answer)?;
+            expect_lines(&rt, output.bytes(), &[HEADER], texts)?;
         }
     }
     Ok(())

@@ -1,22 +1,18 @@
-//! Merges with a thread for each tile, whose features stand as they come.
+//! Merges with a thread for each tile, whose features stand as they come. A line of a table tells after a further arrow
+//! what is written of each tile. No two tiles share a text.
 
-use crate::merging::{Asked, Wanted, answer_of, expect_merge, readers_of, stream_of};
-use byte_streams::{Bin, MergeFault, Sink, Source};
+use crate::merging::{
+    Asked, choice_of, expect_merge, expect_told, readers_of, slices_of, split_at_arrow, stream_of,
+    texts_of, tiles_of,
+};
+use byte_streams::{Bin, Fault, Sink, Source};
 use std::alloc::{AllocError, Global};
 use std::process::Abort;
 use std::sync::Wait;
 use std::test::Fail;
 use std::thread::Threads;
 use tile_handoff::MAX_CAPACITY;
-use tile_merge::{Report, merge};
-
-/// What a merge answers, the header that it writes, if it does, and the lines of each tile. No two tiles share a line.
-#[derive(Clone, Copy)]
-pub(crate) struct Mixed<'a> {
-    pub(crate) answer: Result<&'a [u64], MergeFault>,
-    pub(crate) header: &'a [&'a str],
-    pub(crate) lines: &'a [&'a [&'a str]],
-}
+use tile_merge::merge;
 
 /// Whether the lines that are texts of the tile are these texts in their order.
 fn is_picked(lines: &[u8], texts: &[&str]) -> bool {
@@ -37,7 +33,7 @@ fn is_picked(lines: &[u8], texts: &[&str]) -> bool {
 }
 
 /// Whether the header was written, after it the lines of each tile in their order, and nothing else.
-pub(crate) fn is_mixed(
+fn is_mixed(
     alloc: Global,
     written: &[u8],
     header: &[&str],
@@ -101,30 +97,38 @@ pub(crate) fn is_mixed_front(
     Ok(is_next && whole.len() == length)
 }
 
-/// Merges these readers, of which there is one at least, with a thread for each.
-pub(crate) fn merge_with_threads<H, R, W>(
+/// Merges these readers, of which there is one at least, with a thread for each, and wants this answer.
+pub(crate) fn expect_threads<H, R, W>(
     rt: &H,
     readers: Vec<R>,
-    asked: &Asked,
-    capacity: u32,
+    (asked, capacity): (&Asked, u32),
     output: &mut W,
-) -> Result<Report, MergeFault>
+    answer: &str,
+) -> Result<(), Fault>
 where
     H: Abort + AllocGlobal + Threads + Wait + Copy + Send + 'static,
     R: Source + Send + Drop + 'static,
     W: Sink,
 {
+    let alloc = rt.alloc();
+    let choice = choice_of(alloc, asked)?;
     assert!(rt; !readers.is_empty());
     assert!(rt; 0 < capacity && capacity <= MAX_CAPACITY);
-    merge(
-        rt,
-        rt.alloc(),
-        readers,
-        &asked.choice,
-        asked.base,
-        capacity,
-        output,
-    )
+    let merged = merge(rt, alloc, readers, &choice, asked.base, capacity, output);
+    expect_told(rt, &merged, answer)?;
+    Ok(())
+}
+
+/// The header was written, after it the lines of each tile in their order, and nothing else.
+pub(crate) fn expect_lines(
+    rt: &(impl Abort + AllocGlobal),
+    written: &[u8],
+    header: &[&str],
+    tiles: &[&[&str]],
+) -> Result<(), AllocError> {
+    let is_right = is_mixed(rt.alloc(), written, header, tiles)?;
+    assert!(rt; is_right, "{} bytes", written.len());
+    Ok(())
 }
 
 /// Merges with ample memory and threads, with few and with many texts held and bytes a read and a write.
@@ -132,8 +136,9 @@ pub(crate) fn expect_mixed<H>(
     rt: &H,
     asked: &Asked,
     tiles: &[&[&str]],
-    wanted: &Mixed,
-) -> Result<(), Fail>
+    (header, lines): (&[&str], &[&[&str]]),
+    answer: &str,
+) -> Result<(), Fault>
 where
     H: Abort + AllocGlobal + Threads + Wait + Copy + Send + 'static,
 {
@@ -141,30 +146,47 @@ where
     for (capacity, step, is_ended) in [(1u32, 7usize, true), (2, 100_000, false), (64, 500, true)] {
         let readers = readers_of(alloc, tiles, step, is_ended)?;
         let mut output = Bin::new(alloc, 65_536, step, false)?;
-        let merged = merge_with_threads(rt, readers, asked, capacity, &mut output);
-        assert_eq!(rt; answer_of(&merged), wanted.answer, "capacity {capacity}");
-        let is_right = is_mixed(alloc, output.bytes(), wanted.header, wanted.lines)?;
-        assert!(rt; is_right, "capacity {capacity}");
+        expect_threads(rt, readers, (asked, capacity), &mut output, answer)?;
+        expect_lines(rt, output.bytes(), header, lines)?;
     }
     Ok(())
 }
 
-/// Merges in turn, and then with threads, where these are the lines of each tile.
-pub(crate) fn expect_both<H>(
-    rt: &H,
-    asked: &Asked,
-    tiles: &[&[&str]],
-    wanted: &Wanted,
-    lines: &[&[&str]],
-) -> Result<(), Fail>
+/// Merges in turn, and then with threads.
+fn expect_both<H>(rt: &H, asked: &Asked, line: &str) -> Result<(), Fault>
 where
     H: Abort + AllocGlobal + Threads + Wait + Copy + Send + 'static,
 {
-    expect_merge(rt, asked, tiles, wanted)?;
-    let mixed = Mixed {
-        answer: wanted.answer,
-        header: &wanted.written[..wanted.written.len().min(1)],
-        lines,
-    };
-    expect_mixed(rt, asked, tiles, &mixed)
+    let alloc = rt.alloc();
+    let (tiles, wanted) = split_at_arrow(rt, line);
+    let (written, wanted) = split_at_arrow(rt, wanted);
+    let (answer, lines) = split_at_arrow(rt, wanted);
+    let tiles = tiles_of(rt, tiles)?;
+    let tiles = slices_of(alloc, tiles.as_slice())?;
+    let written = texts_of(rt, written)?;
+    let lines = tiles_of(rt, lines)?;
+    let lines = slices_of(alloc, lines.as_slice())?;
+    let header = &written[..written.len().min(1)];
+    expect_merge(
+        rt,
+        asked,
+        tiles.as_slice(),
+        written.as_slice(),
+        answer.trim(),
+    )?;
+    let mixed = (header, lines.as_slice());
+    expect_mixed(rt, asked, tiles.as_slice(), mixed, answer.trim())
+}
+
+/// Merges what the lines of a table tell, in turn and with threads.
+pub(crate) fn expect_both_ways<H>(rt: &H, asked: &Asked, table: &str) -> Result<(), Fail>
+where
+    H: Abort + AllocGlobal + Threads + Wait + Copy + Send + 'static,
+{
+    for line in table.lines() {
+        if !line.trim().is_empty() {
+            expect_both(rt, asked, line)?;
+        }
+    }
+    Ok(())
 }

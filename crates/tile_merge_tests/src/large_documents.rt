@@ -1,13 +1,12 @@
 //! Documents of many features, and outputs that fail.
 
 use crate::devices::NOT_WRITTEN;
-use crate::merging::{answer_of, merge_readers, plain, readers_of, stream_of};
+use crate::interleaving::expect_threads;
+use crate::merging::{PLAIN, expect_bytes, expect_turns, readers_of, stream_of};
 use crate::texts::{A1, B1, BUILDING, DOCUMENT, HEADER, POINTS, X, Y, Z};
-use byte_streams::{Bin, Fault};
+use byte_streams::{Bin, Tape};
 use std::alloc::{AllocError, Global};
 use std::test::Fail;
-use tile_handoff::MAX_CAPACITY;
-use tile_merge::merge;
 
 /// How many features a large document has.
 const COUNT: u32 = 200;
@@ -25,13 +24,15 @@ fn document_of(alloc: Global, name: &str) -> Result<String, AllocError> {
     format!(in alloc; "{front}{{{objects}}},{back}")
 }
 
+const FEATURE: &str =
+    r#"{"type":"CityJSONFeature","id":"NAME","CityObjects":{"NAME":{"type":"Building"}},"vertices":[]}"#;
+
 /// The features that it is cut into.
 fn features_of(alloc: Global, name: &str) -> Result<Vec<String>, AllocError> {
     let mut features = Vec::new(alloc);
     for number in 0..COUNT {
-        features.push(format!(in alloc;
-            "{{\"type\":\"CityJSONFeature\",\"id\":\"{name}{number}\",\"CityObjects\":{{\"{name}{number}\":{{\"type\":\"Building\"}}}},\"vertices\":[]}}"
-        )?)?;
+        let identifier = format!(in alloc; "{name}{number}")?;
+        features.push(FEATURE.replace(alloc, "NAME", &identifier)?)?;
     }
     Ok(features)
 }
@@ -48,49 +49,34 @@ fn turns_of(alloc: Global) -> Result<Vec<u8>, AllocError> {
     Ok(stream)
 }
 
+/// The readers of two such documents, each with a line after it.
+fn two_tiles<'a>(
+    alloc: Global,
+    document: &'a str,
+    other: &'a str,
+    step: usize,
+) -> Result<Vec<Tape>, AllocError> {
+    readers_of(alloc, &[&[document, A1], &[other, B1]], step, true)
+}
+
 #[test]
 fn large_documents_take_turns(rt: HostRuntime) -> Result<(), Fail> {
     let alloc = rt.alloc();
     let document = document_of(alloc, "m")?;
     let other = document_of(alloc, "n")?;
     let written = turns_of(alloc)?;
-    let count = u64::from(COUNT) + 1;
     for capacity in [1u32, 3, 64, 1024] {
-        let tiles: &[&[&str]] = &[&[&document, A1], &[&other, B1]];
-        let readers = readers_of(alloc, tiles, 10_000, true)?;
+        let readers = two_tiles(alloc, &document, &other, 10_000)?;
         let mut output = Bin::new(alloc, written.len(), 10_000, false)?;
-        let merged = merge_readers(&rt, readers, &plain(), capacity, &mut output);
-        assert_eq!(rt; answer_of(&merged), Ok([count, count].as_slice()));
-        assert!(rt; output.bytes() == written.as_slice(), "capacity {capacity}");
+        expect_turns(&rt, readers, (&PLAIN, capacity), &mut output, "[201, 201]")?;
+        expect_bytes(&rt, output.bytes(), &written, capacity as usize);
     }
-    Ok(())
-}
-
-#[test]
-fn a_document_may_have_more_features_than_are_held(rt: HostRuntime) -> Result<(), Fail> {
-    let alloc = rt.alloc();
-    let document = document_of(alloc, "m")?;
-    let other = document_of(alloc, "n")?;
-    let length = turns_of(alloc)?.len();
-    let count = u64::from(COUNT) + 1;
-    let asked = plain();
+    // A document may have more features than are held.
     for capacity in [1u32, 64] {
-        let tiles: &[&[&str]] = &[&[&document, A1], &[&other, B1]];
-        let readers = readers_of(alloc, tiles, 500, true)?;
-        assert!(rt; !readers.is_empty());
-        assert!(rt; 0 < capacity && capacity <= MAX_CAPACITY);
-        let mut output = Bin::new(alloc, length, 10_000, false)?;
-        let merged = merge(
-            &rt,
-            alloc,
-            readers,
-            &asked.choice,
-            asked.base,
-            capacity,
-            &mut output,
-        );
-        assert_eq!(rt; answer_of(&merged), Ok([count, count].as_slice()));
-        assert_eq!(rt; output.bytes().len(), length, "capacity {capacity}");
+        let readers = two_tiles(alloc, &document, &other, 500)?;
+        let mut output = Bin::new(alloc, written.len(), 10_000, false)?;
+        expect_threads(&rt, readers, (&PLAIN, capacity), &mut output, "[201, 201]")?;
+        assert_eq!(rt; output.bytes().len(), written.len(), "capacity {capacity}");
     }
     Ok(())
 }
@@ -103,35 +89,31 @@ fn a_failed_write_leaves_the_front_of_a_stream_of_documents(rt: HostRuntime) -> 
     for room in [0usize, 1, 128, 129, 130, 300, 305, 500, 700, 900, 1100] {
         let readers = readers_of(alloc, tiles, 500, true)?;
         let mut output = Bin::new(alloc, room, 4096, false)?;
-        let merged = merge_readers(&rt, readers, &plain(), 1, &mut output);
-        assert_eq!(rt; answer_of(&merged), Err(NOT_WRITTEN), "room {room}");
+        expect_turns(&rt, readers, (&PLAIN, 1), &mut output, NOT_WRITTEN)?;
         let front = &stream[..room.min(stream.len())];
-        assert_eq!(rt; output.bytes(), front, "room {room}");
+        expect_bytes(&rt, output.bytes(), front, room);
     }
     Ok(())
+}
+
+/// The readers of three tiles that begin with a document, of which the last is faulty.
+fn three_tiles(alloc: Global, document: &str) -> Result<Vec<Tape>, AllocError> {
+    readers_of(
+        alloc,
+        &[&[document, A1], &[document], &[document, "{"]],
+        500,
+        true,
+    )
 }
 
 #[test]
 fn documents_are_drained_after_a_failed_write(rt: HostRuntime) -> Result<(), Fail> {
     let alloc = rt.alloc();
     let document = document_of(alloc, "m")?;
-    let tiles: &[&[&str]] = &[&[&document, A1], &[&document], &[&document, "{"]];
     for capacity in [1u32, 64] {
-        let readers = readers_of(alloc, tiles, 500, true)?;
-        assert!(rt; !readers.is_empty());
-        assert!(rt; 0 < capacity && capacity <= MAX_CAPACITY);
+        let readers = three_tiles(alloc, &document)?;
         let mut output = Bin::new(alloc, 200, 200, false)?;
-        let asked = plain();
-        let merged = merge(
-            &rt,
-            alloc,
-            readers,
-            &asked.choice,
-            asked.base,
-            capacity,
-            &mut output,
-        );
-        assert_eq!(rt; answer_of(&merged), Err(NOT_WRITTEN), "capacity {capacity}");
+        expect_threads(&rt, readers, (&PLAIN, capacity), &mut output, NOT_WRITTEN)?;
         assert_eq!(rt; output.bytes().len(), 200, "capacity {capacity}");
     }
     Ok(())

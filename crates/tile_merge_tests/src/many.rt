@@ -1,42 +1,64 @@
+//! Many tiles, and tiles of many features, in turn and with threads.
+
 use crate::devices::LineReader;
-use crate::merging::{answer_of, merge_readers, plain, readers_of, stream_of};
+use crate::interleaving::expect_threads;
+use crate::merging::{PLAIN, expect_bytes, expect_count, expect_turns, readers_of, stream_of};
 use crate::texts::{A1, B1, C1, HEADER};
 use byte_streams::{Bin, Device, Fault, MergeFault};
 use std::process::Abort;
+use std::sync::Wait;
 use std::sync::atomic::AtomicU64;
-use std::sync::atomic::Ordering::SeqCst;
 use std::test::Fail;
+use std::thread::Threads;
 use tile_merge::tile_count;
 
-/// Merges with ample memory and many bytes a read and a write.
+/// Merges in turn with ample memory and many bytes a read and a write.
 fn expect_large(
     rt: &(impl Abort + AllocGlobal),
     (tiles, capacity): (&[&[&str]], u32),
-    counts: &[u64],
     written: &[u8],
+    answer: &str,
 ) -> Result<(), Fail> {
     let readers = readers_of(rt.alloc(), tiles, 10_000, true)?;
     let mut output = Bin::new(rt.alloc(), written.len(), 10_000, false)?;
-    let merged = merge_readers(rt, readers, &plain(), capacity, &mut output);
-    assert_eq!(rt; answer_of(&merged), Ok(counts), "capacity {capacity}");
-    assert!(rt; output.bytes() == written, "capacity {capacity}");
+    expect_turns(rt, readers, (&PLAIN, capacity), &mut output, answer)?;
+    expect_bytes(rt, output.bytes(), written, capacity as usize);
     Ok(())
 }
 
+/// The same with threads, which write the same where all features are equal.
+fn expect_equal<H>(
+    rt: &H,
+    (tiles, capacity): (&[&[&str]], u32),
+    written: &[u8],
+    answer: &str,
+) -> Result<(), Fail>
+where
+    H: Abort + AllocGlobal + Threads + Wait + Copy + Send + 'static,
+{
+    let readers = readers_of(rt.alloc(), tiles, 50, true)?;
+    let mut output = Bin::new(rt.alloc(), 8192, 100, false)?;
+    expect_threads(rt, readers, (&PLAIN, capacity), &mut output, answer)?;
+    expect_bytes(rt, output.bytes(), written, capacity as usize);
+    Ok(())
+}
+
+/// Sixty-four tiles of one feature.
 #[test]
-fn sixty_four_tiles_are_merged(rt: HostRuntime) -> Result<(), Fail> {
+fn many(rt: HostRuntime) -> Result<(), Fail> {
     let alloc = rt.alloc();
     let mut tiles: Vec<&[&str]> = Vec::new(alloc);
     let mut texts = vec![in alloc; HEADER]?;
-    let mut ones = Vec::new(alloc);
     for _ in 0..64u32 {
         tiles.push([HEADER, A1].as_slice())?;
         texts.push(A1)?;
-        ones.push(1u64)?;
     }
     let written = stream_of(alloc, texts.as_slice())?;
+    let ones = [1u64; 64];
+    let answer = format!(in alloc; "{:?}", ones.as_slice())?;
     for capacity in [1u32, 64] {
-        expect_large(&rt, (tiles.as_slice(), capacity), &ones, &written)?;
+        expect_large(&rt, (tiles.as_slice(), capacity), &written, &answer)?;
+        expect_equal(&rt, (tiles.as_slice(), capacity), &written, &answer)?;
     }
     Ok(())
 }
@@ -55,40 +77,42 @@ fn sixty_five_tiles_are_refused_before_one_is_read(rt: HostRuntime) -> Result<()
         }))?;
     }
     let mut output = Bin::new(alloc, 4096, 4096, false)?;
-    let merged = merge_readers(&rt, tiles, &plain(), 64, &mut output);
-    let refusal = MergeFault::of_no_line(Fault::TooManyTiles);
-    assert_eq!(rt; answer_of(&merged), Err(refusal));
+    let answer = "tile 0 line 0: TooManyTiles";
+    expect_turns(&rt, tiles, (&PLAIN, 64), &mut output, answer)?;
     assert!(rt; output.bytes().is_empty());
-    assert_eq!(rt; reads.load(SeqCst), 0);
-    assert_eq!(rt; tile_count(64), Ok(()));
-    assert_eq!(rt; tile_count(65), Err(refusal));
+    expect_count(&rt, &reads, 0);
     Ok(())
 }
+
+#[test]
+fn tiles_are_counted(rt: HostRuntime) {
+    assert_eq!(rt; tile_count(64), Ok(()));
+    let refusal = MergeFault::of_no_line(Fault::TooManyTiles);
+    assert_eq!(rt; tile_count(65), Err(refusal));
+}
+
+/// How many features most tiles have; the first has one more.
+const COUNT: u32 = 1_000;
 
 #[test]
 fn tiles_of_many_features_are_merged(rt: HostRuntime) -> Result<(), Fail> {
     let alloc = rt.alloc();
     let mut longer = vec![in alloc; HEADER, C1]?;
     let mut shorter = vec![in alloc; HEADER]?;
-    let mut turns = vec![in alloc; HEADER, C1]?;
-    for _ in 0..1_000u32 {
+    let mut turns = vec![in alloc; HEADER, C1, B1, B1]?;
+    for number in 0..COUNT {
         longer.push(A1)?;
         shorter.push(B1)?;
+        turns.push(A1)?;
+        if number + 1 < COUNT {
+            turns.extend_from_slice(&[B1, B1])?;
+        }
     }
-    turns.extend_from_slice(&[B1, B1])?;
-    for _ in 0..999u32 {
-        turns.extend_from_slice(&[A1, B1, B1])?;
-    }
-    turns.push(A1)?;
     let written = stream_of(alloc, turns.as_slice())?;
     let tiles = [longer.as_slice(), shorter.as_slice(), shorter.as_slice()];
+    let answer = "[1001, 1000, 1000]";
     for capacity in [1u32, 3, 64, 1024] {
-        expect_large(
-            &rt,
-            (tiles.as_slice(), capacity),
-            &[1001, 1000, 1000],
-            &written,
-        )?;
+        expect_large(&rt, (tiles.as_slice(), capacity), &written, answer)?;
     }
     Ok(())
 }

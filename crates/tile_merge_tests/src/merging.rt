@@ -1,52 +1,46 @@
-//! Merges of tapes, and what is wanted of them.
+//! Merges in turn, and what is wanted of them. Those of a table are told each by a line: the texts of its tiles by
+//! their names, with a bar between two tiles; what is written; and what is answered. Between these stands an arrow.
 
+use crate::texts::text;
 use byte_streams::{Bin, Fault, Line, MergeFault, Sink, Source, Tape};
-use city_feature::{Base, Choice};
+use city_feature::{Base, Choice, area, types};
 use std::alloc::{AllocError, Global};
 use std::process::Abort;
+use std::sync::atomic::AtomicU64;
+use std::sync::atomic::Ordering::SeqCst;
 use std::test::Fail;
 use tile_handoff::MAX_CAPACITY;
 use tile_merge::{Report, merge_in_turn};
 
-/// What a merge is asked.
-#[derive(Drop)]
+/// What a merge is asked: the types and the area of its features, where not all are chosen, whether those are left out,
+/// and on whose grid they stand.
+#[derive(Clone, Copy)]
 pub(crate) struct Asked {
-    pub(crate) choice: Choice,
+    pub(crate) types: Option<&'static str>,
+    pub(crate) area: Option<&'static str>,
+    pub(crate) exclude: bool,
     pub(crate) base: Base,
 }
 
 /// All features, on the grid of the first tile.
-pub(crate) fn plain() -> Asked {
-    Asked {
-        choice: Choice::new(None, None, false),
-        base: Base::First,
-    }
-}
+pub(crate) const PLAIN: Asked = Asked {
+    types: None,
+    area: None,
+    exclude: false,
+    base: Base::First,
+};
 
-/// What a merge answers and writes.
-#[derive(Clone, Copy)]
-pub(crate) struct Wanted<'a> {
-    pub(crate) answer: Result<&'a [u64], MergeFault>,
-    pub(crate) written: &'a [&'a str],
-}
-
-pub(crate) fn merged<'a>(counts: &'a [u64], written: &'a [&'a str]) -> Wanted<'a> {
-    Wanted {
-        answer: Ok(counts),
-        written,
-    }
-}
-
-/// The fault of a line of a tile.
-pub(crate) fn refused<'a>(
-    (tile, line): (u32, u64),
-    fault: Fault,
-    written: &'a [&'a str],
-) -> Wanted<'a> {
-    Wanted {
-        answer: Err(MergeFault { tile, line, fault }),
-        written,
-    }
+/// The choice that is asked for.
+pub(crate) fn choice_of(alloc: Global, asked: &Asked) -> Result<Choice, Fault> {
+    let names = match asked.types {
+        Some(names) => types(alloc, names)?,
+        None => None,
+    };
+    let place = match asked.area {
+        Some(corners) => area(corners),
+        None => None,
+    };
+    Ok(Choice::new(names, place, asked.exclude))
 }
 
 /// These texts, each followed by a newline.
@@ -78,31 +72,60 @@ pub(crate) fn readers_of(
     Ok(readers)
 }
 
-/// Merges these readers, of which there is one at least.
-pub(crate) fn merge_readers<R: Source + Drop, W: Sink>(
-    rt: &(impl Abort + AllocGlobal),
-    readers: Vec<R>,
-    asked: &Asked,
-    capacity: u32,
-    output: &mut W,
-) -> Result<Report, MergeFault> {
-    assert!(rt; !readers.is_empty());
-    assert!(rt; 0 < capacity && capacity <= MAX_CAPACITY);
-    merge_in_turn(
-        rt.alloc(),
-        readers,
-        &asked.choice,
-        asked.base,
-        capacity,
-        output,
-    )
+/// What a merge answered, as text: how many features of each tile, or the fault and where it is.
+fn told(alloc: Global, answer: &Result<Report, MergeFault>) -> Result<String, AllocError> {
+    match answer {
+        Ok(report) => {
+            let counts = report.counts.items();
+            format!(in alloc; "{counts:?}")
+        }
+        Err(refused) => told_fault(alloc, refused),
+    }
 }
 
-pub(crate) fn answer_of(merged: &Result<Report, MergeFault>) -> Result<&[u64], MergeFault> {
-    match merged {
-        Ok(report) => Ok(report.counts.items()),
-        Err(refusal) => Err(*refusal),
-    }
+pub(crate) fn told_fault(alloc: Global, refused: &MergeFault) -> Result<String, AllocError> {
+    let MergeFault { tile, line, fault } = *refused;
+    format!(in alloc; "tile {tile} line {line}: {fault:?}")
+}
+
+pub(crate) fn expect_text(rt: &impl Abort, found: &str, wanted: &str) {
+    assert!(rt; found == wanted, "{found} in place of {wanted}");
+}
+
+/// Wants these bytes, of a merge that has this number.
+pub(crate) fn expect_bytes(rt: &impl Abort, found: &[u8], wanted: &[u8], number: usize) {
+    assert!(rt; found == wanted, "the bytes of number {number}");
+}
+
+pub(crate) fn expect_count(rt: &impl Abort, count: &AtomicU64, wanted: u64) {
+    let found = count.load(SeqCst);
+    assert!(rt; found == wanted, "{found} in place of {wanted}");
+}
+
+pub(crate) fn expect_told(
+    rt: &(impl Abort + AllocGlobal),
+    answer: &Result<Report, MergeFault>,
+    wanted: &str,
+) -> Result<(), AllocError> {
+    expect_text(rt, &told(rt.alloc(), answer)?, wanted);
+    Ok(())
+}
+
+/// Merges these readers in turn, of which there is one at least, and wants this answer.
+pub(crate) fn expect_turns<R: Source + Drop, W: Sink>(
+    rt: &(impl Abort + AllocGlobal),
+    readers: Vec<R>,
+    (asked, capacity): (&Asked, u32),
+    output: &mut W,
+    answer: &str,
+) -> Result<(), Fault> {
+    let alloc = rt.alloc();
+    let choice = choice_of(alloc, asked)?;
+    assert!(rt; !readers.is_empty());
+    assert!(rt; 0 < capacity && capacity <= MAX_CAPACITY);
+    let merged = merge_in_turn(alloc, readers, &choice, asked.base, capacity, output);
+    expect_told(rt, &merged, answer)?;
+    Ok(())
 }
 
 /// Merges with ample memory, with few and with many texts held and bytes a read and a write.
@@ -110,16 +133,82 @@ pub(crate) fn expect_merge(
     rt: &(impl Abort + AllocGlobal),
     asked: &Asked,
     tiles: &[&[&str]],
-    wanted: &Wanted,
-) -> Result<(), Fail> {
+    written: &[&str],
+    answer: &str,
+) -> Result<(), Fault> {
     let alloc = rt.alloc();
-    let written = stream_of(alloc, wanted.written)?;
+    let written = stream_of(alloc, written)?;
     for (capacity, step, is_ended) in [(1u32, 1usize, true), (2, 7, false), (64, 100_000, true)] {
         let readers = readers_of(alloc, tiles, step, is_ended)?;
         let mut output = Bin::new(alloc, 16_384, step, false)?;
-        let merged = merge_readers(rt, readers, asked, capacity, &mut output);
-        assert_eq!(rt; answer_of(&merged), wanted.answer, "capacity {capacity}");
-        assert_eq!(rt; output.bytes(), written.as_slice(), "capacity {capacity}");
+        expect_turns(rt, readers, (asked, capacity), &mut output, answer)?;
+        expect_bytes(rt, output.bytes(), &written, step);
+    }
+    Ok(())
+}
+
+/// The texts of these names.
+pub(crate) fn texts_of(
+    rt: &(impl Abort + AllocGlobal),
+    names: &str,
+) -> Result<Vec<&'static str>, AllocError> {
+    let mut texts = Vec::new(rt.alloc());
+    for name in names.split_whitespace() {
+        texts.push(text(rt, name))?;
+    }
+    Ok(texts)
+}
+
+/// The same of tiles.
+pub(crate) fn tiles_of(
+    rt: &(impl Abort + AllocGlobal),
+    names: &str,
+) -> Result<Vec<Vec<&'static str>>, AllocError> {
+    let mut tiles = Vec::new(rt.alloc());
+    for tile in names.split('|') {
+        tiles.push(texts_of(rt, tile)?)?;
+    }
+    Ok(tiles)
+}
+
+pub(crate) fn slices_of<'a>(
+    alloc: Global,
+    tiles: &'a [Vec<&'static str>],
+) -> Result<Vec<&'a [&'static str]>, AllocError> {
+    let mut slices = Vec::new(alloc);
+    for tile in tiles {
+        slices.push(tile.as_slice())?;
+    }
+    Ok(slices)
+}
+
+/// What stands before an arrow, and after it.
+pub(crate) fn split_at_arrow<'a>(rt: &impl Abort, line: &'a str) -> (&'a str, &'a str) {
+    let Some((before, after)) = line.split_once("=>") else {
+        panic!(rt; "no arrow in {line}");
+    };
+    (before, after.trim())
+}
+
+fn expect_line(rt: &(impl Abort + AllocGlobal), asked: &Asked, line: &str) -> Result<(), Fault> {
+    let (tiles, wanted) = split_at_arrow(rt, line);
+    let (written, answer) = split_at_arrow(rt, wanted);
+    let tiles = tiles_of(rt, tiles)?;
+    let tiles = slices_of(rt.alloc(), tiles.as_slice())?;
+    let written = texts_of(rt, written)?;
+    expect_merge(rt, asked, tiles.as_slice(), written.as_slice(), answer)
+}
+
+/// Merges what the lines of a table tell.
+pub(crate) fn expect_table(
+    rt: &(impl Abort + AllocGlobal),
+    asked: &Asked,
+    table: &str,
+) -> Result<(), Fail> {
+    for line in table.lines() {
+        if !line.trim().is_empty() {
+            expect_line(rt, asked, line)?;
+        }
     }
     Ok(())
 }

@@ -1,80 +1,51 @@
-use crate::merging::{Asked, expect_merge, merged, refused};
-use crate::texts::{
-    A, B, BEFORE_HEADER, EAST_A, FAR_B, FAR_HEADER, HALF_BEFORE_HEADER, HEADER, LAST_B, NORTH_A,
-    NORTH_HEADER, ONE_HEADER, ONE_POINT_HEADER,
-};
-use byte_streams::Fault;
-use city_feature::{Base, Choice, area};
+//! Merges on the grid with the least translation.
+
+use crate::merging::{Asked, expect_table};
+use city_feature::Base;
 use std::test::Fail;
 
 /// All features, on the grid with the least translation.
-fn least() -> Asked {
-    Asked {
-        choice: Choice::new(None, None, false),
-        base: Base::Least,
-    }
-}
+const LEAST: Asked = Asked {
+    types: None,
+    area: None,
+    exclude: false,
+    base: Base::Least,
+};
+
+/// Those of an area.
+const LEAST_IN_AREA: Asked = Asked {
+    types: None,
+    area: Some("1510,0,1510,100"),
+    exclude: false,
+    base: Base::Least,
+};
+
+const MOVED: &str = "
+FAR_HEADER B | HEADER A => HEADER FAR_B A => [1, 1]
+HEADER | BEFORE_HEADER LAST_B => BEFORE_HEADER LAST_B => [0, 1]
+ONE_HEADER A | NORTH_HEADER A => HEADER EAST_A NORTH_A => [1, 1]
+";
+
+/// The least translation is spelled as in the lowest tile.
+const SPELLED: &str = "
+ONE_POINT_HEADER | ONE_HEADER => ONE_POINT_HEADER => [0, 0]
+FAR_HEADER | ONE_HEADER | ONE_POINT_HEADER => ONE_HEADER => [0, 0, 0]
+";
+
+/// Tiles off the least grid are refused from the first on.
+const OFF_GRID: &str = "
+HEADER | HALF_BEFORE_HEADER =>  => tile 1 line 1: OffGrid
+";
+
+/// Features are chosen on the least translation.
+const CHOSEN: &str = "
+FAR_HEADER B | HEADER A => HEADER FAR_B => [1, 0]
+";
 
 #[test]
 fn tiles_are_put_on_the_least_translation(rt: HostRuntime) -> Result<(), Fail> {
-    let asked = least();
-    expect_merge(
-        &rt,
-        &asked,
-        &[&[FAR_HEADER, B], &[HEADER, A]],
-        &merged(&[1, 1], &[HEADER, FAR_B, A]),
-    )?;
-    expect_merge(
-        &rt,
-        &asked,
-        &[&[HEADER], &[BEFORE_HEADER, LAST_B]],
-        &merged(&[0, 1], &[BEFORE_HEADER, LAST_B]),
-    )?;
-    expect_merge(
-        &rt,
-        &asked,
-        &[&[ONE_HEADER, A], &[NORTH_HEADER, A]],
-        &merged(&[1, 1], &[HEADER, EAST_A, NORTH_A]),
-    )
-}
-
-#[test]
-fn features_are_chosen_on_the_least_translation(rt: HostRuntime) -> Result<(), Fail> {
-    let asked = Asked {
-        choice: Choice::new(None, area("1510,0,1510,100"), false),
-        base: Base::Least,
-    };
-    expect_merge(
-        &rt,
-        &asked,
-        &[&[FAR_HEADER, B], &[HEADER, A]],
-        &merged(&[1, 0], &[HEADER, FAR_B]),
-    )
-}
-
-#[test]
-fn tiles_off_the_least_grid_are_refused_from_the_first_on(rt: HostRuntime) -> Result<(), Fail> {
-    expect_merge(
-        &rt,
-        &least(),
-        &[&[HEADER], &[HALF_BEFORE_HEADER]],
-        &refused((1, 1), Fault::OffGrid, &[]),
-    )
-}
-
-#[test]
-fn the_least_translation_is_spelled_as_in_the_lowest_tile(rt: HostRuntime) -> Result<(), Fail> {
-    let asked = least();
-    expect_merge(
-        &rt,
-        &asked,
-        &[&[ONE_POINT_HEADER], &[ONE_HEADER]],
-        &merged(&[0, 0], &[ONE_POINT_HEADER]),
-    )?;
-    expect_merge(
-        &rt,
-        &asked,
-        &[&[FAR_HEADER], &[ONE_HEADER], &[ONE_POINT_HEADER]],
-        &merged(&[0, 0, 0], &[ONE_HEADER]),
-    )
+    for table in [MOVED, SPELLED, OFF_GRID] {
+        expect_table(&rt, &LEAST, table)?;
+    }
+    expect_table(&rt, &LEAST_IN_AREA, CHOSEN)
 }

@@ -2,209 +2,64 @@
 
 use crate::devices::NOT_WRITTEN;
 use crate::documents::of_types;
-use crate::interleaving::is_mixed;
-use crate::merging::{plain, stream_of};
-use crate::texts::{A1, A2, A3, B1, C1, C2, CUT, HEADER};
-use byte_streams::{Bin, Device, Fault, Line, MergeFault, Tape};
+use crate::interleaving::{expect_both_ways, expect_threads};
+use crate::merging::{PLAIN, expect_count, expect_turns, readers_of, stream_of};
+use crate::texts::{A1, A2, B1, CUT, HEADER};
+use byte_streams::{Bin, Device, Sink};
 use std::alloc::{AllocError, Global};
 use std::io::{self, ErrorKind, Read, Write};
 use std::process::Abort;
-use std::sync::Arc;
 use std::sync::atomic::AtomicU64;
 use std::sync::atomic::Ordering::SeqCst;
+use std::sync::{Arc, Wait};
 use std::test::Fail;
-use tile_merge::{merge, merge_in_turn};
+use std::thread::Threads;
 
 /// How many turns of one load a reader waits at most.
 const TURNS: u64 = 1_000_000_000;
 
-/// The readers of streams of these texts, each after a header.
-fn tapes(alloc: Global, tiles: &[&[&str]]) -> Result<Vec<Tape>, AllocError> {
-    let mut readers = Vec::new(alloc);
-    for texts in tiles {
-        let mut stream = stream_of(alloc, &[HEADER])?;
-        stream.extend_from_slice(&stream_of(alloc, texts)?)?;
-        readers.push(Tape::new(Line::from_vec(stream), 50, false))?;
-    }
-    Ok(readers)
-}
+/// Whole tiles keep their order; a faulty one ends, and the others are written whole; the lowest of them is told.
+const ORDERED: &str = "
+HEADER A1 A2 A3 | HEADER B1 | HEADER C1 C2 => HEADER A1 B1 C1 A2 C2 A3 => [3, 1, 2] => A1 A2 A3 | B1 | C1 C2
+HEADER A1 A2 | HEADER B1 CUT => HEADER A1 B1 A2 => tile 2 line 3: Syntax => A1 A2 | B1
+HEADER B1 CUT | HEADER A1 A2 => HEADER B1 A1 A2 => tile 1 line 3: Syntax => B1 | A1 A2
+HEADER A1 A2 A3 | HEADER B1 CUT | HEADER CUT => HEADER A1 B1 A2 A3 => tile 2 line 3: Syntax => A1 A2 A3 | B1 |
+";
 
 #[test]
 fn tiles_keep_their_order(rt: HostRuntime) -> Result<(), Fail> {
-    let alloc = rt.alloc();
-    let tiles: &[&[&str]] = &[&[A1, A2, A3], &[B1], &[C1, C2]];
-    for capacity in [1u32, 64] {
-        let readers = tapes(alloc, tiles)?;
-        assert!(rt; !readers.is_empty());
-        let mut output = Bin::new(alloc, 4096, 100, false)?;
-        let asked = plain();
-        let report = merge(
-            &rt,
-            alloc,
-            readers,
-            &asked.choice,
-            asked.base,
-            capacity,
-            &mut output,
-        )?;
-        assert_eq!(rt; report.counts.items(), [3u64, 1, 2].as_slice());
-        assert!(rt; is_mixed(alloc, output.bytes(), &[HEADER], tiles)?);
-    }
-    Ok(())
-}
-
-#[test]
-fn a_faulty_tile_ends_and_the_others_are_written_whole(rt: HostRuntime) -> Result<(), Fail> {
-    let alloc = rt.alloc();
-    let asked = plain();
-    for capacity in [1u32, 64] {
-        for (tiles, whole, tile) in [
-            (
-                [[A1, A2].as_slice(), [B1, CUT].as_slice()],
-                [[A1, A2].as_slice(), [B1].as_slice()],
-                2u32,
-            ),
-            (
-                [[B1, CUT].as_slice(), [A1, A2].as_slice()],
-                [[B1].as_slice(), [A1, A2].as_slice()],
-                1,
-            ),
-        ] {
-            let readers = tapes(alloc, tiles.as_slice())?;
-            assert!(rt; !readers.is_empty());
-            let mut output = Bin::new(alloc, 4096, 100, false)?;
-            let answer = merge(
-                &rt,
-                alloc,
-                readers,
-                &asked.choice,
-                asked.base,
-                capacity,
-                &mut output,
-            );
-            let refusal = MergeFault {
-                tile,
-                line: 3,
-                fault: Fault::Syntax,
-            };
-            assert!(rt; matches!(answer, Err(fault) if fault == refusal));
-            assert!(rt; is_mixed(alloc, output.bytes(), &[HEADER], whole.as_slice())?);
-        }
-    }
-    Ok(())
-}
-
-#[test]
-fn the_lowest_faulty_tile_is_told(rt: HostRuntime) -> Result<(), Fail> {
-    let alloc = rt.alloc();
-    let tiles: &[&[&str]] = &[&[A1, A2, A3], &[B1, CUT], &[CUT]];
-    let readers = tapes(alloc, tiles)?;
-    assert!(rt; !readers.is_empty());
-    let mut output = Bin::new(alloc, 4096, 100, false)?;
-    let asked = plain();
-    let answer = merge(
-        &rt,
-        alloc,
-        readers,
-        &asked.choice,
-        asked.base,
-        1,
-        &mut output,
-    );
-    let refusal = MergeFault {
-        tile: 2,
-        line: 3,
-        fault: Fault::Syntax,
-    };
-    assert!(rt; matches!(answer, Err(fault) if fault == refusal));
-    let whole: &[&[&str]] = &[&[A1, A2, A3], &[B1], &[]];
-    assert!(rt; is_mixed(alloc, output.bytes(), &[HEADER], whole)?);
-    Ok(())
+    expect_both_ways(&rt, &PLAIN, ORDERED)
 }
 
 #[test]
 fn a_failed_write_leaves_the_front_of_a_stream(rt: HostRuntime) -> Result<(), Fail> {
     let alloc = rt.alloc();
-    let tiles: &[&[&str]] = &[&[A1, A2], &[B1, CUT]];
-    let asked = plain();
+    let begins_with_a = stream_of(alloc, &[HEADER, A1, A2])?;
+    let begins_with_b = stream_of(alloc, &[HEADER, B1, A1])?;
     for capacity in [1u32, 64] {
-        let readers = tapes(alloc, tiles)?;
-        assert!(rt; !readers.is_empty());
+        let readers = readers_of(alloc, &[&[HEADER, A1, A2], &[HEADER, B1, CUT]], 50, true)?;
         let mut output = Bin::new(alloc, 200, 7, false)?;
-        let answer = merge(
-            &rt,
-            alloc,
-            readers,
-            &asked.choice,
-            asked.base,
-            capacity,
-            &mut output,
-        );
-        assert!(rt; matches!(answer, Err(fault) if fault == NOT_WRITTEN));
+        expect_threads(&rt, readers, (&PLAIN, capacity), &mut output, NOT_WRITTEN)?;
         let written = output.bytes();
         assert_eq!(rt; written.len(), 200);
-        let begins_with_a = stream_of(alloc, &[HEADER, A1, A2])?;
-        let begins_with_b = stream_of(alloc, &[HEADER, B1, A1])?;
         assert!(rt; begins_with_a.starts_with(written) || begins_with_b.starts_with(written));
     }
     Ok(())
 }
 
+/// An output that fails while all rings are full.
 #[test]
 fn drain(rt: HostRuntime) -> Result<(), Fail> {
     let alloc = rt.alloc();
-    let mut many = Vec::new(alloc);
+    let mut many = vec![in alloc; HEADER]?;
     for _ in 0..1_000u32 {
         many.push(A1)?;
     }
     let tiles = [many.as_slice(), many.as_slice(), many.as_slice()];
-    let readers = tapes(alloc, tiles.as_slice())?;
-    assert!(rt; !readers.is_empty());
+    let readers = readers_of(alloc, &tiles, 50, true)?;
     let mut output = Bin::new(alloc, 200, 200, false)?;
-    let asked = plain();
-    let answer = merge(
-        &rt,
-        alloc,
-        readers,
-        &asked.choice,
-        asked.base,
-        1,
-        &mut output,
-    );
-    assert!(rt; matches!(answer, Err(fault) if fault == NOT_WRITTEN));
+    expect_threads(&rt, readers, (&PLAIN, 1), &mut output, NOT_WRITTEN)?;
     assert_eq!(rt; output.bytes().len(), 200);
-    Ok(())
-}
-
-#[test]
-fn many(rt: HostRuntime) -> Result<(), Fail> {
-    let alloc = rt.alloc();
-    let texts = [A1];
-    let mut tiles: Vec<&[&str]> = Vec::new(alloc);
-    for _ in 0..64u32 {
-        tiles.push(texts.as_slice())?;
-    }
-    let asked = plain();
-    for capacity in [1u32, 64] {
-        let readers = tapes(alloc, tiles.as_slice())?;
-        assert!(rt; !readers.is_empty());
-        let mut output = Bin::new(alloc, 8192, 100, false)?;
-        let report = merge(
-            &rt,
-            alloc,
-            readers,
-            &asked.choice,
-            asked.base,
-            capacity,
-            &mut output,
-        )?;
-        assert_eq!(rt; report.counts.items(), [1u64; 64].as_slice());
-        let mut whole = vec![in alloc; HEADER]?;
-        for _ in 0..64u32 {
-            whole.push(A1)?;
-        }
-        assert!(rt; output.bytes() == stream_of(alloc, whole.as_slice())?.as_slice());
-    }
     Ok(())
 }
 
@@ -269,82 +124,73 @@ fn shared(alloc: Global) -> Result<Arc<AtomicU64, Global>, AllocError> {
     Ok(Arc::new(alloc, AtomicU64::new(0))?)
 }
 
-/// A reader of one feature that says in `begun` how many of its reads have begun.
-fn counted(alloc: Global, begun: &Arc<AtomicU64, Global>) -> Result<Device<Gated>, AllocError> {
-    Ok(Device::new(Gated {
-        features: 1,
+/// A reader of so many features that says in `begun` how many of its reads have begun, and before one of them waits
+/// until it has seen enough.
+fn waiting(
+    alloc: Global,
+    features: u64,
+    begun: &Arc<AtomicU64, Global>,
+    (waits_at, seen, least): (u64, &Arc<AtomicU64, Global>, u64),
+) -> Result<Vec<Device<Gated>>, AllocError> {
+    let mut readers = Vec::new(alloc);
+    readers.push(Device::new(Gated {
+        features,
         reads: 0,
         begun: Arc::try_clone(begun)?,
-        waits_at: 0,
-        seen: shared(alloc)?,
-        least: 0,
-    }))
+        waits_at,
+        seen: Arc::try_clone(seen)?,
+        least,
+    }))?;
+    Ok(readers)
+}
+
+/// So many readers of so many features each, which wait for nothing and say in `begun` how many reads have begun.
+fn counted(
+    alloc: Global,
+    count: u32,
+    features: u64,
+    begun: &Arc<AtomicU64, Global>,
+) -> Result<Vec<Device<Gated>>, AllocError> {
+    let mut readers = Vec::new(alloc);
+    for _ in 0..count {
+        readers.append(&mut waiting(alloc, features, begun, (0, begun, 0))?)?;
+    }
+    Ok(readers)
 }
 
 #[test]
 fn sixty_five_tiles_are_refused_before_one_is_read(rt: HostRuntime) -> Result<(), Fail> {
     let alloc = rt.alloc();
     let begun = shared(alloc)?;
-    let mut readers = Vec::new(alloc);
-    for _ in 0..65u32 {
-        readers.push(counted(alloc, &begun)?)?;
-    }
-    assert!(rt; !readers.is_empty());
+    let readers = counted(alloc, 65, 1, &begun)?;
     let mut output = Bin::new(alloc, 4096, 4096, false)?;
-    let asked = plain();
-    let answer = merge(
-        &rt,
-        alloc,
-        readers,
-        &asked.choice,
-        asked.base,
-        64,
-        &mut output,
-    );
-    let refusal = MergeFault::of_no_line(Fault::TooManyTiles);
-    assert!(rt; matches!(answer, Err(fault) if fault == refusal));
+    let answer = "tile 0 line 0: TooManyTiles";
+    expect_threads(&rt, readers, (&PLAIN, 64), &mut output, answer)?;
     assert!(rt; output.bytes().is_empty());
-    assert_eq!(rt; begun.load(SeqCst), 0);
+    expect_count(&rt, &begun, 0);
     Ok(())
 }
 
 #[test]
 fn tiles_after_one_with_no_header_are_not_read(rt: HostRuntime) -> Result<(), Fail> {
     let alloc = rt.alloc();
-    let first = shared(alloc)?;
-    let third = shared(alloc)?;
-    let mut readers = Vec::new(alloc);
-    readers.push(counted(alloc, &first)?)?;
+    let (first, second, third) = (shared(alloc)?, shared(alloc)?, shared(alloc)?);
+    let mut readers = counted(alloc, 1, 1, &first)?;
     readers.push(Device::new(Gated {
         features: 0,
         reads: 1,
-        begun: shared(alloc)?,
+        begun: Arc::try_clone(&second)?,
         waits_at: 0,
-        seen: shared(alloc)?,
+        seen: second,
         least: 0,
     }))?;
-    readers.push(counted(alloc, &third)?)?;
-    assert!(rt; !readers.is_empty());
+    readers.append(&mut counted(alloc, 1, 1, &third)?)?;
     let mut output = Bin::new(alloc, 4096, 4096, false)?;
-    let asked = plain();
-    let answer = merge(
-        &rt,
-        alloc,
-        readers,
-        &asked.choice,
-        asked.base,
-        64,
-        &mut output,
-    );
-    let refusal = MergeFault {
-        tile: 2,
-        line: 0,
-        fault: Fault::NoHeader,
-    };
-    assert!(rt; matches!(answer, Err(fault) if fault == refusal));
+    let answer = "tile 2 line 0: NoHeader";
+    expect_threads(&rt, readers, (&PLAIN, 64), &mut output, answer)?;
     assert!(rt; output.bytes().is_empty());
-    assert_eq!(rt; first.load(SeqCst), 1);
-    assert_eq!(rt; third.load(SeqCst), 0);
+    expect_count(&rt, &first, 1);
+    expect_count(&rt, &third, 0);
     Ok(())
 }
 
@@ -352,33 +198,12 @@ fn tiles_after_one_with_no_header_are_not_read(rt: HostRuntime) -> Result<(), Fa
 #[test]
 fn gate(rt: HostRuntime) -> Result<(), Fail> {
     let alloc = rt.alloc();
-    let asked = plain();
     for capacity in [1u32, 64] {
-        let one = shared(alloc)?;
-        let two = shared(alloc)?;
-        let mut readers = Vec::new(alloc);
-        for (begun, seen) in [(&one, &two), (&two, &one)] {
-            readers.push(Device::new(Gated {
-                features: 1,
-                reads: 0,
-                begun: Arc::try_clone(begun)?,
-                waits_at: 2,
-                seen: Arc::try_clone(seen)?,
-                least: 2,
-            }))?;
-        }
-        assert!(rt; !readers.is_empty());
+        let (one, two) = (shared(alloc)?, shared(alloc)?);
+        let mut readers = waiting(alloc, 1, &one, (2, &two, 2))?;
+        readers.append(&mut waiting(alloc, 1, &two, (2, &one, 2))?)?;
         let mut output = Bin::new(alloc, 4096, 4096, false)?;
-        let report = merge(
-            &rt,
-            alloc,
-            readers,
-            &asked.choice,
-            asked.base,
-            capacity,
-            &mut output,
-        )?;
-        assert_eq!(rt; report.counts.items(), [1u64, 1].as_slice());
+        expect_threads(&rt, readers, (&PLAIN, capacity), &mut output, "[1, 1]")?;
     }
     Ok(())
 }
@@ -387,33 +212,11 @@ fn gate(rt: HostRuntime) -> Result<(), Fail> {
 #[test]
 fn endless_tiles_end_where_the_output_is_gone(rt: HostRuntime) -> Result<(), Fail> {
     let alloc = rt.alloc();
-    let all = plain();
-    let nothing = of_types(alloc, "Nothing")?;
-    for (asked, room) in [(&all, 200), (&nothing, 10)] {
+    for (asked, room) in [(PLAIN, 200), (of_types("Nothing"), 10)] {
         for capacity in [1u32, 64] {
-            let mut readers = Vec::new(alloc);
-            for _ in 0..3u32 {
-                readers.push(Device::new(Gated {
-                    features: u64::MAX,
-                    reads: 0,
-                    begun: shared(alloc)?,
-                    waits_at: 0,
-                    seen: shared(alloc)?,
-                    least: 0,
-                }))?;
-            }
-            assert!(rt; !readers.is_empty());
+            let readers = counted(alloc, 3, u64::MAX, &shared(alloc)?)?;
             let mut output = Bin::new(alloc, room, 7, false)?;
-            let answer = merge(
-                &rt,
-                alloc,
-                readers,
-                &asked.choice,
-                asked.base,
-                capacity,
-                &mut output,
-            );
-            assert!(rt; matches!(answer, Err(fault) if fault == NOT_WRITTEN));
+            expect_threads(&rt, readers, (&asked, capacity), &mut output, NOT_WRITTEN)?;
             assert_eq!(rt; output.bytes().len(), room);
         }
     }
@@ -459,20 +262,9 @@ impl Write for Watched {
 #[test]
 fn flow(rt: HostRuntime) -> Result<(), Fail> {
     let alloc = rt.alloc();
-    let asked = plain();
     for capacity in [1u32, 64] {
-        let begun = shared(alloc)?;
-        let taken = shared(alloc)?;
-        let mut readers = Vec::new(alloc);
-        readers.push(Device::new(Gated {
-            features: 1,
-            reads: 0,
-            begun: Arc::try_clone(&begun)?,
-            waits_at: 3,
-            seen: Arc::try_clone(&taken)?,
-            least: 130,
-        }))?;
-        assert!(rt; !readers.is_empty());
+        let (begun, taken) = (shared(alloc)?, shared(alloc)?);
+        let readers = waiting(alloc, 1, &begun, (3, &taken, 130))?;
         let mut output = Device::new(Watched {
             taken,
             lines: 0,
@@ -480,16 +272,27 @@ fn flow(rt: HostRuntime) -> Result<(), Fail> {
             turns: 0,
             most: u64::MAX,
         });
-        let report = merge(
-            &rt,
-            alloc,
-            readers,
-            &asked.choice,
-            asked.base,
-            capacity,
-            &mut output,
-        )?;
-        assert_eq!(rt; report.counts.items(), [1u64].as_slice());
+        expect_threads(&rt, readers, (&PLAIN, capacity), &mut output, "[1]")?;
+    }
+    Ok(())
+}
+
+/// Merges in turn, or with threads.
+fn expect_merge<H, W>(
+    rt: &H,
+    readers: Vec<Device<Gated>>,
+    (in_turn, capacity): (bool, u32),
+    output: &mut W,
+    answer: &str,
+) -> Result<(), Fail>
+where
+    H: Abort + AllocGlobal + Threads + Wait + Copy + Send + 'static,
+    W: Sink,
+{
+    if in_turn {
+        expect_turns(rt, readers, (&PLAIN, capacity), output, answer)?;
+    } else {
+        expect_threads(rt, readers, (&PLAIN, capacity), output, answer)?;
     }
     Ok(())
 }
@@ -499,19 +302,9 @@ fn flow(rt: HostRuntime) -> Result<(), Fail> {
 #[test]
 fn bound(rt: HostRuntime) -> Result<(), Fail> {
     let alloc = rt.alloc();
-    let asked = plain();
     for in_turn in [false, true] {
         let begun = shared(alloc)?;
-        let mut readers = Vec::new(alloc);
-        readers.push(Device::new(Gated {
-            features: 100,
-            reads: 0,
-            begun: Arc::try_clone(&begun)?,
-            waits_at: 0,
-            seen: shared(alloc)?,
-            least: 0,
-        }))?;
-        assert!(rt; !readers.is_empty());
+        let readers = counted(alloc, 1, 100, &begun)?;
         let mut output = Device::new(Watched {
             taken: shared(alloc)?,
             lines: 0,
@@ -519,20 +312,7 @@ fn bound(rt: HostRuntime) -> Result<(), Fail> {
             turns: 1_000_000,
             most: 2,
         });
-        let report = if in_turn {
-            merge_in_turn(alloc, readers, &asked.choice, asked.base, 1, &mut output)?
-        } else {
-            merge(
-                &rt,
-                alloc,
-                readers,
-                &asked.choice,
-                asked.base,
-                1,
-                &mut output,
-            )?
-        };
-        assert_eq!(rt; report.counts.items(), [100u64].as_slice());
+        expect_merge(&rt, readers, (in_turn, 1), &mut output, "[100]")?;
     }
     Ok(())
 }
@@ -560,44 +340,14 @@ impl Write for Gathering {
 #[test]
 fn what_has_come_is_passed_on(rt: HostRuntime) -> Result<(), Fail> {
     let alloc = rt.alloc();
-    let asked = plain();
     for (in_turn, capacity) in [(false, 1u32), (false, 64), (true, 1), (true, 4), (true, 64)] {
         let passed_on = shared(alloc)?;
-        let mut readers = Vec::new(alloc);
-        readers.push(Device::new(Gated {
-            features: 1,
-            reads: 0,
-            begun: shared(alloc)?,
-            waits_at: 3,
-            seen: Arc::try_clone(&passed_on)?,
-            least: 130,
-        }))?;
-        assert!(rt; !readers.is_empty());
+        let readers = waiting(alloc, 1, &shared(alloc)?, (3, &passed_on, 130))?;
         let mut output = Device::new(Gathering {
             gathered: 0,
             passed_on,
         });
-        let report = if in_turn {
-            merge_in_turn(
-                alloc,
-                readers,
-                &asked.choice,
-                asked.base,
-                capacity,
-                &mut output,
-            )?
-        } else {
-            merge(
-                &rt,
-                alloc,
-                readers,
-                &asked.choice,
-                asked.base,
-                capacity,
-                &mut output,
-            )?
-        };
-        assert_eq!(rt; report.counts.items(), [1u64].as_slice());
+        expect_merge(&rt, readers, (in_turn, capacity), &mut output, "[1]")?;
     }
     Ok(())
 }

@@ -70,6 +70,25 @@ pub(crate) fn stream_of(alloc: Global, texts: &[&str]) -> Result<Vec<u8>, AllocE
     Ok(stream)
 }
 
+/// Wants this answer of a call, at this step or room.
+pub(crate) fn expect_answer(
+    rt: &impl Abort,
+    found: Result<u64, MergeFault>,
+    wanted: Result<u64, MergeFault>,
+    at: usize,
+) {
+    assert!(rt; found == wanted, "{found:?} at {at}");
+}
+
+pub(crate) fn expect_bytes(rt: &impl Abort, found: &[u8], wanted: &[u8], at: usize) {
+    assert!(rt; found == wanted, "{} bytes at {at}", found.len());
+}
+
+pub(crate) fn expect_count(rt: &impl Abort, count: &AtomicU64, wanted: u64) {
+    let found = count.load(SeqCst);
+    assert!(rt; found == wanted, "{found} in place of {wanted}");
+}
+
 /// Filters with ample memory, at few and at many bytes a read and a write, and compares all that is
 /// answered and written.
 pub(crate) fn expect_filter(
@@ -87,12 +106,9 @@ pub(crate) fn expect_filter(
             fails,
         );
         let mut output = Bin::new(rt.alloc(), 65_536, step, false)?;
-        assert_eq!(rt;
-            filter_stream(rt.alloc(), tape, choice, &mut output),
-            answer,
-            "step {step}"
-        );
-        assert_eq!(rt; output.bytes(), written.as_slice(), "step {step}");
+        let found = filter_stream(rt.alloc(), tape, choice, &mut output);
+        expect_answer(rt, found, answer, step);
+        expect_bytes(rt, output.bytes(), &written, step);
     }
     Ok(())
 }
@@ -272,16 +288,9 @@ fn a_failed_write_is_answered(rt: HostRuntime) -> Result<(), Fail> {
         let input = stream_of(rt.alloc(), &whole[..count])?;
         let tape = Tape::new(Line::from_vec(input.clone()?), 50, false);
         let mut output = Bin::new(rt.alloc(), room, step, flush_fails)?;
-        assert_eq!(rt;
-            filter_stream(rt.alloc(), tape, &every_feature(), &mut output),
-            Err(NOT_WRITTEN),
-            "room {room}, step {step}"
-        );
-        assert_eq!(rt;
-            output.bytes(),
-            &input[..taken.min(input.len())],
-            "room {room}, step {step}"
-        );
+        let found = filter_stream(rt.alloc(), tape, &every_feature(), &mut output);
+        expect_answer(&rt, found, Err(NOT_WRITTEN), room);
+        expect_bytes(&rt, output.bytes(), &input[..taken.min(input.len())], room);
     }
     Ok(())
 }
@@ -300,11 +309,9 @@ fn a_failed_flush_is_answered_before_a_fault(rt: HostRuntime) -> Result<(), Fail
             // All is read before the first line is taken, so nothing is flushed before the fault.
             let tape = Tape::new(Line::from_vec(input.as_bytes().to_vec(alloc)?), 4096, fails);
             let mut output = Bin::new(alloc, 4096, 4096, flush_fails)?;
-            assert_eq!(rt;
-                filter_stream(alloc, tape, &every_feature(), &mut output),
-                answer
-            );
-            assert_eq!(rt; output.bytes(), written.as_slice());
+            let found = filter_stream(alloc, tape, &every_feature(), &mut output);
+            expect_answer(&rt, found, answer, 0);
+            expect_bytes(&rt, output.bytes(), &written, 0);
         }
     }
     Ok(())
@@ -322,10 +329,8 @@ fn nothing_is_flushed_where_nothing_was_written(rt: HostRuntime) -> Result<(), F
             false,
         );
         let mut output = Bin::new(rt.alloc(), 4096, 4096, true)?;
-        assert_eq!(rt;
-            filter_stream(rt.alloc(), tape, &every_feature(), &mut output),
-            answer
-        );
+        let found = filter_stream(rt.alloc(), tape, &every_feature(), &mut output);
+        expect_answer(&rt, found, answer, 0);
     }
     Ok(())
 }
@@ -369,12 +374,10 @@ fn each_text_and_each_newline_is_one_write(rt: HostRuntime) -> Result<(), Fail> 
             failing,
         });
         let tape = Tape::new(Line::from_vec(input), 4096, false);
-        assert_eq!(rt;
-            filter_stream(rt.alloc(), tape, &every_feature(), &mut output),
-            answer
-        );
-        assert_eq!(rt; writes.load(SeqCst), written);
-        assert_eq!(rt; flushes.load(SeqCst), flushed);
+        let found = filter_stream(rt.alloc(), tape, &every_feature(), &mut output);
+        expect_answer(&rt, found, answer, 0);
+        expect_count(&rt, &writes, written);
+        expect_count(&rt, &flushes, flushed);
     }
     Ok(())
 }
@@ -415,25 +418,22 @@ fn nothing_is_read_after_a_fault(rt: HostRuntime) -> Result<(), Fail> {
     };
     let mut tile = TileReader::new(rt.alloc(), reader);
     let mut output = Bin::new(rt.alloc(), 4096, 4096, false)?;
-    assert_eq!(rt;
-        filter_tile(rt.alloc(), &mut tile, &every_feature(), &mut output),
-        at_line(2, Fault::NotAFeature)
-    );
-    assert_eq!(rt; reads.load(SeqCst), 2);
-    assert_eq!(rt;
-        output.bytes(),
-        stream_of(rt.alloc(), &[HEADER])?.as_slice()
-    );
+    let found = filter_tile(rt.alloc(), &mut tile, &every_feature(), &mut output);
+    expect_answer(&rt, found, at_line(2, Fault::NotAFeature), 0);
+    expect_count(&rt, &reads, 2);
+    expect_bytes(&rt, output.bytes(), &stream_of(rt.alloc(), &[HEADER])?, 0);
     Ok(())
 }
+
+const NUMBERED: &str =
+    "{\"type\":\"CityJSONFeature\",\"id\":\"NUMBER\",\"CityObjects\":{\"NUMBER\":{\"type\":\"Building\"}},\"vertices\":[[NUMBER,2,-3]]}\n";
 
 #[test]
 fn a_tile_may_have_many_features_and_long_lines(rt: HostRuntime) -> Result<(), Fail> {
     let mut input = stream_of(rt.alloc(), &[HEADER])?;
     for number in 0..10_000u32 {
-        let feature = format!(in rt.alloc();
-            "{{\"type\":\"CityJSONFeature\",\"id\":\"{number}\",\"CityObjects\":{{\"{number}\":{{\"type\":\"Building\"}}}},\"vertices\":[[{number},2,-3]]}}\n"
-        )?;
+        let number = format!(in rt.alloc(); "{number}")?;
+        let feature = NUMBERED.replace(rt.alloc(), "NUMBER", &number)?;
         input.extend_from_slice(feature.as_bytes())?;
     }
     let long = "long".repeat(rt.alloc(), 1_000_000)?;
@@ -441,15 +441,9 @@ fn a_tile_may_have_many_features_and_long_lines(rt: HostRuntime) -> Result<(), F
     input.extend_from_slice(feature.as_bytes())?;
     input.push(b'\n')?;
     let mut output = Bin::new(rt.alloc(), input.len(), 100_000, false)?;
-    assert_eq!(rt;
-        filter_stream(
-            rt.alloc(),
-            Device::new(input.as_slice()),
-            &every_feature(),
-            &mut output
-        ),
-        Ok(10_001)
-    );
-    assert_eq!(rt; output.bytes() == input.as_slice(), true);
+    let reader = Device::new(input.as_slice());
+    let found = filter_stream(rt.alloc(), reader, &every_feature(), &mut output);
+    expect_answer(&rt, found, Ok(10_001), 0);
+    expect_bytes(&rt, output.bytes(), &input, 0);
     Ok(())
 }

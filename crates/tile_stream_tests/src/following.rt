@@ -1,7 +1,7 @@
 //! A tile is written and passed on while it is read, and little of it is held.
 ghost use Rattle.std.specs.Prelude.{◌≤◌, length};
 
-use crate::filtering::{FEATURE_A, HEADER, every_feature, stream_of};
+use crate::filtering::{FEATURE_A, HEADER, every_feature, expect_answer, expect_count, stream_of};
 use byte_streams::Device;
 use city_feature::{Choice, types};
 use std::io::{self, ErrorKind, Read, Write};
@@ -115,10 +115,10 @@ fn flow(rt: HostRuntime) -> Result<(), Fail> {
             most: 129,
         });
         let answer = filter_stream(alloc, reader, &choice, &mut output);
-        assert_eq!(rt; answer, Ok(count as u64));
+        expect_answer(&rt, answer, Ok(count as u64), 0);
         let features = count.saturating_mul(FEATURE_A.len() + 1);
         let stream = features.saturating_add(HEADER.len() + 1);
-        assert_eq!(rt; passed_on.load(SeqCst), stream as u64);
+        expect_count(&rt, &passed_on, stream as u64);
     }
     Ok(())
 }
@@ -144,10 +144,8 @@ fn bound(rt: HostRuntime) -> Result<(), Fail> {
         passed_on: &passed_on,
         most: 65_536 + line.len() as u64,
     });
-    assert_eq!(rt;
-        filter_stream(alloc, reader, &every_feature(), &mut output),
-        Ok(10_000)
-    );
-    assert_eq!(rt; passed_on.load(SeqCst), stream.len() as u64);
+    let answer = filter_stream(alloc, reader, &every_feature(), &mut output);
+    expect_answer(&rt, answer, Ok(10_000), 0);
+    expect_count(&rt, &passed_on, stream.len() as u64);
     Ok(())
 }

@@ -1,8 +1,8 @@
 //! One tile whose stream is cut short or has huge numbers, and a writer that fails at each byte.
 
 use crate::filtering::{
-    COMPACT, FEATURE_A, HEADER, NOT_WRITTEN, SPACED, at_line, every_feature, expect_filter,
-    stream_of,
+    COMPACT, FEATURE_A, HEADER, NOT_WRITTEN, SPACED, at_line, every_feature, expect_answer,
+    expect_bytes, expect_filter, stream_of,
 };
 use byte_streams::{Bin, Fault, Line, Tape};
 use std::test::Fail;
@@ -14,18 +14,19 @@ fn a_stream_may_be_cut_at_each_byte(rt: HostRuntime) -> Result<(), Fail> {
     let input = stream_of(rt.alloc(), &SPACED)?;
     let header = SPACED[0].len();
     for length in 0..input.len() {
-        let given = (&input[..length], false);
-        if length == 0 {
-            expect_filter(&rt, &choice, given, at_line(0, Fault::NoHeader), &[])?;
+        let (answer, written) = if length == 0 {
+            (at_line(0, Fault::NoHeader), 0usize)
         } else if length < header {
-            expect_filter(&rt, &choice, given, at_line(1, Fault::Syntax), &[])?;
+            (at_line(1, Fault::Syntax), 0)
         } else if length <= header.saturating_add(1) {
-            expect_filter(&rt, &choice, given, Ok(0), &[HEADER])?;
+            (Ok(0), 1)
         } else if length < input.len().saturating_sub(1) {
-            expect_filter(&rt, &choice, given, at_line(2, Fault::Syntax), &[HEADER])?;
+            (at_line(2, Fault::Syntax), 1)
         } else {
-            expect_filter(&rt, &choice, given, Ok(1), &COMPACT)?;
-        }
+            (Ok(1), 2)
+        };
+        let given = (&input[..length], false);
+        expect_filter(&rt, &choice, given, answer, &COMPACT[..written])?;
     }
     expect_filter(&rt, &choice, (&input, false), Ok(1), &COMPACT)
 }
@@ -75,8 +76,8 @@ fn a_write_may_fail_at_each_byte(rt: HostRuntime) -> Result<(), Fail> {
                 let tape = Tape::new(Line::from_vec(input.clone()?), 50, false);
                 let mut output = Bin::new(alloc, room, step, false)?;
                 let answer = filter_stream(alloc, tape, &every_feature(), &mut output);
-                assert_eq!(rt; answer, Err(NOT_WRITTEN), "room {room}, step {step}");
-                assert_eq!(rt; output.bytes(), &stream[..room], "step {step}");
+                expect_answer(&rt, answer, Err(NOT_WRITTEN), room);
+                expect_bytes(&rt, output.bytes(), &stream[..room], room);
             }
         }
     }

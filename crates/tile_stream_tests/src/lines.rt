@@ -1,5 +1,6 @@
 //! Lines by readers that give few or many bytes a read, fail, or have no end.
 
+use crate::filtering::{expect_bytes, expect_count};
 use byte_streams::{Device, Fault, Line, LineFault, Source, Tape};
 use std::alloc::{AllocError, Global};
 use std::io::{self, ErrorKind, Read};
@@ -53,18 +54,18 @@ fn expect_lines<R: Source + Drop>(
     for (number, text, end) in want {
         match lines.next() {
             Ok(Some(line)) => {
-                assert_eq!(rt; line.number, *number);
+                assert!(rt; line.number == *number);
                 let bytes = join(rt.alloc(), &[text, end])?;
-                assert_eq!(rt; line.bytes.items(), bytes.as_slice());
+                expect_bytes(rt, line.bytes.items(), &bytes, 0);
             }
             other => panic!(rt; "{other:?} in place of line {number}"),
         }
     }
     for _ in 0..2u8 {
         match lines.next() {
-            Ok(None) => assert_eq!(rt; last, Ok(())),
+            Ok(None) => assert!(rt; last == Ok(()), "{last:?}"),
             Ok(Some(line)) => panic!(rt; "{line:?} after the last line"),
-            Err(fault) => assert_eq!(rt; Err(fault), last),
+            Err(fault) => assert!(rt; Err(fault) == last, "{fault:?}"),
         }
     }
     Ok(())
@@ -196,14 +197,14 @@ fn no_early_read(rt: HostRuntime) -> Result<(), Fail> {
     let mut lines = Lines::new(rt.alloc(), reader);
     match lines.next() {
         Ok(Some(line)) => {
-            assert_eq!(rt; line.number, 1);
-            assert_eq!(rt; line.bytes.items(), HEADER.as_bytes());
+            assert!(rt; line.number == 1);
+            expect_bytes(&rt, line.bytes.items(), HEADER.as_bytes(), 0);
         }
         other => panic!(rt; "{other:?} in place of line 1"),
     }
-    assert_eq!(rt; reads.load(SeqCst), 1);
+    expect_count(&rt, &reads, 1);
     expect_lines(&rt, lines, &[], at(2, Fault::Read))?;
-    assert_eq!(rt; reads.load(SeqCst), 2);
+    expect_count(&rt, &reads, 2);
     Ok(())
 }
 

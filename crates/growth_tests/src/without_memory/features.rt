@@ -43,11 +43,11 @@ const REFUSED: [(&str, Fault); 6] = [
 
 #[test]
 fn other_values_are_no_headers(rt: HostRuntime) -> Result<(), Fail> {
-    for (text, fault) in REFUSED {
+    for (text, fault) in REFUSED.iter() {
         let value = read(rt.alloc(), text.as_bytes())?;
         let gone = take(rt.alloc());
         let answer = header(value);
-        assert!(rt; matches!(answer, Err(other) if other == fault), "{text}");
+        assert!(rt; matches!(answer, Err(other) if other == *fault), "{text}");
         give(&rt, gone);
     }
     Ok(())
@@ -72,7 +72,7 @@ fn a_feature_is_selected(rt: HostRuntime) -> Result<(), Fail> {
     let buildings = types(alloc, "Road,Building")?;
     let gone = take(alloc);
     assert!(rt; same(taken.json(), &copy));
-    assert_eq!(rt; taken.vertices().len(), 1);
+    assert!(rt; taken.vertices().len() == 1);
     assert!(rt; !selects(&Choice::new(roads, None, false), &taken));
     assert!(rt; selects(&Choice::new(buildings, area("1,2,5,5"), false), &taken));
     assert!(rt; !selects(&Choice::new(None, area("1,2,5,5"), true), &taken));
@@ -110,7 +110,7 @@ fn areas_are_read(rt: HostRuntime) {
         max_x: 10,
         max_y: 9_007_199_254_740_991,
     };
-    assert_eq!(rt; area("-5,0,10,9007199254740991"), Some(wanted));
+    assert!(rt; area("-5,0,10,9007199254740991") == Some(wanted));
     for text in [
         "1,2,3",
         "5,0,1,1",
@@ -119,7 +119,7 @@ fn areas_are_read(rt: HostRuntime) {
         "1,2,3,4,",
         "+1,2,3,4",
     ] {
-        assert_eq!(rt; area(text), None, "{text}");
+        assert!(rt; area(text) == None, "{text}");
     }
     give(&rt, gone);
 }

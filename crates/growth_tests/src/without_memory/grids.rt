@@ -29,14 +29,14 @@ const DECIMALS: [(&str, Option<i128>); 13] = [
 
 #[test]
 fn decimals_are_read(rt: HostRuntime) -> Result<(), Fail> {
-    for (text, units) in DECIMALS {
+    for (text, units) in DECIMALS.iter() {
         let number = NumText::read(rt.alloc(), text.as_bytes())?;
         let gone = take(rt.alloc());
         match decimal(&number) {
-            Ok(read) => assert_eq!(rt; Some(read.units()), units, "{text}"),
+            Ok(read) => assert!(rt; Some(read.units()) == *units, "{text}"),
             Err(fault) => {
-                assert_eq!(rt; fault, Fault::Decimal, "{text}");
-                assert_eq!(rt; None, units, "{text}");
+                assert!(rt; fault == Fault::Decimal, "{text}");
+                assert!(rt; units.is_none(), "{text}");
             }
         }
         give(&rt, gone);
@@ -65,23 +65,17 @@ fn transforms_are_read_and_compared(rt: HostRuntime) -> Result<(), Fail> {
     let gone = take(alloc);
     let origin = transform(&here)?;
     let moved = transform(&far)?;
-    assert_eq!(rt; shift_of(&moved, &origin).ok(), Shift::new(1500, -2000, 0));
+    assert!(rt; shift_of(&moved, &origin).ok() == Shift::new(1500, -2000, 0));
     let least = least_of(&origin, &moved);
-    assert_eq!(rt; shift_of(&origin, &least).ok(), Shift::new(0, 2000, 0));
-    assert_eq!(rt;
-        Transform::new(least.scale(), least.translate()),
-        Some(least)
-    );
-    assert_eq!(rt; shift_of(&transform(&off)?, &origin), Err(Fault::OffGrid));
-    assert_eq!(rt;
-        shift_of(&transform(&coarse)?, &origin),
-        Err(Fault::ScaleDiffers)
-    );
+    assert!(rt; shift_of(&origin, &least).ok() == Shift::new(0, 2000, 0));
+    assert!(rt; Transform::new(least.scale(), least.translate()) == Some(least));
+    assert!(rt; shift_of(&transform(&off)?, &origin) == Err(Fault::OffGrid));
+    assert!(rt; shift_of(&transform(&coarse)?, &origin) == Err(Fault::ScaleDiffers));
     let range = shift_of(&transform(&farthest)?, &transform(&fine)?);
-    assert_eq!(rt; range, Err(Fault::ShiftRange));
-    assert_eq!(rt; transform(&flat), Err(Fault::ScaleNotPositive));
-    assert_eq!(rt; transform(&huge), Err(Fault::Decimal));
-    assert_eq!(rt; transform(&short), Err(Fault::NoTransform));
+    assert!(rt; range == Err(Fault::ShiftRange));
+    assert!(rt; transform(&flat) == Err(Fault::ScaleNotPositive));
+    assert!(rt; transform(&huge) == Err(Fault::Decimal));
+    assert!(rt; transform(&short) == Err(Fault::NoTransform));
     give(&rt, gone);
     Ok(())
 }
@@ -107,16 +101,16 @@ fn vertices_are_read(rt: HostRuntime) -> Result<(), Fail> {
     for (text, [x, y, z]) in VERTICES {
         let value = read(alloc, text.as_bytes())?;
         let gone = take(alloc);
-        assert_eq!(rt; vertex(&value).ok(), Vertex::new(x, y, z), "{text}");
+        assert!(rt; vertex(&value).ok() == Vertex::new(x, y, z), "{text}");
         assert!(rt; three_numbers(&value).is_some(), "{text}");
         give(&rt, gone);
     }
-    for (text, fault) in NO_VERTICES {
+    for (text, fault) in NO_VERTICES.iter() {
         let value = read(alloc, text.as_bytes())?;
         let gone = take(alloc);
-        assert_eq!(rt; vertex(&value), Err(fault), "{text}");
+        assert!(rt; vertex(&value) == Err(*fault), "{text}");
         let has_three = three_numbers(&value).is_some();
-        assert_eq!(rt; has_three, fault != Fault::VertexShape, "{text}");
+        assert!(rt; has_three == (*fault != Fault::VertexShape), "{text}");
         give(&rt, gone);
     }
     Ok(())
@@ -128,12 +122,12 @@ fn vertices_are_moved(rt: HostRuntime) {
     let (Some(shift), Some(start)) = (Shift::new(1, -1, 0), Vertex::new(1, 2, 3)) else {
         panic!(rt; "out of range");
     };
-    assert_eq!(rt; moved(start, shift).ok(), Vertex::new(2, 1, 3));
+    assert!(rt; moved(start, shift).ok() == Vertex::new(2, 1, 3));
     let Some(last) = Vertex::new(9_007_199_254_740_991, 0, 0) else {
         panic!(rt; "out of range");
     };
-    assert_eq!(rt; moved(last, shift), Err(Fault::VertexRange));
-    assert_eq!(rt; moved(last, Shift::zero()), Ok(last));
+    assert!(rt; moved(last, shift) == Err(Fault::VertexRange));
+    assert!(rt; moved(last, Shift::zero()) == Ok(last));
     give(&rt, gone);
 }
 
@@ -144,13 +138,13 @@ fn vertices_are_found_in_a_text(rt: HostRuntime) {
     let Some(first) = vertex_at(text, 1) else {
         panic!(rt; "no vertex");
     };
-    assert_eq!(rt; Some(first.vertex), Vertex::new(-17, 0, 12345));
-    assert_eq!(rt; first.end, 14);
-    assert_eq!(rt; vertex_end(text, 1), 14);
+    assert!(rt; Some(first.vertex) == Vertex::new(-17, 0, 12345));
+    assert!(rt; first.end == 14);
+    assert!(rt; vertex_end(text, 1) == 14);
     let Some(second) = spelled_vertex_at(text, 15) else {
         panic!(rt; "no vertex");
     };
-    assert_eq!(rt; Some(second.vertex), Vertex::new(0, 1, 2));
-    assert_eq!(rt; second.end, 23);
+    assert!(rt; Some(second.vertex) == Vertex::new(0, 1, 2));
+    assert!(rt; second.end == 23);
     give(&rt, gone);
 }

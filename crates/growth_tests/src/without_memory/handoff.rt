@@ -1,50 +1,9 @@
 //! Rows and queues that are full, closed, empty or drained, and the ends between threads.
 
+use crate::handoff::{END, expect_handed_over, is_last, is_text, line};
 use crate::memory::{give, take};
-use byte_streams::{Fault, Line};
-use std::alloc::Global;
 use std::test::Fail;
-use tile_handoff::{End, NoClose, NoPut, Note, Queues, Row, Took, ends};
-
-const END: End = End {
-    count: 4,
-    line: 0,
-    number: 0,
-};
-
-fn line(alloc: Global, text: &str) -> Result<Line, Fault> {
-    Ok(Line::from_vec(text.as_bytes().to_vec(alloc)?))
-}
-
-/// Whether a note is the line of this text.
-fn is_line(note: &Option<Note>, text: &str) -> bool {
-    match note {
-        Some(Note::Line(line)) => line.items() == text.as_bytes(),
-        _ => false,
-    }
-}
-
-fn is_end(note: &Option<Note>) -> bool {
-    match note {
-        Some(Note::End(end)) => *end == END,
-        _ => false,
-    }
-}
-
-/// Whether what was taken is the line of this text.
-fn is_text(took: &Took, text: &str) -> bool {
-    match took {
-        Took::Line(line) => line.items() == text.as_bytes(),
-        _ => false,
-    }
-}
-
-fn is_last(took: &Took) -> bool {
-    match took {
-        Took::End(end) => *end == END,
-        _ => false,
-    }
-}
+use tile_handoff::{NoClose, NoPut, Queues, Row, Took, ends};
 
 /// Whether a put was refused as of a full tile, or as of a closed one, and gave this text back.
 fn is_full(answer: &Result<(), NoPut>, text: &str) -> bool {
@@ -69,8 +28,8 @@ fn a_full_row_answers(rt: HostRuntime) -> Result<(), Fail> {
     assert!(rt; row.put(0, x).is_ok());
     let gone = take(alloc);
     assert!(rt; is_full(&row.put(0, y), "y"));
-    assert_eq!(rt; row.close(0, END), Err(NoClose::Full));
-    assert_eq!(rt; row.marks().items().len(), 1);
+    assert!(rt; row.close(0, END) == Err(NoClose::Full));
+    assert!(rt; row.marks().items().len() == 1);
     give(&rt, gone);
     Ok(())
 }
@@ -83,9 +42,9 @@ fn a_closed_row_answers(rt: HostRuntime) -> Result<(), Fail> {
     assert!(rt; row.close(0, END).is_ok());
     let gone = take(alloc);
     assert!(rt; is_closed(&row.put(0, y), "y"));
-    assert_eq!(rt; row.close(0, END), Err(NoClose::Closed));
+    assert!(rt; row.close(0, END) == Err(NoClose::Closed));
     assert!(rt; matches!(row.take(1), Ok(Took::Empty)));
-    assert_eq!(rt; row.marks().items().len(), 1);
+    assert!(rt; row.marks().items().len() == 1);
     give(&rt, gone);
     Ok(())
 }
@@ -98,8 +57,8 @@ fn a_drained_row_answers(rt: HostRuntime) -> Result<(), Fail> {
     assert!(rt; is_last(&row.take(0)?));
     let gone = take(alloc);
     assert!(rt; matches!(row.take(0), Ok(Took::Drained)));
-    assert_eq!(rt; row.close(0, END), Err(NoClose::Closed));
-    assert_eq!(rt; row.marks().items().len(), 2);
+    assert!(rt; row.close(0, END) == Err(NoClose::Closed));
+    assert!(rt; row.marks().items().len() == 2);
     give(&rt, gone);
     Ok(())
 }
@@ -129,26 +88,9 @@ fn queues_that_were_made_answer(rt: HostRuntime) -> Result<(), Fail> {
 fn ends_that_were_made_hand_over(rt: HostRuntime) -> Result<(), Fail> {
     let alloc = rt.alloc();
     let (x, y) = (line(alloc, "x")?, line(alloc, "y")?);
-    let (mut sender, mut receiver) = ends(alloc, 1)?;
+    let (sender, receiver) = ends(alloc, 1)?;
     let gone = take(alloc);
-    assert!(rt; sender.try_put(x).is_ok());
-    let back = match sender.try_put(y) {
-        Ok(()) => panic!(rt; "put beside x"),
-        Err(back) => back,
-    };
-    assert_eq!(rt; back.items(), b"y".as_slice());
-    let (sender, end) = match sender.try_end(END) {
-        Ok(_) => panic!(rt; "ended beside x"),
-        Err(back) => back,
-    };
-    assert!(rt; is_line(&receiver.try_take(), "x"));
-    let closed = match sender.try_end(end) {
-        Ok(closed) => closed,
-        Err(_) => panic!(rt; "not ended"),
-    };
-    assert!(rt; is_end(&receiver.try_take()));
-    assert!(rt; receiver.try_take().is_none());
-    assert_eq!(rt; receiver.confirm(closed)?.left, 0);
+    expect_handed_over(&rt, sender, receiver, x, y)?;
     give(&rt, gone);
     Ok(())
 }

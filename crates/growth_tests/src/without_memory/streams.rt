@@ -12,9 +12,9 @@ use tile_stream::{Lines, TileReader, write_line};
 #[test]
 fn tiles_are_counted(rt: HostRuntime) {
     let gone = take(rt.alloc());
-    assert_eq!(rt; tile_count(64), Ok(()));
+    assert!(rt; tile_count(64) == Ok(()));
     let many = MergeFault::of_no_line(Fault::TooManyTiles);
-    assert_eq!(rt; tile_count(65), Err(many));
+    assert!(rt; tile_count(65) == Err(many));
     give(&rt, gone);
 }
 
@@ -63,11 +63,11 @@ fn lines_are_begun(rt: HostRuntime) -> Result<(), Fail> {
         let Some(line) = lines.next()? else {
             panic!(rt; "no line {wanted}");
         };
-        assert_eq!(rt; line.number, wanted);
+        assert!(rt; line.number == wanted);
     }
     assert!(rt; matches!(short.next(), Ok(Some(_))));
     assert!(rt; short.next().is_err());
-    assert_eq!(rt; tile.take_head(alloc)?.line, 1);
+    assert!(rt; tile.take_head(alloc)?.line == 1);
     Ok(())
 }
 
@@ -78,7 +78,7 @@ fn a_line_is_written(rt: HostRuntime) -> Result<(), Fail> {
     let gone = take(rt.alloc());
     assert!(rt; write_line(&mut output, text)?.items().is_empty());
     let line = output.bytes().strip_suffix(b"\n").unwrap_or(b"");
-    assert_eq!(rt; line, A.as_bytes());
+    assert!(rt; line == A.as_bytes());
     give(&rt, gone);
     Ok(())
 }
