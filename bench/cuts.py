@@ -14,7 +14,7 @@ from streams import attributes
 
 # The most instructions for each byte of a document, and the peak memory at most, in times of the document: of one
 # whose vertices are written as they stand, and of one whose vertices are written anew.
-BOUNDS, BOUNDS_ANEW = (36, 2.41), (39, 2.56)
+BOUNDS, BOUNDS_ANEW = (36, 2.35), (39, 2.5)
 # The size of a document whose peak is measured.
 LARGE = 20 * MEGA
 SURFACES = '[{"type":"GroundSurface"},{"type":"RoofSurface","slope":%d},{"type":"WallSurface"}]'
