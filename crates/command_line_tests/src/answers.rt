@@ -1,14 +1,12 @@
 //! What words ask for, and what is to be answered.
-use byte_streams::Line;
-use city_feature::Choice;
+use byte_streams::{Fault, Line};
+use city_feature::{Area, Choice, Types};
 use city_json::Str;
 use command_line::{Parsed, Paths, parse_words};
-use std::alloc::Global;
-use std::process::Abort;
-use std::test::Fail;
+use std::alloc::{AllocError, Global};
 
 /// What the words after the program's name ask for.
-pub(crate) fn parsed(alloc: Global, words: &[&str]) -> Result<Parsed, Fail> {
+pub(crate) fn parsed(alloc: Global, words: &[&str]) -> Result<Parsed, Fault> {
     let mut given = Paths::new(alloc);
     given.push(Str::read(alloc, "citymerge")?)?;
     for word in words {
@@ -17,111 +15,133 @@ pub(crate) fn parsed(alloc: Global, words: &[&str]) -> Result<Parsed, Fail> {
     Ok(parse_words(alloc, &given))
 }
 
-pub(crate) fn text_of(line: &Line) -> Result<&str, Fail> {
-    Ok(str::from_utf8(line.items())?)
-}
-
-/// The choice as a text: the types, the area, and whether it is excluded.
-pub(crate) fn shown(alloc: Global, choice: &Choice) -> Result<String, Fail> {
+fn types_shown(alloc: Global, types: &Types) -> Result<String, AllocError> {
     let mut text = String::new(alloc);
-    match &choice.types {
-        Some(types) => {
-            for name in types.items() {
-                text.push_str("<")?;
-                text.push_str(name.as_str())?;
-                text.push_str(">")?;
-            }
-        }
-        None => text.push_str("all types")?,
-    }
-    match &choice.area {
-        Some(a) => {
-            let area = format!(in alloc;
-                " from {} {} to {} {}",
-                a.min_x, a.min_y, a.max_x, a.max_y
-            )?;
-            text.push_str(area.as_str())?;
-        }
-        None => text.push_str(" anywhere")?,
-    }
-    if choice.exclude {
-        text.push_str(" excluded")?;
+    for name in types.items() {
+        text.push('<')?;
+        text.push_str(name.as_str())?;
+        text.push('>')?;
     }
     Ok(text)
 }
 
-pub(crate) fn expect_choice(
-    rt: &(impl Abort + AllocGlobal),
-    words: &[&str],
-    wanted: &str,
-) -> Result<(), Fail> {
-    match parsed(rt.alloc(), words)? {
-        Parsed::Filter(choice) => {
-            assert_eq!(rt; shown(rt.alloc(), &choice)?.as_str(), wanted);
-        }
-        other => rt.panic(format!(in rt.alloc(); "{other:?}")?.as_str()),
+fn area_shown(alloc: Global, area: &Area) -> Result<String, AllocError> {
+    format!(in alloc;
+        "from {} {} to {} {}",
+        area.min_x, area.min_y, area.max_x, area.max_y
+    )
+}
+
+/// The choice as a text: the types, the area, and whether it is excluded.
+pub(crate) fn shown(alloc: Global, choice: &Choice) -> Result<String, AllocError> {
+    let types = match &choice.types {
+        Some(types) => types_shown(alloc, types)?,
+        None => String::from_str(alloc, "all types")?,
+    };
+    let area = match &choice.area {
+        Some(area) => area_shown(alloc, area)?,
+        None => String::from_str(alloc, "anywhere")?,
+    };
+    let excluded = if choice.exclude { " excluded" } else { "" };
+    format!(in alloc; "{types} {area}{excluded}")
+}
+
+fn is_shown(alloc: Global, choice: &Choice, wanted: &str) -> bool {
+    match shown(alloc, choice) {
+        Ok(text) => text.as_str() == wanted,
+        Err(_) => false,
     }
-    Ok(())
 }
 
-pub(crate) fn help_of(rt: &(impl Abort + AllocGlobal), words: &[&str]) -> Result<Line, Fail> {
-    match parsed(rt.alloc(), words)? {
-        Parsed::Help(text) => Ok(text),
-        other => rt.panic(format!(in rt.alloc(); "{other:?}")?.as_str()),
+/// Whether the words ask for a filter of this choice.
+pub(crate) fn chooses(alloc: Global, words: &[&str], wanted: &str) -> bool {
+    match parsed(alloc, words) {
+        Ok(Parsed::Filter(choice)) => is_shown(alloc, &choice, wanted),
+        _ => false,
     }
 }
 
-pub(crate) fn usage_of(rt: &(impl Abort + AllocGlobal), words: &[&str]) -> Result<Line, Fail> {
-    match parsed(rt.alloc(), words)? {
-        Parsed::Usage(text) => Ok(text),
-        other => rt.panic(format!(in rt.alloc(); "{other:?}")?.as_str()),
+fn help_of(alloc: Global, words: &[&str]) -> Option<Line> {
+    match parsed(alloc, words) {
+        Ok(Parsed::Help(text)) => Some(text),
+        _ => None,
     }
 }
 
-pub(crate) fn expect_usage(
-    rt: &(impl Abort + AllocGlobal),
-    words: &[&str],
-    wanted: &str,
-) -> Result<(), Fail> {
-    let said = usage_of(rt, words)?;
-    assert_eq!(rt; text_of(&said)?, wanted);
-    Ok(())
+fn usage_of(alloc: Global, words: &[&str]) -> Option<Line> {
+    match parsed(alloc, words) {
+        Ok(Parsed::Usage(text)) => Some(text),
+        _ => None,
+    }
 }
 
-/// The words are refused by `clap`, with a text that ends its line and names what is wrong.
-pub(crate) fn expect_refusal(
-    rt: &(impl Abort + AllocGlobal),
-    words: &[&str],
-    named: &str,
-) -> Result<(), Fail> {
-    let said = usage_of(rt, words)?;
-    let text = text_of(&said)?;
-    assert!(rt; text.contains(named));
-    assert!(rt; text.ends_with('\n'));
-    assert!(rt; !text.contains("bad --"));
-    Ok(())
+/// Whether the words are a wrong use, of which this is said.
+pub(crate) fn is_wrong_use(alloc: Global, words: &[&str], wanted: &str) -> bool {
+    match usage_of(alloc, words) {
+        Some(said) => said.items() == wanted.as_bytes(),
+        None => false,
+    }
 }
 
-pub(crate) fn expect_help(
-    rt: &(impl Abort + AllocGlobal),
-    words: &[&str],
-    parts: &[&str],
-) -> Result<(), Fail> {
-    let said = help_of(rt, words)?;
-    let text = text_of(&said)?;
+fn names(text: &[u8], named: &str) -> bool {
+    match str::from_utf8(text) {
+        Ok(text) => text.contains(named) && text.ends_with('\n') && !text.contains("bad --"),
+        Err(_) => false,
+    }
+}
+
+/// Whether the words are refused by `clap`, with a text that ends its line and names what is wrong.
+pub(crate) fn is_refused(alloc: Global, words: &[&str], named: &str) -> bool {
+    match usage_of(alloc, words) {
+        Some(said) => names(said.items(), named),
+        None => false,
+    }
+}
+
+fn has_parts(text: &[u8], parts: &[&str]) -> bool {
+    let Ok(text) = str::from_utf8(text) else {
+        return false;
+    };
+    let mut all = text.ends_with('\n');
     for part in parts {
-        assert!(rt; text.contains(*part));
+        all = all && text.contains(*part);
     }
-    assert!(rt; text.ends_with('\n'));
-    Ok(())
+    all
 }
 
-pub(crate) fn expect_same_help(
-    rt: &(impl Abort + AllocGlobal),
-    words: &[&str],
-    others: &[&str],
-) -> Result<(), Fail> {
-    let said = help_of(rt, words)?;
-    assert_eq!(rt; text_of(&said)?, text_of(&help_of(rt, others)?)?);
-    Ok(())
+/// Whether the words ask for a help that has these parts.
+pub(crate) fn helps(alloc: Global, words: &[&str], parts: &[&str]) -> bool {
+    match help_of(alloc, words) {
+        Some(said) => has_parts(said.items(), parts),
+        None => false,
+    }
+}
+
+/// Whether the words ask for this text.
+pub(crate) fn says(alloc: Global, words: &[&str], wanted: &[u8]) -> bool {
+    match help_of(alloc, words) {
+        Some(said) => said.items() == wanted,
+        None => false,
+    }
+}
+
+pub(crate) fn help_is_the_same(alloc: Global, words: &[&str], others: &[&str]) -> bool {
+    match help_of(alloc, others) {
+        Some(said) => says(alloc, words, said.items()),
+        None => false,
+    }
+}
+
+/// The word, and then ten thousand times the other one.
+pub(crate) fn many_words(
+    alloc: Global,
+    first: &'static str,
+    other: &'static str,
+) -> Result<Vec<&'static str>, AllocError> {
+    let mut words = Vec::new(alloc);
+    words.push(first)?;
+    for _ in 0..10_000 {
+        words.push(other)?;
+    }
+    Ok(words)
 }

@@ -1,264 +1,219 @@
-//! The words of `filter`, help and the version.
-use crate::answers::{
-    expect_choice, expect_help, expect_refusal, expect_same_help, expect_usage, help_of, text_of,
-};
-use std::test::Fail;
+//! The words of `filter`.
+use crate::answers::{chooses, is_refused, is_wrong_use, many_words};
+use std::alloc::{AllocError, Global};
 
-#[test]
-fn each_option_chooses(rt: HostRuntime) -> Result<(), Fail> {
-    expect_choice(&rt, ["filter"].as_slice(), "all types anywhere")?;
-    expect_choice(
-        &rt,
-        ["filter", "--bbox=10,10,20,20"].as_slice(),
+/// Words, and what is to be answered.
+type Row = (&'static [&'static str], &'static str);
+
+/// Options stand in any order and spelling.
+const CHOICES: [Row; 11] = [
+    (&["filter"], "all types anywhere"),
+    (
+        &["filter", "--bbox=10,10,20,20"],
         "all types from 10 10 to 20 20",
-    )?;
-    expect_choice(
-        &rt,
-        ["filter", "--bbox=-5,0,10,10"].as_slice(),
+    ),
+    (
+        &["filter", "--bbox=-5,0,10,10"],
         "all types from -5 0 to 10 10",
-    )?;
-    expect_choice(
-        &rt,
-        ["filter", "--exclude", "--bbox=10,10,20,20"].as_slice(),
+    ),
+    (
+        &["filter", "--exclude", "--bbox=10,10,20,20"],
         "all types from 10 10 to 20 20 excluded",
-    )?;
-    expect_choice(
-        &rt,
-        ["filter", "--exclude"].as_slice(),
-        "all types anywhere excluded",
-    )?;
-    expect_choice(
-        &rt,
-        ["filter", "--cotype=Building"].as_slice(),
-        "<Building> anywhere",
-    )?;
-    expect_choice(
-        &rt,
-        ["filter", "--exclude", "--cotype=Building"].as_slice(),
+    ),
+    (&["filter", "--exclude"], "all types anywhere excluded"),
+    (&["filter", "--cotype=Building"], "<Building> anywhere"),
+    (
+        &["filter", "--exclude", "--cotype=Building"],
         "<Building> anywhere excluded",
-    )?;
-    expect_choice(
-        &rt,
-        ["filter", "--cotype=Bridge", "--bbox=10,10,20,20"].as_slice(),
+    ),
+    (
+        &["filter", "--cotype=Bridge", "--bbox=10,10,20,20"],
         "<Bridge> from 10 10 to 20 20",
-    )
-}
-
-#[test]
-fn options_stand_in_any_order_and_spelling(rt: HostRuntime) -> Result<(), Fail> {
-    expect_choice(
-        &rt,
-        [
+    ),
+    (
+        &[
             "filter",
             "--bbox",
             "1,2,3,4",
             "--exclude",
             "--cotype",
             "Road,Bridge,+Ä x",
-        ]
-        .as_slice(),
+        ],
         "<Road><Bridge><+Ä x> from 1 2 to 3 4 excluded",
-    )?;
-    expect_choice(
-        &rt,
-        ["filter", "--cotype=a=b,-c,--exclude", "--"].as_slice(),
+    ),
+    (
+        &["filter", "--cotype=a=b,-c,--exclude", "--"],
         "<a=b><-c><--exclude> anywhere",
-    )?;
-    expect_choice(
-        &rt,
-        ["filter", "--cotype", "filter", "--exclude"].as_slice(),
+    ),
+    (
+        &["filter", "--cotype", "filter", "--exclude"],
         "<filter> anywhere excluded",
+    ),
+];
+
+#[test]
+fn each_option_chooses(rt: HostRuntime) {
+    for (words, wanted) in CHOICES {
+        assert!(rt; chooses(rt.alloc(), words, wanted), "{words:?}");
+    }
+}
+
+/// The names `T` and `Type1` to `Type9999`, each after one text and before another.
+fn many_types(alloc: Global, front: &str, back: &str) -> Result<String, AllocError> {
+    let mut text = format!(in alloc; "{front}T{back}")?;
+    for number in 1..10_000 {
+        text.push_str(&format!(in alloc; "{front}Type{number}{back}")?)?;
+    }
+    Ok(text)
+}
+
+fn many_types_are_taken(alloc: Global) -> Result<bool, AllocError> {
+    let names = many_types(alloc, "", ",")?;
+    let refused = format!(in alloc; "--cotype={names}")?;
+    let wanted = format!(in alloc; "{} anywhere", many_types(alloc, "<", ">")?)?;
+    let taken = refused.strip_suffix(',').unwrap_or("");
+    Ok(
+        chooses(alloc, &["filter", taken], &wanted)
+            && is_wrong_use(alloc, &["filter", &refused], "citymerge: bad --cotype\n"),
     )
 }
 
 #[test]
-fn a_list_of_10_000_types_is_taken(rt: HostRuntime) -> Result<(), Fail> {
-    let mut option = String::from_str(rt.alloc(), "--cotype=T")?;
-    let mut wanted = String::from_str(rt.alloc(), "<T>")?;
-    for i in 1..10_000 {
-        let name = format!(in rt.alloc(); "Type{i}")?;
-        option.push_str(",")?;
-        option.push_str(name.as_str())?;
-        wanted.push_str("<")?;
-        wanted.push_str(name.as_str())?;
-        wanted.push_str(">")?;
-    }
-    wanted.push_str(" anywhere")?;
-    expect_choice(&rt, ["filter", option.as_str()].as_slice(), wanted.as_str())?;
-    option.push_str(",")?;
-    expect_usage(
-        &rt,
-        ["filter", option.as_str()].as_slice(),
+fn a_list_of_10_000_types_is_taken(rt: HostRuntime) {
+    assert!(rt; many_types_are_taken(rt.alloc()) == Ok(true));
+}
+
+/// Bad values are named, types first.
+const WRONG: [Row; 28] = [
+    (&["filter", "--cotype=A,,B"], "citymerge: bad --cotype\n"),
+    (
+        &["filter", "--bbox=1,2,3", "--exclude", "--cotype=A,,B"],
         "citymerge: bad --cotype\n",
-    )
-}
+    ),
+    (&["filter", "--cotype="], "citymerge: bad --cotype\n"),
+    (
+        &["filter", "--bbox=1,2,3", "--exclude", "--cotype="],
+        "citymerge: bad --cotype\n",
+    ),
+    (&["filter", "--cotype=,"], "citymerge: bad --cotype\n"),
+    (
+        &["filter", "--bbox=1,2,3", "--exclude", "--cotype=,"],
+        "citymerge: bad --cotype\n",
+    ),
+    (&["filter", "--cotype=A,"], "citymerge: bad --cotype\n"),
+    (
+        &["filter", "--bbox=1,2,3", "--exclude", "--cotype=A,"],
+        "citymerge: bad --cotype\n",
+    ),
+    (&["filter", "--cotype=,A"], "citymerge: bad --cotype\n"),
+    (
+        &["filter", "--bbox=1,2,3", "--exclude", "--cotype=,A"],
+        "citymerge: bad --cotype\n",
+    ),
+    (&["filter", "--bbox=1,2,3"], "citymerge: bad --bbox\n"),
+    (
+        &["filter", "--bbox=1,2,3", "--cotype=A,B"],
+        "citymerge: bad --bbox\n",
+    ),
+    (&["filter", "--bbox=5,0,1,1"], "citymerge: bad --bbox\n"),
+    (
+        &["filter", "--bbox=5,0,1,1", "--cotype=A,B"],
+        "citymerge: bad --bbox\n",
+    ),
+    (&["filter", "--bbox=0,5,1,1"], "citymerge: bad --bbox\n"),
+    (
+        &["filter", "--bbox=0,5,1,1", "--cotype=A,B"],
+        "citymerge: bad --bbox\n",
+    ),
+    (&["filter", "--bbox="], "citymerge: bad --bbox\n"),
+    (
+        &["filter", "--bbox=", "--cotype=A,B"],
+        "citymerge: bad --bbox\n",
+    ),
+    (&["filter", "--bbox=a"], "citymerge: bad --bbox\n"),
+    (
+        &["filter", "--bbox=a", "--cotype=A,B"],
+        "citymerge: bad --bbox\n",
+    ),
+    (&["filter", "--bbox=1,2,3,4,5"], "citymerge: bad --bbox\n"),
+    (
+        &["filter", "--bbox=1,2,3,4,5", "--cotype=A,B"],
+        "citymerge: bad --bbox\n",
+    ),
+    (&["filter", "--bbox=1,2,3,"], "citymerge: bad --bbox\n"),
+    (
+        &["filter", "--bbox=1,2,3,", "--cotype=A,B"],
+        "citymerge: bad --bbox\n",
+    ),
+    (&["filter", "--bbox=+1,2,3,4"], "citymerge: bad --bbox\n"),
+    (
+        &["filter", "--bbox=+1,2,3,4", "--cotype=A,B"],
+        "citymerge: bad --bbox\n",
+    ),
+    (
+        &["filter", "--bbox=9007199254740992,0,9007199254740992,1"],
+        "citymerge: bad --bbox\n",
+    ),
+    (
+        &[
+            "filter",
+            "--bbox=9007199254740992,0,9007199254740992,1",
+            "--cotype=A,B",
+        ],
+        "citymerge: bad --bbox\n",
+    ),
+];
 
 #[test]
-fn bad_values_are_named_types_first(rt: HostRuntime) -> Result<(), Fail> {
-    for value in ["A,,B", "", ",", "A,", ",A"] {
-        let option = format!(in rt.alloc(); "--cotype={value}")?;
-        let said = "citymerge: bad --cotype\n";
-        expect_usage(&rt, ["filter", option.as_str()].as_slice(), said)?;
-        let words = ["filter", "--bbox=1,2,3", "--exclude", option.as_str()];
-        expect_usage(&rt, words.as_slice(), said)?;
+fn bad_values_are_named_types_first(rt: HostRuntime) {
+    for (words, wanted) in WRONG {
+        assert!(rt; is_wrong_use(rt.alloc(), words, wanted), "{words:?}");
     }
-    for value in [
-        "1,2,3",
-        "5,0,1,1",
-        "0,5,1,1",
-        "",
-        "a",
-        "1,2,3,4,5",
-        "1,2,3,",
-        "+1,2,3,4",
-        "9007199254740992,0,9007199254740992,1",
-    ] {
-        let option = format!(in rt.alloc(); "--bbox={value}")?;
-        let said = "citymerge: bad --bbox\n";
-        expect_usage(&rt, ["filter", option.as_str()].as_slice(), said)?;
-        let words = ["filter", option.as_str(), "--cotype=A,B"];
-        expect_usage(&rt, words.as_slice(), said)?;
+}
+
+/// Words that are no use of any command, and what their refusal names.
+const REFUSED: [Row; 23] = [
+    (&[], "citymerge"),
+    (&[""], "Usage"),
+    (&["collect"], "'collect'"),
+    (&["Filter"], "'Filter'"),
+    (&["--exclude", "filter"], "'--exclude'"),
+    (&["--", "filter"], "Usage"),
+    (&["help", "nope"], "'nope'"),
+    (&["filter", "--in-turn"], "'--in-turn'"),
+    (&["filter", "--cotyp=A"], "'--cotyp'"),
+    (&["filter", "-e"], "'-e'"),
+    (&["filter", "--version"], "'--version'"),
+    (&["filter", "a.city.jsonl"], "'a.city.jsonl'"),
+    (&["filter", "--", "a.city.jsonl"], "'a.city.jsonl'"),
+    (&["filter", "--", "--exclude"], "'--exclude'"),
+    (&["filter", "-"], "'-'"),
+    (&["filter", ""], "''"),
+    (&["filter", "--exclude", "--exclude"], "'--exclude'"),
+    (&["filter", "--cotype=A", "--cotype=A"], "'--cotype"),
+    (&["filter", "--bbox=1,2,3", "--bbox=1,2,3,4"], "'--bbox"),
+    (&["filter", "--exclude=true"], "'--exclude'"),
+    (&["filter", "--cotype"], "'--cotype"),
+    (&["filter", "--bbox", "--exclude"], "'--bbox"),
+    (&["filter", "--bbox", "-5,0,10,10"], "'-5'"),
+];
+
+#[test]
+fn words_that_are_no_use_are_refused(rt: HostRuntime) {
+    for (words, named) in REFUSED {
+        assert!(rt; is_refused(rt.alloc(), words, named), "{words:?}");
     }
-    Ok(())
 }
 
-#[test]
-fn words_that_are_no_use_are_refused(rt: HostRuntime) -> Result<(), Fail> {
-    expect_refusal(&rt, [].as_slice(), "citymerge")?;
-    expect_refusal(&rt, [""].as_slice(), "Usage")?;
-    expect_refusal(&rt, ["collect"].as_slice(), "'collect'")?;
-    expect_refusal(&rt, ["Filter"].as_slice(), "'Filter'")?;
-    expect_refusal(&rt, ["--exclude", "filter"].as_slice(), "'--exclude'")?;
-    expect_refusal(&rt, ["--", "filter"].as_slice(), "Usage")?;
-    expect_refusal(&rt, ["help", "nope"].as_slice(), "'nope'")?;
-    expect_refusal(&rt, ["filter", "--in-turn"].as_slice(), "'--in-turn'")?;
-    expect_refusal(&rt, ["filter", "--cotyp=A"].as_slice(), "'--cotyp'")?;
-    expect_refusal(&rt, ["filter", "-e"].as_slice(), "'-e'")?;
-    expect_refusal(&rt, ["filter", "--version"].as_slice(), "'--version'")
-}
-
-#[test]
-fn paths_are_no_use_of_filter(rt: HostRuntime) -> Result<(), Fail> {
-    expect_refusal(&rt, ["filter", "a.city.jsonl"].as_slice(), "'a.city.jsonl'")?;
-    expect_refusal(
-        &rt,
-        ["filter", "--", "a.city.jsonl"].as_slice(),
-        "'a.city.jsonl'",
-    )?;
-    expect_refusal(&rt, ["filter", "--", "--exclude"].as_slice(), "'--exclude'")?;
-    expect_refusal(&rt, ["filter", "-"].as_slice(), "'-'")?;
-    expect_refusal(&rt, ["filter", ""].as_slice(), "''")
-}
-
-#[test]
-fn an_option_is_used_once_with_one_value(rt: HostRuntime) -> Result<(), Fail> {
-    expect_refusal(
-        &rt,
-        ["filter", "--exclude", "--exclude"].as_slice(),
-        "'--exclude'",
-    )?;
-    expect_refusal(
-        &rt,
-        ["filter", "--cotype=A", "--cotype=A"].as_slice(),
-        "'--cotype",
-    )?;
-    expect_refusal(
-        &rt,
-        ["filter", "--bbox=1,2,3", "--bbox=1,2,3,4"].as_slice(),
-        "'--bbox",
-    )?;
-    expect_refusal(&rt, ["filter", "--exclude=true"].as_slice(), "'--exclude'")?;
-    expect_refusal(&rt, ["filter", "--cotype"].as_slice(), "'--cotype")?;
-    expect_refusal(&rt, ["filter", "--bbox", "--exclude"].as_slice(), "'--bbox")?;
-    expect_refusal(&rt, ["filter", "--bbox", "-5,0,10,10"].as_slice(), "'-5'")
-}
-
-#[test]
-fn ten_thousand_words_are_read(rt: HostRuntime) -> Result<(), Fail> {
-    let alloc = rt.alloc();
-    let mut words = vec![in alloc; "filter"]?;
-    for _ in 0..10_000 {
-        words.push("a.city.jsonl")?;
+fn many_are_refused(alloc: Global, word: &'static str, named: &str) -> bool {
+    match many_words(alloc, "filter", word) {
+        Ok(words) => is_refused(alloc, &words, named),
+        Err(_) => false,
     }
-    expect_refusal(&rt, words.as_slice(), "'a.city.jsonl'")?;
-    let mut words = vec![in alloc; "filter"]?;
-    for _ in 0..10_000 {
-        words.push("--exclude")?;
-    }
-    expect_refusal(&rt, words.as_slice(), "'--exclude'")
 }
 
 #[test]
-fn help_says_what_each_option_does(rt: HostRuntime) -> Result<(), Fail> {
-    expect_help(
-        &rt,
-        ["filter", "--help"].as_slice(),
-        [
-            "--cotype <TYPE,TYPE>",
-            "Only features of these types",
-            "--bbox <MINX,MINY,MAXX,MAXY>",
-            "meets",
-            "Usage: citymerge filter [OPTIONS] < TILE\n",
-            "whole numbers: the least x and y, then the",
-            "(coordinate - translate) / scale, rounded;",
-            "--bbox=0,0,20000,10000, and below 0 with",
-            "the =, as in --bbox=-5,0,10,10",
-            "there is no type building.",
-            "--cotype=Building,Bridge",
-            "--exclude",
-            "Only the features that the other options",
-            "a whole CityJSON document, whose features come first then",
-            "citymerge filter --bbox=-5,0,10,10 < tile.city.jsonl > part.city.jsonl",
-            "  0  done, or help was asked for\n",
-            "  1  refused, with one line on standard error\n",
-            "  2  wrong use, told on standard error; nothing was read\n",
-        ]
-        .as_slice(),
-    )?;
-    expect_help(
-        &rt,
-        ["--help"].as_slice(),
-        [
-            "  merge   Joins the streams of several files",
-            "  filter  Writes the chosen features",
-            "A tile is a CityJSONSeq stream",
-            "citymerge: tile T line L: TEXT",
-            "citymerge merge west.city.jsonl east.city.jsonl > both.city.jsonl",
-            "citymerge filter --cotype=Building < tile.city.jsonl",
-            "  0  done, or help was asked for\n",
-            "  1  refused, with one line on standard error\n",
-            "  2  wrong use, told on standard error; nothing was read\n",
-        ]
-        .as_slice(),
-    )
-}
-
-#[test]
-fn help_is_asked_for_in_some_ways(rt: HostRuntime) -> Result<(), Fail> {
-    let help = ["--help"];
-    expect_same_help(&rt, ["-h"].as_slice(), help.as_slice())?;
-    expect_same_help(&rt, ["help"].as_slice(), help.as_slice())?;
-    expect_same_help(
-        &rt,
-        ["--help", "filter", "--nope"].as_slice(),
-        help.as_slice(),
-    )?;
-    let of_filter = ["filter", "--help"];
-    expect_same_help(&rt, ["filter", "-h"].as_slice(), of_filter.as_slice())?;
-    expect_same_help(&rt, ["help", "filter"].as_slice(), of_filter.as_slice())?;
-    expect_same_help(
-        &rt,
-        ["filter", "--cotype=,", "--help"].as_slice(),
-        of_filter.as_slice(),
-    )?;
-    expect_help(&rt, ["help", "help"].as_slice(), ["Usage"].as_slice())
-}
-
-#[test]
-fn the_version_is_told(rt: HostRuntime) -> Result<(), Fail> {
-    for word in ["--version", "-V"] {
-        let said = help_of(&rt, [word].as_slice())?;
-        assert_eq!(rt; text_of(&said)?, "citymerge 0.1.0\n");
-    }
-    Ok(())
+fn ten_thousand_words_are_read(rt: HostRuntime) {
+    assert!(rt; many_are_refused(rt.alloc(), "a.city.jsonl", "'a.city.jsonl'"));
+    assert!(rt; many_are_refused(rt.alloc(), "--exclude", "'--exclude'"));
 }

@@ -9,4 +9,6 @@ mod cutting;
 #[cfg(test)]
 mod filtering;
 #[cfg(test)]
+mod helping;
+#[cfg(test)]
 mod merging;

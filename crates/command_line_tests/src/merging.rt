@@ -1,52 +1,51 @@
-use crate::answers::{expect_help, expect_refusal, expect_same_help, expect_usage, parsed, shown};
+//! The words of `merge`.
+use crate::answers::{is_refused, is_wrong_use, many_words, parsed, shown};
 use command_line::{MergeArgs, Parsed};
-use std::alloc::Global;
-use std::process::Abort;
-use std::test::Fail;
+use std::alloc::{AllocError, Global};
 
 /// What a merge is asked as a text: the choice, the flags and the paths.
-fn merge_shown(alloc: Global, args: &MergeArgs) -> Result<String, Fail> {
+fn merge_shown(alloc: Global, args: &MergeArgs) -> Result<String, AllocError> {
     let mut text = shown(alloc, &args.choice)?;
-    if args.in_turn {
-        text.push_str(" in turn")?;
-    }
-    if args.least {
-        text.push_str(" from the least")?;
-    }
+    text.push_str(if args.in_turn { " in turn" } else { "" })?;
+    text.push_str(if args.least { " from the least" } else { "" })?;
     for path in args.paths.items() {
         text.push_str(" [")?;
         text.push_str(path.as_str())?;
-        text.push_str("]")?;
+        text.push(']')?;
     }
     Ok(text)
 }
 
-fn expect_merge(rt: &(impl Abort + AllocGlobal), words: &[&str], wanted: &str) -> Result<(), Fail> {
-    match parsed(rt.alloc(), words)? {
-        Parsed::Merge(args) => {
-            assert_eq!(rt; merge_shown(rt.alloc(), &args)?.as_str(), wanted);
-        }
-        other => rt.panic(format!(in rt.alloc(); "{other:?}")?.as_str()),
+fn merge_of(alloc: Global, words: &[&str]) -> Option<MergeArgs> {
+    match parsed(alloc, words) {
+        Ok(Parsed::Merge(args)) => Some(args),
+        _ => None,
     }
-    Ok(())
 }
 
-#[test]
-fn merge_takes_tiles_in_order(rt: HostRuntime) -> Result<(), Fail> {
-    expect_merge(&rt, ["merge", "a"].as_slice(), "all types anywhere [a]")?;
-    expect_merge(
-        &rt,
-        ["merge", "c", "a", "b", "a"].as_slice(),
+fn merges(alloc: Global, words: &[&str], wanted: &str) -> Result<bool, AllocError> {
+    match merge_of(alloc, words) {
+        Some(args) => Ok(merge_shown(alloc, &args)?.as_str() == wanted),
+        None => Ok(false),
+    }
+}
+
+/// Words, and what is to be answered.
+type Row = (&'static [&'static str], &'static str);
+
+/// Tiles stay in their order.
+const MERGES: [Row; 4] = [
+    (&["merge", "a"], "all types anywhere [a]"),
+    (
+        &["merge", "c", "a", "b", "a"],
         "all types anywhere [c] [a] [b] [a]",
-    )?;
-    expect_merge(
-        &rt,
-        ["merge", "--in-turn", "a", "b"].as_slice(),
+    ),
+    (
+        &["merge", "--in-turn", "a", "b"],
         "all types anywhere in turn [a] [b]",
-    )?;
-    expect_merge(
-        &rt,
-        [
+    ),
+    (
+        &[
             "merge",
             "--cotype=A,B",
             "a",
@@ -59,90 +58,68 @@ fn merge_takes_tiles_in_order(rt: HostRuntime) -> Result<(), Fail> {
             "--",
             "-b",
             "--least",
-        ]
-        .as_slice(),
+        ],
         "<A><B> from -5 0 to 10 10 excluded in turn from the least [a] [-] [merge] [-b] [--least]",
-    )
-}
+    ),
+];
 
 #[test]
-fn ten_thousand_tiles_are_taken(rt: HostRuntime) -> Result<(), Fail> {
-    let alloc = rt.alloc();
-    let mut words = vec![in alloc; "merge"]?;
-    for _ in 0..10_000u32 {
-        words.push("a.city.jsonl")?;
+fn merge_takes_tiles_in_order(rt: HostRuntime) {
+    for (words, wanted) in MERGES {
+        assert!(rt; merges(rt.alloc(), words, wanted) == Ok(true), "{words:?}");
     }
-    match parsed(alloc, words.as_slice())? {
-        Parsed::Merge(args) => assert_eq!(rt; args.paths.items().len(), 10_000),
-        other => panic!(rt; "{other:?}"),
+}
+
+fn many_tiles_are_taken(alloc: Global) -> Result<bool, AllocError> {
+    let words = many_words(alloc, "merge", "a.city.jsonl")?;
+    match merge_of(alloc, &words) {
+        Some(args) => Ok(args.paths.items().len() == 10_000),
+        None => Ok(false),
     }
-    Ok(())
 }
 
 #[test]
-fn a_merge_of_no_tile_is_refused(rt: HostRuntime) -> Result<(), Fail> {
-    expect_refusal(&rt, ["merge"].as_slice(), "<TILE>...")?;
-    expect_refusal(
-        &rt,
-        ["merge", "--least", "--in-turn"].as_slice(),
-        "<TILE>...",
-    )?;
-    expect_refusal(&rt, ["merge", "--"].as_slice(), "<TILE>...")?;
-    expect_refusal(&rt, ["merge", "--bbox=1,2,3"].as_slice(), "<TILE>...")?;
-    expect_refusal(&rt, ["merge", "--cotype", "a"].as_slice(), "<TILE>...")
+fn ten_thousand_tiles_are_taken(rt: HostRuntime) {
+    assert!(rt; many_tiles_are_taken(rt.alloc()) == Ok(true));
 }
 
-#[test]
-fn bad_values_of_merge_are_named_types_first(rt: HostRuntime) -> Result<(), Fail> {
-    let types = "citymerge: bad --cotype\n";
-    let area = "citymerge: bad --bbox\n";
-    expect_usage(&rt, ["merge", "--cotype=A,,B", "a"].as_slice(), types)?;
-    expect_usage(&rt, ["merge", "a", "--bbox=1,2,3", "b"].as_slice(), area)?;
-    expect_usage(&rt, ["merge", "a", "--bbox=5,0,1,1"].as_slice(), area)?;
-    expect_usage(
-        &rt,
-        ["merge", "--bbox=1,2,3", "a", "b", "c", "--cotype="].as_slice(),
-        types,
-    )
-}
+/// Bad values are named, types first.
+const WRONG: [Row; 4] = [
+    (
+        &["merge", "--cotype=A,,B", "a"],
+        "citymerge: bad --cotype\n",
+    ),
+    (
+        &["merge", "a", "--bbox=1,2,3", "b"],
+        "citymerge: bad --bbox\n",
+    ),
+    (&["merge", "a", "--bbox=5,0,1,1"], "citymerge: bad --bbox\n"),
+    (
+        &["merge", "--bbox=1,2,3", "a", "b", "c", "--cotype="],
+        "citymerge: bad --cotype\n",
+    ),
+];
+
+/// Words that are no use of `merge`, and what their refusal names.
+const REFUSED: [Row; 10] = [
+    (&["merge"], "<TILE>..."),
+    (&["merge", "--least", "--in-turn"], "<TILE>..."),
+    (&["merge", "--"], "<TILE>..."),
+    (&["merge", "--bbox=1,2,3"], "<TILE>..."),
+    (&["merge", "--cotype", "a"], "<TILE>..."),
+    (&["merge", "-a"], "'-a'"),
+    (&["merge", "a", "--inturn"], "'--inturn'"),
+    (&["merge", "a", "--least", "b", "--least"], "'--least'"),
+    (&["merge", "a", "--in-turn=yes"], "'--in-turn'"),
+    (&["--in-turn", "merge", "a"], "'--in-turn'"),
+];
 
 #[test]
-fn words_that_are_no_use_of_merge_are_refused(rt: HostRuntime) -> Result<(), Fail> {
-    expect_refusal(&rt, ["merge", "-a"].as_slice(), "'-a'")?;
-    expect_refusal(&rt, ["merge", "a", "--inturn"].as_slice(), "'--inturn'")?;
-    expect_refusal(
-        &rt,
-        ["merge", "a", "--least", "b", "--least"].as_slice(),
-        "'--least'",
-    )?;
-    expect_refusal(
-        &rt,
-        ["merge", "a", "--in-turn=yes"].as_slice(),
-        "'--in-turn'",
-    )?;
-    expect_refusal(&rt, ["--in-turn", "merge", "a"].as_slice(), "'--in-turn'")
-}
-
-#[test]
-fn help_of_merge_says_what_is_joined(rt: HostRuntime) -> Result<(), Fail> {
-    expect_help(
-        &rt,
-        ["merge", "--help"].as_slice(),
-        [
-            "<TILE>...",
-            "header may stand a whole CityJSON document.",
-            "At most 64.",
-            "A line at fault later ends its own tile",
-            "--in-turn",
-            "--least",
-            "--bbox <MINX,MINY,MAXX,MAXY>",
-            "citymerge merge west.city.jsonl east.city.jsonl > both.city.jsonl",
-            "and - itself is a file so named",
-            "  1  refused, with one line on standard error\n",
-        ]
-        .as_slice(),
-    )?;
-    let of_merge = ["merge", "--help"];
-    expect_same_help(&rt, ["help", "merge"].as_slice(), of_merge.as_slice())?;
-    expect_same_help(&rt, ["merge", "a", "-h"].as_slice(), of_merge.as_slice())
+fn words_that_are_no_use_of_merge_are_refused(rt: HostRuntime) {
+    for (words, wanted) in WRONG {
+        assert!(rt; is_wrong_use(rt.alloc(), words, wanted), "{words:?}");
+    }
+    for (words, named) in REFUSED {
+        assert!(rt; is_refused(rt.alloc(), words, named), "{words:?}");
+    }
 }

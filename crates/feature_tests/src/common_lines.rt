@@ -1,311 +1,375 @@
 //! Lines of a common spelling, which are answered with no value built. That is seen by the memory that the
 //! text has: such a line takes it over, and a value is printed into memory of its own.
-use byte_streams::{Fault, Line};
-use city_feature::{Choice, area, feature_line, types};
+use crate::texts::{ALL, Asked, answers, choice_of, filled, gives, shift_of};
+use byte_streams::Line;
+use city_feature::feature_line;
 use city_grid::Shift;
-use std::alloc::Global;
-use std::test::Fail;
+use std::alloc::{AllocError, Global};
 
 /// More than any line of these tests has.
 const ROOM: usize = 1 << 24;
 
+/// Whether the feature is chosen, and its text stands in the memory that the text had.
+fn stays_in_place(alloc: Global, line: &str, asked: &Asked<'_>) -> bool {
+    let Ok(room) = Vec::with_capacity(alloc, ROOM) else {
+        return false;
+    };
+    let Ok(choice) = choice_of(alloc, asked) else {
+        return false;
+    };
+    let mut text = Line::from_vec(room);
+    let answer = feature_line(alloc, line.as_bytes(), Shift::zero(), &choice, &mut text);
+    answer == Ok(true) && text.into_vec().capacity() >= ROOM
+}
+
 /// Whether the line is answered with no value built, where features of these types are asked for, or all
 /// others.
-pub(crate) fn takes_memory_over(alloc: Global, line: &str, names: &str) -> Result<bool, Fail> {
-    for exclude in [false, true] {
-        let mut text = Line::from_vec(Vec::with_capacity(alloc, ROOM)?);
-        let choice = Choice::new(types(alloc, names)?, None, exclude);
-        let answer = feature_line(alloc, line.as_bytes(), Shift::zero(), &choice, &mut text);
-        if answer == Ok(true) {
-            return Ok(text.into_vec().capacity() >= ROOM);
-        }
-    }
-    Ok(false)
-}
-
-/// What is answered of a line that is moved by 10, 20 and 30, and the text that stands there then.
-fn answer(alloc: Global, line: &str, choice: &Choice) -> Result<(Result<bool, Fault>, Line), Fail> {
-    let Some(shift) = Shift::new(10, 20, 30) else {
-        return Err("no shift".into());
+pub(crate) fn takes_memory_over(alloc: Global, line: &str, types: &str) -> bool {
+    let asked = Asked { types, ..ALL };
+    let others = Asked {
+        exclude: true,
+        ..asked
     };
-    let mut text = Line::from_vec(b"front ".to_vec(alloc)?);
-    let answer = feature_line(alloc, line.as_bytes(), shift, choice, &mut text);
-    Ok((answer, text))
+    stays_in_place(alloc, line, &asked) || stays_in_place(alloc, line, &others)
+}
+
+const MOVED: Asked<'static> = Asked {
+    shift: [10, 20, 30],
+    ..ALL
+};
+
+/// A line, and the text of its feature.
+struct Taken {
+    asked: Asked<'static>,
+    line: &'static str,
+    text: &'static str,
+}
+
+const TAKEN: [Taken; 7] = [
+    Taken {
+        asked: MOVED,
+        line: r#"{"type":"CityJSONFeature","id":"a","CityObjects":{},"vertices":[]}"#,
+        text: r#"{"type":"CityJSONFeature","id":"a","CityObjects":{},"vertices":[]}"#,
+    },
+    Taken {
+        asked: MOVED,
+        line: r#"{"vertices":[[1,2,3],[-4,-5,-6]],"CityObjects":{"a":{"type":"Building"}},"id":"a","type":"CityJSONFeature"}"#,
+        text: r#"{"vertices":[[11,22,33],[6,15,24]],"CityObjects":{"a":{"type":"Building"}},"id":"a","type":"CityJSONFeature"}"#,
+    },
+    Taken {
+        asked: MOVED,
+        line: r#" { "type" : "CityJSONFeature" , "more" : [1.50] , "id" : "\u00e9" , "vertices" : [ [ 1 , 2 , 3 ] ] , "CityObjects" : { "\u0061" : { } } } "#,
+        text: r#"{"type":"CityJSONFeature","more":[1.50],"id":"é","vertices":[[11,22,33]],"CityObjects":{"a":{}}}"#,
+    },
+    Taken {
+        asked: MOVED,
+        line: r#"{"type":"CityJSONFeature","id":"","CityObjects":{},"vertices":[[9007199254740981,-9007199254740991,0],[-10,-20,-30],[1000000000000000,0,0]]}"#,
+        text: r#"{"type":"CityJSONFeature","id":"","CityObjects":{},"vertices":[[9007199254740991,-9007199254740971,30],[0,0,0],[1000000000000010,20,30]]}"#,
+    },
+    Taken {
+        asked: ALL,
+        line: r#" {"vertices": [[1,2,3], [-4,0,6]], "id":"a", "type":"CityJSONFeature", "CityObjects":{}}"#,
+        text: r#"{"vertices":[[1,2,3],[-4,0,6]],"id":"a","type":"CityJSONFeature","CityObjects":{}}"#,
+    },
+    Taken {
+        asked: ALL,
+        line: r#"{"type":"CityJSONFeature", "id":"a", "CityObjects":{"a":{"type":"Building", "attributes":{"h":1.50e+3}}}, "vertices":[[1,2,3]]}"#,
+        text: r#"{"type":"CityJSONFeature","id":"a","CityObjects":{"a":{"type":"Building","attributes":{"h":1.50e+3}}},"vertices":[[1,2,3]]}"#,
+    },
+    // The area is that of the feature as it is moved.
+    Taken {
+        asked: Asked {
+            shift: [1500, 0, 0],
+            area: "1510,0,1510,100",
+            ..ALL
+        },
+        line: r#"{"type":"CityJSONFeature","id":"b","CityObjects":{"b":{"type":"Building"}},"vertices":[[10,20,30]]}"#,
+        text: r#"{"type":"CityJSONFeature","id":"b","CityObjects":{"b":{"type":"Building"}},"vertices":[[1510,20,30]]}"#,
+    },
+];
+
+fn is_taken(alloc: Global, row: &Taken) -> bool {
+    gives(alloc, row.line, &row.asked, row.text) && takes_memory_over(alloc, row.line, "")
 }
 
 #[test]
-fn common_lines_are_taken(rt: HostRuntime) -> Result<(), Fail> {
-    let alloc = rt.alloc();
-    let rows = [
-        (
-            r#"{"type":"CityJSONFeature","id":"a","CityObjects":{},"vertices":[]}"#,
-            r#"front {"type":"CityJSONFeature","id":"a","CityObjects":{},"vertices":[]}"#,
-        ),
-        (
-            r#"{"vertices":[[1,2,3],[-4,-5,-6]],"CityObjects":{"a":{"type":"Building"}},"id":"a","type":"CityJSONFeature"}"#,
-            r#"front {"vertices":[[11,22,33],[6,15,24]],"CityObjects":{"a":{"type":"Building"}},"id":"a","type":"CityJSONFeature"}"#,
-        ),
-        (
-            r#" { "type" : "CityJSONFeature" , "more" : [1.50] , "id" : "\u00e9" , "vertices" : [ [ 1 , 2 , 3 ] ] , "CityObjects" : { "\u0061" : { } } } "#,
-            r#"front {"type":"CityJSONFeature","more":[1.50],"id":"é","vertices":[[11,22,33]],"CityObjects":{"a":{}}}"#,
-        ),
-        (
-            r#"{"type":"CityJSONFeature","id":"","CityObjects":{},"vertices":[[9007199254740981,-9007199254740991,0],[-10,-20,-30],[1000000000000000,0,0]]}"#,
-            r#"front {"type":"CityJSONFeature","id":"","CityObjects":{},"vertices":[[9007199254740991,-9007199254740971,30],[0,0,0],[1000000000000010,20,30]]}"#,
-        ),
-    ];
-    for (line, want) in rows {
-        let (chosen, text) = answer(alloc, line, &Choice::new(None, None, false))?;
-        assert_eq!(rt; chosen, Ok(true), "{line}");
-        assert_eq!(rt; text.items(), want.as_bytes());
-        assert!(rt; takes_memory_over(alloc, line, "")?, "{line}");
+fn common_lines_are_taken(rt: HostRuntime) {
+    for row in TAKEN.iter() {
+        assert!(rt; is_taken(rt.alloc(), row), "{}", row.line);
     }
-    Ok(())
+}
+
+/// A line of many vertices, and the text of its feature; for `ROW` stand a hundred thousand of these.
+struct Many {
+    asked: Asked<'static>,
+    line: &'static str,
+    given: &'static str,
+    text: &'static str,
+    written: &'static str,
+}
+
+const MANY: [Many; 2] = [
+    Many {
+        asked: MOVED,
+        line: r#"{"type":"CityJSONFeature","id":"a","CityObjects":{},"vertices":[[1,2,3]ROW]}"#,
+        given: ",[4,-5,6]",
+        text: r#"{"type":"CityJSONFeature","id":"a","CityObjects":{},"vertices":[[11,22,33]ROW]}"#,
+        written: ",[14,15,36]",
+    },
+    Many {
+        asked: Asked {
+            shift: [2, 0, 0],
+            area: "6,5,6,5",
+            ..ALL
+        },
+        line: r#"{"type":"CityJSONFeature","id":"b","CityObjects":{"b":{"type":"Building"}},"vertices":[[1,2,3]ROW]}"#,
+        given: ",[4,5,6]",
+        text: r#"{"type":"CityJSONFeature","id":"b","CityObjects":{"b":{"type":"Building"}},"vertices":[[3,2,3]ROW]}"#,
+        written: ",[6,5,6]",
+    },
+];
+
+fn with_many(alloc: Global, text: &str, vertex: &str) -> Result<String, AllocError> {
+    filled(alloc, text, &vertex.repeat(alloc, 100_000)?)
+}
+
+fn are_taken(alloc: Global, row: &Many) -> Result<bool, AllocError> {
+    let line = with_many(alloc, row.line, row.given)?;
+    let text = with_many(alloc, row.text, row.written)?;
+    Ok(gives(alloc, &line, &row.asked, &text) && takes_memory_over(alloc, &line, ""))
 }
 
 #[test]
-fn a_line_of_many_vertices_is_taken(rt: HostRuntime) -> Result<(), Fail> {
-    let alloc = rt.alloc();
-    let (front, back) = (
-        r#"{"type":"CityJSONFeature","id":"a","CityObjects":{},"vertices":[[1,2,3]"#,
-        "]}",
-    );
-    let (from, to) = (
-        ",[4,-5,6]".repeat(alloc, 100_000)?,
-        ",[14,15,36]".repeat(alloc, 100_000)?,
-    );
-    let line = format!(in alloc; "{front}{from}{back}")?;
-    let (chosen, text) = answer(alloc, line.as_str(), &Choice::new(None, None, false))?;
-    let front = front.replacen(alloc, "[1,2,3]", "[11,22,33]", 1)?;
-    let want = format!(in alloc; "front {front}{to}{back}")?;
-    assert_eq!(rt; chosen, Ok(true));
-    assert!(rt; text.items() == want.as_bytes());
-    assert!(rt; takes_memory_over(alloc, line.as_str(), "")?);
-    Ok(())
+fn a_line_of_many_vertices_is_taken(rt: HostRuntime) {
+    for row in MANY.iter() {
+        assert!(rt; are_taken(rt.alloc(), row) == Ok(true), "{}", row.line);
+    }
 }
 
-#[test]
-fn an_area_is_tried_on_the_moved_vertices(rt: HostRuntime) -> Result<(), Fail> {
-    let alloc = rt.alloc();
+/// An area, and whether the vertices `[[0,0,0],[5,5,5]]` are in it once they are moved.
+const BOUNDS: [(&str, bool); 4] = [
+    ("15,25,40,40", true),
+    ("16,25,40,40", false),
+    ("0,0,10,20", true),
+    ("0,0,9,20", false),
+];
+
+fn are_tried(alloc: Global, area: &str, inside: bool) -> bool {
     let line =
-        r#"{"type":"CityJSONFeature","id":"a","CityObjects":{},"vertices":[[0,0,0],[5,5,5]]}"#;
-    let rows = [
-        ("15,25,40,40", true),
-        ("16,25,40,40", false),
-        ("0,0,10,20", true),
-        ("0,0,9,20", false),
-    ];
-    for (bounds, inside) in rows {
-        let (chosen, text) = answer(alloc, line, &Choice::new(None, area(bounds), false))?;
-        assert_eq!(rt; chosen, Ok(inside));
-        assert_eq!(rt; text.items().len() > 6, inside);
-        let (chosen, _) = answer(alloc, line, &Choice::new(None, area(bounds), true))?;
-        assert_eq!(rt; chosen, Ok(!inside));
-    }
-    Ok(())
+        br#"{"type":"CityJSONFeature","id":"a","CityObjects":{},"vertices":[[0,0,0],[5,5,5]]}"#;
+    let asked = Asked { area, ..MOVED };
+    let others = Asked {
+        exclude: true,
+        ..asked
+    };
+    answers(alloc, line, &asked, Ok(inside)) && answers(alloc, line, &others, Ok(!inside))
+}
+
+/// Where vertices are moved along x by 1500, one of them is not in the area in which it stood.
+fn a_moved_vertex_leaves_its_area(alloc: Global) -> bool {
+    let line =
+        br#"{"type":"CityJSONFeature","id":"b","CityObjects":{"b":{"type":"Building"}},"vertices":[[10,20,30]]}"#;
+    let asked = Asked {
+        shift: [1500, 0, 0],
+        area: "10,0,10,100",
+        ..ALL
+    };
+    answers(alloc, line, &asked, Ok(false))
 }
 
 #[test]
-fn the_type_is_that_of_the_object_that_the_identifier_names(rt: HostRuntime) -> Result<(), Fail> {
-    let alloc = rt.alloc();
-    let rows = [
-        (
-            r#"{"a":{"type":"Bridge"},"é":{"attributes":{"type":"Road"},"type":"Building"},"type":{"type":"Tunnel"}}"#,
-            "Building",
-        ),
-        (
-            r#"{ "\u00e9" : { "type" : "\u0042uilding", "children" : ["é"] } }"#,
-            "Building",
-        ),
-        (r#"{"é":{"type":""},"a":{"type":"Building"}}"#, ""),
-    ];
-    for (objects, name) in rows {
-        let line = format!(in alloc;
-            r#"{{"type":"CityJSONFeature","id":"\u00e9","CityObjects":{objects},"vertices":[[1,2,3]]}}"#
-        )?;
-        for asked in ["Building", "Road,Building,Bridge", "Bridge,Road", "Build"] {
-            let is_among = asked.split(',').any(|each| each == name);
-            let choice = Choice::new(types(alloc, asked)?, None, false);
-            let (chosen, text) = answer(alloc, line.as_str(), &choice)?;
-            assert_eq!(rt; chosen, Ok(is_among), "{line} {asked}");
-            assert_eq!(rt; text.items().len() > 6, is_among);
+fn an_area_is_tried_on_the_moved_vertices(rt: HostRuntime) {
+    for (area, inside) in BOUNDS {
+        assert!(rt; are_tried(rt.alloc(), area, inside), "{area}");
+    }
+    assert!(rt; a_moved_vertex_leaves_its_area(rt.alloc()));
+}
+
+/// City objects of a feature é, and which of the types that are asked for choose it.
+struct Typed {
+    objects: &'static str,
+    chosen: [bool; 4],
+}
+
+const ASKED: [&str; 4] = ["Building", "Road,Building,Bridge", "Bridge,Road", "Build"];
+
+const TYPED: [Typed; 3] = [
+    Typed {
+        objects: r#"{"a":{"type":"Bridge"},"é":{"attributes":{"type":"Road"},"type":"Building"},"type":{"type":"Tunnel"}}"#,
+        chosen: [true, true, false, false],
+    },
+    Typed {
+        objects: r#"{ "\u00e9" : { "type" : "\u0042uilding", "children" : ["é"] } }"#,
+        chosen: [true, true, false, false],
+    },
+    Typed {
+        objects: r#"{"é":{"type":""},"a":{"type":"Building"}}"#,
+        chosen: [false, false, false, false],
+    },
+];
+
+fn type_chooses(alloc: Global, line: &str, types: &str, is_chosen: bool) -> bool {
+    let asked = Asked { types, ..MOVED };
+    let others = Asked {
+        area: "0,0,10,20",
+        exclude: true,
+        ..asked
+    };
+    answers(alloc, line.as_bytes(), &asked, Ok(is_chosen))
+        && answers(alloc, line.as_bytes(), &others, Ok(true))
+        && takes_memory_over(alloc, line, types)
+}
+
+fn types_choose(alloc: Global, row: &Typed) -> Result<bool, AllocError> {
+    let text = r#"{"type":"CityJSONFeature","id":"\u00e9","CityObjects":ROW,"vertices":[[1,2,3]]}"#;
+    let line = filled(alloc, text, row.objects)?;
+    let mut agree = true;
+    for (types, is_chosen) in ASKED.iter().zip(row.chosen) {
+        agree = agree && type_chooses(alloc, &line, types, is_chosen);
+    }
+    Ok(agree)
+}
+
+#[test]
+fn the_type_is_that_of_the_object_that_the_identifier_names(rt: HostRuntime) {
+    for row in TYPED.iter() {
+        assert!(rt;
+            types_choose(rt.alloc(), row) == Ok(true),
+            "{}",
+            row.objects
+        );
+    }
+}
+
+const NUMBERS: [&str; 9] = [
+    "0",
+    "7",
+    "-8",
+    "12345678",
+    "-123456789",
+    "999999999999999",
+    "-1000000000000000",
+    "9007199254740991",
+    "-9007199254740991",
+];
+
+const VERTICES: [&str; 3] = [
+    "[ROW,2,3],[1,ROW,3],[1,2,ROW]",
+    "[ROW,2,3],[1,ROW,3],[1,2,ROW],[1,2,3]",
+    "[ROW,2,3],[1,ROW,3],[1,2,ROW],[10000000,20000000,30000000],[-4,-5,-6]",
+];
+
+/// Whether the area is asked for or not.
+fn are_kept(alloc: Global, vertices: &str, number: &str) -> Result<bool, AllocError> {
+    let text = r#"{"type":"CityJSONFeature","id":"a","CityObjects":{},"vertices":[ROW]}"#;
+    let line = filled(alloc, text, &filled(alloc, vertices, number)?)?;
+    let of_area = Asked {
+        area: "0,0,100,100",
+        ..ALL
+    };
+    Ok(
+        gives(alloc, &line, &ALL, &line)
+            && gives(alloc, &line, &of_area, &line)
+            && takes_memory_over(alloc, &line, ""),
+    )
+}
+
+#[test]
+fn vertices_of_any_size_are_kept(rt: HostRuntime) {
+    for vertices in VERTICES {
+        for number in NUMBERS {
             assert!(rt;
-                takes_memory_over(alloc, line.as_str(), asked)?,
-                "{line} {asked}"
+                are_kept(rt.alloc(), vertices, number) == Ok(true),
+                "{vertices} {number}"
             );
-            let choice = Choice::new(types(alloc, asked)?, area("0,0,10,20"), true);
-            let (chosen, _) = answer(alloc, line.as_str(), &choice)?;
-            assert_eq!(rt; chosen, Ok(true));
         }
     }
-    Ok(())
 }
 
-#[test]
-fn a_line_that_is_not_moved_is_copied(rt: HostRuntime) -> Result<(), Fail> {
-    let alloc = rt.alloc();
-    let mut text = Line::from_vec(b"front ".to_vec(alloc)?);
-    let line =
-        br#" {"vertices": [[1,2,3], [-4,0,6]], "id":"a", "type":"CityJSONFeature", "CityObjects":{}}"#;
-    let want =
-        br#"front {"vertices":[[1,2,3],[-4,0,6]],"id":"a","type":"CityJSONFeature","CityObjects":{}}"#;
-    let all = Choice::new(None, None, false);
-    let chosen = feature_line(alloc, line, Shift::zero(), &all, &mut text);
-    assert_eq!(rt; chosen, Ok(true));
-    assert_eq!(rt; text.items(), want.as_slice());
-    Ok(())
+/// A zero with a minus sign is one without when it is written, where the vertices are moved and where they are not.
+struct Zeros {
+    given: &'static str,
+    still: &'static str,
+    moved: &'static str,
 }
 
-/// Whether the area is asked for or not, and of numbers of each length.
-#[test]
-fn vertices_of_any_size_are_kept(rt: HostRuntime) -> Result<(), Fail> {
-    let alloc = rt.alloc();
-    for number in [
-        "0",
-        "7",
-        "-8",
-        "12345678",
-        "-123456789",
-        "999999999999999",
-        "-1000000000000000",
-        "9007199254740991",
-        "-9007199254740991",
-    ] {
-        for others in ["", ",[1,2,3]", ",[10000000,20000000,30000000],[-4,-5,-6]"] {
-            let line = format!(in alloc;
-                r#"{{"type":"CityJSONFeature","id":"a","CityObjects":{{}},"vertices":[[{number},2,3],[1,{number},3],[1,2,{number}]{others}]}}"#
-            )?;
-            for area in [None, area("0,0,100,100")] {
-                let choice = Choice::new(None, area, false);
-                let mut text = Line::new(alloc);
-                let chosen = feature_line(
-                    alloc,
-                    line.as_str().as_bytes(),
-                    Shift::zero(),
-                    &choice,
-                    &mut text,
-                );
-                assert_eq!(rt; chosen, Ok(true), "{line}");
-                assert_eq!(rt; text.items(), line.as_str().as_bytes());
-            }
-            assert!(rt; takes_memory_over(alloc, line.as_str(), "")?, "{line}");
-        }
-    }
-    Ok(())
-}
+const ZEROS: [Zeros; 4] = [
+    Zeros {
+        given: "[[-0,2,3]]",
+        still: "[[0,2,3]]",
+        moved: "[[10,22,33]]",
+    },
+    Zeros {
+        given: "[[1,2,3],[4,-0,-6],[7,8,-9]]",
+        still: "[[1,2,3],[4,0,-6],[7,8,-9]]",
+        moved: "[[11,22,33],[14,20,24],[17,28,21]]",
+    },
+    Zeros {
+        given: "[[100,200,300],[1,2,-0]]",
+        still: "[[100,200,300],[1,2,0]]",
+        moved: "[[110,220,330],[11,22,30]]",
+    },
+    Zeros {
+        given: "[[-0,-0,-0],[-0,0,-0]]",
+        still: "[[0,0,0],[0,0,0]]",
+        moved: "[[10,20,30],[10,20,30]]",
+    },
+];
 
-/// The text has room for a quarter more than the line that it was written from: it is asked for at once where no value
-/// is built, and vertices are written anew.
-fn has_room_for_more(text: Line, line: &str) -> bool {
-    text.into_vec().capacity() == line.len() + line.len() / 4
-}
-
-/// A zero with a minus sign is one without when it is written.
-#[test]
-fn a_zero_loses_its_minus_sign(rt: HostRuntime) -> Result<(), Fail> {
-    let alloc = rt.alloc();
-    let (front, back) = (
-        r#"{"id":"a","vertices":"#,
-        r#","more":[-0,-0.0],"CityObjects":{"a":{"type":"Building"}},"type":"CityJSONFeature"}"#,
-    );
-    let rows = [
-        ("[[-0,2,3]]", "[[0,2,3]]", "[[10,22,33]]"),
-        (
-            "[[1,2,3],[4,-0,-6],[7,8,-9]]",
-            "[[1,2,3],[4,0,-6],[7,8,-9]]",
-            "[[11,22,33],[14,20,24],[17,28,21]]",
-        ),
-        (
-            "[[100,200,300],[1,2,-0]]",
-            "[[100,200,300],[1,2,0]]",
-            "[[110,220,330],[11,22,30]]",
-        ),
-        (
-            "[[-0,-0,-0],[-0,0,-0]]",
-            "[[0,0,0],[0,0,0]]",
-            "[[10,20,30],[10,20,30]]",
-        ),
-    ];
-    let Some(shift) = Shift::new(10, 20, 30) else {
-        return Err("no shift".into());
+/// The text of a chosen feature has room for a quarter more than the line that it was written from: it is asked for at
+/// once where no value is built, and vertices are written anew.
+fn has_room_for_more(alloc: Global, line: &str, asked: &Asked<'_>) -> bool {
+    let (Some(shift), Ok(choice)) = (shift_of(asked.shift), choice_of(alloc, asked)) else {
+        return false;
     };
-    for (given, still, moved) in rows {
-        let line = format!(in alloc; "{front}{given}{back}")?;
-        for (shift, vertices) in [(Shift::zero(), still), (shift, moved)] {
-            let want = format!(in alloc; "{front}{vertices}{back}")?;
-            for bounds in ["", "0,0,100,100"] {
-                let choice = Choice::new(types(alloc, "Building")?, area(bounds), false);
-                let mut text = Line::new(alloc);
-                let bytes = line.as_str().as_bytes();
-                let chosen = feature_line(alloc, bytes, shift, &choice, &mut text);
-                assert_eq!(rt; chosen, Ok(true), "{line}");
-                assert_eq!(rt; text.items(), want.as_str().as_bytes());
-                assert!(rt; has_room_for_more(text, line.as_str()), "{line}");
-            }
-            let choice = Choice::new(None, area("-9,-9,-8,-8"), false);
-            let mut text = Line::new(alloc);
-            let bytes = line.as_str().as_bytes();
-            let chosen = feature_line(alloc, bytes, shift, &choice, &mut text);
-            assert_eq!(rt; chosen, Ok(false), "{line}");
-            assert!(rt; text.items().is_empty());
-        }
-    }
-    Ok(())
+    let mut text = Line::new(alloc);
+    let answer = feature_line(alloc, line.as_bytes(), shift, &choice, &mut text);
+    answer == Ok(true) && text.into_vec().capacity() == line.len() + line.len() / 4
+}
+
+fn is_written(alloc: Global, line: &str, asked: &Asked<'_>, wanted: &str) -> bool {
+    gives(alloc, line, asked, wanted) && has_room_for_more(alloc, line, asked)
+}
+
+fn zeros_are_written(alloc: Global, line: &str, shift: [i64; 3], wanted: &str) -> bool {
+    let asked = Asked {
+        shift,
+        types: "Building",
+        ..ALL
+    };
+    let near = Asked {
+        area: "0,0,100,100",
+        ..asked
+    };
+    let far = Asked {
+        shift,
+        area: "-9,-9,-8,-8",
+        ..ALL
+    };
+    is_written(alloc, line, &asked, wanted)
+        && is_written(alloc, line, &near, wanted)
+        && answers(alloc, line.as_bytes(), &far, Ok(false))
+}
+
+fn zeros_lose_their_sign(alloc: Global, row: &Zeros) -> Result<bool, AllocError> {
+    let text =
+        r#"{"id":"a","vertices":ROW,"more":[-0,-0.0],"CityObjects":{"a":{"type":"Building"}},"type":"CityJSONFeature"}"#;
+    let line = filled(alloc, text, row.given)?;
+    let still = filled(alloc, text, row.still)?;
+    let moved = filled(alloc, text, row.moved)?;
+    Ok(
+        zeros_are_written(alloc, &line, [0, 0, 0], &still)
+            && zeros_are_written(alloc, &line, [10, 20, 30], &moved),
+    )
 }
 
 #[test]
-fn lines_with_a_fault_are_refused(rt: HostRuntime) -> Result<(), Fail> {
-    let alloc = rt.alloc();
-    let rows = [
-        (
-            r#"{"type":"CityJSON","id":"a","CityObjects":{},"vertices":[]}"#,
-            Fault::NotAFeature,
-        ),
-        (
-            r#"{"type":"CityJSONFeature","id":1,"CityObjects":{},"vertices":[]}"#,
-            Fault::NotAFeature,
-        ),
-        (
-            r#"{"type":"CityJSONFeature","id":"a","CityObjects":[],"vertices":[]}"#,
-            Fault::NotAFeature,
-        ),
-        (
-            r#"{"type":"CityJSONFeature","id":"a","CityObjects":{}}"#,
-            Fault::NotAFeature,
-        ),
-        (
-            r#"{"type":"CityJSONFeature","id":"a","CityObjects":{},"vertices":{}}"#,
-            Fault::NotAFeature,
-        ),
-        (
-            r#"{"type":"CityJSONFeature","id":"a","CityObjects":{},"vertices":[[1,2,3,4]]}"#,
-            Fault::VertexShape,
-        ),
-        (
-            r#"{"type":"CityJSONFeature","id":"a","CityObjects":{},"vertices":[[1,2,3],[1,2],[1,2,3]]}"#,
-            Fault::VertexShape,
-        ),
-        (
-            r#"{"type":"CityJSONFeature","id":"a","CityObjects":{},"vertices":[[1,2,3],[1.0,2,3]]}"#,
-            Fault::VertexNotInteger,
-        ),
-        (
-            r#"{"type":"CityJSONFeature","id":"a","CityObjects":{},"vertices":[[1,2,10000000000000000]]}"#,
-            Fault::VertexRange,
-        ),
-        (
-            r#"{"type":"CityJSONFeature","id":"a","CityObjects":{},"vertices":[[1,2,9007199254740991]]}"#,
-            Fault::VertexRange,
-        ),
-        (
-            r#"{"type":"CityJSONFeature","id":"a","CityObjects":{},"vertices":[[1,2,3]],"id":"b"}"#,
-            Fault::DuplicateName,
-        ),
-    ];
-    for (line, fault) in rows {
-        let (refused, text) = answer(alloc, line, &Choice::new(None, None, false))?;
-        assert_eq!(rt; refused, Err(fault), "{line}");
-        assert_eq!(rt; text.items(), b"front ".as_slice());
+fn a_zero_loses_its_minus_sign(rt: HostRuntime) {
+    for row in ZEROS.iter() {
+        assert!(rt;
+            zeros_lose_their_sign(rt.alloc(), row) == Ok(true),
+            "{}",
+            row.given
+        );
     }
-    Ok(())
 }

@@ -1,181 +1,236 @@
-use byte_streams::Fault;
-use city_feature::{feature, line, shifted};
-use city_grid::Shift;
+use crate::texts::{filled, shift_of};
+use byte_streams::{Fault, Line};
+use city_feature::{Feature, feature, line, shifted};
 use city_json::read;
-use std::alloc::Global;
-use std::test::Fail;
+use std::alloc::{AllocError, Global};
 
-/// The text of a feature with these vertices.
-fn text_of(alloc: Global, vertices: &str) -> Result<String, Fail> {
-    Ok(format!(in alloc;
-        "{{\"type\":\"CityJSONFeature\",\"id\":\"a\",\"CityObjects\":{{\"a\":{{\"type\":\"Building\"}}}},\"vertices\":{vertices}}}"
-    )?)
+/// A feature, in which its vertices stand for `ROW`.
+const BUILDING: &str =
+    r#"{"type":"CityJSONFeature","id":"a","CityObjects":{"a":{"type":"Building"}},"vertices":ROW}"#;
+
+fn feature_of(alloc: Global, text: &str) -> Result<Feature, Fault> {
+    feature(alloc, read(alloc, text.as_bytes())?)
 }
 
-/// The line of the feature, moved along x.
-fn moved_line(alloc: Global, text: &str, x: i64) -> Result<Result<String, Fault>, Fail> {
-    let Some(shift) = Shift::new(x, 0, 0) else {
-        return Err("no shift".into());
-    };
-    moved_by(alloc, text, shift)
+fn moved_line(alloc: Global, text: &str, shift: [i64; 3]) -> Result<Line, Fault> {
+    let shift = shift_of(shift).ok_or(Fault::ShiftRange)?;
+    line(alloc, &shifted(alloc, feature_of(alloc, text)?, shift)?)
 }
 
-fn moved_by(alloc: Global, text: &str, shift: Shift) -> Result<Result<String, Fault>, Fail> {
-    let taken = match feature(alloc, read(alloc, text.as_bytes())?) {
-        Ok(taken) => taken,
-        Err(fault) => return Ok(Err(fault)),
-    };
-    match shifted(alloc, taken, shift) {
-        Ok(moved) => Ok(Ok(String::from_utf8(line(alloc, &moved)?.into_vec())?)),
-        Err(fault) => Ok(Err(fault)),
+fn is_moved(alloc: Global, text: &str, shift: [i64; 3], wanted: &str) -> bool {
+    match moved_line(alloc, text, shift) {
+        Ok(line) => line.items() == wanted.as_bytes(),
+        Err(_) => false,
     }
 }
 
-fn fault_of(alloc: Global, text: &str) -> Result<Option<Fault>, Fail> {
-    Ok(feature(alloc, read(alloc, text.as_bytes())?).err())
+/// Vertices before they are moved along each axis, and after it.
+struct Moved {
+    vertices: &'static str,
+    shift: [i64; 3],
+    wanted: &'static str,
+}
+
+const MOVED: [Moved; 8] = [
+    Moved {
+        vertices: "[[10,20,30]]",
+        shift: [1500, 0, 0],
+        wanted: "[[1510,20,30]]",
+    },
+    Moved {
+        vertices: "[[1,2,3]]",
+        shift: [0, 0, 0],
+        wanted: "[[1,2,3]]",
+    },
+    Moved {
+        vertices: "[]",
+        shift: [7, 0, 0],
+        wanted: "[]",
+    },
+    Moved {
+        vertices: "[[-0,0,0]]",
+        shift: [0, 0, 0],
+        wanted: "[[0,0,0]]",
+    },
+    Moved {
+        vertices: "[[-5,-0,-7],[5,1,2],[0,0,0],[1,2,3]]",
+        shift: [5, 0, 0],
+        wanted: "[[0,0,-7],[10,1,2],[5,0,0],[6,2,3]]",
+    },
+    Moved {
+        vertices: "[[9007199254740991,0,0]]",
+        shift: [-1, 0, 0],
+        wanted: "[[9007199254740990,0,0]]",
+    },
+    Moved {
+        vertices: "[[-9007199254740991,0,0]]",
+        shift: [9007199254740991, 0, 0],
+        wanted: "[[0,0,0]]",
+    },
+    Moved {
+        vertices: "[[1,2,3],[4,5,6]]",
+        shift: [100, -20, 3],
+        wanted: "[[101,-18,6],[104,-15,9]]",
+    },
+];
+
+fn vertices_are_moved(
+    alloc: Global,
+    vertices: &str,
+    shift: [i64; 3],
+    wanted: &str,
+) -> Result<bool, AllocError> {
+    let text = filled(alloc, BUILDING, vertices)?;
+    Ok(is_moved(alloc, &text, shift, &filled(alloc, BUILDING, wanted)?))
 }
 
 #[test]
-fn vertices_are_moved(rt: HostRuntime) -> Result<(), Fail> {
-    let alloc = rt.alloc();
-    let rows = [
-        ("[[10,20,30]]", 1500, "[[1510,20,30]]"),
-        ("[[1,2,3]]", 0, "[[1,2,3]]"),
-        ("[]", 7, "[]"),
-        ("[[-0,0,0]]", 0, "[[0,0,0]]"),
-        (
-            "[[-5,-0,-7],[5,1,2],[0,0,0],[1,2,3]]",
-            5,
-            "[[0,0,-7],[10,1,2],[5,0,0],[6,2,3]]",
-        ),
-        ("[[9007199254740991,0,0]]", -1, "[[9007199254740990,0,0]]"),
-        ("[[-9007199254740991,0,0]]", 9007199254740991, "[[0,0,0]]"),
-    ];
-    for (vertices, x, want) in rows {
-        let text = text_of(alloc, vertices)?;
-        let moved = moved_line(alloc, text.as_str(), x)??;
-        assert_eq!(rt;
-            moved.as_str(),
-            text_of(alloc, want)?.as_str(),
+fn each_component_has_its_shift(rt: HostRuntime) {
+    for row in MOVED.iter() {
+        let moved = vertices_are_moved(rt.alloc(), row.vertices, row.shift, row.wanted);
+        assert!(rt; moved == Ok(true), "{}", row.vertices);
+    }
+}
+
+/// Features, and their texts after they are moved by 1 along x.
+const KEPT: [(&str, &str); 2] = [
+    (
+        r#"{"vertices":[[1,2,3]],"x":[[1,2,3]],"CityObjects":{"a":{"attributes":{"h":12.30,"e":1.50e+3,"vertices":[[1,2,3]]}}},"id":"a","type":"CityJSONFeature"}"#,
+        r#"{"vertices":[[2,2,3]],"x":[[1,2,3]],"CityObjects":{"a":{"attributes":{"h":12.30,"e":1.50e+3,"vertices":[[1,2,3]]}}},"id":"a","type":"CityJSONFeature"}"#,
+    ),
+    (
+        r#"{"id":"","vertices":[[1,2,3]],"Vertices":[[-0,0]],"vertices-texture":[[0.5,-0]],"transform":{"scale":[1,1,1],"translate":[1,1,1]},"type":"CityJSONFeature","CityObjects":{}}"#,
+        r#"{"id":"","vertices":[[2,2,3]],"Vertices":[[-0,0]],"vertices-texture":[[0.5,-0]],"transform":{"scale":[1,1,1],"translate":[1,1,1]},"type":"CityJSONFeature","CityObjects":{}}"#,
+    ),
+];
+
+fn is_as_it_was(alloc: Global, text: &str) -> Result<bool, Fault> {
+    let line = line(alloc, &feature_of(alloc, text)?)?;
+    Ok(line.items() == text.as_bytes())
+}
+
+#[test]
+fn all_else_is_kept(rt: HostRuntime) {
+    for (text, wanted) in KEPT {
+        assert!(rt; is_moved(rt.alloc(), text, [1, 0, 0], wanted), "{text}");
+        assert!(rt; is_as_it_was(rt.alloc(), text) == Ok(true), "{text}");
+    }
+}
+
+/// Texts, in which one of the rows stands for `ROW`, that are refused.
+struct Refused {
+    fault: Fault,
+    text: &'static str,
+    rows: &'static [&'static str],
+}
+
+const REFUSED: [Refused; 4] = [
+    Refused {
+        fault: Fault::VertexNotInteger,
+        text: BUILDING,
+        rows: &[
+            "[[1.0,0,0]]",
+            "[[1e2,0,0]]",
+            "[[0,0,0],[0,0,0],[1.0,0,0],[1,2]]",
+        ],
+    },
+    Refused {
+        fault: Fault::VertexShape,
+        text: BUILDING,
+        rows: &[
+            "[[1,2]]",
+            "[[\"1\",2,3]]",
+            "[[0,0,0],[1,2],[1.0,0,0],[9007199254740992,0,0]]",
+            "[[0,0,0],null]",
+            "[1,2,3]",
+        ],
+    },
+    Refused {
+        fault: Fault::VertexRange,
+        text: BUILDING,
+        rows: &[
+            "[[9007199254740992,0,0]]",
+            "[[0,0,0],[0,0,9007199254740992],[1,2],[0,0,1.0]]",
+        ],
+    },
+    Refused {
+        fault: Fault::NotAFeature,
+        text: "ROW",
+        rows: &[
+            "[]",
+            "{}",
+            r#"{"type":"CityJSON","version":"2.0","transform":{"scale":[0.001,0.001,0.001],"translate":[0,0,0]},"CityObjects":{},"vertices":[]}"#,
+            r#"{"type":"CityJSONFeature","id":7,"CityObjects":{},"vertices":[]}"#,
+            r#"{"type":"CityJSONFeature","CityObjects":{},"vertices":[]}"#,
+            r#"{"type":"CityJSONFeature","id":"a","CityObjects":[],"vertices":[]}"#,
+            r#"{"type":"CityJSONFeature","id":"a","vertices":[]}"#,
+            r#"{"type":"CityJSONFeature","id":"a","CityObjects":{},"vertices":{}}"#,
+            r#"{"type":"CityJSONFeature","id":"a","CityObjects":{}}"#,
+            r#"{"type":"CityJSONFeatures","id":"a","CityObjects":{},"vertices":[]}"#,
+            r#"{"type":"CityJSONFeature","id":7,"CityObjects":{},"vertices":[1.5]}"#,
+        ],
+    },
+];
+
+fn is_refused(alloc: Global, text: &str, row: &str, fault: Fault) -> bool {
+    match filled(alloc, text, row) {
+        Ok(text) => feature_of(alloc, &text).err() == Some(fault),
+        Err(_) => false,
+    }
+}
+
+#[test]
+fn the_first_fault_is_told(rt: HostRuntime) {
+    for refused in REFUSED.iter() {
+        for row in refused.rows {
+            assert!(rt;
+                is_refused(rt.alloc(), refused.text, row, refused.fault),
+                "{row}"
+            );
+        }
+    }
+}
+
+/// Vertices that leave the range where they are moved by 1 along x.
+const LEAVING: [&str; 3] = [
+    "[[9007199254740991,0,0]]",
+    "[[0,0,0],[1,2,3],[9007199254740991,0,0]]",
+    "[[9007199254740991,0,0],[0,0,0]]",
+];
+
+fn leave_the_range(alloc: Global, vertices: &str) -> Result<bool, Fault> {
+    let text = filled(alloc, BUILDING, vertices)?;
+    feature_of(alloc, &text)?;
+    Ok(moved_line(alloc, &text, [1, 0, 0]).err() == Some(Fault::VertexRange))
+}
+
+#[test]
+fn moved_out_of_range_is_refused(rt: HostRuntime) {
+    for vertices in LEAVING {
+        assert!(rt;
+            leave_the_range(rt.alloc(), vertices) == Ok(true),
             "{vertices}"
         );
     }
-    Ok(())
 }
 
-#[test]
-fn each_component_has_its_shift(rt: HostRuntime) -> Result<(), Fail> {
-    let alloc = rt.alloc();
-    let Some(shift) = Shift::new(100, -20, 3) else {
-        return Err("no shift".into());
-    };
-    let text = text_of(alloc, "[[1,2,3],[4,5,6]]")?;
-    let moved = moved_by(alloc, text.as_str(), shift)??;
-    let want = text_of(alloc, "[[101,-18,6],[104,-15,9]]")?;
-    assert_eq!(rt; moved.as_str(), want.as_str());
-    Ok(())
-}
-
-#[test]
-fn moved_out_of_range_is_refused(rt: HostRuntime) -> Result<(), Fail> {
-    let alloc = rt.alloc();
-    for vertices in [
-        "[[9007199254740991,0,0]]",
-        "[[0,0,0],[1,2,3],[9007199254740991,0,0]]",
-        "[[9007199254740991,0,0],[0,0,0]]",
-    ] {
-        let text = text_of(alloc, vertices)?;
-        let refused = moved_line(alloc, text.as_str(), 1)?.err();
-        assert_eq!(rt; refused, Some(Fault::VertexRange), "{vertices}");
+/// A hundred thousand vertices, of which the first has this x and each has one more.
+fn many_vertices(alloc: Global, first: u32) -> Result<String, AllocError> {
+    let mut vertices = format!(in alloc; "[[{first},0,7]")?;
+    for number in 1..100_000u32 {
+        let x = first.saturating_add(number);
+        vertices.push_str(&format!(in alloc; ",[{x},-{number},7]")?)?;
     }
-    Ok(())
+    vertices.push(']')?;
+    Ok(vertices)
+}
+
+fn many_are_moved(alloc: Global) -> Result<bool, AllocError> {
+    let (before, after) = (many_vertices(alloc, 0)?, many_vertices(alloc, 1000)?);
+    vertices_are_moved(alloc, &before, [1000, 0, 0], &after)
 }
 
 #[test]
-fn all_else_is_kept(rt: HostRuntime) -> Result<(), Fail> {
-    let alloc = rt.alloc();
-    let rows = [
-        (
-            "{\"vertices\":[[1,2,3]],\"x\":[[1,2,3]],\"CityObjects\":{\"a\":{\"attributes\":{\"h\":12.30,\"e\":1.50e+3,\"vertices\":[[1,2,3]]}}},\"id\":\"a\",\"type\":\"CityJSONFeature\"}",
-            "{\"vertices\":[[2,2,3]],\"x\":[[1,2,3]],\"CityObjects\":{\"a\":{\"attributes\":{\"h\":12.30,\"e\":1.50e+3,\"vertices\":[[1,2,3]]}}},\"id\":\"a\",\"type\":\"CityJSONFeature\"}",
-        ),
-        (
-            "{\"id\":\"\",\"vertices\":[[1,2,3]],\"Vertices\":[[-0,0]],\"vertices-texture\":[[0.5,-0]],\"transform\":{\"scale\":[1,1,1],\"translate\":[1,1,1]},\"type\":\"CityJSONFeature\",\"CityObjects\":{}}",
-            "{\"id\":\"\",\"vertices\":[[2,2,3]],\"Vertices\":[[-0,0]],\"vertices-texture\":[[0.5,-0]],\"transform\":{\"scale\":[1,1,1],\"translate\":[1,1,1]},\"type\":\"CityJSONFeature\",\"CityObjects\":{}}",
-        ),
-    ];
-    for (text, want) in rows {
-        assert_eq!(rt; moved_line(alloc, text, 1)??.as_str(), want, "{text}");
-        let taken = feature(alloc, read(alloc, text.as_bytes())?)?;
-        assert_eq!(rt; line(alloc, &taken)?.items(), text.as_bytes(), "{text}");
-    }
-    Ok(())
-}
-
-#[test]
-fn what_is_no_feature_is_refused(rt: HostRuntime) -> Result<(), Fail> {
-    let alloc = rt.alloc();
-    let texts = [
-        "[]",
-        "{}",
-        "{\"type\":\"CityJSON\",\"version\":\"2.0\",\"transform\":{\"scale\":[0.001,0.001,0.001],\"translate\":[0,0,0]},\"CityObjects\":{},\"vertices\":[]}",
-        "{\"type\":\"CityJSONFeature\",\"id\":7,\"CityObjects\":{},\"vertices\":[]}",
-        "{\"type\":\"CityJSONFeature\",\"CityObjects\":{},\"vertices\":[]}",
-        "{\"type\":\"CityJSONFeature\",\"id\":\"a\",\"CityObjects\":[],\"vertices\":[]}",
-        "{\"type\":\"CityJSONFeature\",\"id\":\"a\",\"vertices\":[]}",
-        "{\"type\":\"CityJSONFeature\",\"id\":\"a\",\"CityObjects\":{},\"vertices\":{}}",
-        "{\"type\":\"CityJSONFeature\",\"id\":\"a\",\"CityObjects\":{}}",
-        "{\"type\":\"CityJSONFeatures\",\"id\":\"a\",\"CityObjects\":{},\"vertices\":[]}",
-        "{\"type\":\"CityJSONFeature\",\"id\":7,\"CityObjects\":{},\"vertices\":[1.5]}",
-    ];
-    for text in texts {
-        assert_eq!(rt; fault_of(alloc, text)?, Some(Fault::NotAFeature), "{text}");
-    }
-    Ok(())
-}
-
-#[test]
-fn the_first_faulty_vertex_is_told(rt: HostRuntime) -> Result<(), Fail> {
-    let alloc = rt.alloc();
-    let rows = [
-        ("[[1.0,0,0]]", Fault::VertexNotInteger),
-        ("[[1e2,0,0]]", Fault::VertexNotInteger),
-        ("[[1,2]]", Fault::VertexShape),
-        ("[[\"1\",2,3]]", Fault::VertexShape),
-        ("[[9007199254740992,0,0]]", Fault::VertexRange),
-        (
-            "[[0,0,0],[1,2],[1.0,0,0],[9007199254740992,0,0]]",
-            Fault::VertexShape,
-        ),
-        ("[[0,0,0],[0,0,0],[1.0,0,0],[1,2]]", Fault::VertexNotInteger),
-        (
-            "[[0,0,0],[0,0,9007199254740992],[1,2],[0,0,1.0]]",
-            Fault::VertexRange,
-        ),
-        ("[[0,0,0],null]", Fault::VertexShape),
-        ("[1,2,3]", Fault::VertexShape),
-    ];
-    for (vertices, want) in rows {
-        let text = text_of(alloc, vertices)?;
-        assert_eq!(rt; fault_of(alloc, text.as_str())?, Some(want), "{vertices}");
-    }
-    Ok(())
-}
-
-#[test]
-fn many_vertices_are_moved(rt: HostRuntime) -> Result<(), Fail> {
-    let alloc = rt.alloc();
-    let mut before = String::from_str(alloc, "[[0,0,7]")?;
-    let mut after = String::from_str(alloc, "[[1000,0,7]")?;
-    for x in 1..100_000 {
-        before.push_str(format!(in alloc; ",[{x},-{x},7]")?.as_str())?;
-        let moved = x + 1000;
-        after.push_str(format!(in alloc; ",[{moved},-{x},7]")?.as_str())?;
-    }
-    before.push_str("]")?;
-    after.push_str("]")?;
-    let text = text_of(alloc, before.as_str())?;
-    let moved = moved_line(alloc, text.as_str(), 1000)??;
-    assert!(rt; moved.as_str() == text_of(alloc, after.as_str())?.as_str());
-    Ok(())
+fn many_vertices_are_moved(rt: HostRuntime) {
+    assert!(rt; many_are_moved(rt.alloc()) == Ok(true));
 }

@@ -4,9 +4,7 @@ use byte_streams::{Fault, Line};
 use city_feature::{Choice, area, feature, feature_line, line, selects, shifted, types};
 use city_grid::Shift;
 use city_json::read;
-use std::alloc::Global;
-use std::process::Abort;
-use std::test::Fail;
+use std::alloc::{AllocError, Global};
 
 /// The order of the members, by the first letters of their names; `m` is one more.
 const ORDERS: [&str; 8] = [
@@ -86,61 +84,75 @@ impl Draws {
     }
 }
 
-/// An array of vertices of such numbers, with white space between them.
-fn drawn_vertices(alloc: Global, draws: &mut Draws, numbers: &[&str]) -> Result<String, Fail> {
+/// A vertex of such numbers, with white space in it.
+fn drawn_vertex(alloc: Global, draws: &mut Draws, numbers: &[&str]) -> Result<String, AllocError> {
+    let (x, y, z) = (
+        draws.pick(numbers),
+        draws.pick(numbers),
+        draws.pick(numbers),
+    );
+    let white = draws.pick(&WHITE);
+    format!(in alloc; "{white}[{x},{white}{y},{z}{white}]")
+}
+
+fn drawn_vertices(
+    alloc: Global,
+    draws: &mut Draws,
+    numbers: &[&str],
+) -> Result<String, AllocError> {
     let mut text = String::from_str(alloc, "[")?;
     for _ in draws.pick(&COUNTS).bytes() {
         if text.len() > 1 {
-            text.push_str(",")?;
+            text.push(',')?;
         }
-        let (x, y, z) = (
-            draws.pick(numbers),
-            draws.pick(numbers),
-            draws.pick(numbers),
-        );
-        let white = draws.pick(&WHITE);
-        text.push_str(format!(in alloc; "{white}[{x},{white}{y},{z}{white}]")?.as_str())?;
+        text.push_str(&drawn_vertex(alloc, draws, numbers)?)?;
     }
-    text.push_str("]")?;
+    text.push(']')?;
     Ok(text)
 }
 
+/// The member whose name begins with this letter.
+fn drawn_member(
+    alloc: Global,
+    draws: &mut Draws,
+    name: u8,
+    vertices: &str,
+) -> Result<String, AllocError> {
+    let white = draws.pick(&WHITE);
+    match name {
+        b't' => format!(in alloc; "\"type\":{white}\"CityJSONFeature\""),
+        b'i' => format!(in alloc; "{white}\"id\":{}", draws.pick(&IDS)),
+        b'C' => format!(in alloc; "\"CityObjects\"{white}:{}", draws.pick(&OBJECTS)),
+        b'v' => format!(in alloc; "\"vertices\":{white}{vertices}"),
+        _ => format!(in alloc; "\"more\":{}", draws.pick(&OTHERS)),
+    }
+}
+
 /// A line with vertices of such numbers.
-fn drawn_line(alloc: Global, draws: &mut Draws, numbers: &[&str]) -> Result<String, Fail> {
+fn drawn_line(alloc: Global, draws: &mut Draws, numbers: &[&str]) -> Result<String, AllocError> {
     let vertices = drawn_vertices(alloc, draws, numbers)?;
-    let (id, objects, other) = (draws.pick(&IDS), draws.pick(&OBJECTS), draws.pick(&OTHERS));
     let mut line = String::from_str(alloc, "{")?;
     for name in draws.pick(&ORDERS).bytes() {
         if line.len() > 1 {
-            line.push_str(",")?;
+            line.push(',')?;
         }
-        let white = draws.pick(&WHITE);
-        let member = match name {
-            b't' => format!(in alloc; "\"type\":{white}\"CityJSONFeature\"")?,
-            b'i' => format!(in alloc; "{white}\"id\":{id}")?,
-            b'C' => format!(in alloc; "\"CityObjects\"{white}:{objects}")?,
-            b'v' => format!(in alloc; "\"vertices\":{white}{vertices}")?,
-            _ => format!(in alloc; "\"more\":{other}")?,
-        };
-        line.push_str(member.as_str())?;
+        line.push_str(&drawn_member(alloc, draws, name, &vertices)?)?;
     }
-    line.push_str("}")?;
+    line.push('}')?;
     Ok(line)
 }
 
-fn drawn_choice(alloc: Global, draws: &mut Draws, names: &str) -> Result<Choice, Fail> {
+fn drawn_choice(alloc: Global, draws: &mut Draws, names: &str) -> Result<Choice, Fault> {
     let (area, exclude) = (area(draws.pick(&AREAS)), draws.pick(&WHITE).is_empty());
     Ok(Choice::new(types(alloc, names)?, area, exclude))
 }
 
-fn drawn_shift(draws: &mut Draws) -> Result<Shift, Fail> {
-    if !draws.pick(&WHITE).is_empty() {
-        return Ok(Shift::zero());
+fn drawn_shift(draws: &mut Draws) -> Option<Shift> {
+    if draws.pick(&WHITE).is_empty() {
+        Shift::new(1000, -20, 0)
+    } else {
+        Some(Shift::zero())
     }
-    let Some(shift) = Shift::new(1000, -20, 0) else {
-        return Err("no shift".into());
-    };
-    Ok(shift)
 }
 
 /// What the value of the line gives.
@@ -159,57 +171,68 @@ fn put_by_value(
     Ok(true)
 }
 
-/// The line has to be answered as its value is.
-fn expect_one_answer(
-    rt: &impl Abort,
-    alloc: Global,
-    shift: Shift,
-    choice: &Choice,
-    line: &str,
-) -> Result<(), Fail> {
-    let mut by_value = Line::from_vec(b"front".to_vec(alloc)?);
-    let mut text = Line::from_vec(b"front".to_vec(alloc)?);
+/// Whether the line is answered as its value is.
+fn has_one_answer(alloc: Global, line: &str, shift: Shift, choice: &Choice) -> Result<bool, Fault> {
+    let mut by_value = Line::new(alloc);
+    let mut text = Line::new(alloc);
+    by_value.append(b"front")?;
+    text.append(b"front")?;
     let told = put_by_value(alloc, line.as_bytes(), shift, choice, &mut by_value);
     let answer = feature_line(alloc, line.as_bytes(), shift, choice, &mut text);
-    assert_eq!(rt; answer, told, "{line}");
-    assert_eq!(rt; text.items(), by_value.items(), "{line}");
-    Ok(())
+    Ok(answer == told && text.items() == by_value.items())
 }
 
-#[test]
-fn common_lines_have_one_answer(rt: HostRuntime) -> Result<(), Fail> {
-    let alloc = rt.alloc();
-    let mut draws = Draws { state: 1 };
-    for _ in 0..300 {
-        let line = drawn_line(alloc, &mut draws, &INTEGERS)?;
-        let choice = drawn_choice(alloc, &mut draws, "")?;
-        let shift = drawn_shift(&mut draws)?;
-        expect_one_answer(&rt, alloc, shift, &choice, line.as_str())?;
-        assert!(rt; takes_memory_over(alloc, line.as_str(), "")?, "{line}");
+/// The same for a drawn choice and shift.
+fn is_answered(alloc: Global, draws: &mut Draws, line: &str, names: &str) -> Result<bool, Fault> {
+    let choice = drawn_choice(alloc, draws, names)?;
+    match drawn_shift(draws) {
+        Some(shift) => has_one_answer(alloc, line, shift, &choice),
+        None => Ok(false),
     }
-    Ok(())
+}
+
+fn common_line_is_answered(alloc: Global, draws: &mut Draws) -> Result<bool, Fault> {
+    let line = drawn_line(alloc, draws, &INTEGERS)?;
+    Ok(is_answered(alloc, draws, &line, "")? && takes_memory_over(alloc, &line, ""))
 }
 
 #[test]
-fn lines_of_any_kind_have_one_answer(rt: HostRuntime) -> Result<(), Fail> {
-    let alloc = rt.alloc();
+fn common_lines_have_one_answer(rt: HostRuntime) {
+    let mut draws = Draws { state: 1 };
+    for number in 0..300 {
+        assert!(rt;
+            common_line_is_answered(rt.alloc(), &mut draws) == Ok(true),
+            "line {number}"
+        );
+    }
+}
+
+/// Whether the line is answered with no value built, if it is answered as its value is.
+fn line_takes_memory_over(alloc: Global, draws: &mut Draws) -> Result<Option<bool>, Fault> {
+    let line = if draws.pick(&WHITE).is_empty() {
+        drawn_line(alloc, draws, &INTEGERS)?
+    } else {
+        drawn_line(alloc, draws, &NUMBERS)?
+    };
+    let names = draws.pick(&TYPES);
+    if is_answered(alloc, draws, &line, names)? {
+        Ok(Some(takes_memory_over(alloc, &line, names)))
+    } else {
+        Ok(None)
+    }
+}
+
+#[test]
+fn lines_of_any_kind_have_one_answer(rt: HostRuntime) {
     let mut draws = Draws { state: 2 };
     let mut count = 0u64;
-    for _ in 0..600 {
-        let line = if draws.pick(&WHITE).is_empty() {
-            drawn_line(alloc, &mut draws, &INTEGERS)?
-        } else {
-            drawn_line(alloc, &mut draws, &NUMBERS)?
-        };
-        let names = draws.pick(&TYPES);
-        let choice = drawn_choice(alloc, &mut draws, names)?;
-        let shift = drawn_shift(&mut draws)?;
-        expect_one_answer(&rt, alloc, shift, &choice, line.as_str())?;
-        if takes_memory_over(alloc, line.as_str(), names)? {
+    for number in 0..600 {
+        let taken = line_takes_memory_over(rt.alloc(), &mut draws);
+        assert!(rt; matches!(taken, Ok(Some(_))), "line {number}");
+        if taken == Ok(Some(true)) {
             count = count.saturating_add(1);
         }
     }
     assert!(rt; count > 50);
     assert!(rt; count < 500);
-    Ok(())
 }

@@ -1,74 +1,57 @@
+use crate::texts::filled;
 use byte_streams::{Fault, Line};
 use city_feature::{Header, header, is_document};
-use city_json::{Json, print, read};
+use city_json::{print, read};
 use std::alloc::Global;
-use std::test::Fail;
 
-/// The text of a header, with these texts in it.
-fn text_of(
-    alloc: Global,
-    version: &str,
-    scale: &str,
-    translate: &str,
-    last: &str,
-) -> Result<String, Fail> {
-    Ok(format!(in alloc;
-        "{{\"type\":\"CityJSON\",\"version\":{version},\"transform\":{{\"scale\":{scale},\"translate\":{translate}}},{last}}}"
-    )?)
+fn header_of(alloc: Global, text: &str) -> Result<Header, Fault> {
+    header(read(alloc, text.as_bytes())?)
 }
 
-const VERSION: &str = "\"2.0\"";
+/// Headers whose vertices are in millimetres, from the origin.
+const KEPT: [&str; 9] = [
+    r#"{"type":"CityJSON","version":"2.0","transform":{"scale":[0.001,0.001,0.001],"translate":[0,0,0]},"CityObjects":{},"vertices":[]}"#,
+    r#"{"vertices":[],"CityObjects":{},"transform":{"translate":[0,0,0],"scale":[1e-3,1.0E-3,0.00100]},"version":"2.0","type":"CityJSON"}"#,
+    r#"{"x":[1.50e+3],"transform":{"scale":[0.001,0.001,0.001],"translate":[0,0,0],"y":{}},"type":"CityJSON","version":"2.0"}"#,
+    r#"{"type":"CityJSON","version":"2.0","transform":{"scale":[0.001,0.001,0.001],"translate":[0,0,0]},"CityObjects":{},"vertices":[],"metadata":{"geographicalExtent":[0,0,0,1,1,1],"title":"t"}}"#,
+    r#"{"type":"CityJSON","version":"2.0","transform":{"scale":[0.001,0.001,0.001],"translate":[0,0,0]},"extensions":{"A":{"version":"1"}},"metadata":{}}"#,
+    // Documents.
+    r#"{"type":"CityJSON","version":"2.0","transform":{"scale":[0.001,0.001,0.001],"translate":[0,0,0]},"CityObjects":{},"vertices":[[0,0,0]]}"#,
+    r#"{"type":"CityJSON","version":"2.0","transform":{"scale":[0.001,0.001,0.001],"translate":[0,0,0]},"CityObjects":{"a":{"type":"Building"}},"vertices":[]}"#,
+    r#"{"type":"CityJSON","version":"2.0","transform":{"scale":[0.001,0.001,0.001],"translate":[0,0,0]},"CityObjects":{"a":1}}"#,
+    r#"{"type":"CityJSON","version":"2.0","transform":{"scale":[0.001,0.001,0.001],"translate":[0,0,0]},"vertices":[null]}"#,
+];
 
-const SCALE: &str = "[0.001,0.001,0.001]";
-
-const ORIGIN: &str = "[0,0,0]";
-
-const EMPTY: &str = "\"CityObjects\":{},\"vertices\":[]";
-
-fn header_of(alloc: Global, text: &str) -> Result<Result<Header, Fault>, Fail> {
-    Ok(header(read(alloc, text.as_bytes())?))
-}
-
-fn fault_of(alloc: Global, text: &str) -> Result<Option<Fault>, Fail> {
-    Ok(header_of(alloc, text)?.err())
-}
-
-fn printed(alloc: Global, json: &Json) -> Result<Line, Fault> {
+fn is_printed(alloc: Global, header: &Header, wanted: &str) -> Result<bool, Fault> {
     let mut line = Line::new(alloc);
-    print(json, &mut line)?;
-    Ok(line)
+    print(header.json(), &mut line)?;
+    Ok(line.items() == wanted.as_bytes())
+}
+
+fn is_in_millimetres(header: &Header) -> bool {
+    let scale = header.transform().scale();
+    scale.x.units() == 1_000_000_000_000_000_000_000
+        && scale.z.units() == 1_000_000_000_000_000_000_000
+        && header.transform().translate().y.units() == 0
+}
+
+fn is_kept(alloc: Global, text: &str) -> Result<bool, Fault> {
+    let header = header_of(alloc, text)?;
+    Ok(is_in_millimetres(&header) && is_printed(alloc, &header, text)?)
 }
 
 #[test]
-fn headers_are_kept_as_they_are(rt: HostRuntime) -> Result<(), Fail> {
-    let alloc = rt.alloc();
-    let rows = [
-        "{\"type\":\"CityJSON\",\"version\":\"2.0\",\"transform\":{\"scale\":[0.001,0.001,0.001],\"translate\":[0,0,0]},\"CityObjects\":{},\"vertices\":[]}",
-        "{\"vertices\":[],\"CityObjects\":{},\"transform\":{\"translate\":[0,0,0],\"scale\":[1e-3,1.0E-3,0.00100]},\"version\":\"2.0\",\"type\":\"CityJSON\"}",
-        "{\"x\":[1.50e+3],\"transform\":{\"scale\":[0.001,0.001,0.001],\"translate\":[0,0,0],\"y\":{}},\"type\":\"CityJSON\",\"version\":\"2.0\"}",
-        "{\"type\":\"CityJSON\",\"version\":\"2.0\",\"transform\":{\"scale\":[0.001,0.001,0.001],\"translate\":[0,0,0]},\"CityObjects\":{},\"vertices\":[],\"metadata\":{\"geographicalExtent\":[0,0,0,1,1,1],\"title\":\"t\"}}",
-        "{\"type\":\"CityJSON\",\"version\":\"2.0\",\"transform\":{\"scale\":[0.001,0.001,0.001],\"translate\":[0,0,0]},\"extensions\":{\"A\":{\"version\":\"1\"}},\"metadata\":{}}",
-    ];
-    for text in rows {
-        let taken = header_of(alloc, text)??;
-        assert_eq!(rt;
-            printed(alloc, taken.json())?.items(),
-            text.as_bytes(),
-            "{text}"
-        );
-        let scale = taken.transform().scale();
-        assert_eq!(rt; scale.x.units(), 1_000_000_000_000_000_000_000, "{text}");
-        assert_eq!(rt; scale.z.units(), 1_000_000_000_000_000_000_000, "{text}");
-        assert_eq!(rt; taken.transform().translate().y.units(), 0, "{text}");
+fn headers_are_kept_as_they_are(rt: HostRuntime) {
+    for text in KEPT {
+        assert!(rt; is_kept(rt.alloc(), text) == Ok(true), "{text}");
     }
-    Ok(())
 }
 
 #[test]
-fn a_header_knows_its_translation(rt: HostRuntime) -> Result<(), Fail> {
-    let alloc = rt.alloc();
-    let text = text_of(alloc, VERSION, SCALE, "[1.5,-2,1e2]", EMPTY)?;
-    let taken = header_of(alloc, text.as_str())??;
+fn a_header_knows_its_translation(rt: HostRuntime) -> Result<(), Fault> {
+    let text =
+        r#"{"type":"CityJSON","version":"2.0","transform":{"scale":[0.001,0.001,0.001],"translate":[1.5,-2,1e2]},"CityObjects":{},"vertices":[]}"#;
+    let taken = header_of(rt.alloc(), text)?;
     let origin = taken.transform().translate();
     assert_eq!(rt; origin.x.units(), 1_500_000_000_000_000_000_000_000);
     assert_eq!(rt; origin.y.units(), -2_000_000_000_000_000_000_000_000);
@@ -76,172 +59,177 @@ fn a_header_knows_its_translation(rt: HostRuntime) -> Result<(), Fail> {
     Ok(())
 }
 
-#[test]
-fn what_is_no_city_json_is_refused(rt: HostRuntime) -> Result<(), Fail> {
-    let alloc = rt.alloc();
-    let texts = [
-        "[]",
-        "null",
-        "\"CityJSON\"",
-        "{}",
-        "{\"type\":\"CityJSONFeature\",\"version\":\"2.0\"}",
-        "{\"type\":\"CityJSON2\",\"version\":\"2.0\"}",
-        "{\"type\":[\"CityJSON\"],\"version\":\"2.0\"}",
-        "{\"a\":{\"type\":\"CityJSON\",\"version\":\"2.0\"}}",
-    ];
-    for text in texts {
-        assert_eq!(rt; fault_of(alloc, text)?, Some(Fault::NotCityJson), "{text}");
+/// Texts, in which one of the rows stands for `ROW`, that are refused.
+struct Refused {
+    fault: Fault,
+    text: &'static str,
+    rows: &'static [&'static str],
+}
+
+/// A header of this version.
+const VERSION: &str =
+    r#"{"type":"CityJSON","version":ROW,"transform":{"scale":[0.001,0.001,0.001],"translate":[0,0,0]},"CityObjects":{},"vertices":[]}"#;
+
+/// A header of this scale and translation.
+const TRANSFORM: &str =
+    r#"{"type":"CityJSON","version":"2.0","transform":{ROW},"CityObjects":{},"vertices":[]}"#;
+
+/// A header with this member.
+const MEMBER: &str =
+    r#"{"type":"CityJSON","version":"2.0","transform":{"scale":[0.001,0.001,0.001],"translate":[0,0,0]},ROW}"#;
+
+/// Texts that are refused, some of them for the first of several faults.
+const REFUSED: [Refused; 9] = [
+    Refused {
+        fault: Fault::NotCityJson,
+        text: "ROW",
+        rows: &[
+            "[]",
+            "null",
+            r#""CityJSON""#,
+            "{}",
+            r#"{"type":"CityJSONFeature","version":"2.0"}"#,
+            r#"{"type":"CityJSON2","version":"2.0"}"#,
+            r#"{"type":["CityJSON"],"version":"2.0"}"#,
+            r#"{"a":{"type":"CityJSON","version":"2.0"}}"#,
+            r#"{"type":"CityJSON","version":"1.1","transform":{"scale":[0,0,0],"translate":[0,0,0]},"CityObjects":[],"vertices":[[0,0,0]]}"#,
+        ],
+    },
+    Refused {
+        fault: Fault::NotCityJson,
+        text: MEMBER,
+        rows: &[
+            r#""CityObjects":[]"#,
+            r#""CityObjects":null"#,
+            r#""metadata":[]"#,
+            r#""metadata":"m""#,
+            r#""extensions":[]"#,
+            r#""extensions":1"#,
+            r#""vertices":{}"#,
+            r#""vertices":false"#,
+        ],
+    },
+    Refused {
+        fault: Fault::Version,
+        text: VERSION,
+        rows: &[
+            r#""1.1""#,
+            r#""2.0.1""#,
+            r#""2""#,
+            r#""2.""#,
+            r#""""#,
+            "2.0",
+            "null",
+        ],
+    },
+    Refused {
+        fault: Fault::Version,
+        text: r#"{"type":"CityJSON"ROW}"#,
+        rows: &[
+            "",
+            r#","version":"1.1","transform":{"scale":[0,0,0],"translate":[0,0,0]},"CityObjects":{},"vertices":[[0,0,0]]"#,
+        ],
+    },
+    Refused {
+        fault: Fault::ScaleNotPositive,
+        text: TRANSFORM,
+        rows: &[
+            r#""scale":[0,0,0],"translate":[0,0,0]"#,
+            r#""scale":[0.001,0.001,-0.001],"translate":[0,0,0]"#,
+        ],
+    },
+    Refused {
+        fault: Fault::ScaleNotPositive,
+        text: "ROW",
+        rows: &[
+            r#"{"type":"CityJSON","version":"2.0","transform":{"scale":[0,0,0],"translate":[0,0,0]},"CityObjects":{},"vertices":[[0,0,0]]}"#,
+        ],
+    },
+    Refused {
+        fault: Fault::Decimal,
+        text: TRANSFORM,
+        rows: &[
+            r#""scale":[1e-25,0.001,0.001],"translate":[0,0,0]"#,
+            r#""scale":[0,0,0],"translate":[0,0,1000000000000]"#,
+        ],
+    },
+    Refused {
+        fault: Fault::NoTransform,
+        text: TRANSFORM,
+        rows: &[
+            r#""scale":[0.001,0.001],"translate":[0,0,0]"#,
+            r#""scale":[0.001,0.001,0.001],"translate":[0,0,"0"]"#,
+        ],
+    },
+    Refused {
+        fault: Fault::NoTransform,
+        text: "ROW",
+        rows: &[r#"{"type":"CityJSON","version":"2.0","CityObjects":{},"vertices":[]}"#],
+    },
+];
+
+fn is_refused(alloc: Global, text: &str, row: &str, fault: Fault) -> bool {
+    match filled(alloc, text, row) {
+        Ok(text) => header_of(alloc, &text).err() == Some(fault),
+        Err(_) => false,
     }
-    let members = [
-        "\"CityObjects\":[]",
-        "\"CityObjects\":null",
-        "\"metadata\":[]",
-        "\"metadata\":\"m\"",
-        "\"extensions\":[]",
-        "\"extensions\":1",
-        "\"vertices\":{}",
-        "\"vertices\":false",
-    ];
-    for last in members {
-        let text = text_of(alloc, VERSION, SCALE, ORIGIN, last)?;
-        assert_eq!(rt;
-            fault_of(alloc, text.as_str())?,
-            Some(Fault::NotCityJson),
-            "{last}"
-        );
-    }
-    Ok(())
 }
 
 #[test]
-fn other_versions_are_refused(rt: HostRuntime) -> Result<(), Fail> {
-    let alloc = rt.alloc();
-    for version in [
-        "\"1.1\"",
-        "\"2.0.1\"",
-        "\"2\"",
-        "\"2.\"",
-        "\"\"",
-        "2.0",
-        "null",
-    ] {
-        let text = text_of(alloc, version, SCALE, ORIGIN, EMPTY)?;
-        assert_eq!(rt;
-            fault_of(alloc, text.as_str())?,
-            Some(Fault::Version),
-            "{version}"
-        );
+fn the_first_fault_in_order_is_told(rt: HostRuntime) {
+    for refused in REFUSED.iter() {
+        for row in refused.rows {
+            assert!(rt;
+                is_refused(rt.alloc(), refused.text, row, refused.fault),
+                "{row}"
+            );
+        }
     }
-    assert_eq!(rt;
-        fault_of(alloc, "{\"type\":\"CityJSON\"}")?,
-        Some(Fault::Version)
-    );
-    Ok(())
 }
 
-#[test]
-fn transforms_are_refused_by_their_fault(rt: HostRuntime) -> Result<(), Fail> {
-    let alloc = rt.alloc();
-    let rows = [
-        ("[0,0,0]", ORIGIN, Fault::ScaleNotPositive),
-        ("[0.001,0.001,-0.001]", ORIGIN, Fault::ScaleNotPositive),
-        ("[1e-25,0.001,0.001]", ORIGIN, Fault::Decimal),
-        ("[0,0,0]", "[0,0,1000000000000]", Fault::Decimal),
-        ("[0.001,0.001]", ORIGIN, Fault::NoTransform),
-        (SCALE, "[0,0,\"0\"]", Fault::NoTransform),
-    ];
-    for (scale, translate, want) in rows {
-        let text = text_of(alloc, VERSION, scale, translate, EMPTY)?;
-        assert_eq!(rt;
-            fault_of(alloc, text.as_str())?,
-            Some(want),
-            "{scale} {translate}"
-        );
-    }
-    let none = "{\"type\":\"CityJSON\",\"version\":\"2.0\",\"CityObjects\":{},\"vertices\":[]}";
-    assert_eq!(rt; fault_of(alloc, none)?, Some(Fault::NoTransform));
-    Ok(())
-}
+/// Values that hold city objects or vertices.
+const DOCUMENTS: [&str; 11] = [
+    r#"{"CityObjects":{"a":1}}"#,
+    r#"{"CityObjects":{"a":{}},"vertices":[]}"#,
+    r#"{"CityObjects":{"a":{}},"vertices":{}}"#,
+    r#"{"vertices":[[0,0,0]]}"#,
+    r#"{"vertices":[null],"CityObjects":{}}"#,
+    r#"{"vertices":[[]],"CityObjects":[]}"#,
+    r#"{"type":"CityJSON","CityObjects":{"a":{},"b":{}},"vertices":[[0,0,0],[1,1,1]]}"#,
+    r#"{"type":"CityJSON","version":"2.0","transform":{"scale":[0.001,0.001,0.001],"translate":[0,0,0]},"CityObjects":{},"vertices":[[0,0,0]]}"#,
+    r#"{"type":"CityJSON","version":"2.0","transform":{"scale":[0.001,0.001,0.001],"translate":[0,0,0]},"CityObjects":{"a":{"type":"Building"}},"vertices":[]}"#,
+    r#"{"type":"CityJSON","version":"2.0","transform":{"scale":[0.001,0.001,0.001],"translate":[0,0,0]},"CityObjects":{"a":1}}"#,
+    r#"{"type":"CityJSON","version":"2.0","transform":{"scale":[0.001,0.001,0.001],"translate":[0,0,0]},"vertices":[null]}"#,
+];
 
-fn is_document_of(alloc: Global, text: &str) -> Result<bool, Fail> {
+/// Values that hold neither.
+const OTHERS: [&str; 14] = [
+    "{}",
+    r#"{"CityObjects":{},"vertices":[]}"#,
+    r#"{"CityObjects":{}}"#,
+    r#"{"vertices":[]}"#,
+    r#"{"CityObjects":[1]}"#,
+    r#"{"CityObjects":"a"}"#,
+    r#"{"vertices":{"a":1}}"#,
+    r#"{"vertices":1,"CityObjects":null}"#,
+    r#"{"CityObjects":[{"a":1}],"vertices":{"0":[0,0,0]}}"#,
+    r#"{"a":{"CityObjects":{"a":1},"vertices":[[0,0,0]]}}"#,
+    r#"[{"CityObjects":{"a":1}}]"#,
+    "[[0,0,0]]",
+    r#""vertices""#,
+    "null",
+];
+
+fn is_document_of(alloc: Global, text: &str) -> Result<bool, Fault> {
     Ok(is_document(&read(alloc, text.as_bytes())?))
 }
 
 #[test]
-fn documents_hold_city_objects_or_vertices(rt: HostRuntime) -> Result<(), Fail> {
-    let alloc = rt.alloc();
-    for text in [
-        "{\"CityObjects\":{\"a\":1}}",
-        "{\"CityObjects\":{\"a\":{}},\"vertices\":[]}",
-        "{\"CityObjects\":{\"a\":{}},\"vertices\":{}}",
-        "{\"vertices\":[[0,0,0]]}",
-        "{\"vertices\":[null],\"CityObjects\":{}}",
-        "{\"vertices\":[[]],\"CityObjects\":[]}",
-        "{\"type\":\"CityJSON\",\"CityObjects\":{\"a\":{},\"b\":{}},\"vertices\":[[0,0,0],[1,1,1]]}",
-    ] {
-        assert!(rt; is_document_of(alloc, text)?, "{text}");
+fn documents_hold_city_objects_or_vertices(rt: HostRuntime) {
+    for text in DOCUMENTS {
+        assert!(rt; is_document_of(rt.alloc(), text) == Ok(true), "{text}");
     }
-    Ok(())
-}
-
-#[test]
-fn what_holds_neither_is_no_document(rt: HostRuntime) -> Result<(), Fail> {
-    let alloc = rt.alloc();
-    for text in [
-        "{}",
-        "{\"CityObjects\":{},\"vertices\":[]}",
-        "{\"CityObjects\":{}}",
-        "{\"vertices\":[]}",
-        "{\"CityObjects\":[1]}",
-        "{\"CityObjects\":\"a\"}",
-        "{\"vertices\":{\"a\":1}}",
-        "{\"vertices\":1,\"CityObjects\":null}",
-        "{\"CityObjects\":[{\"a\":1}],\"vertices\":{\"0\":[0,0,0]}}",
-        "{\"a\":{\"CityObjects\":{\"a\":1},\"vertices\":[[0,0,0]]}}",
-        "[{\"CityObjects\":{\"a\":1}}]",
-        "[[0,0,0]]",
-        "\"vertices\"",
-        "null",
-    ] {
-        assert!(rt; !is_document_of(alloc, text)?, "{text}");
+    for text in OTHERS {
+        assert!(rt; is_document_of(rt.alloc(), text) == Ok(false), "{text}");
     }
-    Ok(())
-}
-
-#[test]
-fn a_header_that_is_a_document_is_kept_as_it_is(rt: HostRuntime) -> Result<(), Fail> {
-    let alloc = rt.alloc();
-    for last in [
-        "\"CityObjects\":{},\"vertices\":[[0,0,0]]",
-        "\"CityObjects\":{\"a\":{\"type\":\"Building\"}},\"vertices\":[]",
-        "\"CityObjects\":{\"a\":1}",
-        "\"vertices\":[null]",
-    ] {
-        let text = text_of(alloc, VERSION, SCALE, ORIGIN, last)?;
-        let taken = header_of(alloc, text.as_str())??;
-        assert_eq!(rt;
-            printed(alloc, taken.json())?.items(),
-            text.as_bytes(),
-            "{last}"
-        );
-        assert!(rt; is_document(taken.json()), "{last}");
-    }
-    Ok(())
-}
-
-#[test]
-fn the_first_fault_in_order_is_told(rt: HostRuntime) -> Result<(), Fail> {
-    let alloc = rt.alloc();
-    let full = "\"CityObjects\":[],\"vertices\":[[0,0,0]]";
-    let text = text_of(alloc, "\"1.1\"", "[0,0,0]", ORIGIN, full)?;
-    assert_eq!(rt; fault_of(alloc, text.as_str())?, Some(Fault::NotCityJson));
-    let full = "\"CityObjects\":{},\"vertices\":[[0,0,0]]";
-    let text = text_of(alloc, "\"1.1\"", "[0,0,0]", ORIGIN, full)?;
-    assert_eq!(rt; fault_of(alloc, text.as_str())?, Some(Fault::Version));
-    let text = text_of(alloc, VERSION, "[0,0,0]", ORIGIN, full)?;
-    assert_eq!(rt;
-        fault_of(alloc, text.as_str())?,
-        Some(Fault::ScaleNotPositive)
-    );
-    Ok(())
 }

@@ -1,27 +1,31 @@
+use crate::texts::filled;
+use crate::tiles::{are_moved, is_refused, joins_to, tiles_of};
 use byte_streams::Fault;
-use city_feature::{Base, HeaderFault, Joined, header, join_headers};
-use city_grid::Shift;
-use city_json::read;
-use std::alloc::Global;
-use std::process::Abort;
-use std::test::Fail;
+use city_feature::Base;
+use std::alloc::{AllocError, Global};
 
-/// A header: the scale of each component, the translation, and the members after `transform` and at
-/// the end.
-#[derive(Clone, Copy)]
-struct Tile<'a> {
-    scale: &'a str,
-    translate: &'a str,
-    middle: &'a str,
-    end: &'a str,
-}
+/// Headers, in which something stands for `ROW`: the scale of each component, the translation, and the members at the
+/// end.
+const SCALED: &str =
+    r#"{"type":"CityJSON","version":"2.0","transform":{"scale":[ROW,ROW,ROW],"translate":[0,0,0]},"CityObjects":{},"vertices":[]}"#;
 
-const PLAIN: Tile<'static> = Tile {
-    scale: "0.001",
-    translate: "0,0,0",
-    middle: "",
-    end: "",
-};
+const MOVED: &str =
+    r#"{"type":"CityJSON","version":"2.0","transform":{"scale":[0.001,0.001,0.001],"translate":[ROW]},"CityObjects":{},"vertices":[]}"#;
+
+const ENDED: &str =
+    r#"{"type":"CityJSON","version":"2.0","transform":{"scale":[0.001,0.001,0.001],"translate":[0,0,0]},"CityObjects":{},"vertices":[]ROW}"#;
+
+/// The members after the transform.
+const MIDDLE: &str =
+    r#"{"type":"CityJSON","version":"2.0","transform":{"scale":[0.001,0.001,0.001],"translate":[0,0,0]}ROW,"CityObjects":{},"vertices":[]}"#;
+
+/// The translation in a finer grid.
+const MICROMETRES: &str =
+    r#"{"type":"CityJSON","version":"2.0","transform":{"scale":[0.000001,0.000001,0.000001],"translate":[ROW]},"CityObjects":{},"vertices":[]}"#;
+
+/// One x in the shape that the section on text sequences shows: `transform` comes late.
+const LATE: &str =
+    r#"{"type":"CityJSON","version":"2.0","CityObjects":{},"vertices":[],"transform":{"scale":[0.001,0.001,0.001],"translate":[ROW,446846.0,-5.3]},"metadata":{"referenceSystem":"https://www.opengis.net/def/crs/EPSG/0/7415"}}"#;
 
 const SYSTEM: &str =
     r#","metadata":{"referenceSystem":"https://www.opengis.net/def/crs/EPSG/0/7415"}"#;
@@ -34,362 +38,388 @@ const TEMPLATES: &str = r#","geometry-templates":{"templates":[],"vertices-templ
 const TEMPLATES_AND_APPEARANCE: &str =
     r#","geometry-templates":{"templates":[],"vertices-templates":[]},"appearance":{}"#;
 
-fn scaled(scale: &str) -> Tile<'_> {
-    Tile { scale, ..PLAIN }
+/// Tiles of one form, the header that they join to, and how each is moved.
+struct Joined {
+    base: Base,
+    form: &'static str,
+    tiles: &'static [&'static str],
+    header: &'static str,
+    shifts: &'static [(i64, i64, i64)],
 }
 
-fn moved(translate: &str) -> Tile<'_> {
-    Tile { translate, ..PLAIN }
+const JOINED: [Joined; 22] = [
+    Joined {
+        base: Base::First,
+        form: MOVED,
+        tiles: &["0,0,0"],
+        header: "0,0,0",
+        shifts: &[(0, 0, 0)],
+    },
+    Joined {
+        base: Base::First,
+        form: MOVED,
+        tiles: &["0,0,0", "0,0,0"],
+        header: "0,0,0",
+        shifts: &[(0, 0, 0), (0, 0, 0)],
+    },
+    Joined {
+        base: Base::First,
+        form: MOVED,
+        tiles: &["0,0,0", "1.5,0,0"],
+        header: "0,0,0",
+        shifts: &[(0, 0, 0), (1500, 0, 0)],
+    },
+    Joined {
+        base: Base::First,
+        form: MOVED,
+        tiles: &["1.5,0,0", "0,0,0", "0,-2,7"],
+        header: "1.5,0,0",
+        shifts: &[(0, 0, 0), (-1500, 0, 0), (-1500, -2000, 7000)],
+    },
+    Joined {
+        base: Base::First,
+        form: SCALED,
+        tiles: &["0.001", "1e-3"],
+        header: "0.001",
+        shifts: &[(0, 0, 0), (0, 0, 0)],
+    },
+    Joined {
+        base: Base::First,
+        form: SCALED,
+        tiles: &["1e-3", "0.001"],
+        header: "1e-3",
+        shifts: &[(0, 0, 0), (0, 0, 0)],
+    },
+    Joined {
+        base: Base::First,
+        form: ENDED,
+        tiles: &["", r#","appearance":{}"#],
+        header: "",
+        shifts: &[(0, 0, 0), (0, 0, 0)],
+    },
+    Joined {
+        base: Base::First,
+        form: ENDED,
+        tiles: &[TEMPLATES_AND_APPEARANCE, TEMPLATES_AND_APPEARANCE],
+        header: TEMPLATES_AND_APPEARANCE,
+        shifts: &[(0, 0, 0), (0, 0, 0)],
+    },
+    Joined {
+        base: Base::Least,
+        form: MOVED,
+        tiles: &["1.5,0,0", "0,0,0"],
+        header: "0,0,0",
+        shifts: &[(1500, 0, 0), (0, 0, 0)],
+    },
+    Joined {
+        base: Base::Least,
+        form: MOVED,
+        tiles: &["0,0,0", "-0.001,0,0"],
+        header: "-0.001,0,0",
+        shifts: &[(1, 0, 0), (0, 0, 0)],
+    },
+    Joined {
+        base: Base::Least,
+        form: MOVED,
+        tiles: &["1.0,0,0", "1,0,0"],
+        header: "1.0,0,0",
+        shifts: &[(0, 0, 0), (0, 0, 0)],
+    },
+    Joined {
+        base: Base::Least,
+        form: MOVED,
+        tiles: &["1,0,0", "0,1,0"],
+        header: "0,0,0",
+        shifts: &[(1000, 0, 0), (0, 1000, 0)],
+    },
+    Joined {
+        base: Base::Least,
+        form: MOVED,
+        tiles: &["3,1e0,5", "2,1.0,6", "2.0,1,4.000"],
+        header: "2,1e0,4.000",
+        shifts: &[(1000, 0, 1000), (0, 0, 2000), (0, 0, 0)],
+    },
+    Joined {
+        base: Base::First,
+        form: ENDED,
+        tiles: &[
+            r#","extensions":{"A":{"version":"1"}}"#,
+            r#","extensions":{"B":{},"A":{"version":"1"}}"#,
+        ],
+        header: r#","extensions":{"A":{"version":"1"},"B":{}}"#,
+        shifts: &[(0, 0, 0), (0, 0, 0)],
+    },
+    Joined {
+        base: Base::First,
+        form: ENDED,
+        tiles: &["", r#","extensions":{"A":{}}"#],
+        header: r#","extensions":{"A":{}}"#,
+        shifts: &[(0, 0, 0), (0, 0, 0)],
+    },
+    Joined {
+        base: Base::First,
+        form: ENDED,
+        tiles: &[r#","extensions":{"A":{ }}"#, r#","extensions":{"A":{}}"#],
+        header: r#","extensions":{"A":{}}"#,
+        shifts: &[(0, 0, 0), (0, 0, 0)],
+    },
+    Joined {
+        base: Base::First,
+        form: "ROW",
+        tiles: &[
+            r#"{"type":"CityJSON","version":"2.0","transform":{"scale":[0.001,0.001,0.001],"translate":[0,0,0]},"extensions":{"Z":{},"M":{}},"CityObjects":{},"vertices":[]}"#,
+            r#"{"type":"CityJSON","version":"2.0","transform":{"scale":[0.001,0.001,0.001],"translate":[0,0,0]},"CityObjects":{},"vertices":[],"extensions":{"A":{},"Z":{}}}"#,
+        ],
+        header: r#"{"type":"CityJSON","version":"2.0","transform":{"scale":[0.001,0.001,0.001],"translate":[0,0,0]},"extensions":{"Z":{},"M":{},"A":{}},"CityObjects":{},"vertices":[]}"#,
+        shifts: &[(0, 0, 0), (0, 0, 0)],
+    },
+    Joined {
+        base: Base::First,
+        form: MIDDLE,
+        tiles: &[r#","extensions":{}"#, ""],
+        header: r#","extensions":{}"#,
+        shifts: &[(0, 0, 0), (0, 0, 0)],
+    },
+    // The extent is dropped.
+    Joined {
+        base: Base::First,
+        form: ENDED,
+        tiles: &[r#","metadata":{"geographicalExtent":[0,0,0,1,1,1],"title":"t"}"#],
+        header: r#","metadata":{"title":"t"}"#,
+        shifts: &[(0, 0, 0)],
+    },
+    Joined {
+        base: Base::First,
+        form: ENDED,
+        tiles: &[r#","metadata":{"geographicalExtent":[0,0,0,1,1,1]}"#],
+        header: r#","metadata":{}"#,
+        shifts: &[(0, 0, 0)],
+    },
+    // A reference system may be spelled otherwise.
+    Joined {
+        base: Base::First,
+        form: ENDED,
+        tiles: &[
+            r#", "metadata" : { "referenceSystem" : "https://www.opengis.net/def/crs/EPSG/0/7415" }"#,
+            r#","metadata":{"referenceSystem":"https:\/\/www.opengis.net/def/crs/EPSG/0/\u0037415"}"#,
+            SYSTEM,
+        ],
+        header: SYSTEM,
+        shifts: &[(0, 0, 0), (0, 0, 0), (0, 0, 0)],
+    },
+    // Members stay at their places.
+    Joined {
+        base: Base::First,
+        form: LATE,
+        tiles: &["84710.1", "84800.35"],
+        header: "84710.1",
+        shifts: &[(0, 0, 0), (90250, 0, 0)],
+    },
+];
+
+fn join_so(alloc: Global, row: &Joined) -> Result<bool, AllocError> {
+    let tiles = tiles_of(alloc, row.form, row.tiles)?;
+    let header = filled(alloc, row.form, row.header)?;
+    Ok(joins_to(alloc, &tiles, row.base, &header) && are_moved(alloc, &tiles, row.base, row.shifts))
 }
 
-fn with_middle(middle: &str) -> Tile<'_> {
-    Tile { middle, ..PLAIN }
+#[test]
+fn tiles_join_to_one_header(rt: HostRuntime) {
+    for row in JOINED.iter() {
+        assert!(rt; join_so(rt.alloc(), row) == Ok(true), "{:?}", row.tiles);
+    }
 }
 
-fn with(end: &str) -> Tile<'_> {
-    Tile { end, ..PLAIN }
+/// Tiles of one form that do not join, the one that is at fault, and why.
+struct Refused {
+    base: Base,
+    form: &'static str,
+    tiles: &'static [&'static str],
+    tile: u32,
+    fault: Fault,
 }
 
-fn text_of(alloc: Global, tile: &Tile<'_>) -> Result<String, Fail> {
-    let Tile {
-        scale,
-        translate,
-        middle,
-        end,
-    } = *tile;
-    Ok(format!(in alloc;
-        r#"{{"type":"CityJSON","version":"2.0","transform":{{"scale":[{scale},{scale},{scale}],"translate":[{translate}]}}{middle},"CityObjects":{{}},"vertices":[]{end}}}"#
-    )?)
+const REFUSED: [Refused; 15] = [
+    Refused {
+        base: Base::First,
+        form: MOVED,
+        tiles: &["0,0,0", "0.0005,0,0"],
+        tile: 2,
+        fault: Fault::OffGrid,
+    },
+    Refused {
+        base: Base::First,
+        form: ENDED,
+        tiles: &[SYSTEM, OTHER_SYSTEM],
+        tile: 2,
+        fault: Fault::CrsDiffers,
+    },
+    Refused {
+        base: Base::First,
+        form: ENDED,
+        tiles: &[SYSTEM, ""],
+        tile: 2,
+        fault: Fault::CrsDiffers,
+    },
+    Refused {
+        base: Base::First,
+        form: ENDED,
+        tiles: &["", SYSTEM],
+        tile: 2,
+        fault: Fault::CrsDiffers,
+    },
+    Refused {
+        base: Base::First,
+        form: ENDED,
+        tiles: &[SYSTEM, SYSTEM, OTHER_SYSTEM, ""],
+        tile: 3,
+        fault: Fault::CrsDiffers,
+    },
+    Refused {
+        base: Base::First,
+        form: MICROMETRES,
+        tiles: &["0,0,0", "100000000000,0,0"],
+        tile: 2,
+        fault: Fault::ShiftRange,
+    },
+    Refused {
+        base: Base::First,
+        form: SCALED,
+        tiles: &["0.001", "0.01"],
+        tile: 2,
+        fault: Fault::ScaleDiffers,
+    },
+    Refused {
+        base: Base::First,
+        form: "ROW",
+        tiles: &[
+            r#"{"type":"CityJSON","version":"2.0","transform":{"scale":[0.001,0.001,0.001],"translate":[0,0,0]},"CityObjects":{},"vertices":[]}"#,
+            r#"{"type":"CityJSON","version":"2.0","transform":{"scale":[0.01,0.01,0.01],"translate":[0,0,0]},"CityObjects":{},"vertices":[],"metadata":{"referenceSystem":"https://www.opengis.net/def/crs/EPSG/0/7415"}}"#,
+        ],
+        tile: 2,
+        fault: Fault::ScaleDiffers,
+    },
+    Refused {
+        base: Base::First,
+        form: ENDED,
+        tiles: &[
+            r#","extensions":{"A":{"version":"1"}}"#,
+            r#","extensions":{"B":{},"A":{"version":"2"}}"#,
+        ],
+        tile: 2,
+        fault: Fault::ExtensionClash,
+    },
+    Refused {
+        base: Base::First,
+        form: ENDED,
+        tiles: &[
+            "",
+            r#","extensions":{"B":{},"A":[1]}"#,
+            r#","extensions":{"A":[1],"B":{}}"#,
+            r#","extensions":{"A":[1.0]}"#,
+        ],
+        tile: 4,
+        fault: Fault::ExtensionClash,
+    },
+    Refused {
+        base: Base::First,
+        form: ENDED,
+        tiles: &[TEMPLATES, ""],
+        tile: 2,
+        fault: Fault::TemplatesDiffer,
+    },
+    Refused {
+        base: Base::First,
+        form: ENDED,
+        tiles: &["", TEMPLATES],
+        tile: 2,
+        fault: Fault::TemplatesDiffer,
+    },
+    Refused {
+        base: Base::First,
+        form: ENDED,
+        tiles: &[TEMPLATES, TEMPLATES_AND_APPEARANCE],
+        tile: 2,
+        fault: Fault::TemplatesDiffer,
+    },
+    Refused {
+        base: Base::First,
+        form: ENDED,
+        tiles: &[TEMPLATES_AND_APPEARANCE, TEMPLATES],
+        tile: 2,
+        fault: Fault::TemplatesDiffer,
+    },
+    Refused {
+        base: Base::Least,
+        form: MOVED,
+        tiles: &["0,0,0", "-0.0005,0,0"],
+        tile: 1,
+        fault: Fault::OffGrid,
+    },
+];
+
+fn are_refused(alloc: Global, row: &Refused) -> bool {
+    match tiles_of(alloc, row.form, row.tiles) {
+        Ok(tiles) => is_refused(alloc, &tiles, row.base, row.tile, row.fault),
+        Err(_) => false,
+    }
 }
 
-fn texts_of(alloc: Global, tiles: &[Tile<'_>]) -> Result<Vec<String>, Fail> {
-    let mut texts = Vec::with_capacity(alloc, tiles.len())?;
-    for tile in tiles {
-        texts.push(text_of(alloc, tile)?)?;
+#[test]
+fn tiles_that_do_not_fit_are_refused(rt: HostRuntime) {
+    for row in REFUSED.iter() {
+        assert!(rt; are_refused(rt.alloc(), row), "{:?}", row.tiles);
+    }
+}
+
+/// A thousand tiles, of which each two share an extension, and all share one.
+const SHARING: &str =
+    r#"{"type":"CityJSON","version":"2.0","transform":{"scale":[0.001,0.001,0.001],"translate":[NUMBER,0,0]},"CityObjects":{},"vertices":[],"extensions":{"EHALF":{"version":"HALF"},"Shared":{}}}"#;
+
+fn sharing_tile(alloc: Global, number: u32) -> Result<String, AllocError> {
+    let half = format!(in alloc; "{}", number / 2)?;
+    let text = SHARING.replace(alloc, "HALF", &half)?;
+    text.replace(alloc, "NUMBER", &format!(in alloc; "{number}")?)
+}
+
+fn sharing_tiles(alloc: Global) -> Result<String, AllocError> {
+    let mut texts = sharing_tile(alloc, 0)?;
+    for number in 1..1000u32 {
+        texts.push('\n')?;
+        texts.push_str(&sharing_tile(alloc, number)?)?;
     }
     Ok(texts)
 }
 
-fn join(alloc: Global, texts: &[String], base: Base) -> Result<Result<Joined, HeaderFault>, Fail> {
-    let mut headers = Vec::with_capacity(alloc, texts.len())?;
-    for text in texts {
-        headers.push(header(read(alloc, text.as_bytes())?)?)?;
-    }
-    if headers.is_empty() {
-        return Err("no tiles".into());
-    }
-    if headers.len() > 1000 {
-        return Err("too many tiles".into());
-    }
-    Ok(join_headers(alloc, &headers, base))
-}
-
-fn expect_texts_join(
-    rt: &(impl Abort + AllocGlobal),
-    (texts, base): (&[String], Base),
-    line: &str,
-    shifts: &[(i64, i64, i64)],
-) -> Result<(), Fail> {
-    match join(rt.alloc(), texts, base)? {
-        Ok(joined) => {
-            assert_eq!(rt; joined.line.items(), line.as_bytes(), "{texts:?}");
-            let mut wanted = Vec::with_capacity(rt.alloc(), shifts.len())?;
-            for (x, y, z) in shifts {
-                wanted.push(Shift::new(*x, *y, *z).ok_or("a shift out of range")?)?;
-            }
-            assert_eq!(rt; joined.shifts.items(), wanted.as_slice(), "{texts:?}");
-        }
-        Err(refused) => panic!(rt; "{refused:?} of {texts:?}"),
-    }
-    Ok(())
-}
-
-fn expect_joined(
-    rt: &(impl Abort + AllocGlobal),
-    (tiles, base): (&[Tile<'_>], Base),
-    line: Tile<'_>,
-    shifts: &[(i64, i64, i64)],
-) -> Result<(), Fail> {
-    let texts = texts_of(rt.alloc(), tiles)?;
-    expect_texts_join(rt, (&texts, base), &text_of(rt.alloc(), &line)?, shifts)
-}
-
-fn expect_refused(
-    rt: &(impl Abort + AllocGlobal),
-    (tiles, base): (&[Tile<'_>], Base),
-    tile: u32,
-    fault: Fault,
-) -> Result<(), Fail> {
-    let texts = texts_of(rt.alloc(), tiles)?;
-    match join(rt.alloc(), &texts, base)? {
-        Ok(joined) => panic!(rt; "{joined:?} of {texts:?}"),
-        Err(refused) => assert_eq!(rt; refused, HeaderFault { tile, fault }, "{texts:?}"),
-    }
-    Ok(())
-}
-
-#[test]
-fn tiles_join_to_the_header_of_the_first(rt: HostRuntime) -> Result<(), Fail> {
-    let rows: [(&[Tile<'_>], Tile<'_>, &[(i64, i64, i64)]); 8] = [
-        (&[PLAIN], PLAIN, &[(0, 0, 0)]),
-        (&[PLAIN, PLAIN], PLAIN, &[(0, 0, 0), (0, 0, 0)]),
-        (
-            &[PLAIN, moved("1.5,0,0")],
-            PLAIN,
-            &[(0, 0, 0), (1500, 0, 0)],
-        ),
-        (
-            &[moved("1.5,0,0"), PLAIN, moved("0,-2,7")],
-            moved("1.5,0,0"),
-            &[(0, 0, 0), (-1500, 0, 0), (-1500, -2000, 7000)],
-        ),
-        (&[PLAIN, scaled("1e-3")], PLAIN, &[(0, 0, 0), (0, 0, 0)]),
-        (
-            &[scaled("1e-3"), PLAIN],
-            scaled("1e-3"),
-            &[(0, 0, 0), (0, 0, 0)],
-        ),
-        (
-            &[PLAIN, with(r#","appearance":{}"#)],
-            PLAIN,
-            &[(0, 0, 0), (0, 0, 0)],
-        ),
-        (
-            &[
-                with(TEMPLATES_AND_APPEARANCE),
-                with(TEMPLATES_AND_APPEARANCE),
-            ],
-            with(TEMPLATES_AND_APPEARANCE),
-            &[(0, 0, 0), (0, 0, 0)],
-        ),
-    ];
-    for (tiles, line, shifts) in rows {
-        expect_joined(&rt, (tiles, Base::First), line, shifts)?;
-    }
-    Ok(())
-}
-
-#[test]
-fn tiles_join_at_the_least_translation(rt: HostRuntime) -> Result<(), Fail> {
-    let rows: [(&[Tile<'_>], Tile<'_>, &[(i64, i64, i64)]); 5] = [
-        (
-            &[moved("1.5,0,0"), PLAIN],
-            PLAIN,
-            &[(1500, 0, 0), (0, 0, 0)],
-        ),
-        (
-            &[PLAIN, moved("-0.001,0,0")],
-            moved("-0.001,0,0"),
-            &[(1, 0, 0), (0, 0, 0)],
-        ),
-        (
-            &[moved("1.0,0,0"), moved("1,0,0")],
-            moved("1.0,0,0"),
-            &[(0, 0, 0), (0, 0, 0)],
-        ),
-        (
-            &[moved("1,0,0"), moved("0,1,0")],
-            PLAIN,
-            &[(1000, 0, 0), (0, 1000, 0)],
-        ),
-        (
-            &[moved("3,1e0,5"), moved("2,1.0,6"), moved("2.0,1,4.000")],
-            moved("2,1e0,4.000"),
-            &[(1000, 0, 1000), (0, 0, 2000), (0, 0, 0)],
-        ),
-    ];
-    for (tiles, line, shifts) in rows {
-        expect_joined(&rt, (tiles, Base::Least), line, shifts)?;
-    }
-    expect_refused(
-        &rt,
-        (&[PLAIN, moved("-0.0005,0,0")], Base::Least),
-        1,
-        Fault::OffGrid,
-    )
-}
-
-#[test]
-fn tiles_that_do_not_fit_are_refused(rt: HostRuntime) -> Result<(), Fail> {
-    let micrometre = scaled("0.000001");
-    let far = Tile {
-        translate: "100000000000,0,0",
-        ..micrometre
-    };
-    let other_scale = Tile {
-        end: SYSTEM,
-        ..scaled("0.01")
-    };
-    let rows: [(&[Tile<'_>], u32, Fault); 14] = [
-        (&[PLAIN, moved("0.0005,0,0")], 2, Fault::OffGrid),
-        (&[with(SYSTEM), with(OTHER_SYSTEM)], 2, Fault::CrsDiffers),
-        (&[with(SYSTEM), PLAIN], 2, Fault::CrsDiffers),
-        (&[PLAIN, with(SYSTEM)], 2, Fault::CrsDiffers),
-        (
-            &[with(SYSTEM), with(SYSTEM), with(OTHER_SYSTEM), PLAIN],
-            3,
-            Fault::CrsDiffers,
-        ),
-        (&[micrometre, far], 2, Fault::ShiftRange),
-        (&[PLAIN, scaled("0.01")], 2, Fault::ScaleDiffers),
-        (&[PLAIN, other_scale], 2, Fault::ScaleDiffers),
-        (
-            &[
-                with(r#","extensions":{"A":{"version":"1"}}"#),
-                with(r#","extensions":{"B":{},"A":{"version":"2"}}"#),
-            ],
-            2,
-            Fault::ExtensionClash,
-        ),
-        (
-            &[
-                PLAIN,
-                with(r#","extensions":{"B":{},"A":[1]}"#),
-                with(r#","extensions":{"A":[1],"B":{}}"#),
-                with(r#","extensions":{"A":[1.0]}"#),
-            ],
-            4,
-            Fault::ExtensionClash,
-        ),
-        (&[with(TEMPLATES), PLAIN], 2, Fault::TemplatesDiffer),
-        (&[PLAIN, with(TEMPLATES)], 2, Fault::TemplatesDiffer),
-        (
-            &[with(TEMPLATES), with(TEMPLATES_AND_APPEARANCE)],
-            2,
-            Fault::TemplatesDiffer,
-        ),
-        (
-            &[with(TEMPLATES_AND_APPEARANCE), with(TEMPLATES)],
-            2,
-            Fault::TemplatesDiffer,
-        ),
-    ];
-    for (tiles, tile, fault) in rows {
-        expect_refused(&rt, (tiles, Base::First), tile, fault)?;
-    }
-    Ok(())
-}
-
-#[test]
-fn extensions_are_united_in_the_order_in_which_they_appear(rt: HostRuntime) -> Result<(), Fail> {
-    let rows: [([Tile<'_>; 2], Tile<'_>); 5] = [
-        (
-            [
-                with(r#","extensions":{"A":{"version":"1"}}"#),
-                with(r#","extensions":{"B":{},"A":{"version":"1"}}"#),
-            ],
-            with(r#","extensions":{"A":{"version":"1"},"B":{}}"#),
-        ),
-        (
-            [PLAIN, with(r#","extensions":{"A":{}}"#)],
-            with(r#","extensions":{"A":{}}"#),
-        ),
-        (
-            [
-                with(r#","extensions":{"A":{ }}"#),
-                with(r#","extensions":{"A":{}}"#),
-            ],
-            with(r#","extensions":{"A":{}}"#),
-        ),
-        (
-            [
-                with_middle(r#","extensions":{"Z":{},"M":{}}"#),
-                with(r#","extensions":{"A":{},"Z":{}}"#),
-            ],
-            with_middle(r#","extensions":{"Z":{},"M":{},"A":{}}"#),
-        ),
-        (
-            [with_middle(r#","extensions":{}"#), PLAIN],
-            with_middle(r#","extensions":{}"#),
-        ),
-    ];
-    for (tiles, line) in rows {
-        expect_joined(&rt, (&tiles, Base::First), line, &[(0, 0, 0), (0, 0, 0)])?;
-    }
-    Ok(())
-}
-
-#[test]
-fn the_extent_is_dropped(rt: HostRuntime) -> Result<(), Fail> {
-    let rows = [
-        (
-            r#","metadata":{"geographicalExtent":[0,0,0,1,1,1],"title":"t"}"#,
-            r#","metadata":{"title":"t"}"#,
-        ),
-        (
-            r#","metadata":{"geographicalExtent":[0,0,0,1,1,1]}"#,
-            r#","metadata":{}"#,
-        ),
-    ];
-    for (end, dropped) in rows {
-        expect_joined(
-            &rt,
-            (&[with(end)], Base::First),
-            with(dropped),
-            &[(0, 0, 0)],
-        )?;
-    }
-    Ok(())
-}
-
-#[test]
-fn a_reference_system_may_be_spelled_otherwise(rt: HostRuntime) -> Result<(), Fail> {
-    let spaced =
-        r#", "metadata" : { "referenceSystem" : "https://www.opengis.net/def/crs/EPSG/0/7415" }"#;
-    let escaped =
-        r#","metadata":{"referenceSystem":"https:\/\/www.opengis.net/def/crs/EPSG/0/\u0037415"}"#;
-    expect_joined(
-        &rt,
-        (&[with(spaced), with(escaped), with(SYSTEM)], Base::First),
-        with(SYSTEM),
-        &[(0, 0, 0), (0, 0, 0), (0, 0, 0)],
-    )
-}
-
-/// A stream in the shape that the section on text sequences shows: its `transform` comes late.
-#[test]
-fn members_stay_at_their_places(rt: HostRuntime) -> Result<(), Fail> {
-    let alloc = rt.alloc();
-    let text = |x: &str| {
-        format!(in alloc;
-            r#"{{"type":"CityJSON","version":"2.0","CityObjects":{{}},"vertices":[],"transform":{{"scale":[0.001,0.001,0.001],"translate":[{x},446846.0,-5.3]}}{SYSTEM}}}"#
-        )
-    };
-    let texts = vec![in alloc; text("84710.1")?, text("84800.35")?]?;
-    expect_texts_join(
-        &rt,
-        (&texts, Base::First),
-        &texts[0],
-        &[(0, 0, 0), (90250, 0, 0)],
-    )
-}
-
-#[test]
-fn many_tiles_share_and_add_extensions(rt: HostRuntime) -> Result<(), Fail> {
-    let alloc = rt.alloc();
-    let mut texts = Vec::new(alloc);
-    let mut all = String::new(alloc);
-    let mut shifts = Vec::new(alloc);
-    for number in 0..1000u32 {
-        let end = format!(in alloc;
-            r#","extensions":{{"E{}":{{"version":"{}"}},"Shared":{{}}}}"#,
-            number / 2,
-            number / 2
-        )?;
-        let parts = [format!(in alloc; "{number},0,0")?, end];
-        let [translate, end] = &parts;
-        let tile = Tile {
-            translate,
-            end,
-            ..PLAIN
-        };
-        texts.push(text_of(alloc, &tile)?)?;
-        shifts.push((1000 * i64::from(number), 0, 0))?;
-    }
+fn shared_header(alloc: Global) -> Result<String, AllocError> {
+    let mut text = String::from_str(
+        alloc,
+        r#"{"type":"CityJSON","version":"2.0","transform":{"scale":[0.001,0.001,0.001],"translate":[0,0,0]},"CityObjects":{},"vertices":[],"extensions":{"E0":{"version":"0"},"Shared":{}"#,
+    )?;
     for number in 1..500u32 {
-        all.push_str(&format!(in alloc; r#","E{number}":{{"version":"{number}"}}"#)?)?;
+        text.push_str(&format!(in alloc; r#","E{number}":{{"version":"{number}"}}"#)?)?;
     }
-    let end = format!(in alloc; r#","extensions":{{"E0":{{"version":"0"}},"Shared":{{}}{all}}}"#)?;
-    let line = text_of(alloc, &with(&end))?;
-    expect_texts_join(&rt, (&texts, Base::First), &line, &shifts)
+    text.push_str("}}")?;
+    Ok(text)
+}
+
+fn thousand_shifts(alloc: Global) -> Result<Vec<(i64, i64, i64)>, AllocError> {
+    let mut shifts = Vec::new(alloc);
+    for number in 0..1000i64 {
+        shifts.push((number.wrapping_mul(1000), 0, 0))?;
+    }
+    Ok(shifts)
+}
+
+fn many_tiles_join(alloc: Global) -> Result<bool, AllocError> {
+    let tiles = sharing_tiles(alloc)?;
+    Ok(
+        joins_to(alloc, &tiles, Base::First, &shared_header(alloc)?)
+            && are_moved(alloc, &tiles, Base::First, &thousand_shifts(alloc)?),
+    )
+}
+
+#[test]
+fn many_tiles_share_and_add_extensions(rt: HostRuntime) {
+    assert!(rt; many_tiles_join(rt.alloc()) == Ok(true));
 }

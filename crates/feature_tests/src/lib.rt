@@ -26,3 +26,7 @@ mod lines;
 mod many_extensions;
 #[cfg(test)]
 mod origins;
+#[cfg(test)]
+mod texts;
+#[cfg(test)]
+mod tiles;

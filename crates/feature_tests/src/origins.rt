@@ -1,114 +1,124 @@
 //! Whose translation the joined tiles have, as it is written and as it is counted from.
-use city_feature::{Base, Joined, header, join_headers};
-use city_grid::Shift;
-use city_json::read;
-use std::alloc::Global;
-use std::test::Fail;
+use crate::texts::filled;
+use crate::tiles::{are_moved, first_stays, joins_to, tiles_of};
+use city_feature::Base;
+use std::alloc::{AllocError, Global};
 
-/// A header of this scale in z and this translation.
-fn header_text(alloc: Global, scale: &str, translate: &str) -> Result<String, Fail> {
-    Ok(format!(in alloc;
-        r#"{{"type":"CityJSON","version":"2.0","transform":{{"scale":[0.001,0.001,{scale}],"translate":{translate}}}}}"#
-    )?)
+/// A header, in which its translation stands for `ROW`.
+const MILLIMETRES: &str =
+    r#"{"type":"CityJSON","version":"2.0","transform":{"scale":[0.001,0.001,0.001],"translate":ROW}}"#;
+
+const TINY: &str =
+    r#"{"type":"CityJSON","version":"2.0","transform":{"scale":[0.001,0.001,1e-24],"translate":ROW}}"#;
+
+/// Headers of these translations, and that of the joined header, where it is the first one and where it is the least.
+struct Origins {
+    header: &'static str,
+    tiles: &'static [&'static str],
+    first: &'static str,
+    least: &'static str,
 }
 
-fn join(alloc: Global, texts: &[String], base: Base) -> Result<Joined, Fail> {
-    let mut headers = Vec::with_capacity(alloc, texts.len())?;
-    for text in texts {
-        headers.push(header(read(alloc, text.as_bytes())?)?)?;
-    }
-    if headers.is_empty() {
-        return Err("no tiles".into());
-    }
-    if headers.len() > 1000 {
-        return Err("too many tiles".into());
-    }
-    match join_headers(alloc, &headers, base) {
-        Ok(joined) => Ok(joined),
-        Err(refused) => Err(refused.fault.into()),
-    }
-}
-
-#[test]
-fn the_lowest_tile_that_has_the_least_is_written(rt: HostRuntime) -> Result<(), Fail> {
-    let alloc = rt.alloc();
-    let rows: [(&str, &[&str], &str, &str); 6] = [
-        (
-            "0.001",
-            &["[84710.10,446846.0,-5.3]"],
-            "[84710.10,446846.0,-5.3]",
-            "[84710.10,446846.0,-5.3]",
-        ),
-        ("0.001", &["[1.0,0,0]", "[1,0,0]"], "[1.0,0,0]", "[1.0,0,0]"),
-        (
-            "0.001",
-            &["[1,0,0]", "[1.0,0,0]", "[1e0,0,0]"],
-            "[1,0,0]",
-            "[1,0,0]",
-        ),
-        (
-            "0.001",
-            &["[2,0,0]", "[1.50,0,0]", "[1.5,0,0]"],
-            "[2,0,0]",
-            "[1.50,0,0]",
-        ),
-        (
-            "0.001",
-            &[
-                "[3,-1,0.0]",
-                "[2.0,7,-0]",
-                "[2,-1.0,0]",
-                "[9,-1.50,0e1]",
-                "[9,-1.5,1]",
-            ],
+const ORIGINS: [Origins; 6] = [
+    Origins {
+        header: MILLIMETRES,
+        tiles: &["[84710.10,446846.0,-5.3]"],
+        first: "[84710.10,446846.0,-5.3]",
+        least: "[84710.10,446846.0,-5.3]",
+    },
+    Origins {
+        header: MILLIMETRES,
+        tiles: &["[1.0,0,0]", "[1,0,0]"],
+        first: "[1.0,0,0]",
+        least: "[1.0,0,0]",
+    },
+    Origins {
+        header: MILLIMETRES,
+        tiles: &["[1,0,0]", "[1.0,0,0]", "[1e0,0,0]"],
+        first: "[1,0,0]",
+        least: "[1,0,0]",
+    },
+    Origins {
+        header: MILLIMETRES,
+        tiles: &["[2,0,0]", "[1.50,0,0]", "[1.5,0,0]"],
+        first: "[2,0,0]",
+        least: "[1.50,0,0]",
+    },
+    Origins {
+        header: MILLIMETRES,
+        tiles: &[
             "[3,-1,0.0]",
-            "[2.0,-1.50,0.0]",
-        ),
-        (
-            "1e-24",
-            &["[0,0,0]", "[0,0,1e-24]", "[0,0,-1e-24]"],
-            "[0,0,0]",
-            "[0,0,-1e-24]",
-        ),
-    ];
-    for (scale, tiles, first, least) in rows {
-        let mut texts = Vec::with_capacity(alloc, tiles.len())?;
-        for translate in tiles {
-            texts.push(header_text(alloc, scale, translate)?)?;
-        }
-        for (base, translate) in [(Base::First, first), (Base::Least, least)] {
-            let joined = join(alloc, &texts, base)?;
-            let wanted = header_text(alloc, scale, translate)?;
-            assert_eq!(rt; joined.line.items(), wanted.as_bytes());
-        }
-        let of_first = join(alloc, &texts, Base::First)?;
-        assert_eq!(rt; of_first.shifts.items().first(), Some(&Shift::zero()));
-    }
-    Ok(())
+            "[2.0,7,-0]",
+            "[2,-1.0,0]",
+            "[9,-1.50,0e1]",
+            "[9,-1.5,1]",
+        ],
+        first: "[3,-1,0.0]",
+        least: "[2.0,-1.50,0.0]",
+    },
+    Origins {
+        header: TINY,
+        tiles: &["[0,0,0]", "[0,0,1e-24]", "[0,0,-1e-24]"],
+        first: "[0,0,0]",
+        least: "[0,0,-1e-24]",
+    },
+];
+
+fn has_origins(alloc: Global, row: &Origins) -> Result<bool, AllocError> {
+    let tiles = tiles_of(alloc, row.header, row.tiles)?;
+    let first = filled(alloc, row.header, row.first)?;
+    let least = filled(alloc, row.header, row.least)?;
+    Ok(
+        joins_to(alloc, &tiles, Base::First, &first)
+            && joins_to(alloc, &tiles, Base::Least, &least)
+            && first_stays(alloc, &tiles),
+    )
 }
 
 #[test]
-fn the_least_of_many_tiles_is_found(rt: HostRuntime) -> Result<(), Fail> {
-    let alloc = rt.alloc();
-    let mut texts = Vec::with_capacity(alloc, 1000)?;
-    let mut shifts = Vec::with_capacity(alloc, 1000)?;
-    for tile in 0..1000i64 {
-        let (x, z) = (
-            tile.wrapping_sub(700).wrapping_abs(),
-            999i64.wrapping_sub(tile),
-        );
-        let translate = format!(in alloc; "[{x}.0,{tile}.50,-{tile}]")?;
-        texts.push(header_text(alloc, "0.001", translate.as_str())?)?;
-        let shift = Shift::new(
-            x.wrapping_mul(1000),
-            tile.wrapping_mul(1000),
-            z.wrapping_mul(1000),
-        );
-        shifts.push(shift.ok_or("a shift out of range")?)?;
+fn the_lowest_tile_that_has_the_least_is_written(rt: HostRuntime) {
+    for row in ORIGINS.iter() {
+        assert!(rt; has_origins(rt.alloc(), row) == Ok(true), "{}", row.least);
     }
-    let least = join(alloc, &texts, Base::Least)?;
-    let wanted = header_text(alloc, "0.001", "[0.0,0.50,-999]")?;
-    assert_eq!(rt; least.line.items(), wanted.as_bytes());
-    assert_eq!(rt; least.shifts.items(), shifts.as_slice());
-    Ok(())
+}
+
+/// The headers of a thousand tiles.
+fn many_tiles(alloc: Global) -> Result<String, AllocError> {
+    let mut tiles = String::new(alloc);
+    for tile in 0..1000i64 {
+        let x = tile.wrapping_sub(700).wrapping_abs();
+        let translation = format!(in alloc; "[{x}.0,{tile}.50,-{tile}]")?;
+        if tile > 0 {
+            tiles.push('\n')?;
+        }
+        tiles.push_str(&filled(alloc, MILLIMETRES, &translation)?)?;
+    }
+    Ok(tiles)
+}
+
+/// How they are moved to the least of each component.
+fn shifts_of_many(alloc: Global) -> Result<Vec<(i64, i64, i64)>, AllocError> {
+    let mut shifts = Vec::new(alloc);
+    for tile in 0..1000i64 {
+        shifts.push((
+            tile.wrapping_sub(700).wrapping_abs().wrapping_mul(1000),
+            tile.wrapping_mul(1000),
+            999i64.wrapping_sub(tile).wrapping_mul(1000),
+        ))?;
+    }
+    Ok(shifts)
+}
+
+fn least_of_many_is_found(alloc: Global) -> Result<bool, AllocError> {
+    let tiles = many_tiles(alloc)?;
+    let wanted = filled(alloc, MILLIMETRES, "[0.0,0.50,-999]")?;
+    Ok(
+        joins_to(alloc, &tiles, Base::Least, &wanted)
+            && are_moved(alloc, &tiles, Base::Least, &shifts_of_many(alloc)?),
+    )
+}
+
+#[test]
+fn the_least_of_many_tiles_is_found(rt: HostRuntime) {
+    assert!(rt; least_of_many_is_found(rt.alloc()) == Ok(true));
 }

@@ -1,9 +1,7 @@
 //! Vertices in compact texts: what is read of them, and what is looked at, at each length of their numbers.
-use byte_streams::Line;
+use byte_streams::{Fault, Line};
 use city_grid::{Vertex, append_vertex, spelled_vertex_at, vertex_at, vertex_end};
-use std::alloc::Global;
-use std::process::Abort;
-use std::test::Fail;
+use std::alloc::{AllocError, Global};
 
 /// Integers of 1 to 16 digits, the first and the last of each length.
 const INTEGERS: [i64; 33] = [
@@ -45,170 +43,200 @@ const INTEGERS: [i64; 33] = [
 /// What may stand after a vertex: little of it, and more than is read at once.
 const AFTER: [&str; 3] = ["", "]", ",[1,2,3],[400,500,600],[7000,8000,9000]]}"];
 
-/// Nothing is said of a vertex after the first byte, neither where it is read nor where it is looked at.
-fn expect_none(rt: &impl Abort, text: &str) {
-    let bytes = text.as_bytes();
+/// Whether nothing is said of a vertex after the first byte, neither where it is read nor where it is looked at.
+fn has_none(bytes: &[u8]) -> bool {
     if bytes.is_empty() {
-        return;
+        return false;
     }
-    assert_eq!(rt; vertex_end(bytes, 1), 1, "{text}");
-    assert!(rt; vertex_at(bytes, 1).is_none(), "{text}");
-    assert!(rt; spelled_vertex_at(bytes, 1).is_none(), "{text}");
+    vertex_end(bytes, 1) == 1
+        && vertex_at(bytes, 1).is_none()
+        && spelled_vertex_at(bytes, 1).is_none()
 }
 
-/// The vertex stands in a text otherwise than it is written: only the one call reads it.
-fn expect_spelled(
-    rt: &impl Abort,
-    text: &str,
-    vertex: Option<Vertex>,
-    after: &str,
-) -> Result<(), Fail> {
-    let bytes = text.as_bytes();
+/// Whether the vertex ends here, and stands in a text as it is written: it is read, and its end is found.
+fn has_vertex(bytes: &[u8], vertex: Vertex, end: usize) -> bool {
     if bytes.is_empty() {
-        return Err("no text".into());
+        return false;
     }
-    assert_eq!(rt; vertex_end(bytes, 1), 1, "{text}");
-    assert!(rt; vertex_at(bytes, 1).is_none(), "{text}");
+    let Some(placed) = vertex_at(bytes, 1) else {
+        return false;
+    };
+    placed.vertex == vertex
+        && placed.end == end
+        && vertex_end(bytes, 1) == end
+        && spelled_vertex_at(bytes, 1) == Some(placed)
+}
+
+/// Whether the vertex ends here, and stands in a text otherwise than it is written: only the one call reads it.
+fn has_spelled(bytes: &[u8], vertex: Vertex, end: usize) -> bool {
+    if bytes.is_empty() {
+        return false;
+    }
     let Some(placed) = spelled_vertex_at(bytes, 1) else {
-        return Err("no vertex".into());
+        return false;
     };
-    assert_eq!(rt; Some(placed.vertex), vertex, "{text}");
-    let end = bytes.len().saturating_sub(after.len());
-    assert_eq!(rt; placed.end, end, "{text}");
-    Ok(())
+    placed.vertex == vertex
+        && placed.end == end
+        && vertex_end(bytes, 1) == 1
+        && vertex_at(bytes, 1).is_none()
 }
 
-/// The vertex stands in a text as it is written: it is read, and its end is found, whatever stands after it.
-fn expect_vertex(rt: &impl Abort, alloc: Global, x: i64, y: i64, z: i64) -> Result<(), Fail> {
-    let Some(vertex) = Vertex::new(x, y, z) else {
-        return Err("out of range".into());
-    };
+/// Whether the vertex is found whatever stands after it.
+fn is_found(alloc: Global, written: &str, vertex: Vertex) -> Result<bool, AllocError> {
+    let mut all = true;
     for after in AFTER {
-        let text = format!(in alloc; "[[{x},{y},{z}]{after}")?;
-        let bytes = text.as_str().as_bytes();
-        let end = bytes.len().saturating_sub(after.len());
-        if bytes.is_empty() {
-            return Err("no text".into());
-        }
-        let Some(placed) = vertex_at(bytes, 1) else {
-            return Err("no vertex".into());
-        };
-        assert_eq!(rt; placed.vertex, vertex, "{text}");
-        assert_eq!(rt; placed.end, end, "{text}");
-        assert_eq!(rt; vertex_end(bytes, 1), end, "{text}");
-        assert_eq!(rt; spelled_vertex_at(bytes, 1), Some(placed), "{text}");
+        let text = format!(in alloc; "[{written}{after}")?;
+        let end = text.len().saturating_sub(after.len());
+        all = all && has_vertex(text.as_bytes(), vertex, end);
     }
+    Ok(all)
+}
+
+fn is_appended(alloc: Global, written: &str, vertex: Vertex) -> Result<bool, Fault> {
     let mut line = Line::new(alloc);
     append_vertex(b',', &vertex, &mut line)?;
-    let text = format!(in alloc; ",[{x},{y},{z}]")?;
-    assert_eq!(rt; line.items(), text.as_str().as_bytes());
-    Ok(())
+    Ok(line.items().split_first() == Some((&b',', written.as_bytes())))
+}
+
+/// Whether a vertex is written so that it is found.
+fn is_taken(alloc: Global, x: i64, y: i64, z: i64) -> Result<bool, Fault> {
+    let vertex = Vertex::new(x, y, z).ok_or(Fault::VertexRange)?;
+    let written = format!(in alloc; "[{x},{y},{z}]")?;
+    Ok(is_found(alloc, &written, vertex)? && is_appended(alloc, &written, vertex)?)
+}
+
+fn are_taken(alloc: Global, integer: i64) -> Result<bool, Fault> {
+    Ok(
+        is_taken(alloc, integer, 0, -7)?
+            && is_taken(alloc, 12_345_678, integer, 123_456_789)?
+            && is_taken(alloc, -1, 85_000_000, integer)?
+            && is_taken(alloc, integer, integer, integer)?,
+    )
 }
 
 #[test]
-fn vertices_of_all_lengths_are_taken(rt: HostRuntime) -> Result<(), Fail> {
-    let alloc = rt.alloc();
-    for size in INTEGERS {
-        for integer in [size, i64::wrapping_neg(size)] {
-            expect_vertex(&rt, alloc, integer, 0, -7)?;
-            expect_vertex(&rt, alloc, 12_345_678, integer, 123_456_789)?;
-            expect_vertex(&rt, alloc, -1, 85_000_000, integer)?;
-            expect_vertex(&rt, alloc, integer, integer, integer)?;
-        }
+fn vertices_of_all_lengths_are_taken(rt: HostRuntime) {
+    for integer in INTEGERS {
+        assert!(rt; are_taken(rt.alloc(), integer) == Ok(true), "{integer}");
+        assert!(rt;
+            are_taken(rt.alloc(), i64::wrapping_neg(integer)) == Ok(true),
+            "-{integer}"
+        );
     }
-    Ok(())
 }
 
-#[test]
-fn other_spellings_are_passed_over(rt: HostRuntime) -> Result<(), Fail> {
-    let alloc = rt.alloc();
-    let numbers = [
-        "-00",
-        "00",
-        "01",
-        "-01",
-        "007",
-        "00000001",
-        "000000000000000000001",
-        "-",
-        "--1",
-        "+1",
-        "",
-        " 1",
-        "1 ",
-        "1.0",
-        "1e2",
-        "1a",
-        "1/",
-        "1:",
-        "9007199254740992",
-        "-9007199254740992",
-        "9999999999999999",
-        "10000000000000000",
-        "-123456789012345678",
-        "18446744073709551617",
-        "100000000000000000000000000000000000000001",
-        "null",
-        "\"1\"",
-        "[1]",
-    ];
-    for number in numbers {
-        for after in AFTER {
-            for text in [
-                format!(in alloc; "[[{number},2,3]{after}")?,
-                format!(in alloc; "[[10,{number},30000000]{after}")?,
-                format!(in alloc; "[[-1,2,{number}]{after}")?,
-            ] {
-                expect_none(&rt, text.as_str());
-            }
-        }
-    }
-    Ok(())
-}
+/// What is none of the numbers of a vertex.
+const NUMBERS: [&str; 28] = [
+    "-00",
+    "00",
+    "01",
+    "-01",
+    "007",
+    "00000001",
+    "000000000000000000001",
+    "-",
+    "--1",
+    "+1",
+    "",
+    " 1",
+    "1 ",
+    "1.0",
+    "1e2",
+    "1a",
+    "1/",
+    "1:",
+    "9007199254740992",
+    "-9007199254740992",
+    "9999999999999999",
+    "10000000000000000",
+    "-123456789012345678",
+    "18446744073709551617",
+    "100000000000000000000000000000000000000001",
+    "null",
+    "\"1\"",
+    "[1]",
+];
 
-#[test]
-fn a_zero_may_have_a_minus_sign(rt: HostRuntime) -> Result<(), Fail> {
-    let alloc = rt.alloc();
+/// Where it stands for `ROW`.
+const PLACES: [&str; 3] = ["[ROW,2,3]", "[10,ROW,30000000]", "[-1,2,ROW]"];
+
+/// What is no vertex.
+const FRONTS: [&str; 18] = [
+    "",
+    "[",
+    "[]",
+    "[1",
+    "[1,",
+    "[1,2",
+    "[1,2,",
+    "[1,2]",
+    "[1,2,3,",
+    "[1,2,3,4]",
+    "[1,2,3}",
+    "{1,2,3]",
+    "(1,2,3]",
+    "1,2,3]",
+    "[[1,2,3]]",
+    "[1;2,3]",
+    "[1,2;3]",
+    "null",
+];
+
+/// Whether nothing is said of it, whatever stands after it.
+fn is_passed_over(alloc: Global, front: &str) -> Result<bool, AllocError> {
+    let mut all = true;
     for after in AFTER {
-        let text = format!(in alloc; "[[-0,2,3]{after}")?;
-        expect_spelled(&rt, text.as_str(), Vertex::new(0, 2, 3), after)?;
-        let text = format!(in alloc; "[[10,-0,30000000]{after}")?;
-        expect_spelled(&rt, text.as_str(), Vertex::new(10, 0, 30_000_000), after)?;
-        let text = format!(in alloc; "[[-1,2,-0]{after}")?;
-        expect_spelled(&rt, text.as_str(), Vertex::new(-1, 2, 0), after)?;
-        let text = format!(in alloc; "[[-0,-0,-0]{after}")?;
-        expect_spelled(&rt, text.as_str(), Vertex::new(0, 0, 0), after)?;
+        let text = format!(in alloc; "[{front}{after}")?;
+        all = all && has_none(text.as_bytes());
     }
-    Ok(())
+    Ok(all)
+}
+
+fn number_is_passed_over(alloc: Global, place: &str, number: &str) -> Result<bool, AllocError> {
+    is_passed_over(alloc, &place.replace(alloc, "ROW", number)?)
 }
 
 #[test]
-fn what_is_no_vertex_is_passed_over(rt: HostRuntime) -> Result<(), Fail> {
-    let alloc = rt.alloc();
-    for front in [
-        "",
-        "[",
-        "[]",
-        "[1",
-        "[1,",
-        "[1,2",
-        "[1,2,",
-        "[1,2]",
-        "[1,2,3,",
-        "[1,2,3,4]",
-        "[1,2,3}",
-        "{1,2,3]",
-        "(1,2,3]",
-        "1,2,3]",
-        "[[1,2,3]]",
-        "[1;2,3]",
-        "[1,2;3]",
-        "null",
-    ] {
-        for after in AFTER {
-            let text = format!(in alloc; "[{front}{after}")?;
-            expect_none(&rt, text.as_str());
+fn what_is_no_vertex_is_passed_over(rt: HostRuntime) {
+    for front in FRONTS {
+        assert!(rt; is_passed_over(rt.alloc(), front) == Ok(true), "{front}");
+    }
+    for place in PLACES {
+        for number in NUMBERS {
+            assert!(rt;
+                number_is_passed_over(rt.alloc(), place, number) == Ok(true),
+                "{place} {number}"
+            );
         }
     }
-    Ok(())
+}
+
+/// Vertices of which a zero has a minus sign.
+const ZEROS: [(&str, [i64; 3]); 4] = [
+    ("[-0,2,3]", [0, 2, 3]),
+    ("[10,-0,30000000]", [10, 0, 30_000_000]),
+    ("[-1,2,-0]", [-1, 2, 0]),
+    ("[-0,-0,-0]", [0, 0, 0]),
+];
+
+fn is_spelled(alloc: Global, spelling: &str, numbers: [i64; 3]) -> Result<bool, Fault> {
+    let [x, y, z] = numbers;
+    let vertex = Vertex::new(x, y, z).ok_or(Fault::VertexRange)?;
+    let mut all = true;
+    for after in AFTER {
+        let text = format!(in alloc; "[{spelling}{after}")?;
+        let end = text.len().saturating_sub(after.len());
+        all = all && has_spelled(text.as_bytes(), vertex, end);
+    }
+    Ok(all)
+}
+
+#[test]
+fn a_zero_may_have_a_minus_sign(rt: HostRuntime) {
+    for (spelling, numbers) in ZEROS {
+        assert!(rt;
+            is_spelled(rt.alloc(), spelling, numbers) == Ok(true),
+            "{spelling}"
+        );
+    }
 }

@@ -1,109 +1,145 @@
 use byte_streams::{Fault, Line};
 use city_grid::{Shift, Vertex, moved, three_numbers, vertex, vertex_json, write_vertex};
-use city_json::{print, read};
-use std::test::Fail;
+use city_json::{Json, print, read};
+use std::alloc::Global;
+
+/// Values, and the three numbers that they are, as they are written.
+const NUMBERS: [(&str, Option<(&[u8], &[u8], &[u8])>); 6] = [
+    ("[1.50, -0, 2e+3]", Some((b"1.50", b"-0", b"2e+3"))),
+    ("[1, 2]", None),
+    ("[1, 2, 3, 4]", None),
+    ("[1, \"2\", 3]", None),
+    ("{}", None),
+    ("3", None),
+];
+
+fn has_numbers(
+    alloc: Global,
+    text: &str,
+    wanted: Option<(&[u8], &[u8], &[u8])>,
+) -> Result<bool, Fault> {
+    let value = read(alloc, text.as_bytes())?;
+    Ok(match (three_numbers(&value), wanted) {
+        (Some(numbers), Some((x, y, z))) => {
+            numbers.x.as_bytes() == x && numbers.y.as_bytes() == y && numbers.z.as_bytes() == z
+        }
+        (None, None) => true,
+        _ => false,
+    })
+}
 
 #[test]
-fn three_numbers_are_as_written(rt: HostRuntime) -> Result<(), Fail> {
-    let value = read(rt.alloc(), b"[1.50, -0, 2e+3]")?;
-    let numbers = three_numbers(&value).ok_or(Fault::VertexShape)?;
-    assert_eq!(rt; numbers.x.as_bytes(), b"1.50".as_slice());
-    assert_eq!(rt; numbers.y.as_bytes(), b"-0".as_slice());
-    assert_eq!(rt; numbers.z.as_bytes(), b"2e+3".as_slice());
-    for text in ["[1, 2]", "[1, 2, 3, 4]", "[1, \"2\", 3]", "{}", "3"] {
-        let other = read(rt.alloc(), text.as_bytes())?;
-        assert!(rt; three_numbers(&other).is_none(), "{text}");
+fn three_numbers_are_as_written(rt: HostRuntime) {
+    for (text, wanted) in NUMBERS {
+        assert!(rt; has_numbers(rt.alloc(), text, wanted) == Ok(true), "{text}");
     }
-    Ok(())
 }
 
-#[test]
-fn vertices_are_read(rt: HostRuntime) -> Result<(), Fail> {
-    let most = 9_007_199_254_740_991;
-    let rows: [(&str, Result<Option<Vertex>, Fault>); 12] = [
-        ("[1, 20, -300]", Ok(Vertex::new(1, 20, -300))),
-        ("[-0, 0, 0]", Ok(Vertex::new(0, 0, 0))),
-        (
-            "[9007199254740991, -9007199254740991, 0]",
-            Ok(Vertex::new(most, -most, 0)),
-        ),
-        ("[1.0, 0, 0]", Err(Fault::VertexNotInteger)),
-        ("[1e2, 0, 0]", Err(Fault::VertexNotInteger)),
-        ("[9007199254740992, 0, 0E0]", Err(Fault::VertexNotInteger)),
-        ("[9007199254740992, 0, 0]", Err(Fault::VertexRange)),
-        ("[0, 0, -9007199254740992]", Err(Fault::VertexRange)),
-        ("[1, 2]", Err(Fault::VertexShape)),
-        ("[1, 2, 3, 4e1]", Err(Fault::VertexShape)),
-        ("[\"1\", 2, 3]", Err(Fault::VertexShape)),
-        ("null", Err(Fault::VertexShape)),
-    ];
-    for (text, want) in rows {
-        let value = read(rt.alloc(), text.as_bytes())?;
-        assert_eq!(rt; vertex(&value).map(Some), want, "{text}");
+const VERTICES: [(&str, Result<(i64, i64, i64), Fault>); 12] = [
+    ("[1, 20, -300]", Ok((1, 20, -300))),
+    ("[-0, 0, 0]", Ok((0, 0, 0))),
+    (
+        "[9007199254740991, -9007199254740991, 0]",
+        Ok((9_007_199_254_740_991, -9_007_199_254_740_991, 0)),
+    ),
+    ("[1.0, 0, 0]", Err(Fault::VertexNotInteger)),
+    ("[1e2, 0, 0]", Err(Fault::VertexNotInteger)),
+    ("[9007199254740992, 0, 0E0]", Err(Fault::VertexNotInteger)),
+    ("[9007199254740992, 0, 0]", Err(Fault::VertexRange)),
+    ("[0, 0, -9007199254740992]", Err(Fault::VertexRange)),
+    ("[1, 2]", Err(Fault::VertexShape)),
+    ("[1, 2, 3, 4e1]", Err(Fault::VertexShape)),
+    ("[\"1\", 2, 3]", Err(Fault::VertexShape)),
+    ("null", Err(Fault::VertexShape)),
+];
+
+/// What is said of the value of this text, which is to be a vertex.
+fn vertex_in(alloc: Global, text: &str) -> Result<Vertex, Fault> {
+    vertex(&read(alloc, text.as_bytes())?)
+}
+
+fn is_vertex(found: Result<Vertex, Fault>, wanted: Result<(i64, i64, i64), Fault>) -> bool {
+    match wanted {
+        Ok((x, y, z)) => found.is_ok() && found.ok() == Vertex::new(x, y, z),
+        Err(fault) => found.err() == Some(fault),
     }
-    Ok(())
+}
+
+fn long_integer(alloc: Global) -> Result<Vertex, Fault> {
+    let digits = "9".repeat(alloc, 10_000)?;
+    vertex_in(alloc, &format!(in alloc; "[{digits}, 0, 0]")?)
 }
 
 #[test]
-fn a_long_integer_is_out_of_range(rt: HostRuntime) -> Result<(), Fail> {
-    let mut text = vec![in rt.alloc(); b'9'; 10000]?;
-    text.insert(0, b'[')?;
-    text.extend_from_slice(b", 0, 0]")?;
-    assert_eq!(rt; vertex(&read(rt.alloc(), &text)?), Err(Fault::VertexRange));
-    Ok(())
-}
-
-#[test]
-fn vertices_are_moved(rt: HostRuntime) -> Result<(), Fail> {
-    let most = 9_007_199_254_740_991;
-    let far = Vertex::new(most, 0, 0).ok_or(Fault::VertexRange)?;
-    let up = Shift::new(1, 0, 0).ok_or(Fault::ShiftRange)?;
-    let down = Shift::new(-1, 0, 0).ok_or(Fault::ShiftRange)?;
-    let deep = Shift::new(0, 7, -most).ok_or(Fault::ShiftRange)?;
-    assert_eq!(rt; moved(far, Shift::zero()), Ok(far));
-    assert_eq!(rt; moved(far, up), Err(Fault::VertexRange));
-    assert_eq!(rt; moved(far, down).map(Some), Ok(Vertex::new(most - 1, 0, 0)));
-    assert_eq!(rt; moved(far, deep).map(Some), Ok(Vertex::new(most, 7, -most)));
-    Ok(())
-}
-
-#[test]
-fn vertices_are_written(rt: HostRuntime) -> Result<(), Fail> {
-    let vertex = Vertex::new(9_007_199_254_740_990, 0, -9_007_199_254_740_991).ok_or(
-        Fault::VertexRange,
-    )?;
-    let mut line = Line::new(rt.alloc());
-    print(&vertex_json(rt.alloc(), &vertex)?, &mut line)?;
-    assert_eq!(rt;
-        line.items(),
-        b"[9007199254740990,0,-9007199254740991]".as_slice()
-    );
-    Ok(())
-}
-
-#[test]
-fn a_vertex_takes_the_place_of_any_value(rt: HostRuntime) -> Result<(), Fail> {
-    let alloc = rt.alloc();
-    let Some(vertex) = Vertex::new(-9_007_199_254_740_991, 0, 17) else {
-        return Err("no vertex".into());
-    };
-    for before in [
-        "[1,2,3]",
-        "[-0,12345678901234567890123,1.5]",
-        "[]",
-        "[1,[2],3,4,5]",
-        "{\"a\":1}",
-        "null",
-    ] {
-        let mut value = read(alloc, before.as_bytes())?;
-        write_vertex(alloc, &vertex, &mut value)?;
-        let mut line = Line::new(alloc);
-        print(&value, &mut line)?;
-        assert_eq!(rt;
-            line.items(),
-            b"[-9007199254740991,0,17]".as_slice(),
-            "{before}"
-        );
+fn vertices_are_read(rt: HostRuntime) {
+    for (text, wanted) in VERTICES {
+        assert!(rt; is_vertex(vertex_in(rt.alloc(), text), wanted), "{text}");
     }
-    Ok(())
+    assert!(rt; long_integer(rt.alloc()) == Err(Fault::VertexRange));
+}
+
+/// How a vertex at the end of the range is moved, and where it is then.
+const MOVED: [((i64, i64, i64), Result<(i64, i64, i64), Fault>); 4] = [
+    ((0, 0, 0), Ok((9_007_199_254_740_991, 0, 0))),
+    ((1, 0, 0), Err(Fault::VertexRange)),
+    ((-1, 0, 0), Ok((9_007_199_254_740_990, 0, 0))),
+    (
+        (0, 7, -9_007_199_254_740_991),
+        Ok((9_007_199_254_740_991, 7, -9_007_199_254_740_991)),
+    ),
+];
+
+fn far_vertex_is_moved(steps: (i64, i64, i64), wanted: Result<(i64, i64, i64), Fault>) -> bool {
+    let (x, y, z) = steps;
+    match (
+        Vertex::new(9_007_199_254_740_991, 0, 0),
+        Shift::new(x, y, z),
+    ) {
+        (Some(far), Some(shift)) => is_vertex(moved(far, shift), wanted),
+        _ => false,
+    }
+}
+
+#[test]
+fn vertices_are_moved(rt: HostRuntime) {
+    for (steps, wanted) in MOVED {
+        assert!(rt; far_vertex_is_moved(steps, wanted), "{steps:?}");
+    }
+}
+
+fn is_printed(alloc: Global, value: &Json, wanted: &[u8]) -> Result<bool, Fault> {
+    let mut line = Line::new(alloc);
+    print(value, &mut line)?;
+    Ok(line.items() == wanted)
+}
+
+/// Values whose place a vertex takes.
+const BEFORE: [&str; 6] = [
+    "[1,2,3]",
+    "[-0,12345678901234567890123,1.5]",
+    "[]",
+    "[1,[2],3,4,5]",
+    "{\"a\":1}",
+    "null",
+];
+
+fn is_replaced(alloc: Global, text: &str) -> Result<bool, Fault> {
+    let vertex = Vertex::new(-9_007_199_254_740_991, 0, 17).ok_or(Fault::VertexRange)?;
+    let mut value = read(alloc, text.as_bytes())?;
+    write_vertex(alloc, &vertex, &mut value)?;
+    is_printed(alloc, &value, b"[-9007199254740991,0,17]")
+}
+
+fn vertex_is_written(alloc: Global) -> Result<bool, Fault> {
+    let vertex = Vertex::new(9_007_199_254_740_990, 0, -9_007_199_254_740_991);
+    let value = vertex_json(alloc, &vertex.ok_or(Fault::VertexRange)?)?;
+    is_printed(alloc, &value, b"[9007199254740990,0,-9007199254740991]")
+}
+
+#[test]
+fn a_vertex_takes_the_place_of_any_value(rt: HostRuntime) {
+    assert!(rt; vertex_is_written(rt.alloc()) == Ok(true));
+    for text in BEFORE {
+        assert!(rt; is_replaced(rt.alloc(), text) == Ok(true), "{text}");
+    }
 }

@@ -15,7 +15,7 @@ mod numbers;
 #[cfg(test)]
 mod printing;
 #[cfg(test)]
-mod reading;
+mod refusals;
 #[cfg(test)]
 mod strings;
 #[cfg(test)]

@@ -1,136 +1,182 @@
 //! That no object has a repeated name: which texts are refused for it, and that it takes no long time.
-use crate::texts::repeated;
+use crate::texts::{Pieces, is_answered, is_compacted, is_refused};
 use byte_streams::Fault;
 use city_json::read;
-use std::alloc::Global;
-use std::test::Fail;
+use std::alloc::{AllocError, Global};
 
-/// Whether the names in each object of the text are distinct.
-fn is_distinct(alloc: Global, text: &[u8]) -> Result<bool, Fail> {
-    match read(alloc, text) {
-        Ok(_) => Ok(true),
-        Err(Fault::DuplicateName) => Ok(false),
-        Err(fault) => Err(fault.into()),
-    }
-}
+const DISTINCT: [Pieces<'static>; 6] = [
+    &[(b"{\"a\":1,\"b\":1}", 1)],
+    &[(b"[null,", 1), (b"{\"a\":1,\"b\":1}", 1), (b"]", 1)],
+    &[(b"[null,", 127), (b"{\"a\":1,\"b\":1}", 1), (b"]", 127)],
+    &[(b"{\"a\":{\"a\":1,\"b\":1},\"b\":{\"a\":1,\"b\":1}}", 1)],
+    &[(b"{\"\":null,\"a\":null,\"b\":null,\"ab\":null}", 1)],
+    &[(b"{\"A\":null,\"a\":null,\"\xc3\xa9\":null,\"e\":null}", 1)],
+];
 
-/// Adds a member of this name to the front of an object.
-fn put_member(text: &mut String, name: &str) -> Result<(), Fail> {
-    let comma = if text.len() > 1 { "," } else { "" };
-    write!(text, "{comma}\"{name}\":null")?;
-    Ok(())
-}
-
-/// Whether the names of the object that begins so are distinct.
-fn names_differ(alloc: Global, members: &str) -> Result<bool, Fail> {
-    let object = format!(in alloc; "{members}}}")?;
-    is_distinct(alloc, object.as_bytes())
-}
-
-fn numbered(alloc: Global, count: u32) -> Result<String, Fail> {
-    let mut members = String::from_str(alloc, "{")?;
-    for number in 0..count {
-        let name = format!(in alloc; "a name that begins like each other {number:06}")?;
-        put_member(&mut members, &name)?;
-    }
-    Ok(members)
-}
+const REPEATED: [Pieces<'static>; 8] = [
+    &[(b"{\"a\":1,\"a\":1}", 1)],
+    &[(b"[null,", 1), (b"{\"a\":1,\"a\":1}", 1), (b"]", 1)],
+    &[(b"[null,", 127), (b"{\"a\":1,\"a\":1}", 1), (b"]", 127)],
+    &[(b"[", 127), (b"{\"a\":1,\"a\":1}", 1), (b"]", 127)],
+    &[(b"{\"a\":{\"b\":1,\"b\":1}}", 1)],
+    &[(b"{\"a\":null,\"a\":null,\"b\":null,\"c\":null}", 1)],
+    &[(b"{\"a\":null,\"b\":null,\"c\":null,\"a\":null}", 1)],
+    &[(b"{\"b\":null,\"c\":null,\"a\":null,\"a\":null}", 1)],
+];
 
 #[test]
-fn a_repeated_name_is_found_at_any_depth(rt: HostRuntime) -> Result<(), Fail> {
-    let objects: [(&[u8], bool); 2] = [(b"{\"a\":1,\"a\":1}", false), (b"{\"a\":1,\"b\":1}", true)];
-    for levels in [0, 1, 127] {
-        for (object, distinct) in objects {
-            let mut text = repeated(rt.alloc(), b"[null,", levels)?;
-            text.extend_from_slice(object)?;
-            text.extend_from_slice(repeated(rt.alloc(), b"]", levels)?.as_slice())?;
-            assert_eq!(rt; is_distinct(rt.alloc(), &text)?, distinct, "{levels}");
-        }
-    }
-    Ok(())
-}
-
-#[test]
-fn objects_may_share_names(rt: HostRuntime) -> Result<(), Fail> {
-    let text = b"{\"a\":{\"a\":1,\"b\":1},\"b\":{\"a\":1,\"b\":1}}";
-    assert!(rt; is_distinct(rt.alloc(), text)?);
-    Ok(())
-}
-
-#[test]
-fn a_repeated_name_is_found_in_a_member(rt: HostRuntime) -> Result<(), Fail> {
-    assert!(rt; !is_distinct(rt.alloc(), b"{\"a\":{\"b\":1,\"b\":1}}")?);
-    Ok(())
-}
-
-#[test]
-fn a_repeated_name_is_found_wherever_it_stands(rt: HostRuntime) -> Result<(), Fail> {
-    for (names, differ) in [
-        (["", "a", "b", "ab"], true),
-        (["a", "a", "b", "c"], false),
-        (["a", "b", "c", "a"], false),
-        (["b", "c", "a", "a"], false),
-        (["A", "a", "é", "e"], true),
-    ] {
-        let mut members = String::from_str(rt.alloc(), "{")?;
-        for name in names {
-            put_member(&mut members, name)?;
-        }
-        assert_eq!(rt; names_differ(rt.alloc(), &members)?, differ);
-    }
-    Ok(())
-}
-
-#[test]
-fn the_first_of_many_names_stands_at_the_end_too(rt: HostRuntime) -> Result<(), Fail> {
-    for count in [0, 1, 2, 15, 16, 17, 1000] {
-        let mut members = numbered(rt.alloc(), count)?;
-        assert!(rt; names_differ(rt.alloc(), &members)?, "{count}");
-        put_member(&mut members, "a name that begins like each other 000000")?;
-        assert_eq!(rt;
-            names_differ(rt.alloc(), &members)?,
-            count == 0,
-            "{count} and one"
+fn a_repeated_name_is_found_wherever_it_stands(rt: HostRuntime) {
+    for text in REPEATED {
+        assert!(rt;
+            is_answered(rt.alloc(), text, Some(Fault::DuplicateName)),
+            "{text:?}"
         );
     }
-    Ok(())
-}
-
-#[test]
-fn many_long_names_take_no_long_time(rt: HostRuntime) -> Result<(), Fail> {
-    let members = numbered(rt.alloc(), 200_000)?;
-    assert!(rt; names_differ(rt.alloc(), &members)?);
-    Ok(())
-}
-
-/// Adds a member whose name is built to have one and the same hash in a table whose seed is known.
-fn put_of_one_hash(alloc: Global, members: &mut String, number: u32) -> Result<(), Fail> {
-    let name = format!(in alloc; "hi4iSqofOI1SdKlRPfC,#S Z{number:08}0123456789abcdef")?;
-    put_member(members, &name)
-}
-
-#[test]
-fn no_choice_of_names_makes_it_slow(rt: HostRuntime) -> Result<(), Fail> {
-    let mut members = String::from_str(rt.alloc(), "{")?;
-    for number in 0..8_000 {
-        put_of_one_hash(rt.alloc(), &mut members, number)?;
+    for text in DISTINCT {
+        assert!(rt; is_answered(rt.alloc(), text, None), "{text:?}");
     }
-    assert!(rt; names_differ(rt.alloc(), &members)?);
-    put_of_one_hash(rt.alloc(), &mut members, 3_999)?;
-    assert!(rt; !names_differ(rt.alloc(), &members)?);
-    Ok(())
+}
+
+/// Names of one kind, one for each number.
+#[derive(Clone, Copy)]
+enum Names {
+    /// They begin like each other.
+    Alike,
+    /// Each is the front of the next.
+    Fronts,
+    /// They have letters beyond ASCII.
+    Streets,
+    /// They begin and end alike, so that they have one print and are told apart by themselves.
+    OnePrint,
+    /// They have one hash in a table whose seed is known.
+    OneHash,
+}
+
+/// The member of this number.
+fn member(alloc: Global, names: Names, number: usize) -> Result<String, AllocError> {
+    match names {
+        Names::Alike => format!(in alloc;
+            "\"a name that begins like each other {number:06}\":null"
+        ),
+        Names::Fronts => format!(in alloc; "\"{:n<number$}\":null", ""),
+        Names::Streets => format!(in alloc; "\"stra\u{df}e {number:05} of many\":null"),
+        Names::OnePrint => format!(in alloc; "\"attribute {number:04} attribute\":null"),
+        Names::OneHash => format!(in alloc;
+            "\"hi4iSqofOI1SdKlRPfC,#S Z{number:08}0123456789abcdef\":null"
+        ),
+    }
+}
+
+/// An object of so many members, and then these.
+fn object(alloc: Global, names: Names, count: usize, more: &str) -> Result<String, AllocError> {
+    let mut text = String::new(alloc);
+    for number in 0..count {
+        text.push_str(if number == 0 { "{" } else { "," })?;
+        text.push_str(&member(alloc, names, number)?)?;
+    }
+    text.push_str(more)?;
+    text.push('}')?;
+    Ok(text)
+}
+
+fn is_taken(alloc: Global, names: Names, count: usize, more: &str, compact: &str) -> bool {
+    match (
+        object(alloc, names, count, more),
+        object(alloc, names, count, compact),
+    ) {
+        (Ok(text), Ok(compact)) => is_compacted(alloc, text.as_bytes(), compact.as_bytes()),
+        _ => false,
+    }
+}
+
+fn is_repeated(alloc: Global, names: Names, count: usize, more: &str) -> bool {
+    match object(alloc, names, count, more) {
+        Ok(text) => is_refused(alloc, text.as_bytes(), Fault::DuplicateName),
+        Err(_) => false,
+    }
+}
+
+/// Objects of so many members and one more, which is distinct from them, as it is written and as it is in the compact
+/// text; and of another one, which is not.
+struct Objects {
+    names: Names,
+    counts: &'static [usize],
+    distinct: &'static str,
+    compact: &'static str,
+    repeated: &'static str,
+}
+
+const OBJECTS: [Objects; 6] = [
+    Objects {
+        names: Names::Alike,
+        counts: &[1, 2, 15, 16, 17, 1000],
+        distinct: "",
+        compact: "",
+        repeated: ",\"a name that begins like each other 000000\":null",
+    },
+    Objects {
+        names: Names::Fronts,
+        counts: &[100],
+        distinct: "",
+        compact: "",
+        repeated: ",\"\":null",
+    },
+    Objects {
+        names: Names::Streets,
+        counts: &[1, 2, 3, 16, 17, 40, 257, 300, 10_000],
+        distinct: "",
+        compact: "",
+        repeated: ",\"stra\u{df}e 00000 of many\":null",
+    },
+    Objects {
+        names: Names::Streets,
+        counts: &[1, 15, 16, 17, 300],
+        distinct: ",\"\\u0073tra\\u00dfe 99999 of many\":null",
+        compact: ",\"stra\u{df}e 99999 of many\":null",
+        repeated: ",\"\\u0073tra\\u00dfe 99999 of many\":null,\"stra\\u00DFe 00000 of many\":null",
+    },
+    Objects {
+        names: Names::OnePrint,
+        counts: &[1000],
+        distinct: "",
+        compact: "",
+        repeated: ",\"attribute 0999 attribute\":null",
+    },
+    Objects {
+        names: Names::OneHash,
+        counts: &[8000],
+        distinct: "",
+        compact: "",
+        repeated: ",\"hi4iSqofOI1SdKlRPfC,#S Z000039990123456789abcdef\":null",
+    },
+];
+
+fn are_told_apart(alloc: Global, row: &Objects, count: usize) -> bool {
+    is_taken(alloc, row.names, count, row.distinct, row.compact)
+        && is_repeated(alloc, row.names, count, row.repeated)
 }
 
 #[test]
-fn names_that_begin_alike_differ(rt: HostRuntime) -> Result<(), Fail> {
-    let mut members = String::from_str(rt.alloc(), "{")?;
-    let mut name = String::new(rt.alloc());
-    for _length in 0..100 {
-        put_member(&mut members, &name)?;
-        name.push('n')?;
+fn names_are_told_apart_in_objects_of_any_size(rt: HostRuntime) {
+    for row in OBJECTS.iter() {
+        for count in row.counts {
+            assert!(rt;
+                are_told_apart(rt.alloc(), row, *count),
+                "{count} and {}",
+                row.repeated
+            );
+        }
     }
-    assert!(rt; names_differ(rt.alloc(), &members)?);
-    put_member(&mut members, "")?;
-    assert!(rt; !names_differ(rt.alloc(), &members)?);
-    Ok(())
+}
+
+fn many_long_names_are_read(alloc: Global) -> bool {
+    match object(alloc, Names::Alike, 200_000, "") {
+        Ok(text) => read(alloc, text.as_bytes()).is_ok(),
+        Err(_) => false,
+    }
+}
+
+#[test]
+fn many_long_names_take_no_long_time(rt: HostRuntime) {
+    assert!(rt; many_long_names_are_read(rt.alloc()));
 }

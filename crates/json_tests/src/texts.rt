@@ -1,93 +1,78 @@
 //! Texts for the tests of both paths: the reader and printer, and the one pass.
 use byte_streams::{Fault, Line};
-use city_json::{print, read};
-use std::alloc::Global;
-use std::test::Fail;
+use city_json::{compact, print, read};
+use std::alloc::{AllocError, Global};
 
-/// Texts and their compact texts.
-pub(crate) const COMPACTED: [(&[u8], &[u8]); 10] = [
-    (b"null", b"null"),
-    (b" \t\r\ntrue\n", b"true"),
-    (b"false", b"false"),
-    (b" [ ] ", b"[]"),
-    (b" { } ", b"{}"),
-    (b"[ 1 , -0.50e+3,[ 2 ] ]", b"[1,-0.50e+3,[2]]"),
-    (b"{ \"b\" : 1 , \"a\" : [ { } ] }", b"{\"b\":1,\"a\":[{}]}"),
-    (
-        b"{\"a\":{\"a\":1},\"b\":{\"a\":2}}",
-        b"{\"a\":{\"a\":1},\"b\":{\"a\":2}}",
-    ),
-    (b"\"\\u0041\\/\"", b"\"A/\""),
-    (
-        b"{\"k\":\"caf\\u00e9 \\/ \\ud83d\\ude00\",\"n\":1.50e+3}",
-        b"{\"k\":\"caf\xc3\xa9 / \xf0\x9f\x98\x80\",\"n\":1.50e+3}",
-    ),
-];
+/// A text by its pieces, each with how often it stands there.
+pub(crate) type Pieces<'a> = &'a [(&'static [u8], usize)];
 
-/// Strings and their one spelling.
-pub(crate) const SPELLINGS: [(&[u8], &[u8]); 6] = [
-    (b"\"\\u0041\\/\"", b"\"A/\""),
-    (b"\"\\u0022\\u005c\"", b"\"\\\"\\\\\""),
-    (b"\"\\u000a\\u0008\"", b"\"\\n\\b\""),
-    (b"\"\\u001F\"", b"\"\\u001f\""),
-    (b"\"\\u007f\"", b"\"\x7f\""),
-    (b"\"\\uD83D\\uDE00\"", b"\"\xf0\x9f\x98\x80\""),
-];
-
-/// What is no JSON text.
-pub(crate) const NO_JSON: [&[u8]; 28] = [
-    b"",
-    b"01",
-    b"1.",
-    b".5",
-    b"+1",
-    b"-",
-    b"1e",
-    b"[1,]",
-    b"{\"a\":1,}",
-    b"{\"a\"}",
-    b"{a:1}",
-    b"'a'",
-    b"nul",
-    b"1 2",
-    b"[",
-    b"]",
-    b"\xef\xbb\xbf{}",
-    b"{\"a\":1,\"a\":2",
-    b"[1 2]",
-    b"[,1]",
-    b"{\"a\":1 \"b\":2}",
-    b"\"\\ud83d\"",
-    b"\"\\ud800\"",
-    b"\"\\ude00\"",
-    b"\"\\ude00\\ud83d\"",
-    b"\"\\x\"",
-    b"\"\\u12\"",
-    b"\"a\tb\"",
-];
-
-/// Texts that are refused for another cause.
-pub(crate) const REFUSED: [(&[u8], Fault); 6] = [
-    (b"\xff", Fault::NotUtf8),
-    (b"\"\xed\xa0\x80\"", Fault::NotUtf8),
-    (b"[\xc0\xaf", Fault::NotUtf8),
-    (b"{\"a\":1,\"\\u0061\":2}", Fault::DuplicateName),
-    (b"[{\"b\":{\"a\":1,\"c\":2,\"a\":1}}]", Fault::DuplicateName),
-    (b"{\"\":1,\"\":2}", Fault::DuplicateName),
-];
-
-/// The piece so many times.
-pub(crate) fn repeated(alloc: Global, piece: &[u8], count: usize) -> Result<Vec<u8>, Fail> {
-    let mut bytes = Vec::new(alloc);
-    for _ in 0..count {
-        bytes.extend_from_slice(piece)?;
+fn put(text: &mut Vec<u8>, piece: &[u8], times: usize) -> Result<(), AllocError> {
+    for _ in 0..times {
+        text.extend_from_slice(piece)?;
     }
-    Ok(bytes)
+    Ok(())
+}
+
+pub(crate) fn text_of(alloc: Global, pieces: Pieces<'_>) -> Result<Vec<u8>, AllocError> {
+    let mut text = Vec::new(alloc);
+    for (piece, times) in pieces {
+        put(&mut text, piece, *times)?;
+    }
+    Ok(text)
 }
 
 /// The compact text of the value that the bytes spell.
-pub(crate) fn compacted(alloc: Global, bytes: &[u8]) -> Result<Line, Fault> {
+fn written(alloc: Global, text: &[u8]) -> Result<Line, Fault> {
     let mut line = Line::new(alloc);
-    print(&read(alloc, bytes)?, &mut line)?;
+    print(&read(alloc, text)?, &mut line)?;
     Ok(line)
+}
+
+fn is_written(alloc: Global, text: &[u8], wanted: &[u8]) -> bool {
+    match written(alloc, text) {
+        Ok(line) => line.items() == wanted,
+        Err(_) => false,
+    }
+}
+
+/// What the pass answers, begun with a line that holds something.
+fn passed(alloc: Global, text: &[u8]) -> Option<Line> {
+    match b"an old line".to_vec(alloc) {
+        Ok(old) => compact(alloc, text, Line::from_vec(old)),
+        Err(_) => None,
+    }
+}
+
+fn is_passed(alloc: Global, text: &[u8], wanted: &[u8]) -> bool {
+    match passed(alloc, text) {
+        Some(line) => line.items() == wanted,
+        None => false,
+    }
+}
+
+/// Whether both paths give this compact text.
+pub(crate) fn is_compacted(alloc: Global, text: &[u8], wanted: &[u8]) -> bool {
+    is_written(alloc, text, wanted) && is_passed(alloc, text, wanted)
+}
+
+/// Whether the reader has this fault, and the pass says nothing.
+pub(crate) fn is_refused(alloc: Global, text: &[u8], fault: Fault) -> bool {
+    read(alloc, text).err() == Some(fault) && passed(alloc, text).is_none()
+}
+
+/// Whether the pass answers for what the reader takes, with the same text, and for nothing else.
+pub(crate) fn has_one_answer(alloc: Global, text: &[u8]) -> bool {
+    match written(alloc, text) {
+        Ok(line) => is_passed(alloc, text, line.items()),
+        Err(_) => passed(alloc, text).is_none(),
+    }
+}
+
+/// Whether the text is refused for this fault, or is as it is where there is none.
+pub(crate) fn is_answered(alloc: Global, pieces: Pieces<'_>, fault: Option<Fault>) -> bool {
+    match (text_of(alloc, pieces), fault) {
+        (Ok(text), Some(fault)) => is_refused(alloc, &text, fault),
+        (Ok(text), None) => is_compacted(alloc, &text, &text),
+        (Err(_), _) => false,
+    }
 }

@@ -1,44 +1,88 @@
+use byte_streams::Fault;
 use city_json::{Json, Str, read, same};
-use std::test::Fail;
+use std::alloc::Global;
 
 const SAMPLE: &[u8] =
     b"{\"k\":\"caf\xc3\xa9 / \xf0\x9f\x98\x80\",\"n\":[null,true,1.50e+3],\"m\":\"last\"}";
 
-#[test]
-fn a_member_is_found_by_its_name(rt: HostRuntime) -> Result<(), Fail> {
-    let value = read(rt.alloc(), SAMPLE)?;
-    let Some(Json::Text(text)) = value.get("k") else {
-        return Err("no text".into());
+/// A value, and the text that its member of this name is, if it has one.
+struct Member {
+    value: &'static [u8],
+    name: &'static str,
+    content: Option<&'static str>,
+}
+
+const MEMBERS: [Member; 5] = [
+    Member {
+        value: SAMPLE,
+        name: "k",
+        content: Some("caf\u{e9} / \u{1f600}"),
+    },
+    Member {
+        value: SAMPLE,
+        name: "K",
+        content: None,
+    },
+    Member {
+        value: b"[null,true,1.50e+3]",
+        name: "k",
+        content: None,
+    },
+    Member {
+        value: b"{\"type\":\"CityJSON\",\"\":\"\"}",
+        name: "type",
+        content: Some("CityJSON"),
+    },
+    Member {
+        value: b"{\"type\":\"CityJSON\",\"\":\"\"}",
+        name: "",
+        content: Some(""),
+    },
+];
+
+fn has_member(alloc: Global, row: &Member) -> bool {
+    let Ok(value) = read(alloc, row.value) else {
+        return false;
     };
-    assert_eq!(rt; text.as_str(), "caf\u{e9} / \u{1f600}");
-    assert!(rt; value.get("K").is_none());
-    assert!(rt; value.get("n").is_some_and(|items| items.get("k").is_none()));
-    Ok(())
-}
-
-#[test]
-fn a_copy_is_the_same(rt: HostRuntime) -> Result<(), Fail> {
-    let value = read(rt.alloc(), SAMPLE)?;
-    assert!(rt; same(&value, &value.copy(rt.alloc())?));
-    Ok(())
-}
-
-#[test]
-fn unequal_values_are_not_the_same(rt: HostRuntime) -> Result<(), Fail> {
-    let pairs: [(&[u8], &[u8]); 4] = [
-        (b"{\"a\":null,\"b\":null}", b"{\"b\":null,\"a\":null}"),
-        (b"1.0", b"1.00"),
-        (b"[]", b"{}"),
-        (b"[[1,\"last\"]]", b"[[1,\"other\"]]"),
-    ];
-    for (one, other) in pairs {
-        assert!(rt; !same(&read(rt.alloc(), one)?, &read(rt.alloc(), other)?));
+    match (value.get(row.name), row.content) {
+        (Some(Json::Text(text)), Some(content)) => text.as_str() == content,
+        (None, None) => true,
+        _ => false,
     }
-    Ok(())
 }
 
 #[test]
-fn a_text_is_read_as_it_is(rt: HostRuntime) -> Result<(), Fail> {
+fn a_member_is_found_by_its_name(rt: HostRuntime) {
+    for row in MEMBERS.iter() {
+        assert!(rt; has_member(rt.alloc(), row), "{}", row.name);
+    }
+}
+
+fn same_of(alloc: Global, one: &[u8], other: &[u8]) -> Result<bool, Fault> {
+    Ok(same(&read(alloc, one)?, &read(alloc, other)?.copy(alloc)?))
+}
+
+/// Two values that are not the same.
+const UNEQUAL: [(&[u8], &[u8]); 4] = [
+    (b"{\"a\":null,\"b\":null}", b"{\"b\":null,\"a\":null}"),
+    (b"1.0", b"1.00"),
+    (b"[]", b"{}"),
+    (b"[[1,\"last\"]]", b"[[1,\"other\"]]"),
+];
+
+#[test]
+fn a_copy_alone_is_the_same(rt: HostRuntime) {
+    assert!(rt; same_of(rt.alloc(), SAMPLE, SAMPLE) == Ok(true));
+    for (one, other) in UNEQUAL {
+        assert!(rt;
+            same_of(rt.alloc(), one, other) == Ok(false),
+            "{one:?} {other:?}"
+        );
+    }
+}
+
+#[test]
+fn a_text_is_read_as_it_is(rt: HostRuntime) -> Result<(), Fault> {
     let system = "https://www.opengis.net/def/crs/EPSG/0/7415";
     assert_eq!(rt; Str::read(rt.alloc(), system)?.as_str(), system);
     Ok(())
