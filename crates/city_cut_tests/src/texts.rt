@@ -30,7 +30,10 @@ pub(crate) fn texts_of(alloc: Global, text: &str) -> Result<CutTexts, Fault> {
 }
 
 fn expect_fault(rt: &impl Abort, found: Option<Fault>, wanted: Fault, text: &str) {
-    assert!(rt; found == Some(wanted), "{found:?} in place of {wanted:?}: {text}");
+    assert!(rt;
+        found == Some(wanted),
+        "{found:?} in place of {wanted:?}: {text}"
+    );
 }
 
 /// The document is refused, where it is cut into features and where into texts.
