@@ -1,4 +1,4 @@
-ghost use Rattle.std.specs.Prelude.{◌≡◌, ◌≤◌, ◌<◌, ◌⊎◌, ◌++◌, [], List, ℕ, Option, IfOk, IfErr, OnOk, length, get_or, option_to_list};
+ghost use Rattle.std.specs.Prelude.{◌≡◌, ◌≤◌, ◌<◌, ◌⊎◌, ◌++◌, ◌∷◌, [], List, ℕ, Option, IfOk, IfErr, OnOk, length, get_or, option_to_list};
 ghost use Rattle.city_cut.specs.HeldTexts.{texts_in};
 ghost use Rattle.city_feature.specs.Choice.{IsChosen};
 ghost use Rattle.city_feature.specs.FeatureLine.{GivesFeature, RefusesFeatureLine};
@@ -21,7 +21,36 @@ pub(crate) struct Held {
     pub(crate) texts: FeatureTexts,
 }
 
-/// The texts of those features that are chosen when they are moved by the shift.
+/// Keeps texts, in the order in which they come.
+pub(crate) trait Keep {
+    // The texts that it keeps.
+    ghost kept: { Self → List (List ℕ) };
+
+    /// Keeps one more text. The only fault is [`Fault::Memory`].
+    fn keep(&mut self, alloc: Global, text: Line) -> Result<(), Fault>
+        ensures ok { OnOk result (kept self.new ≡ kept self.old ++ text ∷ []) }
+        ensures fault { IfErr result (λ fault. fault ≡ Fault.Memory) };
+}
+
+impl Keep for VecDeque<Line> {
+    ghost kept = { λ lines. lines.items };
+
+    fn keep(&mut self, alloc: Global, text: Line) -> Result<(), Fault> {
+        let _ = alloc;
+        self.push_back(text)?;
+        Ok(())
+    }
+}
+
+impl Keep for ReadyTexts {
+    ghost kept = { λ ready. ready };
+
+    fn keep(&mut self, alloc: Global, text: Line) -> Result<(), Fault> {
+        self.push(alloc, text)
+    }
+}
+
+/// The texts of those features that are chosen when they are moved by the shift, with their common end once.
 ///
 /// # Errors
 ///
@@ -39,12 +68,7 @@ pub(crate) fn texts_of(
     ensures refused { IfErr result (λ fault. RefusesLines shift fault (texts_in held.now)) }
 {
     let mut texts = ReadyTexts::that_end_in(alloc, held.common())?;
-    let mut spare = Line::new(alloc);
-    let mut at = 0usize;
-    'held: while at < held.len() {
-        spare = add_text(alloc, held, at, shift, choice, spare, &mut texts)?;
-        at += 1;
-    }
+    keep_texts(alloc, held, shift, choice, &mut texts)?;
     Ok(texts)
 }
 
@@ -59,31 +83,54 @@ pub(crate) fn lines_of(
     shift: Shift,
     choice: &Choice,
 ) -> Result<VecDeque<Line>, Fault>
-    requires some { 0 < length held.now.own }
     ensures ok { IfOk result (λ lines.
         LinesGive (IsChosen choice.now) shift (texts_in held.now) lines.items) }
     ensures fewer { IfOk result (λ lines. length lines.items ≤ length (texts_in held.now)) }
     ensures refused { IfErr result (λ fault. RefusesLines shift fault (texts_in held.now)) }
 {
-    let texts = texts_of(alloc, held, shift, choice)?;
-    Ok(texts.lines(alloc)?)
+    let mut lines = VecDeque::new(alloc);
+    keep_texts(alloc, held, shift, choice, &mut lines)?;
+    Ok(lines)
+}
+
+/// Keeps the texts of those features that are chosen when they are moved by the shift.
+fn keep_texts<K: Keep>(
+    alloc: Global,
+    held: &FeatureTexts,
+    shift: Shift,
+    choice: &Choice,
+    texts: &mut K,
+) -> Result<(), Fault>
+    requires none { K.kept texts.old ≡ [] }
+    ensures ok { OnOk result
+        (LinesGive (IsChosen choice.now) shift (texts_in held.now) (K.kept texts.new)) }
+    ensures fewer { OnOk result (length (K.kept texts.new) ≤ length (texts_in held.now)) }
+    ensures refused { IfErr result (λ fault. RefusesLines shift fault (texts_in held.now)) }
+{
+    let mut spare = Line::new(alloc);
+    let mut at = 0usize;
+    'held: while at < held.len() {
+        spare = add_text(alloc, held, at, shift, choice, spare, texts)?;
+        at += 1;
+    }
+    Ok(())
 }
 
 /// Adds the text of the feature at a place, where it is chosen when it is moved by the shift. `spare`
 /// is a buffer to reuse, and comes back.
-fn add_text(
+fn add_text<K: Keep>(
     alloc: Global,
     held: &FeatureTexts,
     at: usize,
     shift: Shift,
     choice: &Choice,
     spare: Line,
-    texts: &mut ReadyTexts,
+    texts: &mut K,
 ) -> Result<Line, Fault>
     requires { at < length held.now.own }
     ensures ok { OnOk result ((given : Option (List ℕ))
         × GivesFeature (IsChosen choice.now) shift (get_or (texts_in held.now) at []) given
-        × (texts.new ≡ texts.old ++ option_to_list given)) }
+        × (K.kept texts.new ≡ K.kept texts.old ++ option_to_list given)) }
     ensures refused { IfErr result (λ fault. (fault ≡ Fault.Memory)
         ⊎ RefusesFeatureLine shift fault (get_or (texts_in held.now) at [])) }
 {
@@ -94,23 +141,23 @@ fn add_text(
 }
 
 /// Adds the text of the feature that a line spells, where it is chosen when it is moved by the shift.
-fn add_line(
+fn add_line<K: Keep>(
     alloc: Global,
     line: &[u8],
     shift: Shift,
     choice: &Choice,
-    texts: &mut ReadyTexts,
+    texts: &mut K,
 ) -> Result<(), Fault>
     ensures ok { OnOk result ((given : Option (List ℕ))
         × GivesFeature (IsChosen choice.now) shift line.now given
-        × (texts.new ≡ texts.old ++ option_to_list given)) }
+        × (K.kept texts.new ≡ K.kept texts.old ++ option_to_list given)) }
     ensures refused { IfErr result (λ fault. (fault ≡ Fault.Memory)
         ⊎ RefusesFeatureLine shift fault line.now) }
 {
     let mut text = Line::new(alloc);
     let is_chosen = feature_line(alloc, line, shift, choice, &mut text)?;
     if is_chosen {
-        texts.push(alloc, text.items())?;
+        texts.keep(alloc, text)?;
     }
     Ok(())
 }

@@ -1,5 +1,5 @@
 //! The texts of the features that a first line holds, moved and chosen, before they are given.
-ghost use Rattle.std.specs.Prelude.{◌≡◌, ◌≤◌, ◌<◌, ◌^◌, ◌++◌, ◌∷◌, [], ℕ, flat_map, get_or, length, take, IfOk, IfErr, OnOk, OnErr};
+ghost use Rattle.std.specs.Prelude.{◌≡◌, ◌<◌, ◌^◌, ◌++◌, ◌∷◌, [], ℕ, flat_map, get_or, length, take, IfOk, IfErr, IfSome, OnOk, OnErr};
 ghost use Rattle.std.specs.Io.KnownBytes.{Appends};
 ghost use Rattle.byte_streams.specs.Failures.{after_call};
 ghost use Rattle.tile_stream.specs.Ready.{whole_text};
@@ -8,7 +8,6 @@ ghost use Rattle.tile_stream.specs.Stream.{with_newline};
 use crate::filter::write_parts;
 use byte_streams::{Fault, Line, Sink};
 use std::alloc::{AllocError, Global};
-use std::collections::VecDeque;
 use std::marker::Model;
 
 /// A text without the end that it shares with the others, or whole.
@@ -42,20 +41,34 @@ fn copied(alloc: Global, bytes: &[u8]) -> Result<Line, AllocError>
     Ok(line)
 }
 
-/// The text, without the end that it shares, if it does.
-fn ready_text(alloc: Global, text: &[u8], common: &[u8]) -> Result<ReadyText, AllocError>
-    ensures { IfOk result (λ one. whole_text common.now one.shares one.own ≡ text.now) }
+/// The front of a text, where the end that it shares is the larger part: so a text that is held whole has no more than
+/// twice the bytes of its front.
+fn own_part<'a>(text: &'a [u8], common: &[u8]) -> Option<&'a [u8]>
+    ensures { IfSome result (λ own. text.now ≡ own.now ++ common.now) }
 {
-    match text.strip_suffix(common) {
-        Some(own) => Ok(ReadyText {
-            own: copied(alloc, own)?,
-            shares: true,
-        }),
-        None => Ok(ReadyText {
-            own: copied(alloc, text)?,
-            shares: false,
-        }),
+    if text.len() / 2 >= common.len() {
+        return None;
     }
+    match text.strip_suffix(common) {
+        Some(own) => Some(own),
+        None => None,
+    }
+}
+
+/// The text, without the end that it shares, if it does.
+fn ready_text(alloc: Global, text: Line, common: &[u8]) -> Result<ReadyText, AllocError>
+    ensures { IfOk result (λ one. whole_text common.now one.shares one.own ≡ text) }
+{
+    let Some(own) = own_part(text.items(), common) else {
+        return Ok(ReadyText {
+            own: text,
+            shares: false,
+        });
+    };
+    Ok(ReadyText {
+        own: copied(alloc, own)?,
+        shares: true,
+    })
 }
 
 impl ReadyTexts {
@@ -89,8 +102,8 @@ impl ReadyTexts {
     }
 
     /// Puts a text after the others.
-    pub(crate) fn push(&mut self, alloc: Global, text: &[u8]) -> Result<(), Fault>
-        ensures ok { OnOk result (self.new ≡ self.old ++ text.now ∷ []) }
+    pub(crate) fn push(&mut self, alloc: Global, text: Line) -> Result<(), Fault>
+        ensures ok { OnOk result (self.new ≡ self.old ++ text ∷ []) }
         ensures fault { IfErr result (λ fault. fault ≡ Fault.Memory) }
     {
         let one = ready_text(alloc, text, self.common.items())?;
@@ -110,29 +123,6 @@ impl ReadyTexts {
             b""
         };
         (text.own.items(), end)
-    }
-
-    /// The text at a place.
-    fn line_at(&self, alloc: Global, at: usize) -> Result<Line, AllocError>
-        requires { at < length self.now }
-        ensures { IfOk result (λ line. line ≡ get_or self.now at []) }
-    {
-        let (own, end) = self.parts_at(at);
-        let mut line = Line::from_vec(Vec::with_capacity(alloc, own.len() + end.len())?);
-        line.append(own)?;
-        line.append(end)?;
-        Ok(line)
-    }
-
-    /// The texts, each whole.
-    pub(crate) fn lines(&self, alloc: Global) -> Result<VecDeque<Line>, AllocError>
-        ensures { IfOk result (λ lines. lines.items ≡ self.now) }
-    {
-        let mut lines = VecDeque::with_capacity(alloc, self.len())?;
-        for at in 0..self.len() {
-            lines.push_back(self.line_at(alloc, at)?)?;
-        }
-        Ok(lines)
     }
 
     /// Writes the texts, each with its newline. It takes no memory.
