@@ -142,6 +142,9 @@ WORST = (
     Worst("a document on the first line: empty objects", "filter", 300_000, bare, 33),
     Worst("a document on the first line, refused late: arrays of one index", "filter", 1_000_000, refused_late(nested_leaf), 23, BOUNDARY),
     Worst("a document on the first line: 200 buildings, a large appearance", "filter", 200, lambda n: with_appearance(n, MEGA), 9),
+    Worst("a document on the first line of a merged tile: small objects", "merge", 60_000, apart, 9),
+    Worst("a document on the first line of a merged tile: empty objects", "merge", 300_000, bare, 35),
+    Worst("a document on the first line of a merged tile: objects that name one child", "merge", 200_000, with_child, 21),
     Worst("a document on the first line, refused: small objects", "filter", 60_000, orphan(apart), 23, ORPHAN),
 )
 
@@ -149,7 +152,8 @@ WORST = (
 def measure(bench, worst):
     path = bench.write("worst", worst.make(worst.count))
     size = os.path.getsize(path)
-    run = Run([bench.program, worst.command], path)
+    words, given = ([path], os.devnull) if worst.command == "merge" else ([], path)
+    run = Run([bench.program, worst.command, *words], given)
     os.remove(path)
     if (run.status, worst.fault in run.errors) != (1 if worst.fault else 0, True):
         bench.fail("%s: %s" % (worst.name, run.trouble()))
