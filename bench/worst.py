@@ -142,6 +142,8 @@ WORST = (
     Worst("a document on the first line: empty objects", "filter", 300_000, bare, 33),
     Worst("a document on the first line, refused late: arrays of one index", "filter", 1_000_000, refused_late(nested_leaf), 23, BOUNDARY),
     Worst("a document on the first line: 200 buildings, a large appearance", "filter", 200, lambda n: with_appearance(n, MEGA), 9),
+    Worst("a document on the first line of a merged tile: 200 buildings, a large appearance", "merge", 200, lambda n: with_appearance(n, MEGA), 9),
+    Worst("a document on the first line of a tile merged in turn: the same", "merge --in-turn", 200, lambda n: with_appearance(n, MEGA), 9),
     Worst("a document on the first line of a merged tile: small objects", "merge", 60_000, apart, 9),
     Worst("a document on the first line of a merged tile: empty objects", "merge", 300_000, bare, 35),
     Worst("a document on the first line of a merged tile: objects that name one child", "merge", 200_000, with_child, 21),
@@ -152,14 +154,14 @@ WORST = (
 def measure(bench, worst):
     path = bench.write("worst", worst.make(worst.count))
     size = os.path.getsize(path)
-    words, given = ([path], os.devnull) if worst.command == "merge" else ([], path)
-    run = Run([bench.program, worst.command, *words], given)
+    words, given = ([path], os.devnull) if "merge" in worst.command else ([], path)
+    run = Run([bench.program, *worst.command.split(), *words], given)
     os.remove(path)
     if (run.status, worst.fault in run.errors) != (1 if worst.fault else 0, True):
         bench.fail("%s: %s" % (worst.name, run.trouble()))
         return
     times = run.peak / size
-    bench.say("  %-62s %6.1f MB: peak memory %7.1f MB, %5.1f times" % (worst.name, size / MEGA, run.peak / MEGA, times))
+    bench.say("  %-82s %6.1f MB: peak memory %7.1f MB, %5.1f times" % (worst.name, size / MEGA, run.peak / MEGA, times))
     if times > worst.most:
         bench.fail("%s: %.1f times its size, at most %g are wanted" % (worst.name, times, worst.most))
 

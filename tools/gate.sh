@@ -1,37 +1,56 @@
 #!/bin/sh
-# All that has to hold. The documents and what must not compile come first, then the gate: every proof from
-# nothing, the edits that must fail, the tests. The program that the gate built is then tried at its edges,
-# installed, given many tiles and the documents' commands, and packed. Ends in the gate's own last line.
+# All that has to hold. The documents come first, then the gate: every proof from nothing, the edits that must fail, the
+# tests; beside it what must not compile. The program that the gate built is then tried at its edges, installed, given
+# many tiles and the documents' commands, and beside that held against its model and packed. Ends in the gate's own last
+# line.
 set -u
 cd "$(dirname "$0")/.."
 tools/need.sh rt python3 cc || exit 1
 python3 tools/docs_test.py || exit 1
-python3 tools/must_not_compile.py || exit 1
+mkdir -p build
 
-# Left to itself, rt reckons with more memory than checks take, and the longest of them, that of tile_merge, finds no
-# room beside smaller ones until these have ended. So it gets as many checks side by side as there are processors, and
-# 5 GB of memory for each.
+# Waits for a command that runs in the background and writes to this file of build/, prints what it wrote, and fails
+# where it failed.
+ended_well() {
+    wait "$1"
+    status=$?
+    cat "build/$2"
+    return "$status"
+}
+
+python3 tools/must_not_compile.py >build/compile_test.log 2>&1 &
+compiling=$!
+
+# Left to itself, rt reckons with more memory than checks take, and the longest of them finds no room beside smaller ones
+# until these have ended. So it gets as many checks side by side as there are processors, and 5 GB of memory for each.
 room=$(($(awk '/^MemAvailable/ { print $2 }' /proc/meminfo) / 5000000))
 lanes=$(nproc)
 [ "$lanes" -le "$room" ] || lanes=$room
 [ "$lanes" -ge 1 ] || lanes=1
 
 echo 'The gate: every proof from nothing, the edits that must fail, the tests.'
-mkdir -p build
 log=build/gate.log
 {
     RT_JOBS=${RT_JOBS:-$lanes} tools/at_work.sh 'the gate' rt ci
     echo $? >build/gate.status
 } | tee "$log"
+ended_well "$compiling" compile_test.log || exit 1
 [ "$(cat build/gate.status)" -eq 0 ] || exit 1
 cp crates/citymerge/out/citymerge build/citymerge.new
 mv build/citymerge.new build/citymerge
 cp examples/many_tiles.py build/citymerge-many
+
+python3 tools/torture/torture.py --short build/citymerge >build/torture.log 2>&1 &
+torturing=$!
+tools/growths.sh --built >build/growths.log 2>&1 &
+growing=$!
+tools/dist_test.sh >build/dist_test.log 2>&1 &
+packing=$!
 tools/program_test.sh build/citymerge || exit 1
 tools/install_test.sh || exit 1
 python3 tools/many_tiles_test.py build/citymerge || exit 1
 python3 tools/commands_test.py build/citymerge || exit 1
-python3 tools/torture/torture.py --short build/citymerge || exit 1
-tools/growths.sh --built || exit 1
-tools/dist_test.sh || exit 1
+ended_well "$torturing" torture.log || exit 1
+ended_well "$growing" growths.log || exit 1
+ended_well "$packing" dist_test.log || exit 1
 tail -n 1 "$log"

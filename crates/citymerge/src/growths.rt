@@ -111,13 +111,13 @@ fn expect_status(
     for text in wants {
         if errors.ends_with(text) {
             wanted(rt, call);
-            assert_eq!(rt; status, 1);
+            assert!(rt; status == 1);
             assert!(rt; errors.starts_with(b"citymerge: "));
             return Err(Fault::Memory);
         }
     }
-    assert_eq!(rt; errors, said.as_bytes());
-    assert_eq!(rt; status == 0, said.is_empty());
+    assert!(rt; errors == said.as_bytes());
+    assert!(rt; (status == 0) == said.is_empty());
     Ok(())
 }
 
@@ -137,7 +137,7 @@ fn expect_filter(
     let written = lines_in(output.bytes(), lines);
     assert!(rt; written.is_some());
     expect_status(rt, Call("run_filter"), (status, errors.bytes()), said)?;
-    assert_eq!(rt; written, Some(lines.len()));
+    assert!(rt; written == Some(lines.len()));
     Ok(())
 }
 
@@ -168,7 +168,7 @@ fn expect_cat(
     let written = lines_in(output.bytes(), lines);
     assert!(rt; status == 0 || written == Some(0));
     expect_status(rt, Call("run_cat"), (status, errors.bytes()), said)?;
-    assert_eq!(rt; written, Some(lines.len()));
+    assert!(rt; written == Some(lines.len()));
     Ok(())
 }
 
@@ -213,13 +213,13 @@ where
     expect_status(rt, call, (status, errors.bytes()), said)?;
     let lines = [HEADER, A1, B1, A2];
     if in_turn {
-        assert_eq!(rt; lines_in(output.bytes(), &lines), Some(4));
+        assert!(rt; lines_in(output.bytes(), &lines) == Some(4));
     }
     let mut length = 0usize;
     for line in lines {
         length = length.saturating_add(line.len()).saturating_add(1);
     }
-    assert_eq!(rt; output.bytes().len(), length);
+    assert!(rt; output.bytes().len() == length);
     Ok(())
 }
 
@@ -247,7 +247,7 @@ fn expect_args(rt: &(impl Abort + AllocGlobal + Eprint)) -> Result<(), Fault> {
     match parse_args(alloc, Ok(words.into_iter())) {
         Parsed::Filter(choice) => {
             let count = choice.types.as_ref().map_or(0, |types| types.items().len());
-            assert_eq!(rt; count, 2);
+            assert!(rt; count == 2);
             Ok(())
         }
         Parsed::Memory => {
@@ -268,7 +268,7 @@ fn expect_wrong_words(rt: &(impl Abort + AllocGlobal + Eprint)) -> Result<(), Fa
     match parse_args(rt.alloc(), Err(refused)) {
         Parsed::Usage(text) => {
             let said = b"citymerge: a word is not UTF-8\n";
-            assert_eq!(rt; text.items(), said.as_slice());
+            assert!(rt; text.items() == said.as_slice());
             Ok(())
         }
         Parsed::Memory => {
@@ -287,7 +287,7 @@ fn words_that_cannot_be_had_are_wrong_use(rt: HostRuntime) -> Result<(), Fail> {
 fn expect_output(rt: &(impl Abort + AllocGlobal + Eprint)) -> Result<(), Fault> {
     match buffered(rt.alloc(), Vec::new(rt.alloc())) {
         Ok(mut output) => {
-            assert_eq!(rt; write_all(&mut output, b"all of it"), Ok(()));
+            assert!(rt; write_all(&mut output, b"all of it") == Ok(()));
             Ok(())
         }
         Err(fault) => {
@@ -317,11 +317,11 @@ fn expect_tiles(
     let paths = paths_of(rt.alloc(), &["/dev/null", "/dev/null"])?;
     match open_tiles(rt.alloc(), files, &paths) {
         Ok(readers) => {
-            assert_eq!(rt; readers.len(), 2);
+            assert!(rt; readers.len() == 2);
             Ok(())
         }
         Err(refused) => {
-            assert_eq!(rt; refused, MergeFault::of_no_line(Fault::Memory));
+            assert!(rt; refused == MergeFault::of_no_line(Fault::Memory));
             wanted(rt, Call("open_tiles"));
             Err(refused.fault)
         }
@@ -345,11 +345,11 @@ fn what_is_said_takes_no_memory(rt: HostRuntime) -> Result<(), Fail> {
         fault: Fault::Memory,
     };
     let gone = take(alloc);
-    assert_eq!(rt; report_fault(&fault, &mut errors), 1);
-    assert_eq!(rt; show_help(&text, &mut errors), 0);
-    assert_eq!(rt; show_usage(&text, &mut errors), 2);
+    assert!(rt; report_fault(&fault, &mut errors) == 1);
+    assert!(rt; show_help(&text, &mut errors) == 0);
+    assert!(rt; show_usage(&text, &mut errors) == 2);
     let said = b"citymerge: tile 2 line 3: there is not enough memory\nhelp\nhelp\n";
-    assert_eq!(rt; errors.bytes(), said.as_slice());
+    assert!(rt; errors.bytes() == said.as_slice());
     give(&rt, gone);
     Ok(())
 }
@@ -368,7 +368,7 @@ fn too_many_tiles_take_no_memory(rt: HostRuntime) -> Result<(), Fail> {
         Ok(_) => None,
         Err(refused) => Some(refused),
     };
-    assert_eq!(rt; refused, Some(many));
+    assert!(rt; refused == Some(many));
     give(&rt, gone);
     Ok(())
 }

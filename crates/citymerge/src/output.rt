@@ -65,15 +65,15 @@ mod tests {
             },
         )?;
         for _ in 0..3u8 {
-            assert_eq!(rt; write_all(&mut output, b"[1]\n"), Ok(()));
+            assert!(rt; write_all(&mut output, b"[1]\n") == Ok(()));
         }
-        assert_eq!(rt; writes.load(SeqCst), 0);
-        assert_eq!(rt; output.flush(), Ok(()));
-        assert_eq!(rt; writes.load(SeqCst), 1);
-        assert_eq!(rt; flushes.load(SeqCst), 1);
+        assert!(rt; writes.load(SeqCst) == 0);
+        assert!(rt; output.flush() == Ok(()));
+        assert!(rt; writes.load(SeqCst) == 1);
+        assert!(rt; flushes.load(SeqCst) == 1);
         let long = "a".repeat(rt.alloc(), 100_000)?;
-        assert_eq!(rt; write_all(&mut output, long.as_bytes()), Ok(()));
-        assert_eq!(rt; writes.load(SeqCst), 2);
+        assert!(rt; write_all(&mut output, long.as_bytes()) == Ok(()));
+        assert!(rt; writes.load(SeqCst) == 2);
         Ok(())
     }
 }

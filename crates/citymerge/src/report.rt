@@ -83,8 +83,8 @@ mod tests {
         ] {
             let fault = MergeFault { tile, line, fault };
             let mut errors = Bin::new(rt.alloc(), 128, 128, false)?;
-            assert_eq!(rt; report_fault(&fault, &mut errors), 1);
-            assert_eq!(rt; errors.bytes(), said.as_bytes());
+            assert!(rt; report_fault(&fault, &mut errors) == 1);
+            assert!(rt; errors.bytes() == said.as_bytes());
         }
         Ok(())
     }
@@ -93,8 +93,8 @@ mod tests {
     fn a_failed_fault_line_leaves_the_status(rt: HostRuntime) -> Result<(), Fail> {
         let fault = MergeFault::of_line(1, Fault::Syntax);
         let mut errors = Bin::new(rt.alloc(), 4, 4, true)?;
-        assert_eq!(rt; report_fault(&fault, &mut errors), 1);
-        assert_eq!(rt; errors.bytes(), b"city".as_slice());
+        assert!(rt; report_fault(&fault, &mut errors) == 1);
+        assert!(rt; errors.bytes() == b"city".as_slice());
         Ok(())
     }
 
@@ -107,11 +107,11 @@ mod tests {
             (3, false, "hel"),
         ] {
             let mut output = Bin::new(rt.alloc(), room, 9, flush_fails)?;
-            assert_eq!(rt; show_help(&text, &mut output), 0);
-            assert_eq!(rt; output.bytes(), shown.as_bytes());
+            assert!(rt; show_help(&text, &mut output) == 0);
+            assert!(rt; output.bytes() == shown.as_bytes());
             let mut errors = Bin::new(rt.alloc(), room, 9, false)?;
-            assert_eq!(rt; show_usage(&text, &mut errors), 2);
-            assert_eq!(rt; errors.bytes(), shown.as_bytes());
+            assert!(rt; show_usage(&text, &mut errors) == 2);
+            assert!(rt; errors.bytes() == shown.as_bytes());
         }
         Ok(())
     }

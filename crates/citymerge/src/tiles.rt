@@ -126,13 +126,13 @@ mod tests {
                 panic!(rt; "opened");
             };
             let fault = Fault::Read;
-            assert_eq!(rt;
-                refusal,
-                MergeFault {
-                    tile,
-                    line: 0,
-                    fault
-                }
+            assert!(rt;
+                refusal
+                    == MergeFault {
+                        tile,
+                        line: 0,
+                        fault
+                    }
             );
         }
         Ok(())
@@ -147,7 +147,7 @@ mod tests {
         for reader in readers.iter_mut() {
             counts.push(reader.read(&mut [1; 4])?)?;
         }
-        assert_eq!(rt; counts.as_slice(), [4usize, 0, 0].as_slice());
+        assert!(rt; counts.as_slice() == [4usize, 0, 0].as_slice());
         Ok(())
     }
 
@@ -162,7 +162,7 @@ mod tests {
         else {
             panic!(rt; "opened");
         };
-        assert_eq!(rt; refusal, MergeFault::of_no_line(Fault::TooManyTiles));
+        assert!(rt; refusal == MergeFault::of_no_line(Fault::TooManyTiles));
         Ok(())
     }
 }

@@ -64,7 +64,7 @@ fn expect_appended(rt: &(impl Abort + AllocGlobal + Eprint)) -> Result<(), Fault
             assert!(rt; line.items() == b"[".as_slice());
             append_vertex(b',', &vertex, &mut line)?;
         }
-        assert_eq!(rt; line.items().strip_prefix(b"[,"), Some(text.as_bytes()));
+        assert!(rt; line.items().strip_prefix(b"[,") == Some(text.as_bytes()));
     }
     Ok(())
 }
@@ -296,7 +296,7 @@ fn expect_line(rt: &(impl Abort + AllocGlobal + Eprint), bytes: &[u8]) -> Result
         Ok(answer) => answer,
     };
     assert!(rt; answer);
-    assert_eq!(rt; text.items().strip_prefix(b"front "), Some(MOVED));
+    assert!(rt; text.items().strip_prefix(b"front ") == Some(MOVED));
     Ok(())
 }
 

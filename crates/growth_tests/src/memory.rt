@@ -34,7 +34,7 @@ pub(crate) fn take(alloc: Global) -> bool {
 
 /// Gives the memory back, which up to here was gone, if it is said that it was.
 pub(crate) fn give(rt: &(impl Abort + AllocGlobal), was_gone: bool) {
-    assert_eq!(rt; is_gone(rt.alloc()), was_gone);
+    assert!(rt; is_gone(rt.alloc()) == was_gone);
     is_refused(rt.alloc(), GIVE);
 }
 

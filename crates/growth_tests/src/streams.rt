@@ -364,7 +364,7 @@ fn expect_cat(
         Ok(count) => {
             assert!(rt; Ok(count) == comes);
             let left = after_line(written, HEADER).unwrap_or(b"");
-            assert_eq!(rt; after_line(left, BUILDING), Some([].as_slice()));
+            assert!(rt; after_line(left, BUILDING) == Some([].as_slice()));
             Ok(())
         }
         Err(refused) => {

@@ -51,7 +51,7 @@ fn expect_intake(rt: &(impl Abort + AllocGlobal + Eprint)) -> Result<(), Fault> 
         wanted(rt, Call("read_all"));
         let second = read_all(rt.alloc(), &mut source, 1_000_000);
         let left = text.as_bytes().get(bytes.len()..);
-        assert_eq!(rt; Some(second.bytes.as_slice()), left);
+        assert!(rt; Some(second.bytes.as_slice()) == left);
         return Err(Fault::Memory);
     }
     assert!(rt; first.stop == Stop::End);
@@ -69,7 +69,7 @@ fn expect_read(
         Ok(value) => {
             let mut line = Line::new(rt.alloc());
             print(&value, &mut line)?;
-            assert_eq!(rt; Ok(line.items()), compact.map(str::as_bytes));
+            assert!(rt; Ok(line.items()) == compact.map(str::as_bytes));
             Ok(())
         }
         Err(Fault::Memory) => Err(Fault::Memory),
@@ -112,7 +112,7 @@ fn expect_print(rt: &(impl Abort + AllocGlobal + Eprint)) -> Result<(), Fault> {
         assert!(rt; line.items() == b"7 ".as_slice());
         print(&value, &mut line)?;
     }
-    assert_eq!(rt; line.items().strip_prefix(b"7 "), Some(COMPACT));
+    assert!(rt; line.items().strip_prefix(b"7 ") == Some(COMPACT));
     Ok(())
 }
 

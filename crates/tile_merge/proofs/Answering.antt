@@ -13,7 +13,7 @@ use Rattle.tile_stream.specs.Filtered.{failures_after_merge}
 use Rattle.tile_merge.specs.Feeds.{Course}
 use Rattle.tile_merge.specs.Giving.{Giving, Mixing, merging}
 use Rattle.tile_merge.specs.Merged.{MergedAll, Merges, WroteMerge, WroteFrontOf, IsRefusedEarly, IsOutputFault, IsRefusedMerge, merged_texts, merged_outcomes}
-use Rattle.tile_merge.specs.Opened.{AllThree, AreJoined, OpenState}
+use Rattle.tile_merge.specs.Opened.{AllThree, AreJoined, MayGive, OpenState}
 use Rattle.tile_merge.specs.Rounds.{course_texts, course_ends}
 use Rattle.tile_stream.specs.Stream.{stream}
 use Rattle.tile_stream.specs.Texts.{Outcome}
@@ -22,7 +22,7 @@ use Rattle.byte_streams.specs.declared.places.MergeFault.{MergeFault}
 use Rattle.byte_streams.specs.declared.places.LineFault.{LineFault}
 use Rattle.tile_merge.specs.declared.merging.ends.TileEnd.{TileEnd}
 use Rattle.tile_merge.specs.declared.merging.report.Report.{Report}
-use Rattle.tile_merge.proofs.MergedTiles.{AreMerged, MayGive, are_merged, merges}
+use Rattle.tile_merge.proofs.MergedTiles.{AreMerged, are_merged, merges}
 use Rattle.tile_merge.proofs.Readying.{quiet_tile}
 
 -- before a byte is written

@@ -1,18 +1,22 @@
 -- A text, or the end, that was read ahead.
-use Rattle.std.proofs.Common.{◌≡◌, ◌+◌, ◌++◌, ℕ, Bool, true, false, List, [], ◌∷◌, Option, Some, length, if◌then◌else◌, refl, sym, ap, subst, ◌∙◌, arith}
-use Rattle.std.proofs.lemmas.List.{get_or-set_same}
+use Rattle.std.proofs.Common.{◌≡◌, ◌≤◌, ◌<◌, ◌+◌, ◌++◌, ℕ, Bool, true, false, List, [], ◌∷◌, Option, Some, None, length, map, drop, get_or, if◌then◌else◌, refl, sym, ap, subst, ◌∙◌, arith, append_assoc, length-append}
+use Rattle.std.proofs.lemmas.List.{drop_all, drop_more, get_or-set_same}
+use Rattle.std.specs.Io.KnownBytes.{Appends, Keeps}
 use Rattle.city_feature.specs.Feature.{FeatureValue}
 use Rattle.city_grid.specs.Axes.{Triple}
 use Rattle.tile_handoff.specs.Notes.{has_end}
-use Rattle.tile_handoff.specs.Queues.{Queue, QueuesState, queue_of, with_queue, longer}
+use Rattle.tile_handoff.specs.Queues.{Queue, QueuesState, empty_queue, queue_of, with_queue, longer}
 use Rattle.tile_handoff.specs.declared.note.End.{End}
 use Rattle.tile_handoff.specs.declared.note.Note.{Note}
 use Rattle.tile_handoff.specs.declared.note.Note.TheVariants.{Line as LineNote, End as EndNote}
-use Rattle.tile_stream.specs.Coming.{MayComeTo, ComesBack, GivesText, SomethingComes}
+use Rattle.byte_streams.specs.declared.places.LineFault.{LineFault}
+use Rattle.tile_stream.specs.Coming.{MayComeTo, ComesBack, GivesText, GivesTexts, SomethingComes}
 use Rattle.tile_merge.specs.Giving.{Giving}
 use Rattle.tile_merge.specs.declared.merging.ends.TileEnd.{TileEnd}
 use Rattle.tile_merge.specs.EndNotes.{end_of, ended_so}
-use Rattle.tile_merge.specs.Feeds.{FeedState, Course, course_of, ThenComes, NotesCome, MayTake, TakesNone, TakesTurn, SomeCourse}
+use Rattle.tile_merge.specs.Opened.{OpenState}
+use Rattle.tile_merge.specs.Rounds.{IsFeedOf}
+use Rattle.tile_merge.specs.Feeds.{FeedState, Course, behind, course_of, text_before, most_ahead, ThenComes, NotesCome, MayTake, TakesNone, TakesTurn, SomeCourse}
 use Rattle.tile_stream.specs.Texts.{Outcome}
 use Rattle.tile_stream.specs.TileState.{TileState, most_to_come}
 use Rattle.tile_merge.proofs.FaultNumbers.{end_tells}
@@ -79,6 +83,114 @@ module _ (Then More : Course → Type 0) where
         let some = end_follows left is_open come.0 ended come.2 in
         (course_of (other ∷ some.0.texts) some.0.ended, (some.0.texts, refl, some.1))
     end_follows (EndNote other ∷ left) is_open texts ended come = absurd (cc is_open)
+
+-- ---- texts before a queue ----
+
+abbrev line_note : List ℕ → Note
+line_note text = LineNote text
+
+pub behind_longer : (texts : List (List ℕ)) (queue : Queue) (note : Note)
+    → behind texts (longer queue note) ≡ longer (behind texts queue) note
+behind_longer texts queue (LineNote text) =
+    ap (λ left. record { closed = queue.closed; left = left })
+    (sym (append_assoc (map line_note texts) queue.left (LineNote text ∷ [])))
+behind_longer texts queue (EndNote end) =
+    ap (λ left. record { closed = true; left = left })
+    (sym (append_assoc (map line_note texts) queue.left (EndNote end ∷ [])))
+
+pub open_behind : (texts : List (List ℕ)) (left : List Note) → has_end left ≡ false
+    → has_end (map line_note texts ++ left) ≡ false
+open_behind [] left is = is
+open_behind (text ∷ texts) left is = open_behind texts left is
+
+module _ (Then : Course → Type 0) where
+  notes_behind : (texts : List (List ℕ)) (left : List Note) (all : List (List ℕ)) (ended : TileEnd)
+      → NotesCome Then (map line_note texts ++ left) all ended
+      → (more : List (List ℕ)) × (all ≡ texts ++ more) × NotesCome Then left more ended
+  notes_behind [] left all ended come = (all, refl, come)
+  notes_behind (text ∷ texts) left all ended come =
+      let there = notes_behind texts left come.0 ended come.2 in
+      (there.0, come.1 ∙ ap (λ ts. text ∷ ts) there.1, there.2)
+
+  notes_first : (texts : List (List ℕ)) (left : List Note) (more : List (List ℕ)) (ended : TileEnd)
+      → NotesCome Then left more ended → NotesCome Then (map line_note texts ++ left) (texts ++ more) ended
+  notes_first [] left more ended come = come
+  notes_first (text ∷ texts) left more ended come = (texts ++ more, refl, notes_first texts left more ended come)
+
+-- the next of the texts stands first, and where there is none the queue is all
+pub first_left : (texts : List (List ℕ)) (at : ℕ) → at < length texts → (queue : Queue)
+    → (behind (drop at texts) queue).left ≡ LineNote (get_or texts at []) ∷ (behind (drop (at + 1) texts) queue).left
+first_left texts at within queue = ap (λ ts. map line_note ts ++ queue.left) (drop_more texts at [] within)
+
+pub none_left : (texts : List (List ℕ)) (at : ℕ) → length texts ≤ at → (queue : Queue)
+    → behind (drop at texts) queue ≡ queue
+none_left texts at beyond queue = ap (λ ts. behind ts queue) (drop_all at texts beyond)
+
+-- a feed that was just made: the texts of the first line were taken
+module _ {R : Type 0} (gives : Giving R) (IsWanted : FeatureValue → Type 0) (tile : OpenState R) (shift : Triple)
+    (capacity : ℕ) (now : TileState R) where
+  abbrev new_feed : List (List ℕ) → Queue → ℕ → FeedState R
+  new_feed first queue count = record {
+    unread = now;
+    shift = shift;
+    capacity = capacity;
+    notes = behind first queue;
+    count = count;
+    last = None;
+  }
+
+  pub feed_begins : (first : List (List ℕ)) → GivesTexts (MayComeTo gives IsWanted shift tile.unread)
+      (MayComeTo gives IsWanted shift now) first → SomethingComes (MayComeTo gives IsWanted shift now)
+      → (queue : Queue) → queue ≡ empty_queue → (count : ℕ) → count ≡ length first
+      → IsFeedOf gives IsWanted tile shift (new_feed first queue count)
+  feed_begins first texts some queue is count counts =
+      let Then : Course → Type 0 = λ course. ThenComes false gives IsWanted shift now count None course in
+      let ended = ended_so (count + length some.0) some.1.0 in
+      let Is : Queue → Type 0 = λ q. IsFeedOf gives IsWanted tile shift (new_feed first q count) in
+      subst Is (sym is) (
+        λ course may.
+            let there = notes_behind Then first [] course.texts course.ended may in (
+              subst (λ ts. MayComeTo gives IsWanted shift tile.unread ts course.ended.stop) (sym there.1)
+                  (texts there.0 course.ended.stop there.2.0),
+              omega (arith, there.2.1, counts, ap length there.1, length-append first there.0),
+            ),
+        λ any. (course_of (first ++ some.0) ended, notes_first Then first [] some.0 ended (some.1.1, refl)),
+      )
+
+  pub feed_stops : (at : LineFault) → MayComeTo gives IsWanted shift tile.unread [] (Some at)
+      → (first : List (List ℕ)) → first ≡ [] → (end : End) → end ≡ end_of (ended_so 0 (Some at))
+      → (queue : Queue) → queue ≡ longer empty_queue (EndNote end) → (count : ℕ)
+      → IsFeedOf gives IsWanted tile shift (new_feed first queue count)
+  feed_stops at stops first none end is_end queue is count =
+      let last = ended_so 0 (Some at) in
+      let Is : List (List ℕ) → Queue → Type 0 = λ ts q. IsFeedOf gives IsWanted tile shift (new_feed ts q count) in
+      let Given : List (List ℕ) → TileEnd → Type 0 = λ ts ended.
+      MayComeTo gives IsWanted shift tile.unread ts ended.stop × (ended.count ≡ length ts) in
+      subst (λ ts. Is ts queue) (sym none) (subst (Is []) (sym is) (
+        λ course may.
+            let same : last ≡ course.ended = end_tells last course.ended (sym is_end ∙ may.2) in
+            subst (λ ts. Given ts course.ended) (sym may.1) (subst (Given []) same (stops, refl)),
+        λ any. (course_of [] last, (refl, refl, is_end)),
+      ))
+
+-- a turn after lines were read ahead
+pub turn_later : {R : Type 0} (gives : Giving R) (IsWanted : FeatureValue → Type 0) (before mid after : FeedState R)
+    (text : List ℕ) → TakesNone (MayTake gives IsWanted before) (MayTake gives IsWanted mid)
+    → most_ahead mid ≤ most_ahead before → TakesTurn gives IsWanted mid after (Some text)
+    → TakesTurn gives IsWanted before after (Some text)
+turn_later gives IsWanted before mid after text none fewer turn = (
+  λ course come. none (text_before text course) (turn.0 course come),
+  turn.1,
+  omega (arith, turn.2, fewer),
+)
+
+-- bytes that follow those that were passed on
+pub passed_on : (old mid new : Option (List ℕ)) (bytes : List ℕ) → Keeps old mid → Appends mid new bytes
+    → Appends old new bytes
+passed_on None mid new bytes kept appends = tt
+passed_on (Some xs) None new bytes kept appends = absurd kept
+passed_on (Some xs) (Some ys) None bytes kept appends = absurd appends
+passed_on (Some xs) (Some ys) (Some zs) bytes kept appends = appends ∙ ap (λ l. l ++ bytes) kept
 
 -- the queue that was set is there
 pub set_there : (queues : QueuesState) (queue : Queue) → length queues.tiles ≡ 1

@@ -1,66 +1,50 @@
 -- From the tiles that were opened and what they gave to the tiles of a merge.
-use Rattle.std.proofs.Common.{◌≡◌, ◌+◌, ℕ, List, [], ◌∷◌, length, map, refl, sym, ap, subst, ◌∙◌, arith}
+use Rattle.std.proofs.Common.{◌≡◌, ℕ, List, [], ◌∷◌, length, map, refl, sym, ap, subst, ◌∙◌, arith}
 use Rattle.std.specs.List.{AllByRecursion}
 use Rattle.city_feature.specs.Feature.{FeatureValue}
 use Rattle.city_feature.specs.Header.{HeaderValue}
 use Rattle.city_feature.specs.Joined.{IsJoined}
 use Rattle.city_feature.specs.declared.base.Base.{Base}
 use Rattle.city_grid.specs.Axes.{Triple}
-use Rattle.tile_stream.specs.Coming.{MayComeTo}
 use Rattle.tile_merge.specs.Giving.{Giving}
-use Rattle.tile_merge.specs.EndNotes.{ended_so, outcomes_in, totals_in}
-use Rattle.tile_merge.specs.Feeds.{FeedState, Course, course_of, MayTake}
+use Rattle.tile_merge.specs.EndNotes.{outcomes_in, totals_in}
+use Rattle.tile_merge.specs.Feeds.{FeedState, Course}
 use Rattle.tile_merge.specs.Merged.{HeadedTile, MergedTile, HaveHeads, headers_of, merged_shifts, merged_texts, merged_outcomes, ComesToTexts, Merges}
-use Rattle.tile_merge.specs.Opened.{AllThree, OpenState, IsOpened}
+use Rattle.tile_merge.specs.Opened.{AllThree, MayGive, OpenState, IsOpened}
 use Rattle.tile_merge.specs.Rounds.{IsFeedOf, MayTakeAll, SomeCourses, course_texts, course_ends}
 use Rattle.tile_stream.proofs.HeldFirst.{something, tile_comes}
 
 module _ {R : Type 0} (gives : Giving R) (IsWanted : FeatureValue → Type 0) where
-  -- what may come of a tile that was opened, moved by its shift
-  abbrev pub MayGive : OpenState R → Triple → Course → Type 0
-  MayGive tile shift course =
-      MayComeTo gives IsWanted shift tile.unread course.texts course.ended.stop
-      × (course.ended.count ≡ length course.texts)
+  pub given_all : (tiles : List (OpenState R)) (shifts : List Triple) (feeds : List (FeedState R))
+      (courses : List Course) → AllThree (IsFeedOf gives IsWanted) tiles shifts feeds
+      → MayTakeAll gives IsWanted feeds courses → AllThree (MayGive gives IsWanted) tiles shifts courses
+  given_all [] [] [] [] fed may = tt
+  given_all (tile ∷ tiles) (shift ∷ shifts) (feed ∷ feeds) (course ∷ courses) fed may =
+      (fed.0.0 course may.0, given_all tiles shifts feeds courses fed.1 may.1)
+  given_all [] [] [] (course ∷ courses) fed may = absurd may
+  given_all [] [] (feed ∷ feeds) courses fed may = absurd fed
+  given_all [] (shift ∷ shifts) feeds courses fed may = absurd fed
+  given_all (tile ∷ tiles) [] feeds courses fed may = absurd fed
+  given_all (tile ∷ tiles) (shift ∷ shifts) [] courses fed may = absurd fed
+  given_all (tile ∷ tiles) (shift ∷ shifts) (feed ∷ feeds) [] fed may = absurd may
 
-  module _ (capacity : ℕ) where
-    fresh : (tile : OpenState R) (shift : Triple) (feed : FeedState R) → IsFeedOf capacity tile shift feed
-        → (course : Course) → MayTake gives IsWanted feed course → MayGive tile shift course
-    fresh tile shift feed is course may =
-        let there = subst (λ (f : FeedState R). MayTake gives IsWanted f course) is may in
-        (there.0, omega (arith, there.1))
-
-    pub given_all : (tiles : List (OpenState R)) (shifts : List Triple) (feeds : List (FeedState R))
-        (courses : List Course) → AllThree (IsFeedOf capacity) tiles shifts feeds
-        → MayTakeAll gives IsWanted feeds courses → AllThree MayGive tiles shifts courses
-    given_all [] [] [] [] fed may = tt
-    given_all (tile ∷ tiles) (shift ∷ shifts) (feed ∷ feeds) (course ∷ courses) fed may =
-        (fresh tile shift feed fed.0 course may.0, given_all tiles shifts feeds courses fed.1 may.1)
-    given_all [] [] [] (course ∷ courses) fed may = absurd may
-    given_all [] [] (feed ∷ feeds) courses fed may = absurd fed
-    given_all [] (shift ∷ shifts) feeds courses fed may = absurd fed
-    given_all (tile ∷ tiles) [] feeds courses fed may = absurd fed
-    given_all (tile ∷ tiles) (shift ∷ shifts) [] courses fed may = absurd fed
-    given_all (tile ∷ tiles) (shift ∷ shifts) (feed ∷ feeds) [] fed may = absurd may
-
-    -- something may be ahead of each
-    pub some_ahead : (readers : List R) (tiles : List (OpenState R)) (headers : List HeaderValue) (shifts : List Triple)
-        (feeds : List (FeedState R)) → AllThree (IsOpened gives) readers tiles headers
-        → AllThree (IsFeedOf capacity) tiles shifts feeds → SomeCourses (MayTakeAll gives IsWanted feeds)
-    some_ahead [] [] [] [] [] opened fed = ([], tt)
-    some_ahead (reader ∷ readers) (tile ∷ tiles) (header ∷ headers) (shift ∷ shifts) (feed ∷ feeds) opened fed =
-        let one = something gives IsWanted shift tile.unread opened.0.some in
-        let course = course_of one.0 (ended_so (0 + length one.0) one.1.0) in
-        let may = subst (λ (f : FeedState R). MayTake gives IsWanted f course) (sym fed.0) (one.1.1, refl) in
-        let more = some_ahead readers tiles headers shifts feeds opened.1 fed.1 in
-        (course ∷ more.0, (may, more.1))
-    some_ahead [] [] [] [] (feed ∷ feeds) opened fed = absurd fed
-    some_ahead [] [] [] (shift ∷ shifts) feeds opened fed = absurd fed
-    some_ahead [] [] (header ∷ headers) shifts feeds opened fed = absurd opened
-    some_ahead [] (tile ∷ tiles) headers shifts feeds opened fed = absurd opened
-    some_ahead (reader ∷ readers) [] headers shifts feeds opened fed = absurd opened
-    some_ahead (reader ∷ readers) (tile ∷ tiles) [] shifts feeds opened fed = absurd opened
-    some_ahead (reader ∷ readers) (tile ∷ tiles) (header ∷ headers) [] feeds opened fed = absurd fed
-    some_ahead (reader ∷ readers) (tile ∷ tiles) (header ∷ headers) (shift ∷ shifts) [] opened fed = absurd fed
+  -- something may be ahead of each
+  pub some_ahead : (readers : List R) (tiles : List (OpenState R)) (headers : List HeaderValue) (shifts : List Triple)
+      (feeds : List (FeedState R)) → AllThree (IsOpened gives) readers tiles headers
+      → AllThree (IsFeedOf gives IsWanted) tiles shifts feeds → SomeCourses (MayTakeAll gives IsWanted feeds)
+  some_ahead [] [] [] [] [] opened fed = ([], tt)
+  some_ahead (reader ∷ readers) (tile ∷ tiles) (header ∷ headers) (shift ∷ shifts) (feed ∷ feeds) opened fed =
+      let one = fed.0.1 (something gives IsWanted shift tile.unread opened.0.some) in
+      let more = some_ahead readers tiles headers shifts feeds opened.1 fed.1 in
+      (one.0 ∷ more.0, (one.1, more.1))
+  some_ahead [] [] [] [] (feed ∷ feeds) opened fed = absurd fed
+  some_ahead [] [] [] (shift ∷ shifts) feeds opened fed = absurd fed
+  some_ahead [] [] (header ∷ headers) shifts feeds opened fed = absurd opened
+  some_ahead [] (tile ∷ tiles) headers shifts feeds opened fed = absurd opened
+  some_ahead (reader ∷ readers) [] headers shifts feeds opened fed = absurd opened
+  some_ahead (reader ∷ readers) (tile ∷ tiles) [] shifts feeds opened fed = absurd opened
+  some_ahead (reader ∷ readers) (tile ∷ tiles) (header ∷ headers) [] feeds opened fed = absurd fed
+  some_ahead (reader ∷ readers) (tile ∷ tiles) (header ∷ headers) (shift ∷ shifts) [] opened fed = absurd fed
 
   -- the tiles of a merge, each with its head, its shift, and what it gave
   pub record AreMerged (readers : List R) (headers : List HeaderValue) (shifts : List Triple) (courses : List Course) :
@@ -75,7 +59,7 @@ module _ {R : Type 0} (gives : Giving R) (IsWanted : FeatureValue → Type 0) wh
     pub totals_are : totals_in (course_ends courses) ≡ map length (merged_texts merged)
 
   pub are_merged : (readers : List R) (tiles : List (OpenState R)) (headers : List HeaderValue) (shifts : List Triple)
-      (courses : List Course) → AllThree (IsOpened gives) readers tiles headers → AllThree MayGive tiles shifts courses
+      (courses : List Course) → AllThree (IsOpened gives) readers tiles headers → AllThree (MayGive gives IsWanted) tiles shifts courses
       → AreMerged readers headers shifts courses
   are_merged [] [] [] [] [] opened given = record {
     merged = [];

@@ -184,3 +184,17 @@ module _ {X : Type 0} where
             ∙ ap (λ items. get_or taken t [] ++ items) (rest_at t 0 t rests (omega arith))
             ∙ sym (parted_at taken wholes rests parted t);
       }
+
+  nothing_before : (lists : List (List X)) → AllThree AreParted (map (λ list. []) lists) lists lists
+  nothing_before [] = tt
+  nothing_before (list ∷ lists) = (refl, nothing_before lists)
+
+  all_empty : (lists : List (List X)) → AllByRecursion (λ (list : List X). list ≡ []) (map (λ list. []) lists)
+  all_empty [] = tt
+  all_empty (list ∷ lists) = (refl, all_empty lists)
+
+  -- one list after another is an interleaving, too
+  pub flat_mixed : (lists : List (List X)) → Interleaves lists (flat lists)
+  flat_mixed lists =
+      let empties : List (List X) = map (λ list. []) lists in
+      mixed_on empties lists lists (nothing_before lists) [] (none_mixed empties (all_empty lists))

@@ -11,6 +11,7 @@ use Rattle.byte_streams.specs.contracts.line.Line as line_type
 use Rattle.byte_streams.proofs.line.Line.TheSendSync as line
 use Rattle.city_grid.proofs.shifts.Shift.TheSendSync as shift
 use Rattle.city_feature.proofs.choices.Choice.TheSendSync as choice
+use Rattle.tile_merge.proofs.merging.ends.TileEnd.TheSendSync as begun
 use Rattle.tile_merge.specs.contracts.merging.threaded.feeder.FedTile as fed_tile
 use Rattle.tile_merge.specs.contracts.merging.threaded.feeder.FedTile.TheInside as fed_inside
 use Rattle.tile_stream.specs.contracts.tile_reader.TileReader as reader_type
@@ -34,7 +35,7 @@ module _ (R : RattleType) (reader : IsSend R) where
   fed_inside_send : IsSend (fed_inside.the_row R)
   fed_inside_send =
       let T = fed_inside.the_type R in
-      let fields = struct_send (shape T) (reader_send, (shift.the_send, (choice.the_field_send, tt))) in
+      let fields = struct_send (shape T) (reader_send, (shift.the_send, (choice.the_field_send, (begun.the_field_send, tt)))) in
       recorded_send (Struct (shape T)) T.D T.to T.to_one fields
 
   pub fed_tile_send : IsSend (fed_tile.the_row R)

@@ -1,8 +1,10 @@
 -- Tiles that join, each with its thread, or why one has none.
-use Rattle.std.proofs.Common.{◌≡◌, ◌≤◌, ◌<◌, ◌-◌, ◌⊎◌, ℕ, List, [], ◌∷◌, Option, Result, Ok, Err, IfErr, length, inl, inr, refl, sym, ap, subst, arith}
+use Rattle.std.proofs.Common.{◌≡◌, ◌≤◌, ◌<◌, ◌-◌, ◌⊎◌, ◌++◌, ℕ, List, [], ◌∷◌, Option, None, Some, Result, Ok, Err, IfErr, length, inl, inr, refl, sym, ap, subst, ◌∙◌, arith}
 use Rattle.std.proofs.KnownBytes.{Keeps-refl}
 use Rattle.byte_streams.specs.declared.fault.Fault.{Fault}
 use Rattle.byte_streams.specs.declared.fault.Fault.TheVariants.{Memory, NoThread}
+use Rattle.byte_streams.specs.declared.places.LineFault.{LineFault}
+use Rattle.city_feature.specs.Choice.{IsChosen}
 use Rattle.city_feature.specs.Feature.{FeatureValue}
 use Rattle.city_feature.specs.Header.{HeaderValue}
 use Rattle.city_feature.specs.Joined.{IsJoined}
@@ -14,7 +16,11 @@ use Rattle.tile_merge.specs.Interleaves.{Interleaves}
 use Rattle.tile_merge.specs.Merged.{IsRefusedEarly, IsRefusedMerge}
 use Rattle.tile_merge.specs.Opened.{AllThree, AreJoined, OpenState, IsOpened}
 use Rattle.tile_merge.specs.Threaded.{HeadersJoin, HasNoThread, IsRefusedThreaded}
-use Rattle.tile_merge.specs.Threads.{RunningState, AreFresh, IsRunOf, IsUnstarted}
+use Rattle.tile_merge.specs.Threads.{Fed, MayFeed, RunningState, AreFresh, IsRunOf, IsUnstarted, fresh_run}
+use Rattle.tile_merge.specs.EndNotes.{ended_so}
+use Rattle.tile_merge.specs.declared.merging.ends.TileEnd.{TileEnd}
+use Rattle.tile_stream.specs.Coming.{GivesTexts, MayComeTo}
+use Rattle.tile_stream.specs.TileState.{TileState}
 use Rattle.byte_streams.specs.declared.places.MergeFault.{MergeFault}
 use Rattle.tile_merge.specs.declared.merging.report.Report.{Report}
 use Rattle.tile_merge.proofs.Answering.{of_early}
@@ -74,15 +80,44 @@ module _ {R : Type 0} (gives : Giving R) (base : Base) (readers : List R) where
   refused_all IsWanted old new (Ok report) refused = tt
   refused_all IsWanted old new (Err e) refused = inr refused
 
--- nothing was taken of tiles whose threads were only started
-pub are_fresh : {R : Type 0} (choice : Choice) (tiles : List (OpenState R)) (shifts : List Triple)
-    (running : List (RunningState R)) → AllThree (IsRunOf choice) tiles shifts running → AreFresh running
-are_fresh choice [] [] [] runs = tt
-are_fresh choice (tile ∷ tiles) (shift ∷ shifts) (run ∷ running) runs = (
-  (ap (λ (r : RunningState _). r.lines) runs.0, ap (λ (r : RunningState _). r.cancels) runs.0),
-  are_fresh choice tiles shifts running runs.1,
-)
-are_fresh choice [] [] (run ∷ running) runs = absurd runs
-are_fresh choice [] (shift ∷ shifts) running runs = absurd runs
-are_fresh choice (tile ∷ tiles) [] running runs = absurd runs
-are_fresh choice (tile ∷ tiles) (shift ∷ shifts) [] runs = absurd runs
+-- nothing was taken yet of what threads put that were only started
+pub are_fresh : {R : Type 0} (gives : Giving R) (choice : Choice) (tiles : List (OpenState R)) (shifts : List Triple)
+    (running : List (RunningState R)) → AllThree (IsRunOf gives choice) tiles shifts running → AreFresh running
+are_fresh gives choice [] [] [] runs = tt
+are_fresh gives choice (tile ∷ tiles) (shift ∷ shifts) (run ∷ running) runs =
+    ((runs.0.lines, runs.0.unasked), are_fresh gives choice tiles shifts running runs.1)
+are_fresh gives choice [] [] (run ∷ running) runs = absurd runs
+are_fresh gives choice [] (shift ∷ shifts) running runs = absurd runs
+are_fresh gives choice (tile ∷ tiles) [] running runs = absurd runs
+are_fresh gives choice (tile ∷ tiles) (shift ∷ shifts) [] runs = absurd runs
+
+-- what a tile gives whose first line was taken, and that of its thread
+module _ {R : Type 0} (gives : Giving R) (choice : Choice) (tile : OpenState R) (shift : Triple) (now : TileState R) where
+  abbrev of_thread : TileEnd → Fed R
+  of_thread begun = record { unread = now; shift = shift; choice = choice; begun = begun }
+
+  pub runs_on : (first : List (List ℕ)) → GivesTexts (MayComeTo gives (IsChosen choice) shift tile.unread)
+      (MayComeTo gives (IsChosen choice) shift now) first → (begun : TileEnd) → begun ≡ ended_so (length first) None
+      → IsRunOf gives choice tile shift (fresh_run (record { fed = of_thread begun; first = first }))
+  runs_on first texts begun is = record {
+    comes = λ all outcome come.
+        let May : TileEnd → Type 0 = λ b. MayFeed gives (of_thread b) come.0 outcome in
+        subst (λ ts. MayComeTo gives (IsChosen choice) shift tile.unread ts outcome) (sym come.1)
+        (texts come.0 outcome (subst May is come.2));
+    lines = refl;
+    unasked = refl;
+  }
+
+  pub stops_there : (at : LineFault) → MayComeTo gives (IsChosen choice) shift tile.unread [] (Some at)
+      → (first : List (List ℕ)) → first ≡ [] → (begun : TileEnd) → begun ≡ ended_so (length first) (Some at)
+      → IsRunOf gives choice tile shift (fresh_run (record { fed = of_thread begun; first = first }))
+  stops_there at stops first none begun is = record {
+    comes = λ all outcome come.
+        let May : TileEnd → Type 0 = λ b. MayFeed gives (of_thread b) come.0 outcome in
+        let stopped = subst May is come.2 in
+        let all_is : all ≡ [] = come.1 ∙ ap (λ ts. ts ++ come.0) none ∙ stopped.0 in
+        subst (λ ts. MayComeTo gives (IsChosen choice) shift tile.unread ts outcome) (sym all_is)
+        (subst (MayComeTo gives (IsChosen choice) shift tile.unread []) (sym stopped.1) stops);
+    lines = refl;
+    unasked = refl;
+  }

@@ -1,5 +1,5 @@
 -- The lines among the notes that were taken of a tile, and its end note.
-use Rattle.std.proofs.Common.{◌≡◌, ◌++◌, ℕ, List, [], ◌∷◌, Option, Some, None, is_some, length, map, refl, sym, ap, subst, ◌∙◌, true, append-nil}
+use Rattle.std.proofs.Common.{◌≡◌, ◌+◌, ◌++◌, ℕ, List, [], ◌∷◌, Option, Some, None, is_some, length, map, refl, sym, ap, subst, ◌∙◌, true, arith, append_assoc, append-nil, length-append}
 use Rattle.tile_handoff.specs.declared.note.End.{End}
 use Rattle.tile_handoff.specs.declared.note.Note.{Note}
 use Rattle.tile_handoff.specs.declared.note.Note.TheVariants.{Line as LineNote, End as EndNote}
@@ -49,32 +49,47 @@ pub some_end : (last : Option TileEnd) → is_some last ≡ true → (end : Tile
 some_end None is = absurd (cc is)
 some_end (Some end) is = (end, refl)
 
--- what was taken of a tile, all that its thread put, is what the tile gave, or the first of it
-pub has_given : {R : Type 0} (gives : Giving R) (fed : Fed R) (last : Option TileEnd) (cancels : ℕ)
+-- what was taken of a tile, all that its thread put, is what the tile gave, or the first of it; the texts of its first
+-- line were taken before
+pub has_given : {R : Type 0} (gives : Giving R) (fed : Fed R) (first : List (List ℕ)) → fed.begun.count ≡ length first
+    → (last : Option TileEnd) (cancels : ℕ)
     (Unasked : Type 0) (end : TileEnd) → last ≡ Some end → (before carried taken : List Note) → before ≡ []
     → IsFed gives fed Unasked before carried → taken ≡ carried → TellsEnd last taken → (cancels ≡ 0 → Unasked)
-    → (course : Course) × HasGiven gives (record { fed = fed; lines = lines_in taken; last = last; cancels = cancels })
-    course
-has_given gives fed last cancels Unasked end is before carried taken empty put whole tells unasked =
+    → (course : Course) × HasGiven gives (record {
+      begun = record { fed = fed; first = first };
+      lines = first ++ lines_in taken;
+      last = last;
+      cancels = cancels;
+    }) course
+has_given gives fed first counts last cancels Unasked end is before carried taken empty put whole tells unasked =
     let told = subst (λ l. TellsEnd l taken) is tells in
     let are : taken ≡ notes_of put.texts put.end =
     whole ∙ put.put ∙ ap (λ ns. ns ++ notes_of put.texts put.end) empty in
     let notes = map line_note put.texts in
-    let all = put.texts ++ put.others in
+    let all = first ++ put.texts ++ put.others in
     let note_is : told.1 ≡ put.end = same_end put.texts put.end told.1 told.0 (sym are ∙ told.2) in (
       course_of all (ended_so (length all) put.outcome),
       record {
-        texts = put.texts;
+        texts = first ++ put.texts;
         others = put.others;
         are = refl;
-        comes = put.comes;
+        comes = (put.texts ++ put.others, append_assoc first put.texts put.others, put.comes);
         counted = refl;
-        lines = ap lines_in are ∙ lines_ended notes put.end ∙ lines_of_notes put.texts;
+        lines = ap (λ ls. first ++ ls) (ap lines_in are ∙ lines_ended notes put.end ∙ lines_of_notes put.texts);
         whole = λ none.
             let all_came = put.whole (unasked none) in
-            let texts_are : put.texts ≡ all = sym (append-nil put.texts)
+            let texts_are : put.texts ≡ put.texts ++ put.others = sym (append-nil put.texts)
             ∙ ap (λ others. put.texts ++ others) (sym all_came.0) in
-            let is_end = note_is ∙ all_came.1 ∙ ap (λ texts. end_of (ended_so (length texts) put.outcome)) texts_are in
+            let count : fed.begun.count + length put.texts ≡ length all =
+            omega (
+              arith,
+              counts,
+              length-append first put.texts,
+              ap length (append_assoc first put.texts put.others),
+              length-append first (put.texts ++ put.others),
+              ap length texts_are,
+            ) in
+            let is_end = note_is ∙ all_came.1 ∙ ap (λ n. end_of (ended_so n put.outcome)) count in
             (all_came.0, is ∙ ap Some (told.3 (ended_so (length all) put.outcome) is_end));
       },
     )

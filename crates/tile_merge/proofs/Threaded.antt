@@ -15,10 +15,10 @@ use Rattle.tile_merge.specs.EndNotes.{outcomes_in, totals_in}
 use Rattle.tile_merge.specs.Feeds.{Course}
 use Rattle.tile_merge.specs.Interleaves.{Interleaves}
 use Rattle.tile_merge.specs.Merged.{MergedAll, IsRefusedMerge}
-use Rattle.tile_merge.specs.Opened.{AllThree, AreJoined, OpenState}
+use Rattle.tile_merge.specs.Opened.{AllThree, AreJoined, MayGive, OpenState}
 use Rattle.tile_merge.specs.Rounds.{course_ends, course_texts}
 use Rattle.tile_stream.specs.Stream.{with_newline, stream}
-use Rattle.tile_merge.specs.Threads.{Fed, RunningState, AreUncancelled, HasGiven, HaveGiven, IsRunOf, LinesSoFar, WroteUnless, feds_of, lines_taken, fed_of}
+use Rattle.tile_merge.specs.Threads.{Begun, RunningState, AreUncancelled, HasGiven, HaveGiven, IsRunOf, LinesSoFar, MayComeOf, WroteUnless, begun_of, lines_taken}
 use Rattle.tile_merge.specs.Told.{first_refusal}
 use Rattle.byte_streams.specs.declared.places.MergeFault.{MergeFault}
 use Rattle.tile_merge.specs.declared.merging.report.Report.{Report}
@@ -28,7 +28,6 @@ use Rattle.tile_merge.specs.Threaded.{WroteInterleaved}
 use Rattle.tile_stream.specs.Filtered.{failures_after_merge}
 use Rattle.tile_merge.proofs.Answering.{merged_result, no_failed_write, of_write, refused_result}
 use Rattle.tile_merge.proofs.Ends.{all_ended}
-use Rattle.tile_merge.proofs.MergedTiles.{MayGive}
 use Rattle.tile_merge.proofs.Mixing.{AreParted, flat, mixed_on}
 use Rattle.tile_stream.proofs.Steps.{first_of_longer}
 use Rattle.tile_merge.proofs.Writing.{on_ok}
@@ -88,21 +87,20 @@ module _ {R : Type 0} (gives : Giving R) where
 
   module _ (choice : Choice) where
     gave : (tile : OpenState R) (shift : Triple) (run now : RunningState R) (course : Course)
-        → IsRunOf choice tile shift run → now.fed ≡ run.fed → HasGiven gives now course
+        → IsRunOf gives choice tile shift run → now.begun ≡ run.begun → HasGiven gives now course
         → MayGive gives (IsChosen choice) tile shift course
     gave tile shift run now course is same given =
-        let fed : now.fed ≡ fed_of tile.unread shift choice = same ∙ ap (λ (r : RunningState R). r.fed) is in
-        let May : Fed R → Type 0 = λ f. MayGive gives (IsChosen f.choice)
-        (record { unread = f.unread; line = tile.line }) f.shift course in
-        subst May fed (given.comes, given.counted)
+        let May : Begun R → Type 0 = λ begun. MayComeOf gives begun course.texts course.ended.stop in
+        (is.comes course.texts course.ended.stop (subst May same given.comes), given.counted)
 
     gave_all : (tiles : List (OpenState R)) (shifts : List Triple) (running now : List (RunningState R))
-        (courses : List Course) → AllThree (IsRunOf choice) tiles shifts running → feds_of now ≡ feds_of running
+        (courses : List Course) → AllThree (IsRunOf gives choice) tiles shifts running
+        → begun_of now ≡ begun_of running
         → HaveGiven gives now courses → AllThree (MayGive gives (IsChosen choice)) tiles shifts courses
     gave_all [] [] [] [] [] runs same have = tt
     gave_all (tile ∷ tiles) (shift ∷ shifts) (run ∷ running) (one ∷ now) (course ∷ courses) runs same have =
-        let first : one.fed ≡ run.fed = cc same in
-        let others : feds_of now ≡ feds_of running = cc same in (
+        let first : one.begun ≡ run.begun = cc same in
+        let others : begun_of now ≡ begun_of running = cc same in (
           gave tile shift run one course runs.0 first have.0,
           gave_all tiles shifts running now courses runs.1 others have.1,
         )
@@ -120,12 +118,12 @@ module _ {R : Type 0} (gives : Giving R) where
 module _ {R : Type 0} (gives : Giving R) (choice : Choice) (base : Base) (readers : List R)
     (tiles : List (OpenState R)) (shifts : List Triple) (line : List ℕ)
     (joined : AreJoined gives base readers tiles shifts line) (running now : List (RunningState R))
-    (runs : AllThree (IsRunOf choice) tiles shifts running) (wrote : Result (Unit {0}) Fault)
+    (runs : AllThree (IsRunOf gives choice) tiles shifts running) (wrote : Result (Unit {0}) Fault)
     (old new : Option (List ℕ)) (failures newer : ℕ)
-    (so_far : LinesSoFar (feds_of running) line now wrote old new failures newer) (courses : List Course)
+    (so_far : LinesSoFar (begun_of running) line now wrote old new failures newer) (courses : List Course)
     (have : HaveGiven gives now courses) where
   given : AllThree (MayGive gives (IsChosen choice)) tiles shifts courses
-  given = gave_all gives choice tiles shifts running now courses runs so_far.fed have
+  given = gave_all gives choice tiles shifts running now courses runs so_far.same have
 
   abbrev parted : (rests : List (List (List ℕ))) × AllThree AreParted (lines_taken now) (course_texts courses) rests
   parted = lines_parted gives now courses have

@@ -1,5 +1,5 @@
 -- In the midst of a round: one tile takes its turn.
-use Rattle.std.proofs.Common.{◌≡◌, ◌≤◌, ◌<◌, ◌+◌, ◌++◌, ◌||◌, ℕ, Bool, true, false, List, [], ◌∷◌, Option, Some, length, take, get_or, set, is_some, option_to_list, refl, sym, ap, subst, ◌∙◌, arith, append_assoc, append-nil}
+use Rattle.std.proofs.Common.{◌≡◌, ◌≤◌, ◌<◌, ◌+◌, ◌++◌, ◌||◌, ℕ, Bool, true, false, List, [], ◌∷◌, Option, Some, length, take, get_or, set, is_some, option_to_list, inl, inr, refl, sym, ap, subst, ◌∙◌, arith, append_assoc, append-nil}
 use Rattle.std.proofs.Math.Seq.{take-append-add}
 use Rattle.std.specs.Io.KnownBytes.{Appends, Keeps}
 use Rattle.std.proofs.KnownBytes.{Appends-nil, Appends-trans}
@@ -10,7 +10,7 @@ use Rattle.city_feature.specs.Feature.{FeatureValue}
 use Rattle.tile_merge.specs.Giving.{Giving}
 use Rattle.tile_merge.specs.Feeds.{FeedState, Course, MayTake, TakesTurn, SomeCourse, text_before}
 use Rattle.tile_merge.specs.Opened.{AllThree}
-use Rattle.tile_merge.specs.Rounds.{course_texts, MayTakeAll, SomeCourses, texts_given, lines_of, WroteRound, WroteTurnsFront, RoundSoFar}
+use Rattle.tile_merge.specs.Rounds.{course_texts, MayTakeAll, SomeCourses, texts_given, lines_of, WroteRound, WroteTurnFront, WroteTurnsFront, RoundSoFar}
 use Rattle.tile_stream.specs.Stream.{with_newline}
 use Rattle.tile_merge.specs.Turns.{firsts, rests, turns}
 use Rattle.tile_merge.proofs.Threes.{all_three_push}
@@ -256,3 +256,14 @@ module _ {R : Type 0} (gives : Giving R) (IsWanted : FeatureValue → Type 0)
               subst (λ feeds. MayTakeAll gives IsWanted feeds all) (sym is_before) may,
               subst (Appends old newer) (sym is) (Appends-trans old mid newer _ _ so_far.round.3 appends),
             )
+
+  -- the turn of a tile ended before its line was written
+  pub turn_stopped : (now : List (FeedState R)) (place : ℕ) (any : Bool) (mid : Option (List ℕ))
+      (so_far : RoundSoFar gives IsWanted before now place any old mid) → place < length now → (default : FeedState R)
+      → SomeCourses (MayTakeAll gives IsWanted before) → (newer : Option (List ℕ))
+      → WroteTurnFront gives IsWanted (get_or now place default) mid newer
+      → WroteTurnsFront gives IsWanted [] before old newer
+  turn_stopped now place any mid so_far within default some newer (inl kept) =
+      turn_unwritten now place any newer (round_kept now place any mid so_far newer kept) within some
+  turn_stopped now place any mid so_far within default some newer (inr part) =
+      turn_failed now place any mid so_far within default part.1 part.0 part.3 some newer part.2 part.4

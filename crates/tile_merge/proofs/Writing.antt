@@ -1,19 +1,18 @@
 -- The lines of tiles whose threads run, written as they are taken.
-use Rattle.std.proofs.Common.{◌≡◌, ◌<◌, ◌+◌, ◌++◌, ℕ, List, [], ◌∷◌, Option, Result, Ok, Err, IfErr, IsOk, OnOk, is_ok, false, zero, suc, length, take, flat_map, get_or, set, refl, sym, ap, subst, ◌∙◌, arith, append_assoc, append-nil, take_all, le_refl}
+use Rattle.std.proofs.Common.{◌≡◌, ◌≤◌, ◌<◌, ◌+◌, ◌++◌, ℕ, List, [], ◌∷◌, Option, Result, Ok, Err, IfErr, IsOk, OnOk, is_ok, false, zero, suc, length, take, drop, flat_map, get_or, set, refl, sym, ap, subst, ◌∙◌, arith, append_assoc, append-nil, take_all, le_refl}
 use Rattle.std.proofs.Math.Seq.{take-append-add, map-set_same}
 use Rattle.std.specs.Io.KnownBytes.{Appends, Keeps}
 use Rattle.std.proofs.KnownBytes.{Appends-trans}
-use Rattle.std.proofs.lemmas.List.{get_or-map, length-map, map-set}
+use Rattle.std.proofs.lemmas.List.{get_or-map, length-map, map-set, take_more, take-append-drop}
 use Rattle.std.proofs.lemmas.Grind.{flat_map-append}
-use Rattle.std.specs.List.{AllByRecursion}
 use Rattle.byte_streams.specs.Failures.{after_call}
 use Rattle.byte_streams.specs.declared.fault.Fault.{Fault}
 use Rattle.byte_streams.specs.declared.fault.Fault.TheVariants.{Write}
 use Rattle.tile_merge.specs.Interleaves.{Interleaves}
-use Rattle.tile_merge.specs.Threads.{Fed, RunningState, AreFresh, AreUncancelled, LinesSoFar, WroteUnless, feds_of, lines_taken}
+use Rattle.tile_merge.specs.Threads.{Begun, RunningState, AreFresh, AreUncancelled, LinesSoFar, WroteUnless, begun_of, first_texts, lines_taken}
 use Rattle.tile_stream.specs.Stream.{stream, with_newline}
 use Rattle.tile_stream.proofs.Steps.{Appends-kept, first_of_longer}
-use Rattle.tile_merge.proofs.Mixing.{none_mixed, one_mixed}
+use Rattle.tile_merge.proofs.Mixing.{flat, flat_mixed, one_mixed}
 
 abbrev Done : Type 0
 Done = Result (Unit {0}) Fault
@@ -79,24 +78,29 @@ uncancelled_set (tile ∷ tiles) (suc i) default new kept none = (none.0, uncanc
 -- ---- one tile ----
 
 module _ {R : Type 0} where
-  abbrev fed_in : RunningState R → Fed R
-  fed_in tile = tile.fed
+  abbrev begun_in : RunningState R → Begun R
+  begun_in tile = tile.begun
 
   abbrev lines_of_tile : RunningState R → List (List ℕ)
   lines_of_tile tile = tile.lines
 
-  -- nothing was taken yet
+  -- the texts of the first lines, one tile after another
+  first_flat : (tiles : List (RunningState R)) → AreFresh tiles → flat (lines_taken tiles) ≡ first_texts tiles
+  first_flat [] fresh = refl
+  first_flat (tile ∷ tiles) fresh = ap (λ ls. ls ++ flat (lines_taken tiles)) fresh.0.0
+      ∙ ap (λ ls. tile.begun.first ++ ls) (first_flat tiles fresh.1)
+
+  -- nothing was taken yet but the texts of the first lines
   pub first_lines : (tiles : List (RunningState R)) (header : List ℕ) (wrote : Result (Unit {0}) Fault)
       (old new : Option (List ℕ)) (failures newer : ℕ) → AreFresh tiles
-      → WroteUnless wrote ([] ++ with_newline header) old new → newer ≡ after_call wrote failures
+      → WroteUnless wrote (stream header (first_texts tiles)) old new → newer ≡ after_call wrote failures
       → IfErr wrote (λ fault. fault ≡ Write)
-      → LinesSoFar (feds_of tiles) header tiles wrote old new failures newer
+      → LinesSoFar (begun_of tiles) header tiles wrote old new failures newer
   first_lines tiles header wrote old new failures newer fresh written failed fault = record {
-    fed = refl;
-    out = [];
-    mixes = none_mixed (lines_taken tiles) (none_taken tiles fresh);
-    written = subst (λ (bytes : List ℕ). WroteUnless wrote bytes old new) (sym (append-nil (with_newline header)))
-        written;
+    same = refl;
+    out = first_texts tiles;
+    mixes = subst (Interleaves (lines_taken tiles)) (first_flat tiles fresh) (flat_mixed (lines_taken tiles));
+    written = written;
     failed = failed;
     fault = fault;
     uncancelled = where_ok wrote (unasked tiles fresh);
@@ -110,16 +114,72 @@ module _ {R : Type 0} where
       unasked [] nothing = tt
       unasked (tile ∷ all) nothing = (nothing.0.1, unasked all nothing.1)
 
-      none_taken : (all : List (RunningState R)) → AreFresh all
-          → AllByRecursion (λ (list : List (List ℕ)). list ≡ []) (lines_taken all)
-      none_taken [] nothing = tt
-      none_taken (tile ∷ all) nothing = (nothing.0.0, none_taken all nothing.1)
+  -- ---- the header and the texts of the first lines ----
 
-  module _ (feds : List (Fed R)) (header : List ℕ) (tiles : List (RunningState R)) (i : ℕ)
-      (default new : RunningState R) (within : i < length tiles) (same : new.fed ≡ (get_or tiles i default).fed)
+  module _ (header : List ℕ) (tiles : List (RunningState R)) (old : Option (List ℕ)) where
+    abbrev of_first : RunningState R → List (List ℕ)
+    of_first tile = tile.begun.first
+
+    abbrev up_to : ℕ → List ℕ
+    up_to i = stream header (first_texts (take i tiles))
+
+    rest_follows : (i : ℕ) → up_to i ++ flat_map with_newline (first_texts (drop i tiles))
+        ≡ stream header (first_texts tiles)
+    rest_follows i =
+        let front = first_texts (take i tiles) in
+        let rest = first_texts (drop i tiles) in
+        append_assoc (with_newline header) (flat_map with_newline front) (flat_map with_newline rest)
+        ∙ ap (λ (bytes : List ℕ). with_newline header ++ bytes) (sym (flat_map-append with_newline front rest)
+        ∙ ap (flat_map with_newline) (sym (flat_map-append of_first (take i tiles) (drop i tiles))
+        ∙ ap (flat_map of_first) (take-append-drop i tiles)))
+
+    pub header_failed : (new : Option (List ℕ)) → (count : ℕ) × Appends old new (take count (with_newline header))
+        → (result : Done) (fault : Fault) → result ≡ Err fault
+        → WroteUnless result (stream header (first_texts tiles)) old new
+    header_failed new part result fault is =
+        let first = first_of_longer part.0 (with_newline header) (flat_map with_newline (first_texts tiles)) in
+        subst (λ (r : Done). WroteUnless r (stream header (first_texts tiles)) old new) (sym is)
+        (first.0, subst (Appends old new) (sym first.1) part.1)
+
+    module _ (i : ℕ) (within : i < length tiles) (tile : RunningState R) (is_tile : tile ≡ get_or tiles i tile)
+        (mid new : Option (List ℕ)) (wrote : Appends old mid (up_to i)) where
+      abbrev line : List ℕ
+      line = flat_map with_newline tile.begun.first
+
+      one_more : up_to i ++ line ≡ up_to (i + 1)
+      one_more =
+          let front = first_texts (take i tiles) in
+          let more : first_texts (take (i + 1) tiles) ≡ front ++ tile.begun.first =
+          ap (flat_map of_first) (take_more tiles i tile within)
+          ∙ flat_map-append of_first (take i tiles) (get_or tiles i tile ∷ [])
+          ∙ ap (λ (texts : List (List ℕ)). front ++ texts) (append-nil (of_first (get_or tiles i tile))
+          ∙ ap of_first (sym is_tile)) in
+          append_assoc (with_newline header) (flat_map with_newline front) line
+          ∙ ap (λ (bytes : List ℕ). with_newline header ++ bytes) (sym (flat_map-append with_newline front tile.begun.first)
+          ∙ ap (flat_map with_newline) (sym more))
+
+      pub first_written : Appends mid new line → Appends old new (up_to (i + 1))
+      first_written appends = subst (Appends old new) one_more (Appends-trans old mid new _ _ wrote appends)
+
+      pub first_failed : (count : ℕ) × Appends mid new (take count line) → (result : Done) (fault : Fault)
+          → result ≡ Err fault → WroteUnless result (stream header (first_texts tiles)) old new
+      first_failed part result fault is =
+          let rest = flat_map with_newline (first_texts (drop (i + 1) tiles)) in
+          let here = fails_now (up_to i) line old fault mid new (Ok tt) result refl is wrote part in
+          let whole = ap (λ (bytes : List ℕ). bytes ++ rest) one_more ∙ rest_follows (i + 1) in
+          subst (λ (bytes : List ℕ). WroteUnless result bytes old new) whole
+          (still_failed (up_to i ++ line) rest old fault fault new result result is is here)
+
+    pub all_first : (i : ℕ) → length tiles ≤ i → (new : Option (List ℕ)) → Appends old new (up_to i)
+        → Appends old new (stream header (first_texts tiles))
+    all_first i all new wrote = subst (λ (ts : List (RunningState R)). Appends old new (stream header (first_texts ts)))
+        (take_all i tiles all) wrote
+
+  module _ (begun : List (Begun R)) (header : List ℕ) (tiles : List (RunningState R)) (i : ℕ)
+      (default new : RunningState R) (within : i < length tiles) (same : new.begun ≡ (get_or tiles i default).begun)
       (old : Option (List ℕ)) (count : ℕ) where
-    same_feds : feds_of (set tiles i new) ≡ feds_of tiles
-    same_feds = map-set_same fed_in tiles i new default same
+    same_begun : begun_of (set tiles i new) ≡ begun_of tiles
+    same_begun = map-set_same begun_in tiles i new default same
 
     -- nobody asked it to stop since
     unasked_since : new.cancels ≡ (get_or tiles i default).cancels → AreUncancelled tiles
@@ -129,10 +189,10 @@ module _ {R : Type 0} where
     -- the tile gave no line
     pub no_line : new.cancels ≡ (get_or tiles i default).cancels → new.lines ≡ (get_or tiles i default).lines
         → (wrote : Result (Unit {0}) Fault) (mid : Option (List ℕ)) (newer : ℕ)
-        → LinesSoFar feds header tiles wrote old mid count newer
-        → LinesSoFar feds header (set tiles i new) wrote old mid count newer
+        → LinesSoFar begun header tiles wrote old mid count newer
+        → LinesSoFar begun header (set tiles i new) wrote old mid count newer
     no_line kept none wrote mid newer so_far = record {
-      fed = same_feds ∙ so_far.fed;
+      same = same_begun ∙ so_far.same;
       out = so_far.out;
       mixes = subst (λ (lists : List (List (List ℕ))). Interleaves lists so_far.out)
           (sym (map-set_same lines_of_tile tiles i new default none)) so_far.mixes;
@@ -145,10 +205,10 @@ module _ {R : Type 0} where
 
     -- the tile was asked to stop, where a write failed
     pub one_asked : new.lines ≡ (get_or tiles i default).lines → (wrote : Result (Unit {0}) Fault) → is_ok wrote ≡ false
-        → (mid : Option (List ℕ)) (newer : ℕ) → LinesSoFar feds header tiles wrote old mid count newer
-        → LinesSoFar feds header (set tiles i new) wrote old mid count newer
+        → (mid : Option (List ℕ)) (newer : ℕ) → LinesSoFar begun header tiles wrote old mid count newer
+        → LinesSoFar begun header (set tiles i new) wrote old mid count newer
     one_asked none wrote failing mid newer so_far = record {
-      fed = same_feds ∙ so_far.fed;
+      same = same_begun ∙ so_far.same;
       out = so_far.out;
       mixes = subst (λ (lists : List (List (List ℕ))). Interleaves lists so_far.out)
           (sym (map-set_same lines_of_tile tiles i new default none)) so_far.mixes;
@@ -167,8 +227,8 @@ module _ {R : Type 0} where
         → ((n : ℕ) → newer ≡ after_call wrote n → after ≡ after_call result n)
         → (IfErr wrote (λ fault. fault ≡ Write) → IfErr result (λ fault. fault ≡ Write))
         → OnOk result (IsOk wrote)
-        → LinesSoFar feds header tiles wrote old mid count newer
-        → LinesSoFar feds header (set tiles i new) result old newest count after
+        → LinesSoFar begun header tiles wrote old mid count newer
+        → LinesSoFar begun header (set tiles i new) result old newest count after
     one_line kept line longer wrote result mid newest newer after writes fails faults later so_far =
         let lists = lines_taken tiles in
         let here : get_or lists i [] ≡ (get_or tiles i default).lines =
@@ -182,7 +242,7 @@ module _ {R : Type 0} where
         (ap (λ (l : List ℕ). flat_map with_newline so_far.out ++ l) (sym (append-nil (with_newline line)))
         ∙ sym (flat_map-append with_newline so_far.out (line ∷ []))) in
         record {
-          fed = same_feds ∙ so_far.fed;
+          same = same_begun ∙ so_far.same;
           out = so_far.out ++ line ∷ [];
           mixes = subst (λ (ls : List (List (List ℕ))). Interleaves ls (so_far.out ++ line ∷ [])) (sym grown)
               (one_mixed lists so_far.out i line (omega (arith, within, length-map tiles lines_of_tile)) so_far.mixes);
@@ -194,18 +254,18 @@ module _ {R : Type 0} where
         }
 
   -- a flush follows what was written so far
-  pub flushed_between : (feds : List (Fed R)) (header : List ℕ) (tiles : List (RunningState R))
+  pub flushed_between : (begun : List (Begun R)) (header : List ℕ) (tiles : List (RunningState R))
       (wrote result : Result (Unit {0}) Fault) (old mid new : Option (List ℕ)) (failures between newer : ℕ)
       → ((bytes : List ℕ) (first : Option (List ℕ)) → WroteUnless wrote bytes first mid
       → WroteUnless result bytes first new)
       → ((n : ℕ) → between ≡ after_call wrote n → newer ≡ after_call result n)
       → (IfErr wrote (λ fault. fault ≡ Write) → IfErr result (λ fault. fault ≡ Write))
       → OnOk result (IsOk wrote)
-      → LinesSoFar feds header tiles wrote old mid failures between
-      → LinesSoFar feds header tiles result old new failures newer
-  flushed_between feds header tiles wrote result old mid new failures between newer writes fails faults later so_far =
+      → LinesSoFar begun header tiles wrote old mid failures between
+      → LinesSoFar begun header tiles result old new failures newer
+  flushed_between begun header tiles wrote result old mid new failures between newer writes fails faults later so_far =
       record {
-        fed = so_far.fed;
+        same = so_far.same;
         out = so_far.out;
         mixes = so_far.mixes;
         written = writes _ old so_far.written;
@@ -216,14 +276,14 @@ module _ {R : Type 0} where
       }
 
   -- a flush follows all lines
-  pub flushed_lines : (feds : List (Fed R)) (header : List ℕ) (tiles : List (RunningState R))
+  pub flushed_lines : (begun : List (Begun R)) (header : List ℕ) (tiles : List (RunningState R))
       (wrote result : Result (Unit {0}) Fault) (old mid new : Option (List ℕ)) (failures between newer : ℕ)
-      → wrote ≡ Ok tt → LinesSoFar feds header tiles wrote old mid failures between
+      → wrote ≡ Ok tt → LinesSoFar begun header tiles wrote old mid failures between
       → Keeps mid new → newer ≡ after_call result between → IfErr result (λ fault. fault ≡ Write)
-      → LinesSoFar feds header tiles result old new failures newer
-  flushed_lines feds header tiles wrote result old mid new failures between newer was so_far keeps failed fault =
+      → LinesSoFar begun header tiles result old new failures newer
+  flushed_lines begun header tiles wrote result old mid new failures between newer was so_far keeps failed fault =
       record {
-        fed = so_far.fed;
+        same = so_far.same;
         out = so_far.out;
         mixes = so_far.mixes;
         written = flushed result (stream header so_far.out) old mid new

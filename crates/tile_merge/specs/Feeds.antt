@@ -1,8 +1,8 @@
 -- A tile that is merged in turn: what is still to be read of it, and the notes that were read ahead.
-use Rattle.std.specs.Prelude.{◌≡◌, ◌⊎◌, ◌≤◌, ◌<◌, ◌+◌, ℕ, Bool, true, false, List, [], ◌∷◌, Option, Some, None, length, if◌then◌else◌}
+use Rattle.std.specs.Prelude.{◌≡◌, ◌⊎◌, ◌≤◌, ◌<◌, ◌+◌, ◌++◌, ℕ, Bool, true, false, List, [], ◌∷◌, Option, Some, None, length, map, if◌then◌else◌}
 use Rattle.city_feature.specs.Feature.{FeatureValue}
 use Rattle.city_grid.specs.Axes.{Triple}
-use Rattle.tile_handoff.specs.Queues.{Queue, empty_queue}
+use Rattle.tile_handoff.specs.Queues.{Queue}
 use Rattle.tile_handoff.specs.declared.note.Note.{Note}
 use Rattle.tile_handoff.specs.declared.note.Note.TheVariants.{Line as LineNote, End as EndNote}
 use Rattle.tile_stream.specs.Coming.{MayComeTo}
@@ -21,9 +21,9 @@ pub record FeedState (R : Type 0) : Type 0 where
   pub count : ℕ
   pub last : Option TileEnd
 
--- nothing was read ahead yet
-abbrev pub fresh_feed : {R : Type 0} → ℕ → TileState R → Triple → FeedState R
-fresh_feed capacity unread shift = record { unread = unread; shift = shift; capacity = capacity; notes = empty_queue; count = 0; last = None }
+-- these texts, and behind them the notes of a queue
+abbrev pub behind : List (List ℕ) → Queue → Queue
+behind texts queue = record { closed = queue.closed; left = map (λ text. LineNote text) texts ++ queue.left }
 
 -- the texts that a tile still gives, and how it has ended then
 pub record Course : Type 0 where

@@ -1,19 +1,22 @@
 -- Tiles that are merged in turn, round by round.
-use Rattle.std.specs.Prelude.{◌≡◌, ◌+◌, ◌++◌, ℕ, Bool, List, [], ◌∷◌, Option, Some, length, map, take, flat_map, is_some, option_to_list}
-use Rattle.std.specs.Io.KnownBytes.{Appends}
+use Rattle.std.specs.Prelude.{◌≡◌, ◌⊎◌, ◌+◌, ◌++◌, ℕ, Bool, List, [], ◌∷◌, Option, Some, length, map, take, flat_map, is_some, option_to_list}
+use Rattle.std.specs.Io.KnownBytes.{Appends, Keeps}
 use Rattle.std.specs.List.{AllZip, list_any}
 use Rattle.city_feature.specs.Feature.{FeatureValue}
 use Rattle.city_grid.specs.Axes.{Triple}
 use Rattle.tile_merge.specs.Giving.{Giving}
-use Rattle.tile_merge.specs.Feeds.{FeedState, fresh_feed, Course, MayTake, TakesTurn, most_ahead}
-use Rattle.tile_merge.specs.Opened.{AllThree, OpenState}
+use Rattle.tile_merge.specs.Feeds.{FeedState, Course, MayTake, SomeCourse, TakesTurn, most_ahead}
+use Rattle.tile_merge.specs.Opened.{AllThree, MayGive, OpenState}
+use Rattle.tile_stream.specs.Coming.{MayComeTo, SomethingComes}
 use Rattle.tile_stream.specs.Stream.{with_newline}
 use Rattle.tile_merge.specs.Turns.{turns}
 use Rattle.tile_merge.specs.declared.merging.ends.TileEnd.{TileEnd}
 
--- the tile and its shift, with an empty queue
-abbrev pub IsFeedOf : {R : Type 0} → ℕ → OpenState R → Triple → FeedState R → Type 0
-IsFeedOf capacity tile shift feed = feed ≡ fresh_feed capacity tile.unread shift
+-- what may be ahead may come of the tile, moved by its shift; and something may be ahead where something may come
+abbrev pub IsFeedOf : {R : Type 0} → Giving R → (FeatureValue → Type 0) → OpenState R → Triple → FeedState R → Type 0
+IsFeedOf gives IsWanted tile shift feed =
+    ((course : Course) → MayTake gives IsWanted feed course → MayGive gives IsWanted tile shift course)
+    × (SomethingComes (MayComeTo gives IsWanted shift tile.unread) → SomeCourse (MayTake gives IsWanted feed))
 
 abbrev pub course_texts : List Course → List (List (List ℕ))
 course_texts courses = map (λ course. course.texts) courses
@@ -39,6 +42,24 @@ texts_given given = flat_map option_to_list given
 
 abbrev pub lines_of : List (List ℕ) → List ℕ
 lines_of texts = flat_map with_newline texts
+
+-- a tile took its turn, and the line of its text was written, where it had one
+abbrev pub WroteTurn : {R : Type 0} → Giving R → (FeatureValue → Type 0) → FeedState R → FeedState R → Bool → Option (List ℕ) → Option (List ℕ) → Type 0
+WroteTurn gives IsWanted before after any old new =
+    (given : Option (List ℕ))
+    × TakesTurn gives IsWanted before after given
+    × (any ≡ is_some given)
+    × Appends old new (lines_of (option_to_list given))
+
+-- nothing was written in the turn of a tile, or only the first bytes of the line of its text
+abbrev pub WroteTurnFront : {R : Type 0} → Giving R → (FeatureValue → Type 0) → FeedState R → Option (List ℕ) → Option (List ℕ) → Type 0
+WroteTurnFront gives IsWanted before old new =
+    Keeps old new
+    ⊎ ((text : List ℕ)
+    × (after : FeedState _)
+    × (count : ℕ)
+    × TakesTurn gives IsWanted before after (Some text)
+    × Appends old new (take count (with_newline text)))
 
 -- each tile took its turn, and the lines were written
 abbrev pub WroteRound : {R : Type 0} → Giving R → (FeatureValue → Type 0) → List (FeedState R) → List (FeedState R) → Bool → Option (List ℕ) → Option (List ℕ) → Type 0

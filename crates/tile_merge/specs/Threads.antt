@@ -1,5 +1,5 @@
 -- Tiles whose texts threads of their own put into rings, and what the caller took out of these.
-use Rattle.std.specs.Prelude.{◌≡◌, ◌⊎◌, ◌≤◌, ◌<◌, ◌++◌, ℕ, Bool, List, [], ◌∷◌, Option, Some, None, is_some, Result, Ok, Err, IfErr, OnOk, length, map, take}
+use Rattle.std.specs.Prelude.{◌≡◌, ◌⊎◌, ◌≤◌, ◌<◌, ◌+◌, ◌++◌, ℕ, Bool, List, [], ◌∷◌, Option, Some, None, is_some, Result, Ok, Err, IfErr, OnOk, length, map, take, flat_map}
 use Rattle.std.specs.Io.KnownBytes.{Appends}
 use Rattle.std.specs.List.{AllZip, AllByRecursion, list_all}
 use Rattle.byte_streams.specs.Failures.{after_call}
@@ -12,7 +12,7 @@ use Rattle.tile_handoff.specs.declared.note.End.{End}
 use Rattle.tile_handoff.specs.declared.note.Note.{Note}
 use Rattle.tile_handoff.specs.declared.note.Note.TheVariants.{Line as LineNote, End as EndNote}
 use Rattle.tile_merge.specs.declared.merging.ends.TileEnd.{TileEnd}
-use Rattle.tile_stream.specs.Coming.{MayComeTo}
+use Rattle.tile_stream.specs.Coming.{MayComeTo, ReadyFirst}
 use Rattle.tile_merge.specs.Giving.{Giving}
 use Rattle.tile_merge.specs.EndNotes.{IsToldBy, end_of, ended_so, notes_of}
 use Rattle.tile_merge.specs.Feeds.{Course}
@@ -25,19 +25,23 @@ use Rattle.byte_streams.specs.declared.places.MergeFault.{MergeFault}
 
 -- ---- in the thread of a tile ----
 
--- what the thread of a tile is given
+-- What the thread of a tile is given: the tile, its shift, what is chosen of it, and what came before: how many texts, and
+-- where the tile stops, if its first line is at fault.
 pub record Fed (R : Type 0) : Type 0 where
   pub unread : TileState R
   pub shift : Triple
   pub choice : Choice
+  pub begun : TileEnd
 
-abbrev pub fed_of : {R : Type 0} → TileState R → Triple → Choice → Fed R
-fed_of unread shift choice = record { unread = unread; shift = shift; choice = choice }
+-- these come, unless the tile has stopped already
+abbrev pub UnlessStopped : Outcome → (List (List ℕ) → Outcome → Type 0) → List (List ℕ) → Outcome → Type 0
+UnlessStopped None Comes texts outcome = Comes texts outcome
+UnlessStopped (Some at) Comes texts outcome = (texts ≡ []) × (outcome ≡ Some at)
 
 -- these texts may come of the tile, and then this end
 abbrev pub MayFeed : {R : Type 0} → Giving R → Fed R → List (List ℕ) → Outcome → Type 0
 MayFeed gives fed texts outcome =
-    MayComeTo gives (IsChosen fed.choice) fed.shift fed.unread texts outcome
+    UnlessStopped fed.begun.stop (MayComeTo gives (IsChosen fed.choice) fed.shift fed.unread) texts outcome
 
 -- Texts that come first of those that may come of the tile, and an end note, were put after these
 -- notes. Where it was not asked to stop, they are all that came, and the note tells how the tile ended.
@@ -48,13 +52,13 @@ pub record IsFed {R : Type 0} (gives : Giving R) (fed : Fed R) (Unasked : Type 0
   pub end : End
   pub comes : MayFeed gives fed (texts ++ others) outcome
   pub put : after ≡ before ++ notes_of texts end
-  pub whole : Unasked → (others ≡ []) × (end ≡ end_of (ended_so (length texts) outcome))
+  pub whole : Unasked → (others ≡ []) × (end ≡ end_of (ended_so (fed.begun.count + length texts) outcome))
 
--- this many texts were put, and whatever may come now may have come after them
-pub record FedSoFar (before now : List (List ℕ) → Outcome → Type 0) (count : ℕ) (old new : List Note) : Type 0 where
+-- so many came before, this many texts in all, and whatever may come now may have come after those that were put
+pub record FedSoFar (before now : List (List ℕ) → Outcome → Type 0) (begun count : ℕ) (old new : List Note) : Type 0 where
   pub texts : List (List ℕ)
   pub back : (others : List (List ℕ)) (outcome : Outcome) → now others outcome → before (texts ++ others) outcome
-  pub counted : count ≡ length texts
+  pub counted : count ≡ begun + length texts
   pub put : new ≡ old ++ map (λ text. LineNote text) texts
 
 -- ---- in the thread of the caller ----
@@ -71,24 +75,41 @@ TellsEnd None notes = Unit {0}
 TellsEnd (Some ended) notes =
     (front : List Note) × (note : End) × (notes ≡ front ++ EndNote note ∷ []) × IsToldBy ended note
 
--- what the thread of the tile was given, the lines that were taken, how it ended once the end note was
+-- what the thread of a tile was given, and the texts of its first line, which the caller has
+pub record Begun (R : Type 0) : Type 0 where
+  pub fed : Fed R
+  pub first : List (List ℕ)
+
+-- these texts may come of the tile, those of its first line before what its thread puts
+abbrev pub MayComeOf : {R : Type 0} → Giving R → Begun R → List (List ℕ) → Outcome → Type 0
+MayComeOf gives begun texts outcome = ReadyFirst begun.first (MayFeed gives begun.fed) texts outcome
+
+-- what was begun with, the lines that were taken, those of the first line among them, how it ended once the end note was
 -- taken, and how often the thread was asked to stop
 pub record RunningState (R : Type 0) : Type 0 where
-  pub fed : Fed R
+  pub begun : Begun R
   pub lines : List (List ℕ)
   pub last : Option TileEnd
   pub cancels : ℕ
 
--- nothing was taken yet, and nothing asked
-abbrev pub fresh_run : {R : Type 0} → Fed R → RunningState R
-fresh_run fed = record { fed = fed; lines = []; last = None; cancels = 0 }
+-- nothing was taken yet of what the thread puts, and nothing asked
+abbrev pub fresh_run : {R : Type 0} → Begun R → RunningState R
+fresh_run begun = record { begun = begun; lines = begun.first; last = None; cancels = 0 }
 
--- the thread of the tile was given its reader, its shift and the choice
-abbrev pub IsRunOf : {R : Type 0} → Choice → OpenState R → Triple → RunningState R → Type 0
-IsRunOf choice tile shift run = run ≡ fresh_run (fed_of tile.unread shift choice)
+-- The thread of the tile runs: what may come of it may come of the tile, moved by its shift, and nothing was taken yet of
+-- what the thread puts, and nothing asked.
+pub record IsRunOf {R : Type 0} (gives : Giving R) (choice : Choice) (tile : OpenState R) (shift : Triple) (run : RunningState R) : Type 0 where
+  pub comes : (texts : List (List ℕ)) (outcome : Outcome) → MayComeOf gives run.begun texts outcome
+      → MayComeTo gives (IsChosen choice) shift tile.unread texts outcome
+  pub lines : run.lines ≡ run.begun.first
+  pub unasked : run.cancels ≡ 0
 
-abbrev pub feds_of : {R : Type 0} → List (RunningState R) → List (Fed R)
-feds_of tiles = map (λ tile. tile.fed) tiles
+abbrev pub begun_of : {R : Type 0} → List (RunningState R) → List (Begun R)
+begun_of tiles = map (λ tile. tile.begun) tiles
+
+-- the texts of the first lines of all tiles, one tile after another
+abbrev pub first_texts : {R : Type 0} → List (RunningState R) → List (List ℕ)
+first_texts tiles = flat_map (λ tile. tile.begun.first) tiles
 
 abbrev pub lines_taken : {R : Type 0} → List (RunningState R) → List (List (List ℕ))
 lines_taken tiles = map (λ tile. tile.lines) tiles
@@ -110,7 +131,7 @@ pub record HasGiven {R : Type 0} (gives : Giving R) (tile : RunningState R) (cou
   pub texts : List (List ℕ)
   pub others : List (List ℕ)
   pub are : course.texts ≡ texts ++ others
-  pub comes : MayFeed gives tile.fed course.texts course.ended.stop
+  pub comes : MayComeOf gives tile.begun course.texts course.ended.stop
   pub counted : course.ended.count ≡ length course.texts
   pub lines : tile.lines ≡ texts
   pub whole : tile.cancels ≡ 0 → (others ≡ []) × (tile.last ≡ Some course.ended)
@@ -128,8 +149,8 @@ WroteUnless (Err fault) bytes old new = (count : ℕ) × Appends old new (take c
 
 -- The stream of the header and of the texts that were taken, in the order in which they were, was
 -- written, up to the first write that failed. Before that nobody asked a thread to stop.
-pub record LinesSoFar {R : Type 0} (feds : List (Fed R)) (header : List ℕ) (tiles : List (RunningState R)) (wrote : Result (Unit {0}) Fault) (old new : Option (List ℕ)) (failures newer : ℕ) : Type 0 where
-  pub fed : feds_of tiles ≡ feds
+pub record LinesSoFar {R : Type 0} (begun : List (Begun R)) (header : List ℕ) (tiles : List (RunningState R)) (wrote : Result (Unit {0}) Fault) (old new : Option (List ℕ)) (failures newer : ℕ) : Type 0 where
+  pub same : begun_of tiles ≡ begun
   pub out : List (List ℕ)
   pub mixes : Interleaves (lines_taken tiles) out
   pub written : WroteUnless wrote (stream header out) old new
@@ -140,22 +161,22 @@ pub record LinesSoFar {R : Type 0} (feds : List (Fed R)) (header : List ℕ) (ti
 -- whatever lines were written before, those are written now that were taken since
 abbrev pub GoesOnWriting : {R : Type 0} → List (RunningState R) → List (RunningState R) → Result (Unit {0}) Fault → Result (Unit {0}) Fault → Option (List ℕ) → Option (List ℕ) → ℕ → ℕ → Type 0
 GoesOnWriting before now wrote result mid new failures newer =
-    (feds : List (Fed _)) (header : List ℕ) (old : Option (List ℕ)) (count : ℕ)
-    → LinesSoFar feds header before wrote old mid count failures
-    → LinesSoFar feds header now result old new count newer
+    (begun : List (Begun _)) (header : List ℕ) (old : Option (List ℕ)) (count : ℕ)
+    → LinesSoFar begun header before wrote old mid count failures
+    → LinesSoFar begun header now result old new count newer
 
 -- the threads may have been asked to stop, where the writing failed
 abbrev pub GoesOn : {R : Type 0} → List (RunningState R) → List (RunningState R) → Result (Unit {0}) Fault → Type 0
 GoesOn before now wrote =
-    (feds : List (Fed _)) (header : List ℕ) (old new : Option (List ℕ)) (count newer : ℕ)
-    → LinesSoFar feds header before wrote old new count newer
-    → LinesSoFar feds header now wrote old new count newer
+    (begun : List (Begun _)) (header : List ℕ) (old new : Option (List ℕ)) (count newer : ℕ)
+    → LinesSoFar begun header before wrote old new count newer
+    → LinesSoFar begun header now wrote old new count newer
 
 -- ---- the tiles of a merge ----
 
--- nothing was taken of any tile yet, and nothing asked
+-- nothing was taken yet of what the threads put, and nothing asked
 abbrev pub AreFresh : {R : Type 0} → List (RunningState R) → Type 0
-AreFresh tiles = AllByRecursion (λ tile. (tile.lines ≡ []) × (tile.cancels ≡ 0)) tiles
+AreFresh tiles = AllByRecursion (λ tile. (tile.lines ≡ tile.begun.first) × (tile.cancels ≡ 0)) tiles
 
 -- a tile of so many has no thread, or there was not enough memory
 abbrev pub IsUnstarted : ℕ → MergeFault → Type 0

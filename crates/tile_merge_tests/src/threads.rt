@@ -41,7 +41,7 @@ fn a_failed_write_leaves_the_front_of_a_stream(rt: HostRuntime) -> Result<(), Fa
         let mut output = Bin::new(alloc, 200, 7, false)?;
         expect_threads(&rt, readers, (&PLAIN, capacity), &mut output, NOT_WRITTEN)?;
         let written = output.bytes();
-        assert_eq!(rt; written.len(), 200);
+        assert!(rt; written.len() == 200);
         assert!(rt; begins_with_a.starts_with(written) || begins_with_b.starts_with(written));
     }
     Ok(())
@@ -59,7 +59,7 @@ fn drain(rt: HostRuntime) -> Result<(), Fail> {
     let readers = readers_of(alloc, &tiles, 50, true)?;
     let mut output = Bin::new(alloc, 200, 200, false)?;
     expect_threads(&rt, readers, (&PLAIN, 1), &mut output, NOT_WRITTEN)?;
-    assert_eq!(rt; output.bytes().len(), 200);
+    assert!(rt; output.bytes().len() == 200);
     Ok(())
 }
 
@@ -217,7 +217,7 @@ fn endless_tiles_end_where_the_output_is_gone(rt: HostRuntime) -> Result<(), Fai
             let readers = counted(alloc, 3, u64::MAX, &shared(alloc)?)?;
             let mut output = Bin::new(alloc, room, 7, false)?;
             expect_threads(&rt, readers, (&asked, capacity), &mut output, NOT_WRITTEN)?;
-            assert_eq!(rt; output.bytes().len(), room);
+            assert!(rt; output.bytes().len() == room);
         }
     }
     Ok(())

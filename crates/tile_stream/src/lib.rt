@@ -14,4 +14,4 @@ pub use byte_streams::{LineFault, MergeFault};
 pub use filter::{filter_stream, filter_tile, pass_on, write_line, write_parts, write_text};
 pub use laws::tape_leaves_one_list;
 pub use lines::{Lines, NumberedLine};
-pub use tile_reader::{Head, Passed, TileReader};
+pub use tile_reader::{Head, Passed, ReadyTexts, TileReader};

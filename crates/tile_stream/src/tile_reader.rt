@@ -18,7 +18,7 @@ use crate::tile_reader::feature_lines::{pass_line, take_feature};
 pub use crate::tile_reader::head::Head;
 use crate::tile_reader::head::{FirstLine, read_first_line};
 use crate::tile_reader::held::{Held, lines_of, texts_of};
-use crate::tile_reader::ready::ReadyTexts;
+pub use crate::tile_reader::ready::ReadyTexts;
 use byte_streams::{Fault, Line, LineFault, Source};
 use city_cut::FeatureTexts;
 use city_feature::Choice;
@@ -233,7 +233,7 @@ impl<R: Source> TileReader<R> {
     /// # Errors
     ///
     /// Those of that line: one of its features cannot be moved so, or [`Fault::Memory`].
-    pub(crate) fn take_held(
+    pub fn take_held(
         &mut self,
         alloc: Global,
         shift: Shift,
@@ -248,6 +248,7 @@ impl<R: Source> TileReader<R> {
         ensures some { SomethingComes (MayComeTo R.gives (IsChosen choice.now) shift self.new) }
         ensures fewer { IfOk result (λ texts.
             length texts + most_to_come self.new ≤ most_to_come self.old) }
+        ensures no_more { most_to_come self.new ≤ most_to_come self.old }
         ensures lines { self.new.lines ≡ self.old.lines }
     {
         if !self.ready.is_empty() {

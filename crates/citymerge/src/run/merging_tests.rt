@@ -98,8 +98,8 @@ where
         let mut errors = Bin::new(alloc, 256, step, false)?;
         args.in_turn = in_turn;
         let status = run_merge(rt, alloc, args, readers, &mut output, &mut errors);
-        assert_eq!(rt; status, wanted.status, "step {step}");
-        assert_eq!(rt; errors.bytes(), wanted.said.as_bytes(), "step {step}");
+        assert!(rt; status == wanted.status, "step {step}");
+        assert!(rt; errors.bytes() == wanted.said.as_bytes(), "step {step}");
         let is_right = if in_turn {
             output.bytes() == written.as_slice()
         } else {
@@ -177,12 +177,9 @@ fn more_than_64_tiles_are_too_many(rt: HostRuntime) -> Result<(), Fail> {
         let mut output = Bin::new(alloc, 16384, 4096, false)?;
         let mut errors = Bin::new(alloc, 256, 256, false)?;
         let args = plain(alloc);
-        assert_eq!(rt;
-            run_merge(&rt, alloc, &args, readers, &mut output, &mut errors),
-            status
-        );
+        assert!(rt; run_merge(&rt, alloc, &args, readers, &mut output, &mut errors) == status);
         assert!(rt; output.bytes() == bytes);
-        assert_eq!(rt; errors.bytes(), said.as_bytes());
+        assert!(rt; errors.bytes() == said.as_bytes());
         tiles.push([HEADER].as_slice())?;
     }
     Ok(())
@@ -269,16 +266,12 @@ fn a_failed_write_of_a_merge_is_told(rt: HostRuntime) -> Result<(), Fail> {
         let mut errors = Bin::new(alloc, 64, 64, false)?;
         let args = plain(alloc);
         let status = run_merge(&rt, alloc, &args, readers, &mut output, &mut errors);
-        assert_eq!(rt; status, 1, "room {room}");
-        assert_eq!(rt;
-            output.bytes(),
-            &written[..taken.min(written.len())],
+        assert!(rt; status == 1, "room {room}");
+        assert!(rt;
+            output.bytes() == &written[..taken.min(written.len())],
             "room {room}"
         );
-        assert_eq!(rt;
-            errors.bytes(),
-            b"citymerge: the output could not be written\n".as_slice()
-        );
+        assert!(rt; errors.bytes() == b"citymerge: the output could not be written\n".as_slice());
     }
     Ok(())
 }
@@ -307,10 +300,7 @@ fn a_large_merge_is_whole(rt: HostRuntime) -> Result<(), Fail> {
     let mut output = Bin::new(alloc, written.len(), 10_000, false)?;
     let mut errors = Bin::new(alloc, 256, 256, false)?;
     let args = plain(alloc);
-    assert_eq!(rt;
-        run_merge(&rt, alloc, &args, readers, &mut output, &mut errors),
-        0
-    );
+    assert!(rt; run_merge(&rt, alloc, &args, readers, &mut output, &mut errors) == 0);
     assert!(rt; output.bytes() == written.as_slice());
     assert!(rt; errors.bytes().is_empty());
     Ok(())

@@ -98,9 +98,9 @@ fn expect_run(
         let mut output = Bin::new(alloc, 4096, step, false)?;
         let mut errors = Bin::new(alloc, 256, step, false)?;
         let status = run_filter(alloc, &mut tile, choice, &mut output, &mut errors);
-        assert_eq!(rt; status, wanted.status, "step {step}");
-        assert_eq!(rt; output.bytes(), written.as_slice(), "step {step}");
-        assert_eq!(rt; errors.bytes(), wanted.said.as_bytes(), "step {step}");
+        assert!(rt; status == wanted.status, "step {step}");
+        assert!(rt; output.bytes() == written.as_slice(), "step {step}");
+        assert!(rt; errors.bytes() == wanted.said.as_bytes(), "step {step}");
     }
     Ok(())
 }
@@ -239,11 +239,11 @@ fn a_late_fault_is_told_after_all_that_is_before_it(rt: HostRuntime) -> Result<(
     let mut errors = Bin::new(alloc, 256, 256, false)?;
     let choice = every_feature();
     let status = run_filter(alloc, &mut tile, &choice, &mut output, &mut errors);
-    assert_eq!(rt; status, 1);
-    assert_eq!(rt; output.bytes() == &input[..written.min(input.len())], true);
-    assert_eq!(rt;
-        errors.bytes(),
-        b"citymerge: tile 1 line 10002: the line is not a CityJSONFeature\n".as_slice()
+    assert!(rt; status == 1);
+    assert!(rt; output.bytes() == &input[..written.min(input.len())] == true);
+    assert!(rt;
+        errors.bytes()
+            == b"citymerge: tile 1 line 10002: the line is not a CityJSONFeature\n".as_slice()
     );
     Ok(())
 }
@@ -263,16 +263,12 @@ fn a_failed_write_is_told(rt: HostRuntime) -> Result<(), Fail> {
         let mut errors = Bin::new(alloc, 64, 64, false)?;
         let choice = every_feature();
         let status = run_filter(alloc, &mut tile, &choice, &mut output, &mut errors);
-        assert_eq!(rt; status, 1, "room {room}");
-        assert_eq!(rt;
-            output.bytes(),
-            &input[..taken.min(input.len())],
+        assert!(rt; status == 1, "room {room}");
+        assert!(rt;
+            output.bytes() == &input[..taken.min(input.len())],
             "room {room}"
         );
-        assert_eq!(rt;
-            errors.bytes(),
-            b"citymerge: the output could not be written\n".as_slice()
-        );
+        assert!(rt; errors.bytes() == b"citymerge: the output could not be written\n".as_slice());
     }
     Ok(())
 }
@@ -325,13 +321,10 @@ fn what_is_gathered_is_passed_on_at_the_end(rt: HostRuntime) -> Result<(), Fail>
         let mut tile = tile_of(alloc, &input, 4096, false)?;
         let mut errors = Bin::new(alloc, 128, 128, false)?;
         let choice = every_feature();
-        assert_eq!(rt;
-            run_filter(alloc, &mut tile, &choice, &mut output, &mut errors),
-            status
-        );
-        assert_eq!(rt; errors.bytes(), said.as_bytes());
-        assert_eq!(rt; writes.load(SeqCst) > 0, true);
-        assert_eq!(rt; flushes.load(SeqCst) > 0, !fails);
+        assert!(rt; run_filter(alloc, &mut tile, &choice, &mut output, &mut errors) == status);
+        assert!(rt; errors.bytes() == said.as_bytes());
+        assert!(rt; writes.load(SeqCst) > 0 == true);
+        assert!(rt; flushes.load(SeqCst) > 0 == !fails);
     }
     Ok(())
 }

@@ -1,12 +1,14 @@
-ghost use Rattle.std.specs.Prelude.{◌≡◌, ◌≤◌, ◌<◌, ◌+◌, List, [], ℕ, false, Some, None, length, IfOk, IfErr, OnOk, IfSome, IfNone, IsTrue};
+ghost use Rattle.std.specs.Prelude.{◌≡◌, ◌≤◌, ◌<◌, ◌+◌, false, length, IfOk, IfErr, OnOk, OnErr, IsTrue};
 ghost use Rattle.std.specs.Io.KnownBytes.{Keeps};
 ghost use Rattle.byte_streams.specs.Failures.{after_call};
 ghost use Rattle.city_feature.specs.Choice.{IsChosen};
 ghost use Rattle.tile_handoff.specs.Queues.{queue_of, empty_queue};
-ghost use Rattle.tile_merge.specs.Feeds.{fresh_feed, MayTake, SomeCourse, TakesNone, TakesTurn, HasFreePlace, IsAhead, most_ahead, most_lines};
+ghost use Rattle.tile_merge.specs.Feeds.{MayTake, SomeCourse, TakesNone, HasFreePlace, IsAhead, most_ahead, most_lines};
+ghost use Rattle.tile_merge.specs.Rounds.{IsFeedOf, WroteTurn, WroteTurnFront};
 ghost use Rattle.tile_stream.specs.TileState.{most_to_come, most_texts};
 
 use crate::merging::ends::{Ending, TileEnd};
+use crate::merging::tiles::OpenTile;
 use byte_streams::{Fault, Line, Sink, Source};
 use city_feature::Choice;
 use city_grid::Shift;
@@ -14,13 +16,17 @@ use std::alloc::Global;
 use std::marker::Model;
 use std::mem;
 use tile_handoff::{Queues, Took};
-use tile_stream::{Passed, TileReader, pass_on};
+use tile_stream::{Passed, ReadyTexts, TileReader, pass_on, write_line};
 
-/// A tile that is merged in turn: its reader, and a queue of the texts that were read ahead.
+/// A tile that is merged in turn: its reader, the texts of its first line, and a queue of those of later lines that were
+/// read ahead.
 #[derive(Debug, Drop)]
 pub(crate) struct Feed<R> {
     reader: TileReader<R>,
     shift: Shift,
+    first: ReadyTexts,
+    // How many of these were written.
+    written: usize,
     notes: Queues,
     count: u64,
     last: Option<TileEnd>,
@@ -30,10 +36,10 @@ pub(crate) struct Feed<R> {
 impl<R> Model for Feed<R> {
     ghost use Rattle.std.specs.Coded.{codes};
     ghost use Rattle.city_feature.specs.contracts.features.Feature as feature_type;
-    ghost use Rattle.std.specs.Prelude.{◌≡◌, ◌≤◌, ◌<◌, ◌+◌, [], false, length};
+    ghost use Rattle.std.specs.Prelude.{◌≡◌, ◌≤◌, ◌<◌, ◌+◌, [], false, drop, length};
     ghost use Rattle.tile_handoff.specs.Notes.{has_end};
     ghost use Rattle.tile_handoff.specs.Queues.{queue_of};
-    ghost use Rattle.tile_merge.specs.Feeds.{FeedState};
+    ghost use Rattle.tile_merge.specs.Feeds.{FeedState, behind};
     ghost use Rattle.tile_stream.specs.TileState.{most_to_come, most_texts};
 
     ghost Value = { FeedState R };
@@ -44,7 +50,7 @@ impl<R> Model for Feed<R> {
       unread = feed.reader;
       shift = feed.shift;
       capacity = feed.notes.capacity;
-      notes = queue_of feed.notes 0;
+      notes = behind (drop feed.written feed.first) (queue_of feed.notes 0);
       count = feed.count;
       last = feed.last;
     } };
@@ -56,43 +62,60 @@ impl<R> Model for Feed<R> {
 }
 
 impl<R: Source> Feed<R> {
-    /// What the reader gives, moved by the shift; texts are read ahead into the queue of one tile.
-    pub(crate) fn new(alloc: Global, reader: TileReader<R>, shift: Shift, notes: Queues) -> Feed<R>
+    /// What the tile gives, moved by the shift: the texts of its first line, which are made here, and then those of
+    /// later lines, which are read ahead into the queue of one tile.
+    pub(crate) fn new(
+        alloc: Global,
+        tile: OpenTile<R>,
+        shift: Shift,
+        choice: &Choice,
+        notes: Queues,
+    ) -> Feed<R>
         requires one { length notes.tiles ≡ 1 }
         requires capacity { 0 < notes.capacity }
         requires empty { queue_of notes 0 ≡ empty_queue }
-        requires most { most_to_come reader ≤ most_texts }
-        ensures { result ≡ fresh_feed notes.capacity reader shift }
+        requires most { most_to_come tile.unread ≤ most_texts }
+        ensures { IsFeedOf R.gives (IsChosen choice.now) tile shift result }
     {
+        let OpenTile { mut reader, .. } = tile;
+        let mut notes = notes;
+        let first = match reader.take_held(alloc, shift, choice) {
+            Ok(texts) => texts,
+            Err(at) => {
+                notes.store_end(0, TileEnd::new(0, Some(at)).note());
+                ReadyTexts::none(alloc)
+            }
+        };
         Feed {
             reader,
             shift,
+            count: first.len() as u64,
+            first,
+            written: 0,
             notes,
-            count: 0,
             last: None,
             spare: Line::new(alloc),
         }
     }
 
-    /// Takes the text of the next feature that is chosen; texts that need no waiting are read ahead, as
-    /// many as the queue holds. None after the last. Where a line has to be read that may be long in
-    /// coming, what was written is passed on first.
+    /// Writes the text of the next feature that is chosen, and says whether there was one; texts that need no waiting are
+    /// read ahead, as many as the queue holds. Where a line has to be read that may be long in coming, what was written is
+    /// passed on first.
     ///
     /// # Errors
     ///
-    /// [`Fault::Write`] where the flush failed.
-    pub(crate) fn take<W: Sink>(
+    /// [`Fault::Write`] where a write or the flush failed.
+    pub(crate) fn write_next<W: Sink>(
         &mut self,
         alloc: Global,
         choice: &Choice,
         output: &mut W,
-    ) -> Result<Option<Line>, Fault>
+    ) -> Result<bool, Fault>
         requires { SomeCourse (MayTake R.gives (IsChosen choice.now) self.old) }
-        ensures text { IfOk result (λ taken. IfSome taken (λ text.
-            TakesTurn R.gives (IsChosen choice.now) self.old self.new (Some text))) }
-        ensures over { IfOk result (λ taken. IfNone taken
-            (TakesTurn R.gives (IsChosen choice.now) self.old self.new None)) }
-        ensures bytes { Keeps (W.taken output.old) (W.taken output.new) }
+        ensures ok { IfOk result (λ any. WroteTurn R.gives (IsChosen choice.now) self.old self.new any
+            (W.taken output.old) (W.taken output.new)) }
+        ensures failed { OnErr result (WroteTurnFront R.gives (IsChosen choice.now) self.old
+            (W.taken output.old) (W.taken output.new)) }
         ensures failures { W.failures output.new ≡ after_call result (W.failures output.old) }
         ensures fault { IfErr result (λ fault. fault ≡ Fault.Write) }
     {
@@ -100,25 +123,31 @@ impl<R: Source> Feed<R> {
             Ok(()) => {}
             Err(fault) => return Err(fault),
         }
+        if self.written < self.first.len() {
+            match self.first.write_at(self.written, output) {
+                Ok(()) => {}
+                Err(fault) => return Err(fault),
+            }
+            self.written += 1;
+            return Ok(true);
+        }
         match self.notes.take(0) {
-            Took::Line(text) => return Ok(Some(text)),
+            Took::Line(text) => match write_line(output, text) {
+                Ok(spare) => {
+                    self.spare = spare;
+                    return Ok(true);
+                }
+                Err(fault) => return Err(fault),
+            },
             Took::End(end) => {
                 self.last = Some(TileEnd::of(end));
-                return Ok(None);
+                return Ok(false);
             }
-            Took::Empty | Took::Drained => return Ok(None),
+            Took::Empty | Took::Drained => return Ok(false),
         }
     }
 
-    /// Takes an empty line back, for its memory.
-    pub(crate) fn keep(&mut self, spare: Line)
-        requires { spare ≡ [] }
-        ensures { self.new ≡ self.old }
-    {
-        self.spare = spare;
-    }
-
-    /// Reads until there is a note, and then on while lines are held and there is a place for theirs.
+    /// Reads until there is a text or a note, and then on while lines are held and there is a place for theirs.
     ///
     /// # Errors
     ///
@@ -148,13 +177,14 @@ impl<R: Source> Feed<R> {
         Ok(())
     }
 
-    /// Whether a line more is to be read: where there is no note yet, or where the line is held
-    /// already and there is a place for its note.
+    /// Whether a line more is to be read: where all texts of the first line were written, and there is no note yet, or
+    /// the line is held already and there is a place for its note.
     fn reads_on(&self) -> bool
         ensures room { IsTrue result → HasFreePlace self.now }
         ensures ahead { result ≡ false → IsAhead self.now }
     {
-        !self.notes.is_closed(0)
+        self.written >= self.first.len()
+            && !self.notes.is_closed(0)
             && (self.notes.is_empty(0) || (self.reader.holds_line() && !self.notes.is_full(0)))
     }
 

@@ -72,16 +72,17 @@ pub fn merge_in_turn<R: Source + Drop, W: Sink>(
         shifts,
         ends,
     } = join_tiles(alloc, readers, base)?;
-    let mut feeds = feeds_of(alloc, tiles, shifts.items(), capacity)?;
+    let mut feeds = feeds_of(alloc, tiles, shifts.items(), choice, capacity)?;
     write_stream(alloc, &mut feeds, line, choice, output)?;
     ends.gather(&feeds).report()
 }
 
-/// The tiles, each with its shift and an empty queue.
+/// The tiles, each with its shift, the texts of its first line and a queue.
 fn feeds_of<R: Source + Drop>(
     alloc: Global,
     tiles: Vec<OpenTile<R>>,
     shifts: &[Shift],
+    choice: &Choice,
     capacity: u32,
 ) -> Result<Vec<Feed<R>>, Fault>
     requires few { length tiles.items ≤ 64 }
@@ -89,7 +90,7 @@ fn feeds_of<R: Source + Drop>(
     requires most { All (λ tile. most_to_come tile.unread ≤ most_texts) tiles.items }
     requires capacity { (0 < capacity) × (capacity ≤ MAX_CAPACITY) }
     ensures ok { IfOk result (λ feeds.
-        AllThree (IsFeedOf capacity) tiles.items shifts.now feeds.items) }
+        AllThree (IsFeedOf R.gives (IsChosen choice.now)) tiles.items shifts.now feeds.items) }
     ensures long { IfOk result (λ feeds. length feeds.items ≡ length tiles.items) }
     ensures memory { IfErr result (λ fault. fault ≡ Fault.Memory) }
 {
@@ -97,7 +98,7 @@ fn feeds_of<R: Source + Drop>(
     for tile in tiles {
         let shift = shifts[feeds.len()];
         let notes = Queues::new(alloc, 1, capacity)?;
-        feeds.push(Feed::new(alloc, tile.reader, shift, notes))?;
+        feeds.push(Feed::new(alloc, tile, shift, choice, notes))?;
     }
     Ok(feeds)
 }
@@ -171,18 +172,11 @@ fn write_round<R: Source, W: Sink>(
 {
     let mut any = false;
     'tiles: for feed in feeds.iter_mut() {
-        let text = match feed.take(alloc, choice, output) {
-            Ok(Some(text)) => text,
-            Ok(None) => continue,
+        let wrote = match feed.write_next(alloc, choice, output) {
+            Ok(wrote) => wrote,
             Err(fault) => return Err(fault),
         };
-        match write_line(output, text) {
-            Ok(spare) => {
-                feed.keep(spare);
-                any = true;
-            }
-            Err(fault) => return Err(fault),
-        }
+        any |= wrote;
     }
     Ok(any)
 }

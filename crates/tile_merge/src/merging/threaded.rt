@@ -16,6 +16,7 @@ mod running;
 mod waiting;
 mod writing;
 
+use crate::merging::ends::TileEnd;
 use crate::merging::report::Report;
 use crate::merging::threaded::feeder::FedTile;
 use crate::merging::threaded::running::{RunningTile, start};
@@ -29,6 +30,7 @@ use std::alloc::Global;
 use std::sync::Wait;
 use std::thread::Threads;
 use tile_handoff::MAX_CAPACITY;
+use tile_stream::ReadyTexts;
 
 /// Merges the tiles that the readers give, with a thread for each: the joined header, and then the
 /// features that are chosen, each moved by its tile's shift, those of a tile in their order and
@@ -115,7 +117,7 @@ where
     requires most { All (λ tile. most_to_come tile.unread ≤ most_texts) tiles.items }
     requires capacity { (0 < capacity) × (capacity ≤ MAX_CAPACITY) }
     ensures ok { IfOk result (λ running.
-        AllThree (IsRunOf choice.now) tiles.items shifts.now running.items) }
+        AllThree (IsRunOf R.gives choice.now) tiles.items shifts.now running.items) }
     ensures long { IfOk result (λ running. length running.items ≡ length tiles.items) }
     ensures refused { IfErr result (IsUnstarted (length tiles.items)) }
 {
@@ -134,7 +136,7 @@ where
     Ok(running)
 }
 
-/// Starts the thread of a tile, with a choice of its own.
+/// Takes the texts of a tile's first line, and starts the thread of the tile, with a choice of its own.
 fn start_tile<H, R>(
     rt: &H,
     alloc: Global,
@@ -149,16 +151,23 @@ where
     R: Source + Send + Drop + 'static,
     requires most { most_to_come tile.unread ≤ most_texts }
     requires capacity { (0 < capacity) × (capacity ≤ MAX_CAPACITY) }
-    ensures ok { IfOk result (IsRunOf choice.now tile shift) }
+    ensures ok { IfOk result (IsRunOf R.gives choice.now tile shift) }
     ensures refused { IfErr result (λ fault.
         (fault ≡ Fault.Memory) ⊎ (fault ≡ Fault.NoThread)) }
 {
-    let fed = FedTile {
-        reader: tile.reader,
-        shift,
-        choice: choice.copy(alloc)?,
+    let OpenTile { mut reader, .. } = tile;
+    let choice = choice.copy(alloc)?;
+    let (first, stop) = match reader.take_held(alloc, shift, &choice) {
+        Ok(first) => (first, None),
+        Err(at) => (ReadyTexts::none(alloc), Some(at)),
     };
-    start(rt, alloc, fed, capacity, filled)
+    let fed = FedTile {
+        reader,
+        shift,
+        choice,
+        begun: TileEnd::new(first.len() as u64, stop),
+    };
+    start(rt, alloc, fed, first, capacity, filled)
 }
 
 /// Where a refusal to start belongs: that of a thread to the tile, and that of memory to none.

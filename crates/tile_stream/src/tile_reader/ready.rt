@@ -17,9 +17,10 @@ struct ReadyText {
     shares: bool,
 }
 
-/// Texts, in order. The end that they have in common is held once.
+/// The texts of those features of a first line that are chosen, moved, in their order. The end that they have in common
+/// is held once.
 #[derive(Debug, Drop)]
-pub(crate) struct ReadyTexts {
+pub struct ReadyTexts {
     texts: Vec<ReadyText>,
     common: Line,
 }
@@ -84,7 +85,7 @@ impl ReadyTexts {
     }
 
     /// No texts.
-    pub(crate) fn none(alloc: Global) -> ReadyTexts
+    pub fn none(alloc: Global) -> ReadyTexts
         ensures { result ≡ [] }
     {
         ReadyTexts {
@@ -94,7 +95,7 @@ impl ReadyTexts {
     }
 
     /// How many texts there are.
-    pub(crate) fn len(&self) -> usize
+    pub fn len(&self) -> usize
         ensures count { result ≡ length self.now }
         ensures few { result < 2 ^ 63 }
     {
@@ -125,12 +126,30 @@ impl ReadyTexts {
         (text.own.items(), end)
     }
 
+    /// Writes the text at a place, from 0, and its newline. It takes no memory.
+    ///
+    /// # Errors
+    ///
+    /// [`Fault::Write`] where a write failed; some first bytes were written then.
+    pub fn write_at<W: Sink>(&self, at: usize, output: &mut W) -> Result<(), Fault>
+        requires { at < length self.now }
+        ensures ok { OnOk result (Appends (W.taken output.old) (W.taken output.new)
+            (with_newline (get_or self.now at []))) }
+        ensures some { OnErr result ((count : ℕ) × Appends (W.taken output.old) (W.taken output.new)
+            (take count (with_newline (get_or self.now at [])))) }
+        ensures failures { W.failures output.new ≡ after_call result (W.failures output.old) }
+        ensures fault { IfErr result (λ fault. fault ≡ Fault.Write) }
+    {
+        let (own, end) = self.parts_at(at);
+        write_parts(own, end, output)
+    }
+
     /// Writes the texts, each with its newline. It takes no memory.
     ///
     /// # Errors
     ///
     /// [`Fault::Write`] where a write failed; some first bytes were written then.
-    pub(crate) fn write<W: Sink>(&self, output: &mut W) -> Result<(), Fault>
+    pub fn write<W: Sink>(&self, output: &mut W) -> Result<(), Fault>
         ensures ok { OnOk result (Appends (W.taken output.old) (W.taken output.new)
             (flat_map with_newline self.now)) }
         ensures some { OnErr result ((count : ℕ) × Appends (W.taken output.old) (W.taken output.new)
@@ -139,8 +158,7 @@ impl ReadyTexts {
         ensures fault { IfErr result (λ fault. fault ≡ Fault.Write) }
     {
         for at in 0..self.len() {
-            let (own, end) = self.parts_at(at);
-            write_parts(own, end, output)?;
+            self.write_at(at, output)?;
         }
         Ok(())
     }

@@ -20,12 +20,15 @@ use std::thread::Promise;
 use tile_handoff::{Closed, End, Sender};
 use tile_stream::{Passed, TileReader};
 
-/// What the thread of a tile is given: the tile, its shift, and what is chosen of it.
+/// What the thread of a tile is given: the tile, whose first line the caller has taken, its shift, and what is chosen of
+/// it.
 #[derive(Drop)]
 pub(super) struct FedTile<R> {
     pub(super) reader: TileReader<R>,
     pub(super) shift: Shift,
     pub(super) choice: Choice,
+    /// How many texts the first line came to, and where the tile stops, if that line is at fault.
+    pub(super) begun: TileEnd,
 }
 
 impl<R> Model for FedTile<R> {
@@ -41,6 +44,7 @@ impl<R> Model for FedTile<R> {
       unread = tile.reader;
       shift = tile.shift;
       choice = tile.choice;
+      begun = tile.begun;
     } };
 }
 
@@ -88,7 +92,7 @@ impl<R: Source + Drop> FedTile<R> {
         sender: Sender,
         links: Links,
     ) -> Finished
-        requires most { most_to_come self.unread ≤ most_texts }
+        requires most { self.begun.count + most_to_come self.unread ≤ most_texts }
         ensures own { EndedIn sender result.closed }
         ensures same { SameConsumer links.cancellation.consumer result.cancellation.consumer }
         ensures fed { IsFed R.gives self (received result.cancellation.consumer
@@ -99,10 +103,14 @@ impl<R: Source + Drop> FedTile<R> {
             mut reader,
             shift,
             choice,
+            begun,
         } = self;
+        if begun.stop.is_some() {
+            return finish(rt, links, sender, begun);
+        }
         let mut sender = sender;
         let mut links = links;
-        let mut count = 0u64;
+        let mut count = begun.count;
         let mut spare = Line::new(alloc);
         'lines: loop {
             let Passed { is_chosen, text } = match reader.pass(alloc, shift, &choice, spare) {

@@ -1,15 +1,17 @@
-ghost use Rattle.std.specs.Prelude.{◌≡◌, ◌⊎◌, ◌≤◌, ◌<◌, ◌+◌, ◌^◌, ◌++◌, [], ◌∷◌, IfOk, IfErr, IfSome, IfNone, true};
+ghost use Rattle.std.specs.Prelude.{◌≡◌, ◌⊎◌, ◌≤◌, ◌<◌, ◌+◌, ◌^◌, ◌++◌, [], ◌∷◌, IfOk, IfErr, IfSome, IfNone, flat_map, length, true};
 ghost use Rattle.rtrb.specs.Ring.{sent, received, IsPair};
 ghost use Rattle.tile_handoff.specs.Ends.{ArePair, notes_put, notes_taken};
 ghost use Rattle.tile_merge.specs.Feeds.{Course};
-ghost use Rattle.tile_merge.specs.Threads.{fresh_run, is_ended, HasGiven};
+ghost use Rattle.byte_streams.specs.Failures.{after_call};
+ghost use Rattle.tile_merge.specs.Threads.{fresh_run, is_ended, HasGiven, WroteUnless};
+ghost use Rattle.tile_stream.specs.Stream.{with_newline};
 ghost use Rattle.tile_stream.specs.TileState.{most_to_come, most_texts};
 
 use crate::merging::ends::{Ending, TileEnd};
 use crate::merging::threaded::cancelling::{Canceller, cancel_ends};
 use crate::merging::threaded::feeder::{FedTile, Feeds, Finished, Links};
 use crate::merging::threaded::waiting::{Bell, Patience, SpacedBell};
-use byte_streams::{Fault, Line, Source};
+use byte_streams::{Fault, Line, Sink, Source};
 use std::alloc::Global;
 use std::marker::Model;
 use std::snapshot::Snapshot;
@@ -17,11 +19,13 @@ use std::sync::Wait;
 use std::thread;
 use std::thread::{PromisedHandle, Threads};
 use tile_handoff::{MAX_CAPACITY, Note, Receiver, Sender, ends};
+use tile_stream::ReadyTexts;
 
-/// A tile whose thread runs: the thread, how it ended once the end note was taken, and what the caller
-/// keeps.
+/// A tile whose thread runs: the texts of its first line, the thread, how it ended once the end note was taken, and what
+/// the caller keeps.
 #[derive(Drop)]
 pub(super) struct RunningTile<R: Source> {
+    first: ReadyTexts,
     thread: PromisedHandle<Finished, Feeds<R>>,
     last: Option<TileEnd>,
     receiver: Receiver,
@@ -29,10 +33,11 @@ pub(super) struct RunningTile<R: Source> {
     emptied: SpacedBell,
 }
 
-/// What the caller keeps of a tile's thread: the end of its ring that takes notes, that by which it is
-/// asked to stop, and the bell at which it sleeps while the ring is full.
+/// What the caller keeps of a tile and its thread: the texts of the first line, the end of its ring that takes notes, that
+/// by which it is asked to stop, and the bell at which it sleeps while the ring is full.
 #[derive(Drop)]
 struct CallerSide {
+    first: ReadyTexts,
     receiver: Receiver,
     canceller: Canceller,
     emptied: SpacedBell,
@@ -41,7 +46,7 @@ struct CallerSide {
 impl<R: Source> Model for RunningTile<R> {
     ghost use Rattle.std.specs.Coded.{codes};
     ghost use Rattle.city_feature.specs.contracts.features.Feature as feature_type;
-    ghost use Rattle.std.specs.Prelude.{◌≡◌, [], length};
+    ghost use Rattle.std.specs.Prelude.{◌≡◌, ◌++◌, [], length};
     ghost use Rattle.rtrb.specs.Ring.{sent, received, IsPair};
     ghost use Rattle.tile_handoff.specs.Ends.{notes_put, notes_taken, ArePair};
     ghost use Rattle.tile_merge.specs.Threads.{RunningState, TellsEnd, lines_in};
@@ -51,8 +56,8 @@ impl<R: Source> Model for RunningTile<R> {
     ghost coded = { Prim.hlevel (codes, feature_type.the_row.coded) };
 
     ghost view = { λ tile. record {
-      fed = tile.thread.promise.tile.value;
-      lines = lines_in (notes_taken tile.receiver);
+      begun = record { fed = tile.thread.promise.tile.value; first = tile.first };
+      lines = tile.first ++ lines_in (notes_taken tile.receiver);
       last = tile.last;
       cancels = length (sent tile.canceller.producer);
     } };
@@ -61,11 +66,12 @@ impl<R: Source> Model for RunningTile<R> {
         × ArePair tile.thread.promise.sender.value tile.receiver
         × TellsEnd tile.last (notes_taken tile.receiver)
         × IsPair tile.canceller.producer tile.thread.promise.cancellation.value.consumer
-        × (received tile.thread.promise.cancellation.value.consumer ≡ []) };
+        × (received tile.thread.promise.cancellation.value.consumer ≡ [])
+        × (tile.thread.promise.tile.value.begun.count ≡ length tile.first) };
 }
 
-/// Starts a thread that puts the texts of the tile into a new ring, and rings the bell `filled` at
-/// each.
+/// Starts a thread that puts the texts of the tile into a new ring, those of its first line excepted, which are kept, and
+/// rings the bell `filled` at each.
 ///
 /// # Errors
 ///
@@ -75,15 +81,17 @@ pub(super) fn start<H, R>(
     rt: &H,
     alloc: Global,
     tile: FedTile<R>,
+    first: ReadyTexts,
     capacity: u32,
     filled: &Bell,
 ) -> Result<RunningTile<R>, Fault>
 where
     H: Threads + Wait + Copy + Send + 'static,
     R: Source + Send + Drop + 'static,
-    requires most { most_to_come tile.unread ≤ most_texts }
+    requires begun { tile.begun.count ≡ length first }
+    requires most { tile.begun.count + most_to_come tile.unread ≤ most_texts }
     requires capacity { (0 < capacity) × (capacity ≤ MAX_CAPACITY) }
-    ensures ok { IfOk result (λ running. running ≡ fresh_run tile) }
+    ensures ok { IfOk result (λ running. running ≡ fresh_run (record { fed = tile; first = first })) }
     ensures refused { IfErr result (λ fault.
         (fault ≡ Fault.Memory) ⊎ (fault ≡ Fault.NoThread)) }
 {
@@ -96,6 +104,7 @@ where
     };
     let (sender, receiver) = ends(alloc, capacity)?;
     let caller = CallerSide {
+        first,
         receiver,
         canceller,
         emptied: SpacedBell::new(emptied, capacity),
@@ -119,13 +128,14 @@ fn start_with<H, R>(
 where
     H: Threads + Wait + Copy + Send + 'static,
     R: Source + Send + Drop + 'static,
-    requires most { most_to_come tile.unread ≤ most_texts }
+    requires begun { tile.begun.count ≡ length caller.first }
+    requires most { tile.begun.count + most_to_come tile.unread ≤ most_texts }
     requires pair { ArePair sender caller.receiver }
     requires unused { (notes_put sender ≡ []) × (notes_taken caller.receiver ≡ []) }
     requires word { IsPair caller.canceller.producer links.cancellation.consumer }
     requires unasked { (sent caller.canceller.producer ≡ [])
         × (received links.cancellation.consumer ≡ []) }
-    ensures ok { IfOk result (λ running. running ≡ fresh_run tile) }
+    ensures ok { IfOk result (λ running. running ≡ fresh_run (record { fed = tile; first = caller.first })) }
     ensures refused { IfErr result (λ fault. fault ≡ Fault.NoThread) }
 {
     let feeds = Feeds {
@@ -140,11 +150,13 @@ where
         return Err(Fault::NoThread);
     };
     let CallerSide {
+        first,
         receiver,
         canceller,
         emptied,
     } = caller;
     Ok(RunningTile {
+        first,
         thread,
         last: None,
         receiver,
@@ -154,9 +166,23 @@ where
 }
 
 impl<R: Source + Drop> RunningTile<R> {
+    /// Writes the texts of the first line, each with its newline.
+    ///
+    /// # Errors
+    ///
+    /// [`Fault::Write`] where a write failed; some first bytes were written then.
+    pub(super) fn write_first<W: Sink>(&self, output: &mut W) -> Result<(), Fault>
+        ensures written { WroteUnless result (flat_map with_newline self.now.begun.first)
+            (W.taken output.old) (W.taken output.new) }
+        ensures failures { W.failures output.new ≡ after_call result (W.failures output.old) }
+        ensures fault { IfErr result (λ fault. fault ≡ Fault.Write) }
+    {
+        self.first.write(output)
+    }
+
     /// Takes the oldest note that is left, unless the end note was taken: a line, or else none.
     pub(super) fn take(&mut self) -> Option<Line>
-        ensures fed { self.new.fed ≡ self.old.fed }
+        ensures begun { self.new.begun ≡ self.old.begun }
         ensures line { IfSome result (λ line. self.new.lines ≡ self.old.lines ++ line ∷ []) }
         ensures none { IfNone result (self.new.lines ≡ self.old.lines) }
         ensures cancels { self.new.cancels ≡ self.old.cancels }
@@ -180,7 +206,7 @@ impl<R: Source + Drop> RunningTile<R> {
     /// Asks the thread to stop at its next line. Its texts so far and its end note are still to be
     /// taken.
     pub(super) fn cancel(&mut self)
-        ensures fed { self.new.fed ≡ self.old.fed }
+        ensures begun { self.new.begun ≡ self.old.begun }
         ensures lines { self.new.lines ≡ self.old.lines }
     {
         self.canceller.cancel();

@@ -1,7 +1,7 @@
 ghost use Rattle.std.specs.Prelude.{◌≡◌, ◌≤◌, ◌<◌, ◌++◌, ℕ, List, Option, Some, None, true, [], IfOk, IfErr, OnOk, IsOk, IsTrue, filter_map};
 ghost use Rattle.byte_streams.specs.Failures.{after_call};
-ghost use Rattle.tile_stream.specs.Stream.{with_newline};
-ghost use Rattle.tile_merge.specs.Threads.{AreFresh, are_all_ended, GoesOn, GoesOnWriting, LinesSoFar, WroteUnless, feds_of};
+ghost use Rattle.tile_stream.specs.Stream.{stream, with_newline};
+ghost use Rattle.tile_merge.specs.Threads.{AreFresh, are_all_ended, GoesOn, GoesOnWriting, LinesSoFar, WroteUnless, begun_of, first_texts};
 
 use crate::merging::ends::Ending;
 use crate::merging::threaded::running::RunningTile;
@@ -11,8 +11,8 @@ use crossbeam_utils::sync::Key;
 use std::sync::Wait;
 use tile_stream::write_line;
 
-/// Writes the line of the header, and then the lines of the tiles as they come, until the end note of
-/// each was taken. A write that fails ends the writing, and not the taking: the threads are asked to
+/// Writes the line of the header and those of the tiles' first lines, and then the lines of the tiles as they come, until
+/// the end note of each was taken. A write that fails ends the writing, and not the taking: the threads are asked to
 /// stop, and what they have put is taken. Where nothing comes for a while, what was written is passed
 /// on, and the caller sleeps until the bell `filled` is rung.
 ///
@@ -28,12 +28,12 @@ pub(super) fn write_stream<H: Wait, R: Source + Drop, W: Sink>(
 ) -> Result<(), Fault>
     requires fresh { AreFresh tiles.old }
     ensures ended { are_all_ended tiles.new ≡ true }
-    ensures written { LinesSoFar (feds_of tiles.old) header tiles.new result
+    ensures written { LinesSoFar (begun_of tiles.old) header tiles.new result
         (W.taken output.old) (W.taken output.new) (W.failures output.old) (W.failures output.new) }
     ensures flushed { OnOk result (W.is_flushed output.new) }
 {
     let mut patience = Patience::new();
-    let mut wrote = write_unless_failed(output, header, Ok(()));
+    let mut wrote = write_first(header, tiles, output);
     'rounds: for _ in rt.forever() {
         if are_ended(tiles) {
             break;
@@ -49,6 +49,28 @@ pub(super) fn write_stream<H: Wait, R: Source + Drop, W: Sink>(
     }
     wrote?;
     output.flush()
+}
+
+/// Writes the line of the header, and then the texts of the first line of each tile.
+///
+/// # Errors
+///
+/// [`Fault::Write`] where a write failed; some first bytes were written then.
+fn write_first<R: Source + Drop, W: Sink>(
+    header: Line,
+    tiles: &[RunningTile<R>],
+    output: &mut W,
+) -> Result<(), Fault>
+    ensures written { WroteUnless result (stream header (first_texts tiles.now))
+        (W.taken output.old) (W.taken output.new) }
+    ensures failures { W.failures output.new ≡ after_call result (W.failures output.old) }
+    ensures fault { IfErr result (λ fault. fault ≡ Fault.Write) }
+{
+    write_line(output, header)?;
+    'tiles: for tile in tiles.iter() {
+        tile.write_first(output)?;
+    }
+    Ok(())
 }
 
 /// Takes a note of each tile whose end note was not taken yet, and writes it where it is a line.

@@ -2,8 +2,7 @@ use Rattle.std.proofs.Common.{◌≡◌, ◌≤◌, ◌∷◌, [], length, take,
 use Rattle.std.proofs.lemmas.List.{map-id}
 use Rattle.std.proofs.lemmas.Iterator.Adapters.{YieldsList-from_vec}
 use Rattle.std.proofs.lemmas.Iterator.Consumers.{YieldsList-end}
-use Rattle.tile_handoff.specs.Queues.{QueuesState}
-use Rattle.tile_merge.specs.Feeds.{fresh_feed}
+use Rattle.city_feature.specs.Choice.{IsChosen}
 use Rattle.tile_merge.specs.Opened.{OpenState}
 use Rattle.tile_merge.specs.Rounds.{IsFeedOf}
 use Rattle.tile_stream.specs.TileState.{most_to_come, most_texts}
@@ -17,7 +16,7 @@ pub bounds-shifts-len : goal.bounds-shifts-len
 bounds-shifts-len g c =
     let loop = c.loop-tile in
     let tiles = c.args.tiles.items in
-    let long = all_three_long (IsFeedOf c.args.capacity) loop.yielded (take (length loop.yielded) c.args.shifts.now)
+    let long = all_three_long (IsFeedOf g.R.Source.gives (IsChosen c.args.choice.now)) loop.yielded (take (length loop.yielded) c.args.shifts.now)
     loop.feeds.items loop.invariant.fed in
     let within = is_longer tiles loop.yielded c.in-Some.tile _
     (goes_on tiles loop.yielded _ c.in-Some.tile _ loop.invariant.left c.in-Some.ensures.steps.0) in
@@ -33,28 +32,24 @@ new-requires-in-loop-tile-clause-most g c =
     let Few : OpenState g.row.R.Denot → Type 0 = λ tile. most_to_come tile.unread ≤ most_texts in
     let few = all_at Few tiles loop.yielded c.in-Some.tile _
     (goes_on tiles loop.yielded _ c.in-Some.tile _ loop.invariant.left c.in-Some.ensures.steps.0) c.requires.most in
-    subst Few (sym c.tile.view_is) few
+    few
 
 pub loop-tile-preserved : goal.loop-tile-preserved
 loop-tile-preserved g c =
     let loop = c.loop-tile in
     let tile = c.in-Some.tile in
     let are = goes_on c.args.tiles.items loop.yielded _ tile _ loop.invariant.left c.in-Some.ensures.steps.0 in
-    let long = all_three_long (IsFeedOf c.args.capacity) loop.yielded (take (length loop.yielded) c.args.shifts.now)
+    let long = all_three_long (IsFeedOf g.R.Source.gives (IsChosen c.args.choice.now)) loop.yielded (take (length loop.yielded) c.args.shifts.now)
     loop.feeds.items loop.invariant.fed in
     let is_shift = subst (λ n. c.index-shifts-len.result ≡ get_or c.args.shifts.now n c.index-shifts-len.result)
     (c.len-in-loop-tile.ensures ∙ loop.feeds.ok.0 ∙ long.1) c.index-shifts-len.is in
     let shift = c.index-shifts-len.result in
-    let is_feed =
-    c.new-in-loop-tile.ensures
-    ∙ ap (λ (queues : QueuesState). fresh_feed queues.capacity c.tile.inside.reader shift) c.in_ok-notes.ensures.empty
-    ∙ ap (λ (open_tile : OpenState g.row.R.Denot). fresh_feed c.args.capacity open_tile.unread shift) c.tile.view_is in
     record {
       can_next = tt;
       is_finite = tt;
-      fed = threes_more (IsFeedOf c.args.capacity) loop.yielded c.args.shifts.now loop.feeds.items
+      fed = threes_more (IsFeedOf g.R.Source.gives (IsChosen c.args.choice.now)) loop.yielded c.args.shifts.now loop.feeds.items
           c.push.new.self.items tile c.index-shifts-len.result c.new-in-loop-tile.result loop.invariant.fed
-          (omega (arith, is_longer c.args.tiles.items loop.yielded tile _ are, c.requires.shifts)) is_shift is_feed
+          (omega (arith, is_longer c.args.tiles.items loop.yielded tile _ are, c.requires.shifts)) is_shift c.new-in-loop-tile.ensures
           c.in_ok-push.ensures.items;
       left = are ∙ sym (append_assoc loop.yielded (tile ∷ []) c.next.new.self.rest.items);
     }
@@ -66,7 +61,7 @@ returns-clause-long g c =
     c.into_iter-tile-iterator.ensures.into_iter_gives.0
     (c.into_iter-tile-iterator.ensures.into_iter_gives.1 ∙ c.args.tiles.ok.0)) loop.yielded loop.tile-iterator
     loop.yielded_by c.next.result c.next.new.self c.in-None.is c.next.ensures.steps in
-    let long = all_three_long (IsFeedOf c.args.capacity) loop.yielded (take (length loop.yielded) c.args.shifts.now)
+    let long = all_three_long (IsFeedOf g.R.Source.gives (IsChosen c.args.choice.now)) loop.yielded (take (length loop.yielded) c.args.shifts.now)
     loop.feeds.items loop.invariant.fed in
     long.1 ∙ ap length (sym (map-id loop.yielded) ∙ end.0)
 
@@ -77,5 +72,5 @@ returns-clause-ok g c =
     c.into_iter-tile-iterator.ensures.into_iter_gives.0
     (c.into_iter-tile-iterator.ensures.into_iter_gives.1 ∙ c.args.tiles.ok.0)) loop.yielded loop.tile-iterator
     loop.yielded_by c.next.result c.next.new.self c.in-None.is c.next.ensures.steps in
-    threes_all (IsFeedOf c.args.capacity) c.args.tiles.items loop.yielded c.args.shifts.now loop.feeds.items
+    threes_all (IsFeedOf g.R.Source.gives (IsChosen c.args.choice.now)) c.args.tiles.items loop.yielded c.args.shifts.now loop.feeds.items
     (sym (map-id loop.yielded) ∙ end.0) c.requires.shifts loop.invariant.fed

@@ -31,9 +31,9 @@ write_stream-requires g c =
     let joined = c.in_ok-tiles.ensures.ok in
     let tiles = c.in_ok-tiles.field-0.tiles.items in
     let shifts = c.in_ok-tiles.field-0.shifts in
-    let fed = all_three_same (IsFeedOf c.args.capacity) tiles c.items.result.now shifts c.in_ok-feeds.feeds.items
+    let fed = all_three_same (IsFeedOf g.R.Source.gives (IsChosen c.args.choice.now)) tiles c.items.result.now shifts c.in_ok-feeds.feeds.items
     c.deref_mut.result.now (sym c.items.ensures) c.deref_mut.ensures.value c.in_ok-feeds.ensures.ok in
-    some_ahead g.R.Source.gives (IsChosen c.args.choice.now) c.args.capacity c.args.readers.items tiles joined.headers
+    some_ahead g.R.Source.gives (IsChosen c.args.choice.now) c.args.readers.items tiles joined.headers
     shifts c.deref_mut.result.now joined.opened fed
 
 pub returns-in_err-write_stream-clause-refused : goal.returns-in_err-write_stream-clause-refused
@@ -41,10 +41,10 @@ returns-in_err-write_stream-clause-refused g c =
     let tiles = c.in_ok-tiles.field-0.tiles.items in
     let shifts = c.in_ok-tiles.field-0.shifts in
     let feeds = c.deref_mut.result.now in
-    let fed = all_three_same (IsFeedOf c.args.capacity) tiles c.items.result.now shifts c.in_ok-feeds.feeds.items feeds
+    let fed = all_three_same (IsFeedOf g.R.Source.gives (IsChosen c.args.choice.now)) tiles c.items.result.now shifts c.in_ok-feeds.feeds.items feeds
     (sym c.items.ensures) c.deref_mut.ensures.value c.in_ok-feeds.ensures.ok in
     let front = c.in_err-write_stream.ensures.failed in
-    let given = given_all g.R.Source.gives (IsChosen c.args.choice.now) c.args.capacity tiles shifts feeds front.0 fed
+    let given = given_all g.R.Source.gives (IsChosen c.args.choice.now) tiles shifts feeds front.0 fed
     front.2 in
     let e = err_from_is_err_and c.from_residual-in_err-write_stream.result
     c.from_residual-in_err-write_stream.ensures.1 in
@@ -63,11 +63,11 @@ returns g c =
     let line = c.in_ok-tiles.field-0.line in
     let joined = c.in_ok-tiles.ensures.ok in
     let feeds = c.deref_mut.result.now in
-    let fed = all_three_same (IsFeedOf c.args.capacity) tiles c.items.result.now shifts c.in_ok-feeds.feeds.items feeds
+    let fed = all_three_same (IsFeedOf g.R.Source.gives (IsChosen c.args.choice.now)) tiles c.items.result.now shifts c.in_ok-feeds.feeds.items feeds
     (sym c.items.ensures) c.deref_mut.ensures.value c.in_ok-feeds.ensures.ok in
     let turned = c.in_ok-write_stream.ensures.ok in
     let after = c.write_stream.new.feeds in
-    let given = given_all gives chosen c.args.capacity tiles shifts feeds turned.0 fed turned.1 in
+    let given = given_all gives chosen tiles shifts feeds turned.0 fed turned.1 in
     let old = g.W.Sink.taken c.args.output.now in
     let new = g.W.Sink.taken c.write_stream.new.output in
     let back = c.deref.ensures.value ∙ lent_back c.in_ok-feeds.feeds.items after c.in_ok-feeds.feeds.len

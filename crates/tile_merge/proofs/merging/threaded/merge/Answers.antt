@@ -51,9 +51,9 @@ pub write_stream-wrote-requires : goal.write_stream-wrote-requires
 write_stream-wrote-requires g c =
     let tiles = c.in_ok-tiles.field-0.tiles.items in
     let shifts = c.in_ok-tiles.field-0.shifts in
-    let runs = all_three_same (IsRunOf c.args.choice.now) tiles c.items.result.now shifts c.in_ok-running.running.items
+    let runs = all_three_same (IsRunOf g.R.Source.gives c.args.choice.now) tiles c.items.result.now shifts c.in_ok-running.running.items
     c.deref_mut.result.now (sym c.items.ensures) c.deref_mut.ensures.value c.in_ok-running.ensures.ok in
-    record { fresh = are_fresh c.args.choice.now tiles shifts c.deref_mut.result.now runs }
+    record { fresh = are_fresh g.R.Source.gives c.args.choice.now tiles shifts c.deref_mut.result.now runs }
 
 pub returns-in_err-wrote-clause-refused : goal.returns-in_err-wrote-clause-refused
 returns-in_err-wrote-clause-refused g c =
@@ -63,7 +63,7 @@ returns-in_err-wrote-clause-refused g c =
     let line = c.in_ok-tiles.field-0.line in
     let running = c.in_ok-running.running.items in
     let now = wrote.new.tiles in
-    let runs = all_three_same (IsRunOf c.args.choice.now) tiles c.items.result.now shifts running
+    let runs = all_three_same (IsRunOf g.R.Source.gives c.args.choice.now) tiles c.items.result.now shifts running
     c.deref_mut.result.now (sym c.items.ensures) c.deref_mut.ensures.value c.in_ok-running.ensures.ok in
     let back = lent_back running now c.in_ok-running.running.len
     (wrote.auto.tiles ∙ ap length c.deref_mut.ensures.value ∙ sym c.in_ok-running.running.ok.0)
@@ -92,7 +92,7 @@ returns g c =
     let running = c.in_ok-running.running.items in
     let given = c.deref_mut.result.now in
     let now = wrote.new.tiles in
-    let runs = all_three_same (IsRunOf choice) tiles c.items.result.now shifts running given (sym c.items.ensures)
+    let runs = all_three_same (IsRunOf gives choice) tiles c.items.result.now shifts running given (sym c.items.ensures)
     c.deref_mut.ensures.value c.in_ok-running.ensures.ok in
     let back = lent_back running now c.in_ok-running.running.len
     (wrote.auto.tiles ∙ ap length c.deref_mut.ensures.value ∙ sym c.in_ok-running.running.ok.0)

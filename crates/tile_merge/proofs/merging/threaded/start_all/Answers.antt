@@ -16,7 +16,7 @@ pub bounds-shifts-len : goal.bounds-shifts-len
 bounds-shifts-len g c =
     let loop = c.loop-tile in
     let tiles = c.args.tiles.items in
-    let long = all_three_long (IsRunOf c.args.choice.now) loop.yielded (take (length loop.yielded) c.args.shifts.now)
+    let long = all_three_long (IsRunOf g.R.Source.gives c.args.choice.now) loop.yielded (take (length loop.yielded) c.args.shifts.now)
     loop.running.items loop.invariant.runs in
     let within = is_longer tiles loop.yielded c.in-Some.tile _
     (goes_on tiles loop.yielded _ c.in-Some.tile _ loop.invariant.left c.in-Some.ensures.steps.0) in
@@ -34,7 +34,7 @@ pub push_reserved-requires : goal.push_reserved-requires
 push_reserved-requires g c =
     let loop = c.loop-tile in
     let tiles = c.args.tiles.items in
-    let long = all_three_long (IsRunOf c.args.choice.now) loop.yielded (take (length loop.yielded) c.args.shifts.now)
+    let long = all_three_long (IsRunOf g.R.Source.gives c.args.choice.now) loop.yielded (take (length loop.yielded) c.args.shifts.now)
     loop.running.items loop.invariant.runs in
     let within = is_longer tiles loop.yielded c.in-Some.tile _
     (goes_on tiles loop.yielded _ c.in-Some.tile _ loop.invariant.left c.in-Some.ensures.steps.0) in
@@ -45,14 +45,14 @@ loop-tile-preserved g c =
     let loop = c.loop-tile in
     let tile = c.in-Some.tile in
     let are = goes_on c.args.tiles.items loop.yielded _ tile _ loop.invariant.left c.in-Some.ensures.steps.0 in
-    let long = all_three_long (IsRunOf c.args.choice.now) loop.yielded (take (length loop.yielded) c.args.shifts.now)
+    let long = all_three_long (IsRunOf g.R.Source.gives c.args.choice.now) loop.yielded (take (length loop.yielded) c.args.shifts.now)
     loop.running.items loop.invariant.runs in
     let is_shift = subst (λ n. c.index-shifts-len.result ≡ get_or c.args.shifts.now n c.index-shifts-len.result)
     (c.len-in-loop-tile.ensures ∙ loop.running.ok.0 ∙ long.1) c.index-shifts-len.is in
     record {
       can_next = tt;
       is_finite = tt;
-      runs = threes_more (IsRunOf c.args.choice.now) loop.yielded c.args.shifts.now loop.running.items
+      runs = threes_more (IsRunOf g.R.Source.gives c.args.choice.now) loop.yielded c.args.shifts.now loop.running.items
           c.push_reserved.new.self.items tile c.index-shifts-len.result c.in-Ok.started loop.invariant.runs
           (omega (arith, is_longer c.args.tiles.items loop.yielded tile _ are, c.requires.shifts)) is_shift
           c.in-Ok.ensures.ok c.push_reserved.ensures.items;
@@ -64,7 +64,7 @@ pub returns-in-Err-clause-refused : goal.returns-in-Err-clause-refused
 returns-in-Err-clause-refused g c =
     let loop = c.loop-tile in
     let tiles = c.args.tiles.items in
-    let long = all_three_long (IsRunOf c.args.choice.now) loop.yielded (take (length loop.yielded) c.args.shifts.now)
+    let long = all_three_long (IsRunOf g.R.Source.gives c.args.choice.now) loop.yielded (take (length loop.yielded) c.args.shifts.now)
     loop.running.items loop.invariant.runs in
     let within = is_longer tiles loop.yielded c.in-Some.tile _
     (goes_on tiles loop.yielded _ c.in-Some.tile _ loop.invariant.left c.in-Some.ensures.steps.0) in
@@ -80,7 +80,7 @@ returns-clause-long g c =
     c.into_iter-tile-iterator.ensures.into_iter_gives.0
     (c.into_iter-tile-iterator.ensures.into_iter_gives.1 ∙ c.args.tiles.ok.0)) loop.yielded loop.tile-iterator
     loop.yielded_by c.next.result c.next.new.self c.in-None.is c.next.ensures.steps in
-    let long = all_three_long (IsRunOf c.args.choice.now) loop.yielded (take (length loop.yielded) c.args.shifts.now)
+    let long = all_three_long (IsRunOf g.R.Source.gives c.args.choice.now) loop.yielded (take (length loop.yielded) c.args.shifts.now)
     loop.running.items loop.invariant.runs in
     long.1 ∙ ap length (sym (map-id loop.yielded) ∙ end.0)
 
@@ -91,5 +91,5 @@ returns-clause-ok g c =
     c.into_iter-tile-iterator.ensures.into_iter_gives.0
     (c.into_iter-tile-iterator.ensures.into_iter_gives.1 ∙ c.args.tiles.ok.0)) loop.yielded loop.tile-iterator
     loop.yielded_by c.next.result c.next.new.self c.in-None.is c.next.ensures.steps in
-    threes_all (IsRunOf c.args.choice.now) c.args.tiles.items loop.yielded c.args.shifts.now loop.running.items
+    threes_all (IsRunOf g.R.Source.gives c.args.choice.now) c.args.tiles.items loop.yielded c.args.shifts.now loop.running.items
     (sym (map-id loop.yielded) ∙ end.0) c.requires.shifts loop.invariant.runs

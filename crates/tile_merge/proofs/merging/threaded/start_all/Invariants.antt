@@ -9,7 +9,7 @@ invariant-loop-tile g l =
     record {
       can_next : (goal.iterator-loop-tile g).can_next l.tile-iterator;
       is_finite : (goal.iterator-loop-tile g).is_finite l.tile-iterator;
-      runs : AllThree (IsRunOf l.fn.choice) l.yielded (take (length l.yielded) l.fn.shifts) l.running.items;
+      runs : AllThree (IsRunOf g.R.Source.gives l.fn.choice) l.yielded (take (length l.yielded) l.fn.shifts) l.running.items;
       room : vec_capacity l.running ≡ length l.fn.tiles.items;
       left : l.fn.tiles.items ≡ l.yielded ++ l.tile-iterator.rest.items;
     }

@@ -11,7 +11,7 @@ abbrev pub invariant-lines : goal.invariant-lines
 invariant-lines g l = record {
   so_far : FedSoFar (MayComeTo g.R.Source.gives (IsChosen l.initial.choice) l.initial.shift l.initial.reader)
       (MayComeTo g.R.Source.gives (IsChosen l.choice) l.shift l.reader)
-      l.count (notes_put l.initial.sender) (notes_put l.sender);
+      l.initial.count l.count (notes_put l.initial.sender) (notes_put l.sender);
   own : IsSameSender l.initial.sender l.sender;
   same : SameConsumer l.initial.links.cancellation.consumer l.links.cancellation.consumer;
   unseen : received l.links.cancellation.consumer ≡ received l.initial.links.cancellation.consumer;

@@ -18,8 +18,8 @@ returns g c =
     let finished = c.join-closed.result in
     let before = received promise.cancellation.value.consumer in
     let Unasked = received finished.cancellation.consumer ≡ before in
-    let given = has_given g.R.Source.gives promise.tile.value inside.last (length (sent inside.canceller.producer))
-    Unasked ended.0 ended.1 (notes_put promise.sender.value) (notes_carried finished.closed) taken
+    let given = has_given g.R.Source.gives promise.tile.value inside.first c.self.invariant.5 inside.last
+    (length (sent inside.canceller.producer)) Unasked ended.0 ended.1 (notes_put promise.sender.value) (notes_carried finished.closed) taken
     c.self.invariant.0 c.join-closed.ensures.2 (c.in-Ok.ensures.whole drained) c.self.invariant.2
     (λ none. c.confirm.ensures none ∙ sym c.self.invariant.4) in
     let Given : RunningState g.row.R.Denot → Type 0 = λ tile. (course : Course)
