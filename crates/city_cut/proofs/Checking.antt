@@ -1,15 +1,41 @@
 -- The vertices of a document, item by item.
-use Rattle.std.proofs.Common.{◌≡◌, ◌∙◌, ◌⊎◌, ◌+◌, ◌<◌, ◌≤◌, ℕ, sym, ap, refl, subst, inl, inr, List, [], ◌∷◌, length, drop, get_or}
+use Rattle.std.proofs.Common.{◌≡◌, ◌∙◌, ◌⊎◌, ◌+◌, ◌<◌, ◌≤◌, ℕ, sym, ap, refl, subst, inl, inr, List, [], ◌∷◌, Option, Some, None, codes, length, drop, get_or}
 use Rattle.std.proofs.lemmas.List.{drop_all, drop_more}
+use Rattle.city_json.specs.Members.{member_of}
 use Rattle.city_json.specs.Tree.{Tree, tree, ItemTrees, no_items, item, items_tree}
 use Rattle.byte_streams.specs.declared.fault.Fault.{Fault}
-use Rattle.byte_streams.specs.declared.fault.Fault.TheVariants.{VertexShape, VertexNotInteger, VertexRange}
+use Rattle.byte_streams.specs.declared.fault.Fault.TheVariants.{NoTransform, Decimal, ScaleNotPositive, VertexShape, VertexNotInteger, VertexRange}
 use Rattle.city_json.specs.declared.json.Json.{Json}
 use Rattle.city_grid.specs.Axes.{Triple, IsInRange}
 use Rattle.city_grid.specs.Vertex.{IsVertex, RefusesVertex}
 use Rattle.city_feature.specs.Feature.{AreVertices, RefusesFirst}
+use Rattle.city_feature.specs.Header.{IsVersion2, RefusesGrid}
 use Rattle.city_cut.specs.CityObjects.{vertices_of}
-use Rattle.city_cut.specs.Cut.{HasFrame, RefusesCut}
+use Rattle.city_cut.specs.Cut.{HasFrame, IsDocument, RefusesCut, RefusesFrame}
+
+-- a grid is refused for three faults alone
+only_three : (fault : Fault) (found : Option Tree) → RefusesGrid fault found
+    → (fault ≡ NoTransform) ⊎ ((fault ≡ Decimal) ⊎ (fault ≡ ScaleNotPositive))
+only_three fault None refused = inl refused
+only_three NoTransform (Some value) refused = inl refl
+only_three Decimal (Some value) refused = inr (inl refl)
+only_three ScaleNotPositive (Some value) refused = inr (inr refl)
+only_three other (Some value) refused = absurd refused
+
+pub grid_refused : (fault : Fault) (document : Tree) → IsDocument document → IsVersion2 document
+    → RefusesGrid fault (member_of (codes "transform") document) → RefusesCut fault document
+grid_refused fault document is two refused =
+    by (only_three fault (member_of (codes "transform") document) refused)
+  where
+    framed : RefusesFrame fault document
+    framed = (is, two, refused)
+
+    by : (fault ≡ NoTransform) ⊎ ((fault ≡ Decimal) ⊎ (fault ≡ ScaleNotPositive)) → RefusesCut fault document
+    by (inl same) = subst (λ f. RefusesCut f document) (sym same) (subst (λ f. RefusesFrame f document) same framed)
+    by (inr (inl same)) =
+        subst (λ f. RefusesCut f document) (sym same) (subst (λ f. RefusesFrame f document) same framed)
+    by (inr (inr same)) =
+        subst (λ f. RefusesCut f document) (sym same) (subst (λ f. RefusesFrame f document) same framed)
 
 -- where the items from here on are vertices, all are
 abbrev pub GoesOn : List Json → ℕ → Type 0

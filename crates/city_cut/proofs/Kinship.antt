@@ -2,7 +2,7 @@
 use Rattle.std.proofs.Common.{◌≡◌, ◌≢◌, ◌<◌, ◌+◌, ◌++◌, inl, inr, ℕ, zero, suc, Bool, true, false, List, [], ◌∷◌, Some, length, get_or, map, sym, refl, ap, subst, ◌∙◌, arith, bytes_eq, take, ◌==◌, length-append}
 use Rattle.std.proofs.lemmas.Bool.{eqb-true, eqb-false}
 use Rattle.std.proofs.Math.ListN.{get_or-map}
-use Rattle.std.proofs.lemmas.List.{get_or_default, get_or_push, get_or_append_left, length-map, map-append, take_more}
+use Rattle.std.proofs.lemmas.List.{get_or_default, get_or_push, get_or_append_left, length-map, map-append, map_more, take_more}
 use Rattle.std.proofs.lemmas.List.Kept.{Contains-dedup_nat, Contains-from_dedup}
 use Rattle.std.proofs.lemmas.List.Sorted.{Contains-permutation, IsPermutation-sym}
 use Rattle.std.proofs.lemmas.Map.Keys.{IsStrictlyIncreasing-dedup}
@@ -21,7 +21,7 @@ use Rattle.city_json.specs.Members.{first_named, names}
 use Rattle.city_json.specs.declared.json.Json.{Json}
 use Rattle.city_json.specs.declared.json.Member.{Member}
 use Rattle.city_json.specs.Tree.{Tree, tree, member_trees, members_tree, named_tree, string, MemberTrees, no_members, member}
-use Rattle.city_cut.specs.CityObjects.{IsChild, IsReached, LacksChild, children}
+use Rattle.city_cut.specs.CityObjects.{IsChild, IsReached, LacksChild, children, has_parents}
 use Rattle.city_cut.specs.Places.{ArePlaced, IsFamily, IsGraph, ReachesPlace, name_at}
 use Rattle.city_cut.specs.Items.{values}
 use Rattle.city_cut.specs.Reach.{Reached, itself, onward}
@@ -342,3 +342,19 @@ at_value P objects i m all within at =
     subst P (get_or-map value objects i m ∙ ap value (sym at))
     (All-from_recursion P (map value objects) (subst (AllByRecursion P) (values_map objects) all) i (value m)
     (omega (arith, within, length-map objects value)))
+
+-- ---- which objects name parents
+abbrev pub names_parents : List ℕ × Tree → Bool
+names_parents pair = has_parents pair.1
+
+pub parents_more : (objects : List Member) (at : ℕ) (one : Member) (object : Tree) (has : Bool) (known more : List Bool)
+    → at < length objects → one ≡ get_or objects at one → object ≡ (named_tree one).1 → has ≡ has_parents object
+    → known ≡ map names_parents (map named_tree (take at objects)) → more ≡ known ++ has ∷ []
+    → more ≡ map names_parents (map named_tree (take (at + 1) objects))
+parents_more objects at one object has known more within is object_is has_is known_are more_is =
+    let before = map named_tree (take at objects) in
+    let listed : map named_tree (take (at + 1) objects) ≡ before ++ named_tree one ∷ [] =
+    map_more named_tree objects at one within ∙ ap (λ m. before ++ named_tree m ∷ []) (sym is) in
+    more_is ∙ (ap (λ b. known ++ b ∷ []) (has_is ∙ ap has_parents object_is)
+    ∙ (ap (λ l. l ++ names_parents (named_tree one) ∷ []) known_are
+    ∙ (sym (map-append names_parents before (named_tree one ∷ [])) ∙ ap (map names_parents) (sym listed))))

@@ -1,9 +1,15 @@
 -- How the table of numbers grows.
-use Rattle.std.proofs.Common.{◌≡◌, ◌≢◌, ◌<◌, ◌+◌, ◌++◌, inl, inr, ℕ, Bool, true, false, ◌==◌, List, [], ◌∷◌, length, map, sym, refl, ap, subst, ◌∙◌, arith, length-append, length-set}
+use Rattle.std.proofs.Common.{◌≡◌, ◌≢◌, ◌<◌, ◌+◌, ◌++◌, inl, inr, ℕ, Bool, true, false, ◌==◌, List, [], ◌∷◌, length, map, sym, refl, ap, subst, ◌∙◌, arith, length-append, length-set, append_assoc, codes}
 use Rattle.std.proofs.lemmas.Bool.{eqb-true, eqb-false}
+use Rattle.std.proofs.lemmas.Grind.{flat_map-append}
 use Rattle.std.proofs.lemmas.List.{get_or_append_left, get_or_push, get_or-set_same, get_or-set_other}
 use Rattle.std.proofs.lemmas.List.Elements.{Contains-append_right, Contains-push_cases}
-use Rattle.std.specs.List.{Contains, slice_index, slice_set}
+use Rattle.std.specs.List.{Contains, flat_map, slice_index, slice_set}
+use Rattle.city_json.specs.Members.{member_of}
+use Rattle.city_json.specs.Tree.{Tree}
+use Rattle.city_cut.specs.Boundaries.{address_boundary, boundaries, own_boundary}
+use Rattle.city_cut.specs.Items.{items_of}
+use Rattle.city_cut.specs.Leaves.{leaves}
 use Rattle.city_cut.specs.Numbered.{AreNumbered, HasNumber}
 use Rattle.city_cut.specs.Points.{CountsUp}
 
@@ -100,3 +106,15 @@ numbered_new uses table order v all within hasnt = record {
 
     known_new : HasNumber table' order' v
     known_new = (omega (arith, here, more), ap (slice_index order') here ∙ last)
+
+-- the vertices of an object's geometries, and after them those of its addresses
+pub both_boundaries : (value : Tree) (geometries addresses : List Tree) (uses : List ℕ)
+    → geometries ≡ items_of (member_of (codes "geometry") value)
+    → addresses ≡ items_of (member_of (codes "address") value)
+    → (uses ++ flat_map leaves (flat_map own_boundary geometries))
+    ++ flat_map leaves (flat_map address_boundary addresses) ≡ uses ++ flat_map leaves (boundaries value)
+both_boundaries value geometries addresses uses geometries_are addresses_are =
+    let given = flat_map own_boundary (items_of (member_of (codes "geometry") value)) in
+    let located = flat_map address_boundary (items_of (member_of (codes "address") value)) in
+    rw (geometries_are, addresses_are) (append_assoc uses (flat_map leaves given) (flat_map leaves located)
+    ∙ ap (λ l. uses ++ l) (sym (flat_map-append leaves given located)))

@@ -5,6 +5,7 @@ use Rattle.city_json.proofs.CompactLaws.{compact-tells}
 use Rattle.city_json.proofs.SpelledWritable.{spelled_writable}
 use Rattle.city_json.specs.Bytes.{colon, comma, open_brace, close_brace, open_bracket, close_bracket}
 use Rattle.city_json.specs.Compact.{compact, quoted}
+use Rattle.city_json.specs.CompactMembers.{HasParts}
 use Rattle.city_json.specs.Fits.{Fits, IsDistinct}
 use Rattle.city_json.specs.Grammar.{Spells}
 use Rattle.city_json.specs.Members.{first_named, member_of}
@@ -146,19 +147,16 @@ whole document value grid objects items points appearance features distinct has 
     )
 
 -- ---- the city objects
-pub record ObjectsThere (objects : List ℕ) (places : List Part) (members : MemberTrees) : Type 0 where
+pub record ObjectsThere (objects : List ℕ) (places : List Part) (value : Tree) : Type 0 where
   pub pairs : List (List ℕ × Tree)
-  pub is : unwrap_or (first_named (codes "CityObjects") members) (object no_members) ≡ object (member_trees pairs)
+  pub is : value ≡ object (member_trees pairs)
   pub of : IsCompactOf objects (object (member_trees pairs))
   pub are : AreParts 1 places (member_trees pairs)
 
-pub objects_there : (objects : List ℕ) (places : List Part) (members : MemberTrees)
-    → IsCompactOf objects (unwrap_or (first_named (codes "CityObjects") members) (object no_members))
-    → ((value : Tree) → IsCompactOf objects value → (found : MemberTrees) × (value ≡ object found)
-    × AreParts 1 places found) → ObjectsThere objects places members
-objects_there objects places members of listed =
-    let value = unwrap_or (first_named (codes "CityObjects") members) (object no_members) in
-    let (inner, is_object, placed) = listed value of in
+pub objects_there : (objects : List ℕ) (places : List Part) (value : Tree) → IsCompactOf objects value
+    → HasParts objects places → ObjectsThere objects places value
+objects_there objects places value of listed =
+    let (inner, is_object, placed) = listed value of.writable of.within of.is in
     record {
       pairs = pairs_of inner;
       is = is_object ∙ ap object (sym (pairs_are inner));

@@ -26,32 +26,25 @@ parts_given text given part parts listed lies same has =
 abbrev pub SaidIn : {A : Type 0} → (Tree → A → Type 0) → List ℕ → Part → A → Type 0
 SaidIn R text part x = (value : Tree) → IsCompactOf (slice_range text part.value part.end) value → R value x
 
-pub said_more : {A : Type 0} (R : Tree → A → Type 0) (text given : List ℕ) (part : Part)
-    (parts listed places places' : List Part) (found found' : List A) (one : A)
-    → given ≡ slice_range text part.value part.end → listed ≡ parts
+pub said_here : {A : Type 0} (R : Tree → A → Type 0) (text given : List ℕ) (part : Part) (parts listed : List Part)
+    (one : A) → given ≡ slice_range text part.value part.end → listed ≡ parts
     → HasParts (slice_range text part.value part.end) parts
-    → (HasParts given listed → (value : Tree) → IsCompactOf given value → R value one)
-    → places' ≡ places ++ part ∷ [] → found' ≡ found ++ one ∷ []
-    → AllZip (SaidIn R text) places found → AllZip (SaidIn R text) places' found'
-said_more R text given part parts listed places places' found found' one lies same has made pushed pushed₂ all =
-    subst (λ l. AllZip (SaidIn R text) l found') (sym pushed)
-    (subst (λ l. AllZip (SaidIn R text) (places ++ part ∷ []) l) (sym pushed₂)
-    (zip_push (SaidIn R text) places found part one all
-    (λ value of. made (parts_given text given part parts listed lies same has) value
-    (subst (λ t. IsCompactOf t value) (sym lies) of))))
+    → (HasParts given listed → (value : Tree) → IsCompactOf given value → R value one) → SaidIn R text part one
+said_here R text given part parts listed one lies same has made =
+    λ value of. made (parts_given text given part parts listed lies same has) value
+    (subst (λ t. IsCompactOf t value) (sym lies) of)
 
-pub holders_more : (text given : List ℕ) (part : Part) (parts listed places places' : List Part)
-    (held held' : List HeldParts) (one : HeldParts)
+pub held_here : (text given : List ℕ) (part : Part) (parts listed : List Part) (one : HeldParts)
     → given ≡ slice_range text part.value part.end → listed ≡ parts
     → HasParts (slice_range text part.value part.end) parts
-    → (HasParts given listed → HasHolders given one)
-    → places' ≡ places ++ part ∷ [] → held' ≡ held ++ one ∷ []
-    → AreHolders text places held → AreHolders text places' held'
-holders_more text given part parts listed places places' held held' one lies same has made pushed pushed₂ all =
-    subst (λ l. AreHolders text l held') (sym pushed)
-    (subst (λ l. AreHolders text (places ++ part ∷ []) l) (sym pushed₂)
-    (zip_push (λ (p : Part) (there : HeldParts). HasHolders (slice_range text p.value p.end) there) places held part
-    one all (subst (λ t. HasHolders t one) lies (made (parts_given text given part parts listed lies same has)))))
+    → (HasParts given listed → HasHolders given one) → HasHolders (slice_range text part.value part.end) one
+held_here text given part parts listed one lies same has made =
+    subst (λ t. HasHolders t one) lies (made (parts_given text given part parts listed lies same has))
+
+pub zip_more : {A B : Type 0} (R : A → B → Type 0) (xs xs' : List A) (ys ys' : List B) (x : A) (y : B)
+    → xs' ≡ xs ++ x ∷ [] → ys' ≡ ys ++ y ∷ [] → R x y → AllZip R xs ys → AllZip R xs' ys'
+zip_more R xs xs' ys ys' x y more more₂ here all =
+    subst (λ l. AllZip R l ys') (sym more) (subst (AllZip R (xs ++ x ∷ [])) (sym more₂) (zip_push R xs ys x y all here))
 
 -- where boundaries may stand in the object at a place
 pub holders_at : (text given : List ℕ) (places : List Part) (held : List HeldParts) (at : ℕ) (part d : Part)

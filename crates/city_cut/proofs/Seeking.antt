@@ -1,8 +1,8 @@
 -- The search for the families, object by object.
-use Rattle.std.proofs.Common.{◌≡◌, ◌≢◌, ◌<◌, ◌≤◌, ◌+◌, ◌++◌, ◌⊎◌, ◌↔◌, inl, inr, ℕ, zero, suc, Bool, true, false, List, [], ◌∷◌, length, get_or, map, take, take_all, sym, refl, ap, subst, ◌∙◌, arith, ◌==◌, if◌then◌else◌, Result, Ok, Err}
+use Rattle.std.proofs.Common.{◌≡◌, ◌≢◌, ◌<◌, ◌≤◌, ◌+◌, ◌++◌, ◌⊎◌, ◌↔◌, inl, inr, ℕ, zero, suc, Bool, true, false, List, [], ◌∷◌, length, get_or, map, take, drop, take_all, sym, refl, ap, subst, ◌∙◌, arith, ◌==◌, if◌then◌else◌, Result, Ok, Err}
 use Rattle.std.proofs.lemmas.Bool.{eqb-true, eqb-false}
 use Rattle.std.proofs.Math.ListN.{get_or-map, replicate}
-use Rattle.std.proofs.lemmas.List.{append-nil, get_or_default, length-map, length-replicate, take_more}
+use Rattle.std.proofs.lemmas.List.{append-nil, drop_all, get_or_default, length-map, length-replicate, take_more}
 use Rattle.std.proofs.lemmas.List.Elements.{Contains-append_left, Contains-push, Contains-push_cases}
 use Rattle.std.specs.List.{All, AllZip, Contains, list_any, slice_index}
 use Rattle.std.specs.Prelude.{nat_eq, IfErr, OnOk, Vec}
@@ -235,6 +235,13 @@ sought_all graph parents at marks families pairs sought past rel =
     let all = rel.linked.long ∙ names_pairs pairs in
     subst (λ l. HasSought (member_trees pairs) (roots (member_trees l)) marks families)
     (take_all at pairs (omega (arith, past, all))) (sought pairs rel)
+
+-- what is written back to the marks is all of them
+pub written_back : (len : ℕ) (new old : List ℕ) → len ≡ length old → length new ≡ length old
+    → take len (new ++ drop (length new) old) ≡ new
+written_back len new old long same =
+    ap (λ l. take len (new ++ l)) (drop_all (length new) old (omega arith))
+    ∙ (ap (take len) (append-nil new) ∙ take_all len new (omega arith))
 
 -- ---- the test for a mark
 pub any_marked : (n : ℕ) (marks : List ℕ) → list_any (λ mark. nat_eq mark n) marks ≡ true → (k : ℕ) × (k < length marks)

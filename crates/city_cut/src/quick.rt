@@ -17,7 +17,7 @@ mod points;
 mod short_parts;
 mod texts;
 
-ghost use Rattle.std.specs.Prelude.{◌≡◌, ◌++◌, ◌∷◌, [], ℕ, List, IfSome, OnSome, All, Some, codes, length, map};
+ghost use Rattle.std.specs.Prelude.{◌≡◌, ◌++◌, ◌∷◌, [], ℕ, List, Option, IfSome, OnSome, All, Some, Contains, codes, length, map};
 ghost use Rattle.std.specs.List.{AllZip};
 ghost use Rattle.city_json.specs.Compact.{compact};
 ghost use Rattle.city_json.specs.Depth.{IsDeep};
@@ -30,8 +30,9 @@ ghost use Rattle.city_grid.specs.Axes.{Triple};
 ghost use Rattle.city_feature.specs.Feature.{FeatureValue};
 ghost use Rattle.city_feature.specs.Quick.{SpellsVertices};
 ghost use Rattle.city_feature.specs.Values.{header_value};
-ghost use Rattle.city_cut.specs.CityObjects.{AllBelong, AreCityObjects, LacksChild, roots};
-ghost use Rattle.city_cut.specs.Cut.{IsCut, IsCuttable};
+ghost use Rattle.city_cut.specs.Boundaries.{IsBounded};
+ghost use Rattle.city_cut.specs.CityObjects.{AllBelong, AreCityObjects, IsReached, LacksChild, roots};
+ghost use Rattle.city_cut.specs.Cut.{AreFeatures, IsCut, IsCuttable};
 ghost use Rattle.city_cut.specs.Families.{Begins};
 ghost use Rattle.city_cut.specs.FeatureText.{tail_text};
 ghost use Rattle.city_cut.specs.HeldTexts.{texts_in};
@@ -42,6 +43,7 @@ ghost use Rattle.city_cut.specs.VertexTexts.{HasPoints, StandAt};
 
 use crate::cuts::CutTexts;
 use crate::families::{Family, families_among};
+use crate::held::FeatureTexts;
 use byte_streams::Line;
 use city_feature::{between, part_named};
 use city_json::{Part, compact_parts};
@@ -103,6 +105,40 @@ fn families_of(alloc: Global, text: &[u8], found: &Overview<'_>) -> Option<Vec<F
     Some(families)
 }
 
+/// The texts of the features of the city objects whose compact text this is, on these vertices. Each ends in `tail`.
+fn texts_on(
+    alloc: Global,
+    objects: &[u8],
+    vertices: &VertexTexts<'_>,
+    tail: Line,
+) -> Option<FeatureTexts>
+    requires { (value : Tree) × IsCompactOf objects.now value }
+    ensures { IfSome result (λ texts. (value : Tree) (appearance : Option Tree) (points : List Triple)
+        → IsCompactOf objects.now value → StandAt vertices.now.text.now vertices.now.starts.items points
+        → tail ≡ tail_text appearance
+        → (members : MemberTrees) × (value ≡ object members)
+        × AreCityObjects members
+        × (¬ LacksChild members)
+        × AllBelong members
+        × (features : List FeatureValue)
+        × (texts_in texts ≡ texts_of features)
+        × AreFeatures members appearance points features
+        × ((id name : List ℕ) (value : Tree) → Contains (roots members) id → IsReached members id name
+        → first_named name members ≡ Some value → IsBounded (length points) value)) }
+{
+    let found = overview_of(alloc, objects)?;
+    let families = families_of(alloc, objects, &found)?;
+    feature_texts(
+        alloc,
+        objects,
+        &found.places,
+        &found.held,
+        vertices,
+        tail,
+        &families,
+    )
+}
+
 /// Cuts the document into features on these vertices, which are its own.
 fn cut_on(
     alloc: Global,
@@ -118,20 +154,10 @@ fn cut_on(
         × (features : List FeatureValue) × IsCut (object members) (header_value cut.header) features
         × (texts_in cut.texts ≡ texts_of features)) }
 {
-    let header = header_of(alloc, line, parts)?;
-    let tail = tail_of(alloc, line, parts)?;
     let objects = member_or(line, parts, b"\"CityObjects\":", b"{}")?;
-    let found = overview_of(alloc, objects)?;
-    let families = families_of(alloc, objects, &found)?;
-    let texts = feature_texts(
-        alloc,
-        objects,
-        &found.places,
-        &found.held,
-        vertices,
-        tail,
-        &families,
-    )?;
+    let tail = tail_of(alloc, line, parts)?;
+    let header = header_of(alloc, line, parts)?;
+    let texts = texts_on(alloc, objects, vertices, tail)?;
     Some(CutTexts { header, texts })
 }
 

@@ -36,6 +36,15 @@ struct PlacedObject {
     members: Vec<Part>,
 }
 
+/// What is looked at of a city object, as [`Overview`] lists it.
+#[derive(Drop)]
+struct SeenObject<'a> {
+    part: Part,
+    parents: bool,
+    children: &'a [u8],
+    held: HeldParts,
+}
+
 /// Where the member lies that begins at `at`, which is a city object.
 fn object_at(alloc: Global, text: &[u8], at: usize) -> Option<PlacedObject>
     ensures onward { IfSome result (λ found. at < found.part.end) }
@@ -106,7 +115,42 @@ fn list_held(one: HeldParts, to: &mut Vec<ShortHeld>) -> Option<()>
     Some(())
 }
 
-/// Looks at the object that begins at `at`: where it lies.
+/// Looks at the object that begins at `at`.
+fn seen_at(alloc: Global, text: &[u8], at: usize) -> Option<SeenObject<'_>>
+    ensures onward { IfSome result (λ seen. at < seen.part.end) }
+    ensures within { IfSome result (λ seen. seen.part.end < length text.now) }
+    ensures is { IfSome result (λ seen. LeavesMember at seen.part (drop at text.now) (drop seen.part.end text.now)) }
+    ensures parents { IfSome result (λ seen. HasParentsIn text.now seen.part seen.parents) }
+    ensures children { IfSome result (λ seen. HasChildrenIn text.now seen.part seen.children) }
+    ensures held { IfSome result (λ seen. HasHolders (slice_range text.now seen.part.value seen.part.end) seen.held) }
+{
+    let found = object_at(alloc, text, at)?;
+    let value = between(text, found.part.value, found.part.end)?;
+    let parents = has_parents(alloc, value, &found.members)?;
+    let children = children_text(value, &found.members)?;
+    let held = held_parts(value, &found.members)?;
+    Some(SeenObject {
+        part: found.part,
+        parents,
+        children,
+        held,
+    })
+}
+
+/// Lists what is looked at of one more object.
+fn list_object<'a>(seen: SeenObject<'a>, to: &mut Overview<'a>) -> Option<()>
+    ensures places { OnSome result (to.new.places.items ≡ to.old.places.items ++ seen.entry.part ∷ []) }
+    ensures parents { OnSome result (to.new.parents.items ≡ to.old.parents.items ++ seen.entry.parents ∷ []) }
+    ensures children { OnSome result (to.new.children.items ≡ to.old.children.items ++ seen.entry.children ∷ []) }
+    ensures held { OnSome result (to.new.held.items ≡ to.old.held.items ++ seen.entry.held ∷ []) }
+{
+    list_short(seen.part, &mut to.places)?;
+    list_parents(seen.parents, &mut to.parents)?;
+    push_text(seen.children, &mut to.children)?;
+    list_held(seen.held, &mut to.held)
+}
+
+/// Looks at the object that begins at `at`, and lists it: where it lies.
 fn add_object<'a>(alloc: Global, text: &'a [u8], at: usize, to: &mut Overview<'a>) -> Option<Part>
     ensures onward { IfSome result (λ part. at < part.end) }
     ensures within { IfSome result (λ part. part.end < length text.now) }
@@ -119,16 +163,10 @@ fn add_object<'a>(alloc: Global, text: &'a [u8], at: usize, to: &mut Overview<'a
     ensures held { OnSome result (AreHolders text.now to.old.places.items to.old.held.items
         → AreHolders text.now to.new.places.items to.new.held.items) }
 {
-    let found = object_at(alloc, text, at)?;
-    let value = between(text, found.part.value, found.part.end)?;
-    let parents = has_parents(alloc, value, &found.members)?;
-    let children = children_text(value, &found.members)?;
-    let held = held_parts(value, &found.members)?;
-    list_short(found.part, &mut to.places)?;
-    list_parents(parents, &mut to.parents)?;
-    push_text(children, &mut to.children)?;
-    list_held(held, &mut to.held)?;
-    Some(found.part)
+    let seen = seen_at(alloc, text, at)?;
+    let part = seen.part;
+    list_object(seen, to)?;
+    Some(part)
 }
 
 /// No objects, with room for those of a text of this length.

@@ -1,5 +1,5 @@
 -- Whole quotients of integers.
-use Rattle.std.proofs.Common.{◌≡◌, ◌*◌, ◌%◌, ◌<◌, ◌∙◌, sym, ap, ℤ, pos, negsuc, neg_ℤ, ◌*ℤ◌, ◌<ℤ◌, unsigned_abs, suc, true, false, arith}
+use Rattle.std.proofs.Common.{◌≡◌, ◌≢◌, ◌*◌, ◌%◌, ◌<◌, ◌∙◌, sym, ap, ℤ, pos, negsuc, neg_ℤ, ◌*ℤ◌, ◌<ℤ◌, unsigned_abs, suc, true, false, Option, Some, None, IfSome, IfNone, arith}
 use Rattle.std.proofs.Math.Nat.{mul-mod_left, eq_of_mul-eq-mul_right}
 use Rattle.std.proofs.lemmas.Int.{ints, unsigned_abs-mul}
 use Rattle.std.specs.Int.RustNames.{int_rem}
@@ -26,3 +26,13 @@ same_multiple k (negsuc j) (pos n) above equal =
     let some : 0 < n = omega (arith, ints) in
     sign_is true k (suc j) n n some equal
     ∙ ap (signed true) (eq_of_mul-eq-mul_right n some (unsigned_abs k) (suc j) (size_is true k (suc j) n n equal))
+
+-- what is told of a quotient is told of an equal difference and an equal step
+module _ (s t d e : ℤ) (step : s ≡ t) (difference : d ≡ e) where
+  pub told_some : (found : Option ℤ) → IfSome found (λ k. k *ℤ s ≡ d) → IfSome found (λ k. k *ℤ t ≡ e)
+  told_some None told = tt
+  told_some (Some k) told = ap (λ z. k *ℤ z) (sym step) ∙ told ∙ difference
+
+  pub told_none : (found : Option ℤ) → IfNone found ((k : ℤ) → k *ℤ s ≢ d) → IfNone found ((k : ℤ) → k *ℤ t ≢ e)
+  told_none None told = λ k same. told k (ap (λ z. k *ℤ z) step ∙ same ∙ sym difference)
+  told_none (Some k) told = tt

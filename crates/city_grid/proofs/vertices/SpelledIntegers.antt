@@ -1,5 +1,5 @@
 -- Integers of at most sixteen digits in a text, also a zero with a minus sign.
-use Rattle.std.proofs.Common.{◌≡◌, ◌∙◌, ◌+◌, ◌<◌, ◌≤◌, ◌^◌, ℕ, ap, refl, sym, subst, inl, inr, false, true, List, [], ◌∷◌, ◌++◌, length, get_or, slice_range, pos, w64, arith}
+use Rattle.std.proofs.Common.{◌≡◌, ◌∙◌, ◌+◌, ◌<◌, ◌^◌, ℕ, ap, refl, sym, subst, inl, inr, false, true, List, [], ◌∷◌, ◌++◌, length, get_or, slice_range, arith}
 use Rattle.std.proofs.lemmas.Fmt.{digits_value-decimal}
 use Rattle.std.proofs.lemmas.List.{append-nil}
 use Rattle.std.proofs.lemmas.Str.Parse.{IsNumeralModel}

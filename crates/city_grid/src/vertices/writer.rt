@@ -19,18 +19,6 @@ fn integer_json(alloc: Global, component: i64) -> Result<Json, Fault>
     Ok(Json::Num(NumText::read(alloc, digits.format(component).as_bytes())?))
 }
 
-/// The vertex as an array of three integers in decimal. The only fault is [`Fault::Memory`].
-pub fn vertex_json(alloc: Global, vertex: &Vertex) -> Result<Json, Fault>
-    ensures ok { IfOk result (λ json. tree json ≡ vertex_tree vertex.now) }
-    ensures fault { IfErr result (λ fault. fault ≡ Fault.Memory) }
-{
-    let steps = vertex.steps();
-    let x = integer_json(alloc, steps.x)?;
-    let y = integer_json(alloc, steps.y)?;
-    let z = integer_json(alloc, steps.z)?;
-    Ok(Json::List(Vec::from_array(alloc, [x, y, z])?))
-}
-
 /// Adds a component as an integer in decimal.
 fn push_integer(alloc: Global, numbers: &mut Items, component: i64) -> Result<(), Fault>
     ensures ok { OnOk result (map tree numbers.new.items
@@ -52,6 +40,16 @@ fn write_numbers(alloc: Global, numbers: &mut Items, vertex: &Vertex) -> Result<
     push_integer(alloc, numbers, steps.x)?;
     push_integer(alloc, numbers, steps.y)?;
     push_integer(alloc, numbers, steps.z)
+}
+
+/// The vertex as an array of three integers in decimal. The only fault is [`Fault::Memory`].
+pub fn vertex_json(alloc: Global, vertex: &Vertex) -> Result<Json, Fault>
+    ensures ok { IfOk result (λ json. tree json ≡ vertex_tree vertex.now) }
+    ensures fault { IfErr result (λ fault. fault ≡ Fault.Memory) }
+{
+    let mut numbers = Vec::with_capacity(alloc, 3)?;
+    write_numbers(alloc, &mut numbers, vertex)?;
+    Ok(Json::List(numbers))
 }
 
 /// Makes the value the array of the vertex's three integers in decimal. An array keeps its memory,

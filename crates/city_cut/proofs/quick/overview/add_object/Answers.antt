@@ -1,18 +1,19 @@
-use Rattle.city_cut.specs.Kin.{HasChildrenText, HasParents}
-use Rattle.city_cut.proofs.QuickOverviews.{holders_more, said_more}
+use Rattle.std.proofs.Common.{slice_range}
+use Rattle.city_json.specs.declared.compacting.parts.Part.{Part}
+use Rattle.city_cut.specs.Overviews.{HasChildrenIn, HasHolders, HasParentsIn}
+use Rattle.city_cut.specs.declared.quick.holders.HeldParts.{HeldParts}
+use Rattle.city_cut.proofs.QuickOverviews.{zip_more}
 use Rattle.city_cut.proofs.quick.overview.add_object.Goals as goal
 
 pub returns-clause-parents : goal.returns-clause-parents
-returns-clause-parents c = said_more HasParents c.args.text.now c.in_ok-value.value.now _ _ _ _ _ _ _ _
-    c.in_ok-value.ensures.some c.deref.ensures.value c.in_ok-found.ensures.members c.in_ok-parents.ensures
-    c.in_ok-list_short.ensures c.in_ok-list_parents.ensures
+returns-clause-parents c = zip_more (HasParentsIn c.args.text.now) _ _ _ _ _ _ c.in_ok-list_object.ensures.places
+    c.in_ok-list_object.ensures.parents c.in_ok-seen.ensures.parents
 
 pub returns-clause-children : goal.returns-clause-children
-returns-clause-children c = said_more HasChildrenText c.args.text.now c.in_ok-value.value.now _ _ _ _ _ _ _ _
-    c.in_ok-value.ensures.some c.deref-2.ensures.value c.in_ok-found.ensures.members c.in_ok-children.ensures
-    c.in_ok-list_short.ensures c.in_ok-push_text.ensures
+returns-clause-children c = zip_more (HasChildrenIn c.args.text.now) _ _ _ _ _ _ c.in_ok-list_object.ensures.places
+    c.in_ok-list_object.ensures.children c.in_ok-seen.ensures.children
 
 pub returns-clause-held : goal.returns-clause-held
-returns-clause-held c = holders_more c.args.text.now c.in_ok-value.value.now _ _ _ _ _ _ _ _
-    c.in_ok-value.ensures.some c.deref-3.ensures.value c.in_ok-found.ensures.members c.in_ok-held.ensures
-    c.in_ok-list_short.ensures c.in_ok-list_held.ensures
+returns-clause-held c = zip_more
+    (λ (part : Part) (there : HeldParts). HasHolders (slice_range c.args.text.now part.value part.end) there)
+    _ _ _ _ _ _ c.in_ok-list_object.ensures.places c.in_ok-list_object.ensures.held c.in_ok-seen.ensures.held

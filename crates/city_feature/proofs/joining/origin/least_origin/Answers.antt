@@ -1,4 +1,4 @@
-use Rattle.std.proofs.Common.{◌∙◌, ap, sym, subst, map, take, ◌++◌, ◌∷◌, []}
+use Rattle.std.proofs.Common.{◌≡◌, ◌∙◌, ap, sym, subst, map, take, take_all, ◌++◌, ◌∷◌, []}
 use Rattle.std.proofs.lemmas.List.{map_more}
 use Rattle.city_grid.specs.Axes.{number_texts}
 use Rattle.city_feature.specs.Origin.{IsOrigin}
@@ -23,3 +23,12 @@ loop-header-preserved c =
     subst (λ tiles. IsOrigin Least (header_value c.args.first.now) tiles c.lowered-origin.result.transform
     (number_texts c.lowered-origin.result.translation)) (sym more)
     (c.lowered-origin.ensures (header_value c.args.first.now) before c.loop-header.invariant)
+
+pub returns : goal.returns
+returns c =
+    let others = c.args.others.now in
+    let origin = c.loop-header.origin in
+    let index = c.loop-header.header-index in
+    let all : take index others ≡ others = take_all index others c.loop-header-test.false in
+    subst (λ tiles. IsOrigin Least (header_value c.args.first.now) tiles origin.transform
+    (number_texts origin.translation)) (ap (map header_value) all) c.loop-header.invariant
