@@ -1,4 +1,5 @@
 use byte_streams::{Device, Fault, Sink, Source};
+use std::alloc::Global;
 use std::io::{self, ErrorKind, Read, Write};
 
 #[derive(Drop)]
@@ -20,12 +21,26 @@ impl Write for Broken {
     }
 }
 
+/// What a read of the device answers, a write of some bytes, and a flush.
+type Answers = (
+    Result<usize, Fault>,
+    Result<usize, Fault>,
+    Result<(), Fault>,
+);
+
+const ALL_FAIL: Answers = (Err(Fault::Read), Err(Fault::Write), Err(Fault::Write));
+
+const ALL_SUCCEED: Answers = (Ok(0), Ok(3), Ok(()));
+
 #[test]
 fn a_device_over_what_fails_fails_each_time(rt: HostRuntime) {
     let mut device = Device::new(Broken);
-    assert_eq!(rt; device.read(&mut [0; 2]), Err(Fault::Read));
-    assert_eq!(rt; device.write(b"abc"), Err(Fault::Write));
-    assert_eq!(rt; device.flush(), Err(Fault::Write));
+    let answers = (
+        device.read(&mut [0; 2]),
+        device.write(b"abc"),
+        device.flush(),
+    );
+    assert!(rt; answers == ALL_FAIL);
 }
 
 /// Its first call fails, and the others succeed.
@@ -62,17 +77,26 @@ impl Write for FailsOnce {
     }
 }
 
+fn read_twice() -> (Result<usize, Fault>, Result<usize, Fault>) {
+    let mut device = Device::new(FailsOnce { called: false });
+    (device.read(&mut [0; 2]), device.read(&mut [0; 2]))
+}
+
+fn written_twice() -> (Result<usize, Fault>, Result<usize, Fault>) {
+    let mut device = Device::new(FailsOnce { called: false });
+    (device.write(b"abc"), device.write(b"abc"))
+}
+
+fn flushed_twice() -> (Result<(), Fault>, Result<(), Fault>) {
+    let mut device = Device::new(FailsOnce { called: false });
+    (device.flush(), device.flush())
+}
+
 #[test]
 fn a_device_tries_each_call_once(rt: HostRuntime) {
-    let mut device = Device::new(FailsOnce { called: false });
-    assert_eq!(rt; device.read(&mut [0; 2]), Err(Fault::Read));
-    assert_eq!(rt; device.read(&mut [0; 2]), Ok(0));
-    let mut device = Device::new(FailsOnce { called: false });
-    assert_eq!(rt; device.write(b"abc"), Err(Fault::Write));
-    assert_eq!(rt; device.write(b"abc"), Ok(3));
-    let mut device = Device::new(FailsOnce { called: false });
-    assert_eq!(rt; device.flush(), Err(Fault::Write));
-    assert_eq!(rt; device.flush(), Ok(()));
+    assert!(rt; read_twice() == (Err(Fault::Read), Ok(0)));
+    assert!(rt; written_twice() == (Err(Fault::Write), Ok(3)));
+    assert!(rt; flushed_twice() == (Err(Fault::Write), Ok(())));
 }
 
 /// Its first calls, this many, are interrupted by a signal, and the others succeed.
@@ -109,44 +133,55 @@ impl Write for IsInterrupted {
     }
 }
 
+/// What each call of a device of its own answers.
+fn answers_after(times: usize) -> Answers {
+    let mut reader = Device::new(IsInterrupted { times });
+    let mut writer = Device::new(IsInterrupted { times });
+    let mut flushed = Device::new(IsInterrupted { times });
+    (
+        reader.read(&mut [0; 2]),
+        writer.write(b"abc"),
+        flushed.flush(),
+    )
+}
+
 #[test]
 fn a_device_makes_an_interrupted_call_again(rt: HostRuntime) {
     for times in [1, 3, 1000] {
-        let mut device = Device::new(IsInterrupted { times });
-        assert_eq!(rt; device.read(&mut [0; 2]), Ok(0));
-        let mut device = Device::new(IsInterrupted { times });
-        assert_eq!(rt; device.write(b"abc"), Ok(3));
-        let mut device = Device::new(IsInterrupted { times });
-        assert_eq!(rt; device.flush(), Ok(()));
+        assert!(rt; answers_after(times) == ALL_SUCCEED, "{times}");
     }
+}
+
+/// What a read answers, and the room for two bytes after it.
+fn read_into<R: Source>(device: &mut R, room: [u8; 2]) -> (Result<usize, Fault>, [u8; 2]) {
+    let mut to = room;
+    (device.read(&mut to), to)
 }
 
 #[test]
 fn a_device_over_a_slice_gives_its_bytes(rt: HostRuntime) {
     let mut device = Device::new(b"abc".as_slice());
-    let mut to = [b'.'; 2];
-    assert_eq!(rt; device.read(&mut to), Ok(2));
-    assert_eq!(rt; &to, b"ab");
-    assert_eq!(rt; device.read(&mut to), Ok(1));
-    assert_eq!(rt; &to, b"cb");
-    assert_eq!(rt; device.read(&mut to), Ok(0));
+    assert!(rt; read_into(&mut device, *b"..") == (Ok(2), *b"ab"));
+    assert!(rt; read_into(&mut device, *b"ab") == (Ok(1), *b"cb"));
+    assert!(rt; read_into(&mut device, *b"cb") == (Ok(0), *b"cb"));
+}
+
+fn vector_takes_all(alloc: Global) -> bool {
+    let mut bytes = Vec::new(alloc);
+    let mut device = Device::new(&mut bytes);
+    let answers = (device.write(b"abc"), device.write(b"de"), device.flush());
+    answers == (Ok(3), Ok(2), Ok(())) && bytes.as_slice() == b"abcde".as_slice()
 }
 
 #[test]
 fn a_device_over_a_vector_takes_all_bytes(rt: HostRuntime) {
-    let mut bytes = Vec::new(rt.alloc());
-    let mut device = Device::new(&mut bytes);
-    assert_eq!(rt; device.write(b"abc"), Ok(3));
-    assert_eq!(rt; device.write(b"de"), Ok(2));
-    assert_eq!(rt; device.flush(), Ok(()));
-    assert_eq!(rt; bytes.as_slice(), b"abcde".as_slice());
+    assert!(rt; vector_takes_all(rt.alloc()));
 }
 
 #[test]
 fn a_device_over_a_full_slice_takes_nothing(rt: HostRuntime) {
     let mut room = [b'.'; 2];
     let mut device = Device::new(room.as_mut_slice());
-    assert_eq!(rt; device.write(b"abc"), Ok(2));
-    assert_eq!(rt; device.write(b"c"), Ok(0));
-    assert_eq!(rt; &room, b"ab");
+    let answers = (device.write(b"abc"), device.write(b"c"));
+    assert!(rt; answers == (Ok(2), Ok(0)) && &room == b"ab");
 }

@@ -1,19 +1,22 @@
 use byte_streams::Fault;
-use std::test::Fail;
+use std::alloc::{AllocError, Global};
+
+fn number_of(number: u8) -> Option<u8> {
+    Fault::of(number).map(|fault| fault.number())
+}
+
+fn is_shown(alloc: Global, fault: Fault, text: &str) -> Result<bool, AllocError> {
+    Ok(format!(in alloc; "{fault}")?.as_str() == text)
+}
 
 #[test]
-fn a_fault_has_a_number_and_a_text(rt: HostRuntime) -> Result<(), Fail> {
+fn a_fault_has_a_number_and_a_text(rt: HostRuntime) {
     for number in 1..=32u8 {
-        let fault = Fault::of(number);
-        assert_eq!(rt; fault.map(|fault| fault.number()), Some(number));
+        assert!(rt; number_of(number) == Some(number), "{number}");
     }
     for number in [0, 33, 255] {
-        assert_eq!(rt; Fault::of(number), None);
+        assert!(rt; Fault::of(number).is_none(), "{number}");
     }
-    assert_eq!(rt; Fault::of(24), Some(Fault::Read));
-    assert_eq!(rt;
-        format!(in rt.alloc(); "{}", Fault::Read)?.as_str(),
-        "the tile could not be read"
-    );
-    Ok(())
+    assert!(rt; Fault::of(24) == Some(Fault::Read));
+    assert!(rt; is_shown(rt.alloc(), Fault::Read, "the tile could not be read") == Ok(true));
 }

@@ -27,34 +27,38 @@ const SET: [(&str, &str); 6] = [
     ("null", "null"),
 ];
 
-fn is_spelled(alloc: Global, value: &Json, wanted: &str) -> Result<bool, Fault> {
+fn is_spelled(alloc: Global, value: &Json, wanted: &str) -> bool {
     let mut line = Line::new(alloc);
-    print(value, &mut line)?;
-    Ok(line.items() == wanted.as_bytes())
+    print(value, &mut line).is_ok() && line.items() == wanted.as_bytes()
 }
 
 fn is_dropped(alloc: Global, text: &str, wanted: &str) -> Result<bool, Fault> {
     let mut value = read(alloc, text.as_bytes())?;
     drop_member(&mut value, "a");
-    is_spelled(alloc, &value, wanted)
+    Ok(is_spelled(alloc, &value, wanted))
+}
+
+fn set_a(alloc: Global, value: &mut Json) -> Result<(), Fault> {
+    let member = read(alloc, b"[1.50]")?;
+    Ok(set_member(alloc, value, "a", member)?)
 }
 
 fn is_set(alloc: Global, text: &str, wanted: &str) -> Result<bool, Fault> {
     let mut value = read(alloc, text.as_bytes())?;
-    set_member(alloc, &mut value, "a", read(alloc, b"[1.50]")?)?;
-    is_spelled(alloc, &value, wanted)
+    let is_done = set_a(alloc, &mut value).is_ok();
+    Ok(is_done && is_spelled(alloc, &value, wanted))
 }
 
 #[test]
 fn the_first_of_a_name_is_dropped(rt: HostRuntime) {
-    for (text, wanted) in DROPPED {
+    for (text, wanted) in DROPPED.iter() {
         assert!(rt; is_dropped(rt.alloc(), text, wanted) == Ok(true), "{text}");
     }
 }
 
 #[test]
 fn a_member_is_set_at_its_place_or_last(rt: HostRuntime) {
-    for (text, wanted) in SET {
+    for (text, wanted) in SET.iter() {
         assert!(rt; is_set(rt.alloc(), text, wanted) == Ok(true), "{text}");
     }
 }

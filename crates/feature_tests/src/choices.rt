@@ -1,111 +1,127 @@
 use crate::texts::{ALL, Asked, choice_of, filled};
 use byte_streams::Fault;
 use city_feature::{Area, Choice, Feature, area, feature, selects, types};
-use city_json::read;
-use std::alloc::Global;
+use city_json::{Str, read};
+use std::alloc::{AllocError, Global};
 
-const SQUARE: Area = Area {
-    min_x: 1,
-    min_y: 1,
-    max_x: 1,
-    max_y: 1,
-};
-
-const WIDE: Area = Area {
-    min_x: -5,
-    min_y: 0,
-    max_x: 10,
-    max_y: 10,
-};
-
-const WHOLE: Area = Area {
-    min_x: -9_007_199_254_740_991,
-    min_y: -9_007_199_254_740_991,
-    max_x: 9_007_199_254_740_991,
-    max_y: 9_007_199_254_740_991,
-};
-
-const AREAS: [(&str, Option<Area>); 21] = [
-    ("1,1,1,1", Some(SQUARE)),
-    ("-5,0,10,10", Some(WIDE)),
-    ("-05,-0,10,0010", Some(WIDE)),
+/// Texts, and the least x and y of their areas, and the greatest.
+const AREAS: [(&str, [i64; 4]); 4] = [
+    ("1,1,1,1", [1, 1, 1, 1]),
+    ("-5,0,10,10", [-5, 0, 10, 10]),
+    ("-05,-0,10,0010", [-5, 0, 10, 10]),
     (
         "-9007199254740991,-9007199254740991,9007199254740991,9007199254740991",
-        Some(WHOLE),
+        [
+            -9_007_199_254_740_991,
+            -9_007_199_254_740_991,
+            9_007_199_254_740_991,
+            9_007_199_254_740_991,
+        ],
     ),
-    ("", None),
-    (",,,", None),
-    ("1,1,1", None),
-    ("+1,0,1,1", None),
-    ("1,1,1,1,", None),
-    ("1,1,1,1,1", None),
-    (",1,1,1,1", None),
-    ("0,0,9007199254740992,1", None),
-    ("-9007199254740992,0,1,1", None),
-    ("0,0,99999999999999999999999,1", None),
-    ("0,0,-,1", None),
-    ("0,0,--1,1", None),
-    ("0,0,1.0,1", None),
-    ("0,0,1e1,1", None),
-    ("0, 0,1,1", None),
-    ("2,0,1,1", None),
-    ("0,2,1,1", None),
 ];
 
-#[test]
-fn areas_are_read(rt: HostRuntime) {
-    for (text, wanted) in AREAS {
-        assert!(rt; area(text) == wanted, "{text}");
+/// Texts that name no area.
+const NO_AREAS: [&str; 17] = [
+    "",
+    ",,,",
+    "1,1,1",
+    "+1,0,1,1",
+    "1,1,1,1,",
+    "1,1,1,1,1",
+    ",1,1,1,1",
+    "0,0,9007199254740992,1",
+    "-9007199254740992,0,1,1",
+    "0,0,99999999999999999999999,1",
+    "0,0,-,1",
+    "0,0,--1,1",
+    "0,0,1.0,1",
+    "0,0,1e1,1",
+    "0, 0,1,1",
+    "2,0,1,1",
+    "0,2,1,1",
+];
+
+fn is_area(text: &str, wanted: &[i64; 4]) -> bool {
+    match area(text) {
+        Some(area) => [area.min_x, area.min_y, area.max_x, area.max_y] == *wanted,
+        None => false,
     }
 }
 
-/// Texts, and the types that they name; nothing where a name is empty.
-const TYPES: [(&str, Option<&[&str]>); 7] = [
-    ("A", Some(&["A"])),
+#[test]
+fn areas_are_read(rt: HostRuntime) {
+    for (text, wanted) in AREAS.iter() {
+        assert!(rt; is_area(text, wanted), "{text}");
+    }
+}
+
+#[test]
+fn texts_that_name_no_area_are_refused(rt: HostRuntime) {
+    for text in NO_AREAS.iter() {
+        assert!(rt; area(text).is_none(), "{text}");
+    }
+}
+
+/// Texts, and the types that they name.
+const TYPES: [(&str, &[&str]); 2] = [
+    ("A", &["A"]),
     (
         "Building,+Geb\u{e4}ude, ,Building",
-        Some(&["Building", "+Geb\u{e4}ude", " ", "Building"]),
+        &["Building", "+Geb\u{e4}ude", " ", "Building"],
     ),
-    ("", None),
-    (",", None),
-    ("A,", None),
-    (",A", None),
-    ("A,,B", None),
 ];
 
-fn names_types(alloc: Global, text: &str, wanted: Option<&[&str]>) -> bool {
-    match (types(alloc, text), wanted) {
-        (Ok(Some(names)), Some(wanted)) => {
-            let mut agree = names.items().len() == wanted.len();
-            for (name, text) in names.items().iter().zip(wanted.iter()) {
-                agree = agree && name.as_str() == *text;
-            }
-            agree
-        }
-        (Ok(None), None) => true,
+/// Texts in which a name is empty.
+const NO_TYPES: [&str; 5] = ["", ",", "A,", ",A", "A,,B"];
+
+fn are_named(names: &[Str], wanted: &[&str]) -> bool {
+    let mut agree = names.len() == wanted.len();
+    for (name, text) in names.iter().zip(wanted.iter()) {
+        agree = agree && name.as_str() == *text;
+    }
+    agree
+}
+
+fn names_types(alloc: Global, text: &str, wanted: &[&str]) -> bool {
+    match types(alloc, text) {
+        Ok(Some(names)) => are_named(names.items(), wanted),
         _ => false,
     }
 }
 
+fn names_no_types(alloc: Global, text: &str) -> bool {
+    matches!(types(alloc, text), Ok(None))
+}
+
 #[test]
 fn types_are_the_names_between_commas(rt: HostRuntime) {
-    for (text, wanted) in TYPES {
+    for (text, wanted) in TYPES.iter() {
         assert!(rt; names_types(rt.alloc(), text, wanted), "{text}");
     }
 }
 
-fn thousand_types(alloc: Global) -> Result<Choice, Fault> {
+#[test]
+fn no_name_is_empty(rt: HostRuntime) {
+    for text in NO_TYPES.iter() {
+        assert!(rt; names_no_types(rt.alloc(), text), "{text}");
+    }
+}
+
+fn put_type(text: &mut String, alloc: Global, number: u32) -> Result<(), AllocError> {
+    text.push_str(&format!(in alloc; ",Type{number}")?)
+}
+
+/// The names `Type0` to `Type999`.
+fn thousand_names(alloc: Global) -> Result<String, AllocError> {
     let mut text = String::from_str(alloc, "Type0")?;
     for number in 1..1000u32 {
-        text.push_str(&format!(in alloc; ",Type{number}")?)?;
+        put_type(&mut text, alloc, number)?;
     }
-    choice_of(
-        alloc,
-        &Asked {
-            types: &text,
-            ..ALL
-        },
-    )
+    Ok(text)
+}
+
+fn chosen_types(alloc: Global, types: &str) -> Result<Choice, Fault> {
+    choice_of(alloc, &Asked { types, ..ALL })
 }
 
 fn are_thousand(choice: &Choice) -> bool {
@@ -121,25 +137,43 @@ fn are_thousand(choice: &Choice) -> bool {
     }
 }
 
+fn copy_is_thousand(alloc: Global, choice: &Choice) -> bool {
+    match choice.copy(alloc) {
+        Ok(copy) => are_thousand(&copy),
+        Err(_) => false,
+    }
+}
+
+/// Whether a thousand types are read, and copied.
+fn thousand_are_read(alloc: Global) -> Result<(bool, bool), Fault> {
+    let choice = chosen_types(alloc, &thousand_names(alloc)?)?;
+    Ok((are_thousand(&choice), copy_is_thousand(alloc, &choice)))
+}
+
 #[test]
-fn a_thousand_types_are_read_and_copied(rt: HostRuntime) -> Result<(), Fault> {
-    let choice = thousand_types(rt.alloc())?;
-    assert!(rt; are_thousand(&choice));
-    assert!(rt; are_thousand(&choice.copy(rt.alloc())?));
-    Ok(())
+fn a_thousand_types_are_read_and_copied(rt: HostRuntime) {
+    assert!(rt; thousand_are_read(rt.alloc()) == Ok((true, true)));
 }
 
 fn feature_of(alloc: Global, text: &str) -> Result<Feature, Fault> {
     feature(alloc, read(alloc, text.as_bytes())?)
 }
 
-/// Whether the choice selects the feature of this text; its copy is to do the same.
-fn is_selected(alloc: Global, asked: &Asked<'_>, text: &str) -> Result<Option<bool>, Fault> {
-    let choice = choice_of(alloc, asked)?;
-    let feature = feature_of(alloc, text)?;
-    let is_selected = selects(&choice, &feature);
-    let agree = selects(&choice.copy(alloc)?, &feature) == is_selected;
-    Ok(if agree { Some(is_selected) } else { None })
+/// Whether the choice selects the feature; nothing where its copy does not do the same.
+fn both_select(alloc: Global, choice: &Choice, feature: &Feature) -> Option<bool> {
+    let is_selected = selects(choice, feature);
+    match choice.copy(alloc) {
+        Ok(copy) => (selects(&copy, feature) == is_selected).then_some(is_selected),
+        Err(_) => None,
+    }
+}
+
+/// The same of the feature of this text.
+fn is_selected(alloc: Global, asked: &Asked<'_>, text: &str) -> Option<bool> {
+    match (choice_of(alloc, asked), feature_of(alloc, text)) {
+        (Ok(choice), Ok(feature)) => both_select(alloc, &choice, &feature),
+        _ => None,
+    }
 }
 
 /// The features p, q, r and z.
@@ -264,11 +298,12 @@ fn selects_so(alloc: Global, row: &Selected) -> bool {
         exclude: row.exclude,
         ..ALL
     };
-    let mut agree = true;
-    for (text, wanted) in FEATURES.iter().zip(row.selected) {
-        agree = agree && is_selected(alloc, &asked, text) == Ok(Some(wanted));
+    for (text, wanted) in FEATURES.iter().zip(row.selected.iter()) {
+        if is_selected(alloc, &asked, text) != Some(*wanted) {
+            return false;
+        }
     }
-    agree
+    true
 }
 
 #[test]
@@ -303,36 +338,57 @@ const OBJECTS: [(&str, bool); 9] = [
     ("{\"\\u0061\":{\"type\":\"Geb\\u00e4ude\"}}", true),
 ];
 
-fn has_a_type(alloc: Global, objects: &str) -> Result<Option<bool>, Fault> {
+fn has_a_type(alloc: Global, objects: &str) -> Option<bool> {
     let text = r#"{"type":"CityJSONFeature","id":"a","CityObjects":ROW,"vertices":[]}"#;
     let asked = Asked {
         types: "Bridge,Geb\u{e4}ude",
         ..ALL
     };
-    is_selected(alloc, &asked, &filled(alloc, text, objects)?)
+    match filled(alloc, text, objects) {
+        Ok(text) => is_selected(alloc, &asked, &text),
+        Err(_) => None,
+    }
 }
 
 #[test]
 fn the_type_is_that_of_the_object_that_the_identifier_names(rt: HostRuntime) {
-    for (objects, wanted) in OBJECTS {
+    for (objects, wanted) in OBJECTS.iter() {
         assert!(rt;
-            has_a_type(rt.alloc(), objects) == Ok(Some(wanted)),
+            has_a_type(rt.alloc(), objects) == Some(*wanted),
             "{objects}"
         );
     }
 }
 
+const LONG: &str =
+    r#"{"type":"CityJSONFeature","id":"long","CityObjects":{"long":{"type":"Building"}},"vertices":[[7,-7,0]ROW]}"#;
+
+fn put_vertex(text: &mut String, alloc: Global, number: u32) -> Result<(), AllocError> {
+    text.push_str(&format!(in alloc; ",[{number},-{number},0]")?)
+}
+
+fn long_vertices(alloc: Global) -> Result<String, AllocError> {
+    let mut text = String::new(alloc);
+    for number in 1..100_000u32 {
+        put_vertex(&mut text, alloc, number)?;
+    }
+    Ok(text)
+}
+
 /// A feature of a hundred thousand vertices.
 fn long_feature(alloc: Global) -> Result<Feature, Fault> {
-    let mut text = String::from_str(
-        alloc,
-        r#"{"type":"CityJSONFeature","id":"long","CityObjects":{"long":{"type":"Building"}},"vertices":[[7,-7,0]"#,
-    )?;
-    for number in 1..100_000u32 {
-        text.push_str(&format!(in alloc; ",[{number},-{number},0]")?)?;
-    }
-    text.push_str("]}")?;
+    let text = filled(alloc, LONG, &long_vertices(alloc)?)?;
     feature_of(alloc, &text)
+}
+
+/// The corners of the first row by which the feature is not selected as it is to be.
+fn first_other(feature: &Feature) -> Option<&'static str> {
+    for (corners, wanted) in CORNERS.iter() {
+        if selects(&Choice::new(None, area(corners), false), feature) != *wanted {
+            return Some(corners);
+        }
+    }
+    None
 }
 
 const CORNERS: [(&str, bool); 6] = [
@@ -344,12 +400,14 @@ const CORNERS: [(&str, bool); 6] = [
     ("0,0,5,5", false),
 ];
 
+fn first_other_of_long(alloc: Global) -> Result<Option<&'static str>, Fault> {
+    let feature = long_feature(alloc)?;
+    Ok(first_other(&feature))
+}
+
 #[test]
 fn all_vertices_count(rt: HostRuntime) -> Result<(), Fault> {
-    let feature = long_feature(rt.alloc())?;
-    for (corners, wanted) in CORNERS {
-        let choice = Choice::new(None, area(corners), false);
-        assert!(rt; selects(&choice, &feature) == wanted, "{corners}");
-    }
+    let other = first_other_of_long(rt.alloc())?;
+    assert!(rt; other.is_none(), "{}", other.unwrap_or(""));
     Ok(())
 }

@@ -1,5 +1,5 @@
 use crate::texts::{filled, shift_of};
-use byte_streams::{Fault, Line};
+use byte_streams::Fault;
 use city_feature::{Feature, feature, line, shifted};
 use city_json::read;
 use std::alloc::{AllocError, Global};
@@ -12,14 +12,14 @@ fn feature_of(alloc: Global, text: &str) -> Result<Feature, Fault> {
     feature(alloc, read(alloc, text.as_bytes())?)
 }
 
-fn moved_line(alloc: Global, text: &str, shift: [i64; 3]) -> Result<Line, Fault> {
+fn moved_feature(alloc: Global, text: &str, shift: [i64; 3]) -> Result<Feature, Fault> {
     let shift = shift_of(shift).ok_or(Fault::ShiftRange)?;
-    line(alloc, &shifted(alloc, feature_of(alloc, text)?, shift)?)
+    shifted(alloc, feature_of(alloc, text)?, shift)
 }
 
 fn is_moved(alloc: Global, text: &str, shift: [i64; 3], wanted: &str) -> bool {
-    match moved_line(alloc, text, shift) {
-        Ok(line) => line.items() == wanted.as_bytes(),
+    match moved_feature(alloc, text, shift) {
+        Ok(feature) => is_written(alloc, &feature, wanted),
         Err(_) => false,
     }
 }
@@ -104,16 +104,28 @@ const KEPT: [(&str, &str); 2] = [
     ),
 ];
 
-fn is_as_it_was(alloc: Global, text: &str) -> Result<bool, Fault> {
-    let line = line(alloc, &feature_of(alloc, text)?)?;
-    Ok(line.items() == text.as_bytes())
+fn is_written(alloc: Global, feature: &Feature, wanted: &str) -> bool {
+    match line(alloc, feature) {
+        Ok(line) => line.items() == wanted.as_bytes(),
+        Err(_) => false,
+    }
+}
+
+fn is_as_it_was(alloc: Global, text: &str) -> bool {
+    match feature_of(alloc, text) {
+        Ok(feature) => is_written(alloc, &feature, text),
+        Err(_) => false,
+    }
+}
+
+fn is_kept(alloc: Global, text: &str, wanted: &str) -> bool {
+    is_moved(alloc, text, [1, 0, 0], wanted) && is_as_it_was(alloc, text)
 }
 
 #[test]
 fn all_else_is_kept(rt: HostRuntime) {
-    for (text, wanted) in KEPT {
-        assert!(rt; is_moved(rt.alloc(), text, [1, 0, 0], wanted), "{text}");
-        assert!(rt; is_as_it_was(rt.alloc(), text) == Ok(true), "{text}");
+    for (text, wanted) in KEPT.iter() {
+        assert!(rt; is_kept(rt.alloc(), text, wanted), "{text}");
     }
 }
 
@@ -198,30 +210,40 @@ const LEAVING: [&str; 3] = [
     "[[9007199254740991,0,0],[0,0,0]]",
 ];
 
-fn leave_the_range(alloc: Global, vertices: &str) -> Result<bool, Fault> {
-    let text = filled(alloc, BUILDING, vertices)?;
-    feature_of(alloc, &text)?;
-    Ok(moved_line(alloc, &text, [1, 0, 0]).err() == Some(Fault::VertexRange))
+fn leaves_the_range(alloc: Global, text: &str) -> bool {
+    feature_of(alloc, text).is_ok()
+        && moved_feature(alloc, text, [1, 0, 0]).err() == Some(Fault::VertexRange)
+}
+
+fn leave_the_range(alloc: Global, vertices: &str) -> bool {
+    match filled(alloc, BUILDING, vertices) {
+        Ok(text) => leaves_the_range(alloc, &text),
+        Err(_) => false,
+    }
 }
 
 #[test]
 fn moved_out_of_range_is_refused(rt: HostRuntime) {
-    for vertices in LEAVING {
-        assert!(rt;
-            leave_the_range(rt.alloc(), vertices) == Ok(true),
-            "{vertices}"
-        );
+    for vertices in LEAVING.iter() {
+        assert!(rt; leave_the_range(rt.alloc(), vertices), "{vertices}");
     }
+}
+
+fn put_vertex(text: &mut String, alloc: Global, x: u32, y: u32) -> Result<(), AllocError> {
+    text.push_str(&format!(in alloc; ",[{x},-{y},7]")?)
+}
+
+fn put_vertices(text: &mut String, alloc: Global, first: u32) -> Result<(), AllocError> {
+    for number in 1..100_000u32 {
+        put_vertex(text, alloc, first.saturating_add(number), number)?;
+    }
+    text.push(']')
 }
 
 /// A hundred thousand vertices, of which the first has this x and each has one more.
 fn many_vertices(alloc: Global, first: u32) -> Result<String, AllocError> {
     let mut vertices = format!(in alloc; "[[{first},0,7]")?;
-    for number in 1..100_000u32 {
-        let x = first.saturating_add(number);
-        vertices.push_str(&format!(in alloc; ",[{x},-{number},7]")?)?;
-    }
-    vertices.push(']')?;
+    put_vertices(&mut vertices, alloc, first)?;
     Ok(vertices)
 }
 

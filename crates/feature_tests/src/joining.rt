@@ -1,5 +1,4 @@
-use crate::texts::filled;
-use crate::tiles::{are_moved, is_refused, joins_to, tiles_of};
+use crate::tiles::{are_moved, is_refused, joins_to_filled, put_tile, tiles_of};
 use byte_streams::Fault;
 use city_feature::Base;
 use std::alloc::{AllocError, Global};
@@ -44,7 +43,7 @@ struct Joined {
     form: &'static str,
     tiles: &'static [&'static str],
     header: &'static str,
-    shifts: &'static [(i64, i64, i64)],
+    shifts: &'static [[i64; 3]],
 }
 
 const JOINED: [Joined; 22] = [
@@ -53,91 +52,91 @@ const JOINED: [Joined; 22] = [
         form: MOVED,
         tiles: &["0,0,0"],
         header: "0,0,0",
-        shifts: &[(0, 0, 0)],
+        shifts: &[[0, 0, 0]],
     },
     Joined {
         base: Base::First,
         form: MOVED,
         tiles: &["0,0,0", "0,0,0"],
         header: "0,0,0",
-        shifts: &[(0, 0, 0), (0, 0, 0)],
+        shifts: &[[0, 0, 0], [0, 0, 0]],
     },
     Joined {
         base: Base::First,
         form: MOVED,
         tiles: &["0,0,0", "1.5,0,0"],
         header: "0,0,0",
-        shifts: &[(0, 0, 0), (1500, 0, 0)],
+        shifts: &[[0, 0, 0], [1500, 0, 0]],
     },
     Joined {
         base: Base::First,
         form: MOVED,
         tiles: &["1.5,0,0", "0,0,0", "0,-2,7"],
         header: "1.5,0,0",
-        shifts: &[(0, 0, 0), (-1500, 0, 0), (-1500, -2000, 7000)],
+        shifts: &[[0, 0, 0], [-1500, 0, 0], [-1500, -2000, 7000]],
     },
     Joined {
         base: Base::First,
         form: SCALED,
         tiles: &["0.001", "1e-3"],
         header: "0.001",
-        shifts: &[(0, 0, 0), (0, 0, 0)],
+        shifts: &[[0, 0, 0], [0, 0, 0]],
     },
     Joined {
         base: Base::First,
         form: SCALED,
         tiles: &["1e-3", "0.001"],
         header: "1e-3",
-        shifts: &[(0, 0, 0), (0, 0, 0)],
+        shifts: &[[0, 0, 0], [0, 0, 0]],
     },
     Joined {
         base: Base::First,
         form: ENDED,
         tiles: &["", r#","appearance":{}"#],
         header: "",
-        shifts: &[(0, 0, 0), (0, 0, 0)],
+        shifts: &[[0, 0, 0], [0, 0, 0]],
     },
     Joined {
         base: Base::First,
         form: ENDED,
         tiles: &[TEMPLATES_AND_APPEARANCE, TEMPLATES_AND_APPEARANCE],
         header: TEMPLATES_AND_APPEARANCE,
-        shifts: &[(0, 0, 0), (0, 0, 0)],
+        shifts: &[[0, 0, 0], [0, 0, 0]],
     },
     Joined {
         base: Base::Least,
         form: MOVED,
         tiles: &["1.5,0,0", "0,0,0"],
         header: "0,0,0",
-        shifts: &[(1500, 0, 0), (0, 0, 0)],
+        shifts: &[[1500, 0, 0], [0, 0, 0]],
     },
     Joined {
         base: Base::Least,
         form: MOVED,
         tiles: &["0,0,0", "-0.001,0,0"],
         header: "-0.001,0,0",
-        shifts: &[(1, 0, 0), (0, 0, 0)],
+        shifts: &[[1, 0, 0], [0, 0, 0]],
     },
     Joined {
         base: Base::Least,
         form: MOVED,
         tiles: &["1.0,0,0", "1,0,0"],
         header: "1.0,0,0",
-        shifts: &[(0, 0, 0), (0, 0, 0)],
+        shifts: &[[0, 0, 0], [0, 0, 0]],
     },
     Joined {
         base: Base::Least,
         form: MOVED,
         tiles: &["1,0,0", "0,1,0"],
         header: "0,0,0",
-        shifts: &[(1000, 0, 0), (0, 1000, 0)],
+        shifts: &[[1000, 0, 0], [0, 1000, 0]],
     },
     Joined {
         base: Base::Least,
         form: MOVED,
         tiles: &["3,1e0,5", "2,1.0,6", "2.0,1,4.000"],
         header: "2,1e0,4.000",
-        shifts: &[(1000, 0, 1000), (0, 0, 2000), (0, 0, 0)],
+        shifts: &[[1000, 0, 1000], [0, 0, 2000], [0, 0, 0]],
     },
     Joined {
         base: Base::First,
@@ -147,21 +146,21 @@ const JOINED: [Joined; 22] = [
             r#","extensions":{"B":{},"A":{"version":"1"}}"#,
         ],
         header: r#","extensions":{"A":{"version":"1"},"B":{}}"#,
-        shifts: &[(0, 0, 0), (0, 0, 0)],
+        shifts: &[[0, 0, 0], [0, 0, 0]],
     },
     Joined {
         base: Base::First,
         form: ENDED,
         tiles: &["", r#","extensions":{"A":{}}"#],
         header: r#","extensions":{"A":{}}"#,
-        shifts: &[(0, 0, 0), (0, 0, 0)],
+        shifts: &[[0, 0, 0], [0, 0, 0]],
     },
     Joined {
         base: Base::First,
         form: ENDED,
         tiles: &[r#","extensions":{"A":{ }}"#, r#","extensions":{"A":{}}"#],
         header: r#","extensions":{"A":{}}"#,
-        shifts: &[(0, 0, 0), (0, 0, 0)],
+        shifts: &[[0, 0, 0], [0, 0, 0]],
     },
     Joined {
         base: Base::First,
@@ -171,14 +170,14 @@ const JOINED: [Joined; 22] = [
             r#"{"type":"CityJSON","version":"2.0","transform":{"scale":[0.001,0.001,0.001],"translate":[0,0,0]},"CityObjects":{},"vertices":[],"extensions":{"A":{},"Z":{}}}"#,
         ],
         header: r#"{"type":"CityJSON","version":"2.0","transform":{"scale":[0.001,0.001,0.001],"translate":[0,0,0]},"extensions":{"Z":{},"M":{},"A":{}},"CityObjects":{},"vertices":[]}"#,
-        shifts: &[(0, 0, 0), (0, 0, 0)],
+        shifts: &[[0, 0, 0], [0, 0, 0]],
     },
     Joined {
         base: Base::First,
         form: MIDDLE,
         tiles: &[r#","extensions":{}"#, ""],
         header: r#","extensions":{}"#,
-        shifts: &[(0, 0, 0), (0, 0, 0)],
+        shifts: &[[0, 0, 0], [0, 0, 0]],
     },
     // The extent is dropped.
     Joined {
@@ -186,14 +185,14 @@ const JOINED: [Joined; 22] = [
         form: ENDED,
         tiles: &[r#","metadata":{"geographicalExtent":[0,0,0,1,1,1],"title":"t"}"#],
         header: r#","metadata":{"title":"t"}"#,
-        shifts: &[(0, 0, 0)],
+        shifts: &[[0, 0, 0]],
     },
     Joined {
         base: Base::First,
         form: ENDED,
         tiles: &[r#","metadata":{"geographicalExtent":[0,0,0,1,1,1]}"#],
         header: r#","metadata":{}"#,
-        shifts: &[(0, 0, 0)],
+        shifts: &[[0, 0, 0]],
     },
     // A reference system may be spelled otherwise.
     Joined {
@@ -205,7 +204,7 @@ const JOINED: [Joined; 22] = [
             SYSTEM,
         ],
         header: SYSTEM,
-        shifts: &[(0, 0, 0), (0, 0, 0), (0, 0, 0)],
+        shifts: &[[0, 0, 0], [0, 0, 0], [0, 0, 0]],
     },
     // Members stay at their places.
     Joined {
@@ -213,14 +212,14 @@ const JOINED: [Joined; 22] = [
         form: LATE,
         tiles: &["84710.1", "84800.35"],
         header: "84710.1",
-        shifts: &[(0, 0, 0), (90250, 0, 0)],
+        shifts: &[[0, 0, 0], [90250, 0, 0]],
     },
 ];
 
 fn join_so(alloc: Global, row: &Joined) -> Result<bool, AllocError> {
     let tiles = tiles_of(alloc, row.form, row.tiles)?;
-    let header = filled(alloc, row.form, row.header)?;
-    Ok(joins_to(alloc, &tiles, row.base, &header) && are_moved(alloc, &tiles, row.base, row.shifts))
+    let is_joined = joins_to_filled(alloc, &tiles, row.base, row.form, row.header);
+    Ok(is_joined && are_moved(alloc, &tiles, row.base, row.shifts))
 }
 
 #[test]
@@ -374,48 +373,52 @@ fn tiles_that_do_not_fit_are_refused(rt: HostRuntime) {
 
 /// A thousand tiles, of which each two share an extension, and all share one.
 const SHARING: &str =
-    r#"{"type":"CityJSON","version":"2.0","transform":{"scale":[0.001,0.001,0.001],"translate":[NUMBER,0,0]},"CityObjects":{},"vertices":[],"extensions":{"EHALF":{"version":"HALF"},"Shared":{}}}"#;
+    r#"{"type":"CityJSON","version":"2.0","transform":{"scale":[0.001,0.001,0.001],"translate":[ROW,0,0]},"CityObjects":{},"vertices":[],"extensions":{"EHALF":{"version":"HALF"},"Shared":{}}}"#;
 
-fn sharing_tile(alloc: Global, number: u32) -> Result<String, AllocError> {
+fn put_sharing(tiles: &mut String, alloc: Global, number: u32) -> Result<(), AllocError> {
     let half = format!(in alloc; "{}", number / 2)?;
     let text = SHARING.replace(alloc, "HALF", &half)?;
-    text.replace(alloc, "NUMBER", &format!(in alloc; "{number}")?)
+    put_tile(tiles, alloc, &text, &format!(in alloc; "{number}")?)
 }
 
 fn sharing_tiles(alloc: Global) -> Result<String, AllocError> {
-    let mut texts = sharing_tile(alloc, 0)?;
-    for number in 1..1000u32 {
-        texts.push('\n')?;
-        texts.push_str(&sharing_tile(alloc, number)?)?;
+    let mut tiles = String::new(alloc);
+    for number in 0..1000u32 {
+        put_sharing(&mut tiles, alloc, number)?;
     }
-    Ok(texts)
+    Ok(tiles)
 }
 
-fn shared_header(alloc: Global) -> Result<String, AllocError> {
-    let mut text = String::from_str(
-        alloc,
-        r#"{"type":"CityJSON","version":"2.0","transform":{"scale":[0.001,0.001,0.001],"translate":[0,0,0]},"CityObjects":{},"vertices":[],"extensions":{"E0":{"version":"0"},"Shared":{}"#,
-    )?;
+/// The header that they join to, in which all extensions but the first and the shared one stand for `ROW`.
+const SHARED: &str =
+    r#"{"type":"CityJSON","version":"2.0","transform":{"scale":[0.001,0.001,0.001],"translate":[0,0,0]},"CityObjects":{},"vertices":[],"extensions":{"E0":{"version":"0"},"Shared":{}ROW}}"#;
+
+fn put_extension(text: &mut String, alloc: Global, number: u32) -> Result<(), AllocError> {
+    text.push_str(&format!(in alloc; r#","E{number}":{{"version":"{number}"}}"#)?)
+}
+
+fn shared_extensions(alloc: Global) -> Result<String, AllocError> {
+    let mut extensions = String::new(alloc);
     for number in 1..500u32 {
-        text.push_str(&format!(in alloc; r#","E{number}":{{"version":"{number}"}}"#)?)?;
+        put_extension(&mut extensions, alloc, number)?;
     }
-    text.push_str("}}")?;
-    Ok(text)
+    Ok(extensions)
 }
 
-fn thousand_shifts(alloc: Global) -> Result<Vec<(i64, i64, i64)>, AllocError> {
+fn thousand_shifts(alloc: Global) -> Result<Vec<[i64; 3]>, AllocError> {
     let mut shifts = Vec::new(alloc);
     for number in 0..1000i64 {
-        shifts.push((number.wrapping_mul(1000), 0, 0))?;
+        shifts.push([number.wrapping_mul(1000), 0, 0])?;
     }
     Ok(shifts)
 }
 
 fn many_tiles_join(alloc: Global) -> Result<bool, AllocError> {
     let tiles = sharing_tiles(alloc)?;
+    let (extensions, shifts) = (shared_extensions(alloc)?, thousand_shifts(alloc)?);
     Ok(
-        joins_to(alloc, &tiles, Base::First, &shared_header(alloc)?)
-            && are_moved(alloc, &tiles, Base::First, &thousand_shifts(alloc)?),
+        joins_to_filled(alloc, &tiles, Base::First, SHARED, &extensions)
+            && are_moved(alloc, &tiles, Base::First, &shifts),
     )
 }
 

@@ -1,6 +1,5 @@
 //! Headers that name more extensions than are found by the hash of their names.
-use crate::texts::filled;
-use crate::tiles::{is_refused, joins_to, tiles_of};
+use crate::tiles::{is_refused, joins_to, joins_to_filled, put_tile, tiles_of};
 use byte_streams::Fault;
 use city_feature::Base;
 use std::alloc::{AllocError, Global};
@@ -10,33 +9,65 @@ const HEADER: &str =
     r#"{"type":"CityJSON","version":"2.0","transform":{"scale":[1,1,1],"translate":[0,0,0]},"extensions":{ROW}}"#;
 
 /// Adds an extension, whose name is as it is written in JSON.
-fn put(extensions: &mut String, alloc: Global, name: &str, version: u32) -> Result<(), AllocError> {
+fn put(extensions: &mut String, name: &str, version: &str) -> Result<(), AllocError> {
     if !extensions.is_empty() {
         extensions.push(',')?;
     }
-    extensions.push_str(&format!(in alloc; r#""{name}":{{"version":"{version}"}}"#)?)
+    for piece in ["\"", name, "\":{\"version\":\"", version, "\"}"] {
+        extensions.push_str(piece)?;
+    }
+    Ok(())
 }
 
-/// Extensions with these numbers as names, of version 1; of version 2 the one that is changed.
+/// The version of an extension: 1, and 2 of the one that is changed.
+fn version_of(number: u32, changed: Option<u32>) -> &'static str {
+    if changed == Some(number) { "2" } else { "1" }
+}
+
+fn put_number(
+    extensions: &mut String,
+    alloc: Global,
+    number: u32,
+    changed: Option<u32>,
+) -> Result<(), AllocError> {
+    let name = format!(in alloc; "{number}")?;
+    put(extensions, &name, version_of(number, changed))
+}
+
+/// Extensions with these numbers as names.
 fn numbered(alloc: Global, numbers: &[u32], changed: Option<u32>) -> Result<String, AllocError> {
     let mut extensions = String::new(alloc);
     for number in numbers {
-        let version = if changed == Some(*number) { 2 } else { 1 };
-        let name = format!(in alloc; "{number}")?;
-        put(&mut extensions, alloc, &name, version)?;
+        put_number(&mut extensions, alloc, *number, changed)?;
     }
     Ok(extensions)
 }
 
+/// Adds the header of such extensions, on a line of its own.
+fn put_numbered(
+    tiles: &mut String,
+    alloc: Global,
+    numbers: &[u32],
+    changed: Option<u32>,
+) -> Result<(), AllocError> {
+    let extensions = numbered(alloc, numbers, changed)?;
+    put_tile(tiles, alloc, HEADER, &extensions)
+}
+
+/// Adds that of the numbers below `count`, in the order of this step.
+fn put_stepped(tiles: &mut String, alloc: Global, count: u32, step: u32) -> Result<(), AllocError> {
+    let numbers = stepped(alloc, count, step)?;
+    put_numbered(tiles, alloc, &numbers, None)
+}
+
 fn unite(alloc: Global, tiles: &[&str], union: &str) -> Result<bool, AllocError> {
     let tiles = tiles_of(alloc, HEADER, tiles)?;
-    Ok(joins_to(alloc, &tiles, Base::First, &filled(alloc, HEADER, union)?))
+    Ok(joins_to_filled(alloc, &tiles, Base::First, HEADER, union))
 }
 
 /// Whether the extensions of this tile are not those of a tile before it.
-fn clash(alloc: Global, tiles: &[&str], tile: u32) -> Result<bool, AllocError> {
-    let tiles = tiles_of(alloc, HEADER, tiles)?;
-    Ok(is_refused(alloc, &tiles, Base::First, tile, Fault::ExtensionClash))
+fn clash(alloc: Global, tiles: &str, tile: u32) -> bool {
+    is_refused(alloc, tiles, Base::First, tile, Fault::ExtensionClash)
 }
 
 /// The numbers below `count`, each once, in an order of their own. `step` and `count` have no factor in common.
@@ -50,27 +81,40 @@ fn stepped(alloc: Global, count: u32, step: u32) -> Result<Vec<u32>, AllocError>
     Ok(numbers)
 }
 
-/// All of the first numbers, those of the second from 300 on, and three more.
-fn united(alloc: Global, first: &[u32], second: &[u32]) -> Result<Vec<u32>, AllocError> {
-    let mut all = Vec::new(alloc);
-    all.extend_from_slice(first)?;
+/// Adds those from 300 on, and three more.
+fn put_rest(all: &mut Vec<u32>, second: &[u32]) -> Result<(), AllocError> {
     for number in second {
         if *number >= 300 {
             all.push(*number)?;
         }
     }
-    all.extend_from_slice(&[1000, 999, 450])?;
+    all.extend_from_slice(&[1000, 999, 450])
+}
+
+/// All of the first numbers, those of the second from 300 on, and three more.
+fn united(alloc: Global) -> Result<Vec<u32>, AllocError> {
+    let mut all = stepped(alloc, 300, 7)?;
+    put_rest(&mut all, &stepped(alloc, 450, 11)?)?;
     Ok(all)
 }
 
+fn put_four(tiles: &mut String, alloc: Global) -> Result<(), AllocError> {
+    put_stepped(tiles, alloc, 300, 7)?;
+    put_stepped(tiles, alloc, 450, 11)?;
+    put_numbered(tiles, alloc, &[449, 1000, 0, 999, 450], None)?;
+    put_stepped(tiles, alloc, 450, 11)
+}
+
+fn united_header(alloc: Global) -> Result<String, AllocError> {
+    let mut header = String::new(alloc);
+    put_numbered(&mut header, alloc, &united(alloc)?, None)?;
+    Ok(header)
+}
+
 fn new_names_go_last(alloc: Global) -> Result<bool, AllocError> {
-    let first = stepped(alloc, 300, 7)?;
-    let second = stepped(alloc, 450, 11)?;
-    let all = numbered(alloc, &united(alloc, &first, &second)?, None)?;
-    let first = numbered(alloc, &first, None)?;
-    let second = numbered(alloc, &second, None)?;
-    let third = numbered(alloc, &[449, 1000, 0, 999, 450], None)?;
-    unite(alloc, &[&first, &second, &third, &second], &all)
+    let mut tiles = String::new(alloc);
+    put_four(&mut tiles, alloc)?;
+    Ok(joins_to(alloc, &tiles, Base::First, &united_header(alloc)?))
 }
 
 #[test]
@@ -78,25 +122,29 @@ fn new_names_go_last_in_their_order(rt: HostRuntime) {
     assert!(rt; new_names_go_last(rt.alloc()) == Ok(true));
 }
 
+const COUNTS: [u32; 14] = [1, 2, 15, 16, 17, 18, 31, 32, 33, 64, 65, 255, 256, 257];
+
 fn are_known(alloc: Global, count: u32) -> Result<bool, AllocError> {
-    let text = numbered(alloc, &stepped(alloc, count, 7)?, None)?;
+    let numbers = stepped(alloc, count, 7)?;
+    let text = numbered(alloc, &numbers, None)?;
     unite(alloc, &["", &text, &text, &text], &text)
 }
 
 #[test]
 fn any_number_of_names_is_known_to_the_tiles_after(rt: HostRuntime) {
-    for count in [1, 2, 15, 16, 17, 18, 31, 32, 33, 64, 65, 255, 256, 257] {
-        assert!(rt; are_known(rt.alloc(), count) == Ok(true), "{count}");
+    for count in COUNTS.iter() {
+        assert!(rt; are_known(rt.alloc(), *count) == Ok(true), "{count}");
     }
 }
 
 /// Whether it is seen that this extension has another text in the third tile.
 fn change_is_found(alloc: Global, count: u32, changed: u32) -> Result<bool, AllocError> {
     let numbers = stepped(alloc, count, 7)?;
-    let text = numbered(alloc, &numbers, None)?;
-    let other = numbered(alloc, &numbers, Some(changed))?;
-    let last = numbered(alloc, &numbers, Some(0))?;
-    clash(alloc, &[&text, &text, &other, &last], 3)
+    let mut tiles = String::new(alloc);
+    for other in [None, None, Some(changed), Some(0)] {
+        put_numbered(&mut tiles, alloc, &numbers, other)?;
+    }
+    Ok(clash(alloc, &tiles, 3))
 }
 
 /// How many extensions there are, and the one that is changed.
@@ -137,21 +185,26 @@ const CHANGES: [(u32, u32); 32] = [
 
 #[test]
 fn another_text_is_found_wherever_it_stands(rt: HostRuntime) {
-    for (count, changed) in CHANGES {
+    for (count, changed) in CHANGES.iter() {
         assert!(rt;
-            change_is_found(rt.alloc(), count, changed) == Ok(true),
+            change_is_found(rt.alloc(), *count, *changed) == Ok(true),
             "{changed} of {count}"
         );
     }
 }
 
+fn put_clashing(tiles: &mut String, alloc: Global) -> Result<(), AllocError> {
+    put_stepped(tiles, alloc, 100, 7)?;
+    put_numbered(tiles, alloc, &[3, 100, 101, 102], None)?;
+    put_numbered(tiles, alloc, &[102, 99, 0], None)?;
+    put_numbered(tiles, alloc, &[5, 101], Some(101))?;
+    put_numbered(tiles, alloc, &[5, 50], Some(50))
+}
+
 fn first_clash_is_named(alloc: Global) -> Result<bool, AllocError> {
-    let first = numbered(alloc, &stepped(alloc, 100, 7)?, None)?;
-    let new = numbered(alloc, &[3, 100, 101, 102], None)?;
-    let known = numbered(alloc, &[102, 99, 0], None)?;
-    let other = numbered(alloc, &[5, 101], Some(101))?;
-    let another = numbered(alloc, &[5, 50], Some(50))?;
-    clash(alloc, &[&first, &new, &known, &other, &another], 4)
+    let mut tiles = String::new(alloc);
+    put_clashing(&mut tiles, alloc)?;
+    Ok(clash(alloc, &tiles, 4))
 }
 
 #[test]
@@ -189,22 +242,40 @@ const ALL_NAMES: &[&str] = &[
     "e\u{301}",
 ];
 
-fn named(alloc: Global, names: &[&str]) -> Result<String, AllocError> {
-    let mut extensions = String::new(alloc);
+fn put_names(extensions: &mut String, names: &[&str]) -> Result<(), AllocError> {
     for name in names {
-        put(&mut extensions, alloc, name, 1)?;
+        put(extensions, name, "1")?;
     }
+    Ok(())
+}
+
+fn put_named(tiles: &mut String, alloc: Global, names: &[&str]) -> Result<(), AllocError> {
+    let mut extensions = String::new(alloc);
+    put_names(&mut extensions, names)?;
+    put_tile(tiles, alloc, HEADER, &extensions)
+}
+
+fn put_all_named(tiles: &mut String, alloc: Global) -> Result<(), AllocError> {
+    put_stepped(tiles, alloc, 20, 7)?;
+    for names in NAMES.iter() {
+        put_named(tiles, alloc, names)?;
+    }
+    Ok(())
+}
+
+/// Twenty numbers, and then all names.
+fn all_names(alloc: Global) -> Result<String, AllocError> {
+    let numbers = stepped(alloc, 20, 7)?;
+    let mut extensions = numbered(alloc, &numbers, None)?;
+    put_names(&mut extensions, ALL_NAMES)?;
     Ok(extensions)
 }
 
 fn names_are_decoded(alloc: Global) -> Result<bool, AllocError> {
-    let numbers = numbered(alloc, &stepped(alloc, 20, 7)?, None)?;
-    let first = named(alloc, NAMES[0])?;
-    let second = named(alloc, NAMES[1])?;
-    let third = named(alloc, NAMES[2])?;
-    let all = named(alloc, ALL_NAMES)?;
-    let union = format!(in alloc; "{numbers},{all}")?;
-    unite(alloc, &[&numbers, &first, &second, &third], &union)
+    let mut tiles = String::new(alloc);
+    put_all_named(&mut tiles, alloc)?;
+    let union = all_names(alloc)?;
+    Ok(joins_to_filled(alloc, &tiles, Base::First, HEADER, &union))
 }
 
 #[test]
@@ -212,31 +283,54 @@ fn names_are_compared_as_decoded(rt: HostRuntime) {
     assert!(rt; names_are_decoded(rt.alloc()) == Ok(true));
 }
 
-/// Extensions of these numbers, whose names are made to have one hash in a map whose seed is fixed.
-fn of_one_hash(
+/// Adds an extension whose name is made to have the hash of the others in a map whose seed is fixed.
+fn put_of_one_hash(
+    extensions: &mut String,
+    alloc: Global,
+    number: u32,
+    changed: Option<u32>,
+) -> Result<(), AllocError> {
+    let name = format!(in alloc; "of_one_hash_296eG$EoGp5v{number:08}_is_of_one_hash_")?;
+    put(extensions, &name, version_of(number, changed))
+}
+
+/// Adds a tile of such extensions, with these numbers.
+fn put_hashed(
+    tiles: &mut String,
     alloc: Global,
     from: u32,
     to: u32,
     changed: Option<u32>,
-) -> Result<String, AllocError> {
+) -> Result<(), AllocError> {
     let mut extensions = String::new(alloc);
     for number in from..to {
-        let name = format!(in alloc; "of_one_hash_296eG$EoGp5v{number:08}_is_of_one_hash_")?;
-        let version = if changed == Some(number) { 2 } else { 1 };
-        put(&mut extensions, alloc, &name, version)?;
+        put_of_one_hash(&mut extensions, alloc, number, changed)?;
     }
-    Ok(extensions)
+    put_tile(tiles, alloc, HEADER, &extensions)
 }
 
-fn are_kept_apart(alloc: Global) -> Result<bool, AllocError> {
-    let first = of_one_hash(alloc, 0, 2000, None)?;
-    let second = of_one_hash(alloc, 1000, 3000, None)?;
-    let union = of_one_hash(alloc, 0, 3000, None)?;
-    let other = of_one_hash(alloc, 0, 3000, Some(2500))?;
-    Ok(unite(alloc, &[&first, &second], &union)? && clash(alloc, &[&first, &second, &other], 3)?)
+fn put_two_hashed(tiles: &mut String, alloc: Global) -> Result<(), AllocError> {
+    put_hashed(tiles, alloc, 0, 2000, None)?;
+    put_hashed(tiles, alloc, 1000, 3000, None)
+}
+
+fn hashed_are_united(alloc: Global) -> Result<bool, AllocError> {
+    let mut tiles = String::new(alloc);
+    put_two_hashed(&mut tiles, alloc)?;
+    let mut union = String::new(alloc);
+    put_hashed(&mut union, alloc, 0, 3000, None)?;
+    Ok(joins_to(alloc, &tiles, Base::First, &union))
+}
+
+fn hashed_clash(alloc: Global) -> Result<bool, AllocError> {
+    let mut tiles = String::new(alloc);
+    put_two_hashed(&mut tiles, alloc)?;
+    put_hashed(&mut tiles, alloc, 0, 3000, Some(2500))?;
+    Ok(clash(alloc, &tiles, 3))
 }
 
 #[test]
 fn names_of_one_hash_are_kept_apart(rt: HostRuntime) {
-    assert!(rt; are_kept_apart(rt.alloc()) == Ok(true));
+    assert!(rt; hashed_are_united(rt.alloc()) == Ok(true));
+    assert!(rt; hashed_clash(rt.alloc()) == Ok(true));
 }

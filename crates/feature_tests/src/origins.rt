@@ -1,6 +1,5 @@
 //! Whose translation the joined tiles have, as it is written and as it is counted from.
-use crate::texts::filled;
-use crate::tiles::{are_moved, first_stays, joins_to, tiles_of};
+use crate::tiles::{are_moved, first_stays, joins_to_filled, put_tile, tiles_of};
 use city_feature::Base;
 use std::alloc::{AllocError, Global};
 
@@ -66,11 +65,9 @@ const ORIGINS: [Origins; 6] = [
 
 fn has_origins(alloc: Global, row: &Origins) -> Result<bool, AllocError> {
     let tiles = tiles_of(alloc, row.header, row.tiles)?;
-    let first = filled(alloc, row.header, row.first)?;
-    let least = filled(alloc, row.header, row.least)?;
     Ok(
-        joins_to(alloc, &tiles, Base::First, &first)
-            && joins_to(alloc, &tiles, Base::Least, &least)
+        joins_to_filled(alloc, &tiles, Base::First, row.header, row.first)
+            && joins_to_filled(alloc, &tiles, Base::Least, row.header, row.least)
             && first_stays(alloc, &tiles),
     )
 }
@@ -82,39 +79,40 @@ fn the_lowest_tile_that_has_the_least_is_written(rt: HostRuntime) {
     }
 }
 
+fn put_moved(tiles: &mut String, alloc: Global, tile: i64) -> Result<(), AllocError> {
+    let x = tile.wrapping_sub(700).wrapping_abs();
+    let translation = format!(in alloc; "[{x}.0,{tile}.50,-{tile}]")?;
+    put_tile(tiles, alloc, MILLIMETRES, &translation)
+}
+
 /// The headers of a thousand tiles.
 fn many_tiles(alloc: Global) -> Result<String, AllocError> {
     let mut tiles = String::new(alloc);
     for tile in 0..1000i64 {
-        let x = tile.wrapping_sub(700).wrapping_abs();
-        let translation = format!(in alloc; "[{x}.0,{tile}.50,-{tile}]")?;
-        if tile > 0 {
-            tiles.push('\n')?;
-        }
-        tiles.push_str(&filled(alloc, MILLIMETRES, &translation)?)?;
+        put_moved(&mut tiles, alloc, tile)?;
     }
     Ok(tiles)
 }
 
 /// How they are moved to the least of each component.
-fn shifts_of_many(alloc: Global) -> Result<Vec<(i64, i64, i64)>, AllocError> {
+fn shifts_of_many(alloc: Global) -> Result<Vec<[i64; 3]>, AllocError> {
     let mut shifts = Vec::new(alloc);
     for tile in 0..1000i64 {
-        shifts.push((
+        shifts.push([
             tile.wrapping_sub(700).wrapping_abs().wrapping_mul(1000),
             tile.wrapping_mul(1000),
             999i64.wrapping_sub(tile).wrapping_mul(1000),
-        ))?;
+        ])?;
     }
     Ok(shifts)
 }
 
 fn least_of_many_is_found(alloc: Global) -> Result<bool, AllocError> {
     let tiles = many_tiles(alloc)?;
-    let wanted = filled(alloc, MILLIMETRES, "[0.0,0.50,-999]")?;
+    let shifts = shifts_of_many(alloc)?;
     Ok(
-        joins_to(alloc, &tiles, Base::Least, &wanted)
-            && are_moved(alloc, &tiles, Base::Least, &shifts_of_many(alloc)?),
+        joins_to_filled(alloc, &tiles, Base::Least, MILLIMETRES, "[0.0,0.50,-999]")
+            && are_moved(alloc, &tiles, Base::Least, &shifts),
     )
 }
 

@@ -36,28 +36,31 @@ pub(crate) fn shift_of(steps: [i64; 3]) -> Option<Shift> {
 /// What stands in the text before a feature is added to it.
 const FRONT: &[u8] = b"front ";
 
-/// What is answered of a line, and the text that stands there then.
-fn told(
+fn front(alloc: Global) -> Result<Line, AllocError> {
+    Ok(Line::from_vec(FRONT.to_vec(alloc)?))
+}
+
+/// What is answered of a line, where a text is added to what stands there.
+pub(crate) fn told(
     alloc: Global,
     line: &[u8],
     asked: &Asked<'_>,
-) -> Result<(Result<bool, Fault>, Line), Fault> {
-    let choice = choice_of(alloc, asked)?;
-    let shift = shift_of(asked.shift).ok_or(Fault::ShiftRange)?;
-    let mut text = Line::new(alloc);
-    text.append(FRONT)?;
-    let answer = feature_line(alloc, line, shift, &choice, &mut text);
-    Ok((answer, text))
+    text: &mut Line,
+) -> Option<Result<bool, Fault>> {
+    let shift = shift_of(asked.shift)?;
+    match choice_of(alloc, asked) {
+        Ok(choice) => Some(feature_line(alloc, line, shift, &choice, text)),
+        Err(_) => None,
+    }
 }
 
 /// Whether the line is that of a feature that is chosen, and this text is added for it.
 pub(crate) fn gives(alloc: Global, line: &str, asked: &Asked<'_>, wanted: &str) -> bool {
-    match told(alloc, line.as_bytes(), asked) {
-        Ok((answer, text)) => {
-            answer == Ok(true) && text.items().get(FRONT.len()..) == Some(wanted.as_bytes())
-        }
-        Err(_) => false,
-    }
+    let Ok(mut text) = front(alloc) else {
+        return false;
+    };
+    told(alloc, line.as_bytes(), asked, &mut text) == Some(Ok(true))
+        && text.items().get(FRONT.len()..) == Some(wanted.as_bytes())
 }
 
 /// Whether this is answered of the line, and a text is added only where its feature is chosen.
@@ -67,10 +70,9 @@ pub(crate) fn answers(
     asked: &Asked<'_>,
     wanted: Result<bool, Fault>,
 ) -> bool {
-    match told(alloc, line, asked) {
-        Ok((answer, text)) => {
-            answer == wanted && (text.items() == FRONT) == (wanted != Ok(true))
-        }
-        Err(_) => false,
-    }
+    let Ok(mut text) = front(alloc) else {
+        return false;
+    };
+    told(alloc, line, asked, &mut text) == Some(wanted)
+        && (text.items() == FRONT) == (wanted != Ok(true))
 }

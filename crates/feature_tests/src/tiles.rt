@@ -6,23 +6,37 @@ use city_grid::Shift;
 use city_json::read;
 use std::alloc::{AllocError, Global};
 
+/// Adds the text of a tile on a line of its own: this one, in which the row stands for `ROW`.
+pub(crate) fn put_tile(
+    tiles: &mut String,
+    alloc: Global,
+    text: &str,
+    row: &str,
+) -> Result<(), AllocError> {
+    if !tiles.is_empty() {
+        tiles.push('\n')?;
+    }
+    tiles.push_str(&filled(alloc, text, row)?)
+}
+
 /// The texts of tiles, one on each line: this one, in which each row in turn stands for `ROW`.
 pub(crate) fn tiles_of(alloc: Global, text: &str, rows: &[&str]) -> Result<String, AllocError> {
     let mut tiles = String::new(alloc);
     for row in rows {
-        if !tiles.is_empty() {
-            tiles.push('\n')?;
-        }
-        tiles.push_str(&filled(alloc, text, row)?)?;
+        put_tile(&mut tiles, alloc, text, row)?;
     }
     Ok(tiles)
+}
+
+fn header_of(alloc: Global, text: &str) -> Result<Header, Fault> {
+    header(read(alloc, text.as_bytes())?)
 }
 
 /// The headers of tiles, one on each line.
 fn headers_of(alloc: Global, tiles: &str) -> Result<Vec<Header>, Fault> {
     let mut headers = Vec::new(alloc);
     for text in tiles.split('\n') {
-        headers.push(header(read(alloc, text.as_bytes())?)?)?;
+        headers.push(header_of(alloc, text)?)?;
     }
     Ok(headers)
 }
@@ -50,9 +64,17 @@ fn join(alloc: Global, tiles: &str, base: Base) -> Result<Joined, HeaderFault> {
     }
 }
 
-fn has_steps(found: &Shift, wanted: &(i64, i64, i64)) -> bool {
-    let (x, y, z) = *wanted;
+fn has_steps(found: &Shift, wanted: &[i64; 3]) -> bool {
+    let [x, y, z] = *wanted;
     Some(*found) == Shift::new(x, y, z)
+}
+
+fn have_steps(shifts: &[Shift], wanted: &[[i64; 3]]) -> bool {
+    let mut agree = shifts.len() == wanted.len();
+    for (found, wanted) in shifts.iter().zip(wanted.iter()) {
+        agree = agree && has_steps(found, wanted);
+    }
+    agree
 }
 
 /// Whether the tiles join to this header.
@@ -63,21 +85,24 @@ pub(crate) fn joins_to(alloc: Global, tiles: &str, base: Base, header: &str) -> 
     }
 }
 
-/// Whether the tiles join, and are moved so.
-pub(crate) fn are_moved(
+/// Whether the tiles join to this header, in which the row stands for `ROW`.
+pub(crate) fn joins_to_filled(
     alloc: Global,
     tiles: &str,
     base: Base,
-    shifts: &[(i64, i64, i64)],
+    header: &str,
+    row: &str,
 ) -> bool {
+    match filled(alloc, header, row) {
+        Ok(header) => joins_to(alloc, tiles, base, &header),
+        Err(_) => false,
+    }
+}
+
+/// Whether the tiles join, and are moved so.
+pub(crate) fn are_moved(alloc: Global, tiles: &str, base: Base, shifts: &[[i64; 3]]) -> bool {
     match join(alloc, tiles, base) {
-        Ok(joined) => {
-            let mut agree = joined.shifts.items().len() == shifts.len();
-            for (found, wanted) in joined.shifts.items().iter().zip(shifts.iter()) {
-                agree = agree && has_steps(found, wanted);
-            }
-            agree
-        }
+        Ok(joined) => have_steps(joined.shifts.items(), shifts),
         Err(_) => false,
     }
 }

@@ -50,10 +50,14 @@ const OTHERS: [&str; 10] = [
 
 #[test]
 fn decimals_are_exact(rt: HostRuntime) {
-    for (text, wanted) in DECIMALS {
-        assert!(rt; units(rt.alloc(), text) == Ok(wanted), "{text}");
+    for (text, wanted) in DECIMALS.iter() {
+        assert!(rt; units(rt.alloc(), text) == Ok(*wanted), "{text}");
     }
-    for text in OTHERS {
+}
+
+#[test]
+fn other_numbers_are_refused(rt: HostRuntime) {
+    for text in OTHERS.iter() {
         assert!(rt; units(rt.alloc(), text) == Err(Fault::Decimal), "{text}");
     }
 }
@@ -65,9 +69,13 @@ fn long_units(
     digit: &str,
     end: &str,
 ) -> Result<Result<i128, Fault>, AllocError> {
-    let digits = digit.repeat(alloc, 9999)?;
-    let text = format!(in alloc; "{first}{digits}{end}")?;
+    let text = long_text(alloc, first, digit, end)?;
     Ok(units(alloc, &text))
+}
+
+fn long_text(alloc: Global, first: &str, digit: &str, end: &str) -> Result<String, AllocError> {
+    let digits = digit.repeat(alloc, 9999)?;
+    format!(in alloc; "{first}{digits}{end}")
 }
 
 #[test]

@@ -83,13 +83,17 @@ fn has_spelled(bytes: &[u8], vertex: Vertex, end: usize) -> bool {
 
 /// Whether the vertex is found whatever stands after it.
 fn is_found(alloc: Global, written: &str, vertex: Vertex) -> Result<bool, AllocError> {
-    let mut all = true;
-    for after in AFTER {
+    for after in AFTER.iter() {
         let text = format!(in alloc; "[{written}{after}")?;
-        let end = text.len().saturating_sub(after.len());
-        all = all && has_vertex(text.as_bytes(), vertex, end);
+        if !has_vertex(
+            text.as_bytes(),
+            vertex,
+            text.len().saturating_sub(after.len()),
+        ) {
+            return Ok(false);
+        }
     }
-    Ok(all)
+    Ok(true)
 }
 
 fn is_appended(alloc: Global, written: &str, vertex: Vertex) -> Result<bool, Fault> {
@@ -114,14 +118,16 @@ fn are_taken(alloc: Global, integer: i64) -> Result<bool, Fault> {
     )
 }
 
+/// Whether the integer and the one of the other sign are.
+fn both_are_taken(alloc: Global, integer: i64) -> bool {
+    are_taken(alloc, integer) == Ok(true)
+        && are_taken(alloc, i64::wrapping_neg(integer)) == Ok(true)
+}
+
 #[test]
 fn vertices_of_all_lengths_are_taken(rt: HostRuntime) {
-    for integer in INTEGERS {
-        assert!(rt; are_taken(rt.alloc(), integer) == Ok(true), "{integer}");
-        assert!(rt;
-            are_taken(rt.alloc(), i64::wrapping_neg(integer)) == Ok(true),
-            "-{integer}"
-        );
+    for integer in INTEGERS.iter() {
+        assert!(rt; both_are_taken(rt.alloc(), *integer), "{integer}");
     }
 }
 
@@ -185,7 +191,7 @@ const FRONTS: [&str; 18] = [
 /// Whether nothing is said of it, whatever stands after it.
 fn is_passed_over(alloc: Global, front: &str) -> Result<bool, AllocError> {
     let mut all = true;
-    for after in AFTER {
+    for after in AFTER.iter() {
         let text = format!(in alloc; "[{front}{after}")?;
         all = all && has_none(text.as_bytes());
     }
@@ -198,16 +204,26 @@ fn number_is_passed_over(alloc: Global, place: &str, number: &str) -> Result<boo
 
 #[test]
 fn what_is_no_vertex_is_passed_over(rt: HostRuntime) {
-    for front in FRONTS {
+    for front in FRONTS.iter() {
         assert!(rt; is_passed_over(rt.alloc(), front) == Ok(true), "{front}");
     }
-    for place in PLACES {
-        for number in NUMBERS {
-            assert!(rt;
-                number_is_passed_over(rt.alloc(), place, number) == Ok(true),
-                "{place} {number}"
-            );
+}
+
+/// The first of the numbers that is not passed over there.
+fn first_other(alloc: Global, place: &str) -> Option<&'static str> {
+    for number in NUMBERS.iter() {
+        if number_is_passed_over(alloc, place, number) != Ok(true) {
+            return Some(number);
         }
+    }
+    None
+}
+
+#[test]
+fn other_numbers_are_passed_over(rt: HostRuntime) {
+    for place in PLACES.iter() {
+        let other = first_other(rt.alloc(), place);
+        assert!(rt; other.is_none(), "{place} {}", other.unwrap_or(""));
     }
 }
 
@@ -222,20 +238,24 @@ const ZEROS: [(&str, [i64; 3]); 4] = [
 fn is_spelled(alloc: Global, spelling: &str, numbers: [i64; 3]) -> Result<bool, Fault> {
     let [x, y, z] = numbers;
     let vertex = Vertex::new(x, y, z).ok_or(Fault::VertexRange)?;
-    let mut all = true;
-    for after in AFTER {
+    for after in AFTER.iter() {
         let text = format!(in alloc; "[{spelling}{after}")?;
-        let end = text.len().saturating_sub(after.len());
-        all = all && has_spelled(text.as_bytes(), vertex, end);
+        if !has_spelled(
+            text.as_bytes(),
+            vertex,
+            text.len().saturating_sub(after.len()),
+        ) {
+            return Ok(false);
+        }
     }
-    Ok(all)
+    Ok(true)
 }
 
 #[test]
 fn a_zero_may_have_a_minus_sign(rt: HostRuntime) {
-    for (spelling, numbers) in ZEROS {
+    for (spelling, numbers) in ZEROS.iter() {
         assert!(rt;
-            is_spelled(rt.alloc(), spelling, numbers) == Ok(true),
+            is_spelled(rt.alloc(), spelling, *numbers) == Ok(true),
             "{spelling}"
         );
     }

@@ -3,54 +3,66 @@ use city_grid::{Shift, Vertex, moved, three_numbers, vertex, vertex_json, write_
 use city_json::{Json, print, read};
 use std::alloc::Global;
 
-/// Values, and the three numbers that they are, as they are written.
-const NUMBERS: [(&str, Option<(&[u8], &[u8], &[u8])>); 6] = [
-    ("[1.50, -0, 2e+3]", Some((b"1.50", b"-0", b"2e+3"))),
-    ("[1, 2]", None),
-    ("[1, 2, 3, 4]", None),
-    ("[1, \"2\", 3]", None),
-    ("{}", None),
-    ("3", None),
-];
+/// The three numbers of a value, as they are written.
+const NUMBERS: [&[u8]; 3] = [b"1.50", b"-0", b"2e+3"];
 
-fn has_numbers(
-    alloc: Global,
-    text: &str,
-    wanted: Option<(&[u8], &[u8], &[u8])>,
-) -> Result<bool, Fault> {
-    let value = read(alloc, text.as_bytes())?;
-    Ok(match (three_numbers(&value), wanted) {
-        (Some(numbers), Some((x, y, z))) => {
-            numbers.x.as_bytes() == x && numbers.y.as_bytes() == y && numbers.z.as_bytes() == z
+/// Values that are no three numbers.
+const NO_NUMBERS: [&str; 5] = ["[1, 2]", "[1, 2, 3, 4]", "[1, \"2\", 3]", "{}", "3"];
+
+fn are_numbers(value: &Json, wanted: &[&[u8]; 3]) -> bool {
+    match three_numbers(value) {
+        Some(numbers) => {
+            numbers.x.as_bytes() == wanted[0]
+                && numbers.y.as_bytes() == wanted[1]
+                && numbers.z.as_bytes() == wanted[2]
         }
-        (None, None) => true,
-        _ => false,
-    })
+        None => false,
+    }
+}
+
+fn has_numbers(alloc: Global, text: &str, wanted: &[&[u8]; 3]) -> bool {
+    match read(alloc, text.as_bytes()) {
+        Ok(value) => are_numbers(&value, wanted),
+        Err(_) => false,
+    }
+}
+
+fn has_no_numbers(alloc: Global, text: &str) -> bool {
+    match read(alloc, text.as_bytes()) {
+        Ok(value) => three_numbers(&value).is_none(),
+        Err(_) => false,
+    }
 }
 
 #[test]
 fn three_numbers_are_as_written(rt: HostRuntime) {
-    for (text, wanted) in NUMBERS {
-        assert!(rt; has_numbers(rt.alloc(), text, wanted) == Ok(true), "{text}");
+    assert!(rt; has_numbers(rt.alloc(), "[1.50, -0, 2e+3]", &NUMBERS));
+    for text in NO_NUMBERS.iter() {
+        assert!(rt; has_no_numbers(rt.alloc(), text), "{text}");
     }
 }
 
-const VERTICES: [(&str, Result<(i64, i64, i64), Fault>); 12] = [
-    ("[1, 20, -300]", Ok((1, 20, -300))),
-    ("[-0, 0, 0]", Ok((0, 0, 0))),
+/// Texts of vertices, and where these are.
+const VERTICES: [(&str, [i64; 3]); 3] = [
+    ("[1, 20, -300]", [1, 20, -300]),
+    ("[-0, 0, 0]", [0, 0, 0]),
     (
         "[9007199254740991, -9007199254740991, 0]",
-        Ok((9_007_199_254_740_991, -9_007_199_254_740_991, 0)),
+        [9_007_199_254_740_991, -9_007_199_254_740_991, 0],
     ),
-    ("[1.0, 0, 0]", Err(Fault::VertexNotInteger)),
-    ("[1e2, 0, 0]", Err(Fault::VertexNotInteger)),
-    ("[9007199254740992, 0, 0E0]", Err(Fault::VertexNotInteger)),
-    ("[9007199254740992, 0, 0]", Err(Fault::VertexRange)),
-    ("[0, 0, -9007199254740992]", Err(Fault::VertexRange)),
-    ("[1, 2]", Err(Fault::VertexShape)),
-    ("[1, 2, 3, 4e1]", Err(Fault::VertexShape)),
-    ("[\"1\", 2, 3]", Err(Fault::VertexShape)),
-    ("null", Err(Fault::VertexShape)),
+];
+
+/// Texts of values that are no vertices.
+const NO_VERTICES: [(&str, Fault); 9] = [
+    ("[1.0, 0, 0]", Fault::VertexNotInteger),
+    ("[1e2, 0, 0]", Fault::VertexNotInteger),
+    ("[9007199254740992, 0, 0E0]", Fault::VertexNotInteger),
+    ("[9007199254740992, 0, 0]", Fault::VertexRange),
+    ("[0, 0, -9007199254740992]", Fault::VertexRange),
+    ("[1, 2]", Fault::VertexShape),
+    ("[1, 2, 3, 4e1]", Fault::VertexShape),
+    ("[\"1\", 2, 3]", Fault::VertexShape),
+    ("null", Fault::VertexShape),
 ];
 
 /// What is said of the value of this text, which is to be a vertex.
@@ -58,11 +70,9 @@ fn vertex_in(alloc: Global, text: &str) -> Result<Vertex, Fault> {
     vertex(&read(alloc, text.as_bytes())?)
 }
 
-fn is_vertex(found: Result<Vertex, Fault>, wanted: Result<(i64, i64, i64), Fault>) -> bool {
-    match wanted {
-        Ok((x, y, z)) => found.is_ok() && found.ok() == Vertex::new(x, y, z),
-        Err(fault) => found.err() == Some(fault),
-    }
+fn is_vertex(found: Result<Vertex, Fault>, wanted: &[i64; 3]) -> bool {
+    let [x, y, z] = *wanted;
+    found.is_ok() && found.ok() == Vertex::new(x, y, z)
 }
 
 fn long_integer(alloc: Global) -> Result<Vertex, Fault> {
@@ -72,45 +82,55 @@ fn long_integer(alloc: Global) -> Result<Vertex, Fault> {
 
 #[test]
 fn vertices_are_read(rt: HostRuntime) {
-    for (text, wanted) in VERTICES {
+    for (text, wanted) in VERTICES.iter() {
         assert!(rt; is_vertex(vertex_in(rt.alloc(), text), wanted), "{text}");
     }
+}
+
+#[test]
+fn other_values_are_refused(rt: HostRuntime) {
+    for (text, fault) in NO_VERTICES.iter() {
+        assert!(rt; vertex_in(rt.alloc(), text) == Err(*fault), "{text}");
+    }
+}
+
+#[test]
+fn a_long_integer_is_out_of_range(rt: HostRuntime) {
     assert!(rt; long_integer(rt.alloc()) == Err(Fault::VertexRange));
 }
 
 /// How a vertex at the end of the range is moved, and where it is then.
-const MOVED: [((i64, i64, i64), Result<(i64, i64, i64), Fault>); 4] = [
-    ((0, 0, 0), Ok((9_007_199_254_740_991, 0, 0))),
-    ((1, 0, 0), Err(Fault::VertexRange)),
-    ((-1, 0, 0), Ok((9_007_199_254_740_990, 0, 0))),
+const MOVED: [([i64; 3], [i64; 3]); 3] = [
+    ([0, 0, 0], [9_007_199_254_740_991, 0, 0]),
+    ([-1, 0, 0], [9_007_199_254_740_990, 0, 0]),
     (
-        (0, 7, -9_007_199_254_740_991),
-        Ok((9_007_199_254_740_991, 7, -9_007_199_254_740_991)),
+        [0, 7, -9_007_199_254_740_991],
+        [9_007_199_254_740_991, 7, -9_007_199_254_740_991],
     ),
 ];
 
-fn far_vertex_is_moved(steps: (i64, i64, i64), wanted: Result<(i64, i64, i64), Fault>) -> bool {
-    let (x, y, z) = steps;
+fn far_moved(steps: &[i64; 3]) -> Result<Vertex, Fault> {
+    let [x, y, z] = *steps;
     match (
         Vertex::new(9_007_199_254_740_991, 0, 0),
         Shift::new(x, y, z),
     ) {
-        (Some(far), Some(shift)) => is_vertex(moved(far, shift), wanted),
-        _ => false,
+        (Some(far), Some(shift)) => moved(far, shift),
+        _ => Err(Fault::ShiftRange),
     }
 }
 
 #[test]
 fn vertices_are_moved(rt: HostRuntime) {
-    for (steps, wanted) in MOVED {
-        assert!(rt; far_vertex_is_moved(steps, wanted), "{steps:?}");
+    for (steps, wanted) in MOVED.iter() {
+        assert!(rt; is_vertex(far_moved(steps), wanted), "{steps:?}");
     }
+    assert!(rt; far_moved(&[1, 0, 0]) == Err(Fault::VertexRange));
 }
 
-fn is_printed(alloc: Global, value: &Json, wanted: &[u8]) -> Result<bool, Fault> {
+fn is_printed(alloc: Global, value: &Json, wanted: &[u8]) -> bool {
     let mut line = Line::new(alloc);
-    print(value, &mut line)?;
-    Ok(line.items() == wanted)
+    print(value, &mut line).is_ok() && line.items() == wanted
 }
 
 /// Values whose place a vertex takes.
@@ -126,20 +146,24 @@ const BEFORE: [&str; 6] = [
 fn is_replaced(alloc: Global, text: &str) -> Result<bool, Fault> {
     let vertex = Vertex::new(-9_007_199_254_740_991, 0, 17).ok_or(Fault::VertexRange)?;
     let mut value = read(alloc, text.as_bytes())?;
-    write_vertex(alloc, &vertex, &mut value)?;
-    is_printed(alloc, &value, b"[-9007199254740991,0,17]")
+    let is_done = write_vertex(alloc, &vertex, &mut value).is_ok();
+    Ok(is_done && is_printed(alloc, &value, b"[-9007199254740991,0,17]"))
 }
 
 fn vertex_is_written(alloc: Global) -> Result<bool, Fault> {
     let vertex = Vertex::new(9_007_199_254_740_990, 0, -9_007_199_254_740_991);
     let value = vertex_json(alloc, &vertex.ok_or(Fault::VertexRange)?)?;
-    is_printed(alloc, &value, b"[9007199254740990,0,-9007199254740991]")
+    Ok(is_printed(alloc, &value, b"[9007199254740990,0,-9007199254740991]"))
+}
+
+#[test]
+fn a_vertex_is_written_as_a_value(rt: HostRuntime) {
+    assert!(rt; vertex_is_written(rt.alloc()) == Ok(true));
 }
 
 #[test]
 fn a_vertex_takes_the_place_of_any_value(rt: HostRuntime) {
-    assert!(rt; vertex_is_written(rt.alloc()) == Ok(true));
-    for text in BEFORE {
+    for text in BEFORE.iter() {
         assert!(rt; is_replaced(rt.alloc(), text) == Ok(true), "{text}");
     }
 }

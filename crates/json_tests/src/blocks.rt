@@ -20,16 +20,24 @@ fn array_is_taken(alloc: Global, count: usize, item: &'static [u8], end: &'stati
     )
 }
 
+/// How many of the first ends are taken.
+fn ends_taken(alloc: Global, count: usize, item: &'static [u8]) -> usize {
+    let mut taken = 0usize;
+    for end in ENDS.iter() {
+        if !array_is_taken(alloc, count, item, end) {
+            return taken;
+        }
+        taken = taken.saturating_add(1);
+    }
+    taken
+}
+
 #[test]
 fn arrays_of_any_length_are_taken(rt: HostRuntime) {
     for count in 0..48 {
-        for item in ITEMS {
-            for end in ENDS {
-                assert!(rt;
-                    array_is_taken(rt.alloc(), count, item, end),
-                    "{count} {item:?} {end:?}"
-                );
-            }
+        for item in ITEMS.iter() {
+            let end = ends_taken(rt.alloc(), count, item);
+            assert!(rt; end == ENDS.len(), "{count} {item:?}, end {end}");
         }
     }
 }
@@ -73,15 +81,23 @@ fn edited_has_one_answer(alloc: Global, at: usize, bytes: &'static [u8], count: 
     }
 }
 
+/// How many of the first edits have one answer.
+fn edits_answered(alloc: Global, at: usize) -> usize {
+    let mut answered = 0usize;
+    for (bytes, count) in EDITS.iter() {
+        if !edited_has_one_answer(alloc, at, bytes, *count) {
+            return answered;
+        }
+        answered = answered.saturating_add(1);
+    }
+    answered
+}
+
 #[test]
 fn a_byte_is_wrong_at_the_same_places(rt: HostRuntime) {
     for at in 0..TEXT.len() {
-        for (bytes, count) in EDITS {
-            assert!(rt;
-                edited_has_one_answer(rt.alloc(), at, bytes, count),
-                "{at} {bytes:?} {count}"
-            );
-        }
+        let edit = edits_answered(rt.alloc(), at);
+        assert!(rt; edit == EDITS.len(), "{at}, edit {edit}");
     }
 }
 

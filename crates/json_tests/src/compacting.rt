@@ -123,14 +123,14 @@ const SPACED: Pieces<'static> = &[
 
 #[test]
 fn texts_are_taken_in_all_their_spellings(rt: HostRuntime) {
-    for (text, compact) in COMPACTED {
+    for (text, compact) in COMPACTED.iter() {
         assert!(rt; is_compacted(rt.alloc(), text, compact), "{text:?}");
     }
 }
 
 #[test]
 fn long_texts_are_taken(rt: HostRuntime) {
-    for text in KEPT {
+    for text in KEPT.iter() {
         assert!(rt; is_answered(rt.alloc(), text, None), "{text:?}");
     }
 }

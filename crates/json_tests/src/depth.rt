@@ -77,7 +77,7 @@ const SHALLOW: [Pieces<'static>; 22] = [
 
 #[test]
 fn nesting_is_deep_past_the_limit(rt: HostRuntime) {
-    for text in DEEP {
+    for text in DEEP.iter() {
         assert!(rt;
             is_answered(rt.alloc(), text, Some(Fault::TooDeep)),
             "{text:?}"
@@ -94,7 +94,7 @@ fn is_shallow(alloc: Global, pieces: Pieces<'_>) -> bool {
 
 #[test]
 fn nesting_up_to_the_limit_is_not_deep(rt: HostRuntime) {
-    for text in SHALLOW {
+    for text in SHALLOW.iter() {
         assert!(rt; is_shallow(rt.alloc(), text), "{text:?}");
     }
 }

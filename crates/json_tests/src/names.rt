@@ -26,13 +26,17 @@ const REPEATED: [Pieces<'static>; 8] = [
 
 #[test]
 fn a_repeated_name_is_found_wherever_it_stands(rt: HostRuntime) {
-    for text in REPEATED {
+    for text in REPEATED.iter() {
         assert!(rt;
             is_answered(rt.alloc(), text, Some(Fault::DuplicateName)),
             "{text:?}"
         );
     }
-    for text in DISTINCT {
+}
+
+#[test]
+fn distinct_names_are_taken(rt: HostRuntime) {
+    for text in DISTINCT.iter() {
         assert!(rt; is_answered(rt.alloc(), text, None), "{text:?}");
     }
 }

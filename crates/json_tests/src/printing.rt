@@ -35,25 +35,29 @@ fn is_printed(alloc: Global, content: &str, written: &[u8]) -> bool {
 
 #[test]
 fn texts_are_written_in_one_spelling(rt: HostRuntime) {
-    for (content, written) in WRITTEN {
+    for (content, written) in WRITTEN.iter() {
         assert!(rt; is_printed(rt.alloc(), content, written), "{content:?}");
     }
 }
 
-/// What stands in the line after a value of each kind is written to its end.
-fn line_of_values(alloc: Global) -> Result<Line, Fault> {
+/// Whether this stands in a line after the value is written to its end.
+fn is_written(alloc: Global, value: &Json, wanted: &[u8]) -> bool {
     let mut line = Line::new(alloc);
-    line.append(b"7 ")?;
+    line.append(b"7 ").is_ok() && print(value, &mut line).is_ok() && line.items() == wanted
+}
+
+/// A value of each kind.
+fn values_are_written(alloc: Global) -> bool {
     let text =
         b"{\"z\": [null, true, false, [], {}], \"a\\n\": {\"b\": \"\\u00e9\", \"n\": 1.50e+3}}";
-    print(&read(alloc, text)?, &mut line)?;
-    Ok(line)
+    let wanted = b"7 {\"z\":[null,true,false,[],{}],\"a\\n\":{\"b\":\"\xc3\xa9\",\"n\":1.50e+3}}";
+    match read(alloc, text) {
+        Ok(value) => is_written(alloc, &value, wanted),
+        Err(_) => false,
+    }
 }
 
 #[test]
-fn values_are_written_without_white_space(rt: HostRuntime) -> Result<(), Fault> {
-    let line = line_of_values(rt.alloc())?;
-    let expected = b"7 {\"z\":[null,true,false,[],{}],\"a\\n\":{\"b\":\"\xc3\xa9\",\"n\":1.50e+3}}";
-    assert_eq!(rt; line.items(), expected.as_slice());
-    Ok(())
+fn values_are_written_without_white_space(rt: HostRuntime) {
+    assert!(rt; values_are_written(rt.alloc()));
 }

@@ -43,7 +43,7 @@ fn spells(alloc: Global, spelling: &[u8], content: &[u8]) -> bool {
 
 #[test]
 fn escapes_are_decoded(rt: HostRuntime) {
-    for (spelling, content) in DECODED {
+    for (spelling, content) in DECODED.iter() {
         assert!(rt; spells(rt.alloc(), spelling, content), "{spelling:?}");
     }
 }

@@ -7,7 +7,6 @@ use byte_streams::{Fault, Line};
 use std::alloc::{AllocError, Global};
 use std::snapshot::Snapshot;
 use std::sync::Wait;
-use std::test::Fail;
 use std::thread;
 use std::thread::{Promise, Threads};
 use tile_handoff::{Closed, End, MAX_CAPACITY, Note, Receiver, Sender, Whole, ends};
@@ -23,55 +22,89 @@ fn line(alloc: Global, text: &str) -> Result<Line, AllocError> {
     Ok(Line::from_vec(bytes))
 }
 
-fn is_line(line: &Line, text: &str) -> bool {
-    line.items() == text.as_bytes()
-}
-
-fn is_note(note: &Option<Note>, text: &str) -> bool {
-    matches!(note, Some(Note::Line(line)) if is_line(line, text))
-}
-
-fn is_end_note(note: &Option<Note>) -> bool {
-    matches!(note, Some(Note::End(end)) if *end == END)
-}
-
-fn ended(sender: Sender) -> Result<Closed, Fail>
-    ensures { IfOk result (EndedIn sender) }
+// Whether the line of this text is put.
+fn is_put(sender: &mut Sender, alloc: Global, text: &str) -> bool
+    ensures same { IsSameSender sender.old sender.new }
 {
-    match sender.try_end(END) {
-        Ok(closed) => Ok(closed),
-        Err(_) => Err(Fail::new("the ring is full")),
+    match line(alloc, text) {
+        Ok(line) => sender.try_put(line).is_ok(),
+        Err(_) => false,
     }
 }
 
-#[test]
-fn a_tile_is_put_ended_taken_and_confirmed(rt: HostRuntime) -> Result<(), Fail> {
-    let alloc = rt.alloc();
-    let (mut sender, mut receiver) = ends(alloc, 1)?;
-    assert!(rt; sender.try_put(line(alloc, "x")?).is_ok());
-    assert!(rt; matches!(&sender.try_put(line(alloc, "y")?), Err(back) if is_line(back, "y")));
-    let Err((sender, end)) = sender.try_end(END) else {
-        return Err(Fail::new("a full ring took the end note"));
+// Whether it is given back, as the ring is full.
+fn is_given_back(sender: &mut Sender, alloc: Global, text: &str) -> bool
+    ensures same { IsSameSender sender.old sender.new }
+{
+    let Ok(line) = line(alloc, text) else {
+        return false;
     };
-    assert_eq!(rt; end, END);
-    assert!(rt; is_note(&receiver.try_take(), "x"));
-    let closed = ended(sender)?;
-    assert!(rt; is_end_note(&receiver.try_take()));
-    assert!(rt; receiver.try_take().is_none());
-    assert_eq!(rt; receiver.confirm(closed)?, Whole { left: 0 });
-    Ok(())
+    match sender.try_put(line) {
+        Err(back) => back.items() == text.as_bytes(),
+        Ok(()) => false,
+    }
+}
+
+fn is_note(note: Option<Note>, text: &str) -> bool {
+    match note {
+        Some(Note::Line(line)) => line.items() == text.as_bytes(),
+        _ => false,
+    }
+}
+
+fn is_end_note(note: Option<Note>) -> bool {
+    match note {
+        Some(Note::End(end)) => end == END,
+        _ => false,
+    }
+}
+
+fn is_none(note: Option<Note>) -> bool {
+    note.is_none()
+}
+
+// Whether each call of the two ends answers as it is to.
+fn ring_answers(alloc: Global) -> Result<[bool; 7], Fault> {
+    let (mut sender, mut receiver) = ends(alloc, 1)?;
+    let put = is_put(&mut sender, alloc, "x");
+    let full = is_given_back(&mut sender, alloc, "y");
+    let Err((sender, end)) = sender.try_end(END) else {
+        return Ok([false; 7]);
+    };
+    let taken = is_note(receiver.try_take(), "x");
+    let Ok(closed) = sender.try_end(END) else {
+        return Ok([false; 7]);
+    };
+    let ended = is_end_note(receiver.try_take());
+    let empty = is_none(receiver.try_take());
+    let whole = receiver.confirm(closed) == Ok(Whole { left: 0 });
+    Ok([put, full, end == END, taken, ended, empty, whole])
 }
 
 #[test]
-fn what_is_left_is_counted(rt: HostRuntime) -> Result<(), Fail> {
-    let alloc = rt.alloc();
-    let (mut sender, mut receiver) = ends(alloc, 4)?;
-    assert!(rt; sender.try_put(line(alloc, "x")?).is_ok());
-    assert!(rt; sender.try_put(line(alloc, "y")?).is_ok());
-    let closed = ended(sender)?;
-    assert!(rt; is_note(&receiver.try_take(), "x"));
-    assert_eq!(rt; receiver.confirm(closed)?.left, 2);
+fn a_tile_is_put_ended_taken_and_confirmed(rt: HostRuntime) -> Result<(), Fault> {
+    for (call, is_so) in ring_answers(rt.alloc())?.iter().enumerate() {
+        assert!(rt; *is_so, "call {call}");
+    }
     Ok(())
+}
+
+// How many notes are left where two lines and an end note are put, and a line is taken.
+fn left_of_three(alloc: Global) -> Result<Option<u32>, Fault> {
+    let (mut sender, mut receiver) = ends(alloc, 4)?;
+    let x = is_put(&mut sender, alloc, "x");
+    let y = is_put(&mut sender, alloc, "y");
+    let Ok(closed) = sender.try_end(END) else {
+        return Ok(None);
+    };
+    let taken = is_note(receiver.try_take(), "x");
+    let whole = receiver.confirm(closed)?;
+    Ok((x && y && taken).then_some(whole.left))
+}
+
+#[test]
+fn what_is_left_is_counted(rt: HostRuntime) {
+    assert!(rt; left_of_three(rt.alloc()) == Ok(Some(2)));
 }
 
 // Waits until the line is put.
@@ -192,28 +225,50 @@ fn pass<R: Threads + Wait + Copy + Send + 'static>(
     Ok((passed, whole))
 }
 
-#[test]
-fn two_threads(rt: HostRuntime) -> Result<(), Fail> {
-    let alloc = rt.alloc();
-    for capacity in [1, 64] {
-        let mut lines = Vec::new(alloc);
-        for number in 0..10_000u32 {
-            lines.push(numbered(alloc, number)?)?;
-        }
-        let (passed, whole) = pass(&rt, alloc, capacity, lines)?;
-        assert_eq!(rt; whole.left, 0);
-        assert_eq!(rt; passed.len(), 10_000);
-        for (number, line) in (0..10_000u32).zip(&passed) {
-            assert!(rt;
-                line.items() == number.to_le_bytes().as_slice(),
-                "line {number}"
-            );
-        }
-    }
-    Ok(())
-}
-
 fn numbered(alloc: Global, number: u32) -> Result<Line, AllocError> {
     let bytes = Vec::from_slice(alloc, &number.to_le_bytes())?;
     Ok(Line::from_vec(bytes))
+}
+
+fn numbered_lines(alloc: Global) -> Result<Vec<Line>, AllocError> {
+    let mut lines = Vec::new(alloc);
+    for number in 0..10_000u32 {
+        lines.push(numbered(alloc, number)?)?;
+    }
+    Ok(lines)
+}
+
+// How many of the first lines have the number that they are to have.
+fn count_numbered(lines: &[Line]) -> u32 {
+    let mut number = 0u32;
+    for line in lines {
+        if line.items() != number.to_le_bytes().as_slice() {
+            return number;
+        }
+        number = number.saturating_add(1);
+    }
+    number
+}
+
+// How many lines came, how many of the first of them are as they were put, and how many notes are
+// left.
+fn passed<R: Threads + Wait + Copy + Send + 'static>(
+    rt: &R,
+    alloc: Global,
+    capacity: u32,
+) -> Result<(usize, u32, u32), Fault>
+    requires { (0 < capacity) × (capacity ≤ MAX_CAPACITY) }
+{
+    let (lines, whole) = pass(rt, alloc, capacity, numbered_lines(alloc)?)?;
+    Ok((lines.len(), count_numbered(&lines), whole.left))
+}
+
+#[test]
+fn two_threads(rt: HostRuntime) -> Result<(), Fault> {
+    for capacity in [1, 64] {
+        let (count, numbered, left) = passed(&rt, rt.alloc(), capacity)?;
+        assert!(rt; numbered == 10_000, "line {numbered}");
+        assert!(rt; count == 10_000 && left == 0);
+    }
+    Ok(())
 }

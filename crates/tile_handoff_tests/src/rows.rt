@@ -1,12 +1,9 @@
-ghost use Rattle.std.specs.Prelude.{◌<◌, IfOk};
+ghost use Rattle.std.specs.Prelude.{◌≡◌, ◌<◌, ◌≤◌, IfOk};
 ghost use Rattle.std.specs.List.{All};
 ghost use Rattle.tile_handoff.specs.History.{event_tile};
 
-use byte_streams::Line;
+use byte_streams::{Fault, Line};
 use std::alloc::{AllocError, Global};
-use std::process::Abort;
-use std::str;
-use std::test::Fail;
 use tile_handoff::{
     End, Event, Events, Kind, MAX_CAPACITY, MAX_TILES, Mark, Marks, NoClose, NoPut, Queues,
     Replies, Reply, Row, Run, Took, order_and_close, run,
@@ -27,174 +24,265 @@ fn mark(tile: u32, kind: Kind, number: u64) -> Mark {
     Mark { tile, kind, number }
 }
 
-fn is_line(line: &Line, text: &str) -> bool {
-    line.items() == text.as_bytes()
-}
+// What a row is asked of a tile, and its reply: `take`, `close` or the text of a line that is put,
+// and the reply with a line's bytes as a text and an end by its count.
+type Step<'a> = (u32, &'a str, &'a str);
 
-// What a reply shows, with a line's bytes as a text and an end by its count.
-fn shown(alloc: Global, reply: &Reply) -> Result<String, Fail> {
-    Ok(match reply {
-        Reply::Line(line) => format!(in alloc; "Line {}", str::from_utf8(line.items())?)?,
-        Reply::End(end) => format!(in alloc; "End {}", end.count)?,
-        other => format!(in alloc; "{other:?}")?,
+fn event_of(alloc: Global, tile: u32, asked: &str) -> Result<Event, AllocError>
+    ensures { IfOk result (λ event. event_tile event ≡ tile) }
+{
+    Ok(match asked {
+        "take" => Event::Take(tile),
+        "close" => Event::Close(tile, END),
+        text => Event::Put(tile, line(alloc, text)?),
     })
 }
 
-fn expect_replies(rt: &impl Abort, alloc: Global, run: &Run, texts: &[&str]) -> Result<(), Fail> {
-    let replies = run.replies.items();
-    assert_eq!(rt; replies.len(), texts.len());
-    for (reply, text) in replies.iter().zip(texts) {
-        assert_eq!(rt; shown(alloc, reply)?.as_str(), *text);
-    }
-    Ok(())
-}
-
-fn one_tile(alloc: Global) -> Result<Events, AllocError>
-    ensures { IfOk result (All (λ event. event_tile event < 1)) }
+// Those of the steps that are of so many tiles.
+fn events_of(alloc: Global, tiles: u32, steps: &[Step<'_>]) -> Result<Events, AllocError>
+    ensures { IfOk result (All (λ event. event_tile event < tiles)) }
 {
-    let events = vec![in alloc;
-        Event::Put(0, line(alloc, "x")?),
-        Event::Put(0, line(alloc, "y")?),
-        Event::Put(0, line(alloc, "z")?),
-        Event::Take(0),
-        Event::Close(0, END),
-        Event::Put(0, line(alloc, "w")?),
-        Event::Take(0),
-        Event::Take(0),
-        Event::Take(0),
-        Event::Close(0, END),
-    ]?;
+    let mut events = Vec::new(alloc);
+    'asked: for (tile, asked, _) in steps {
+        if *tile < tiles {
+            events.push(event_of(alloc, *tile, asked)?)?;
+        }
+    }
     Ok(Events::from_vec(events))
 }
 
-#[test]
-fn a_tile_is_put_taken_and_closed(rt: HostRuntime) -> Result<(), Fail> {
-    let alloc = rt.alloc();
-    let answer = run(alloc, 1, 2, one_tile(alloc)?)?;
-    let texts = [
-        "Accepted", "Accepted", "Full", "Line x", "Accepted", "Closed", "Line y", "End 2",
-        "Drained", "Closed",
-    ];
-    expect_replies(&rt, alloc, &answer, &texts)?;
-    let marks = [
+fn is_shown(reply: &Reply, text: &str) -> bool {
+    match reply {
+        Reply::Accepted => text == "Accepted",
+        Reply::Closed => text == "Closed",
+        Reply::Full => text == "Full",
+        Reply::Line(line) => text.as_bytes().strip_prefix(b"Line ") == Some(line.items()),
+        Reply::End(end) => text == "End 2" && end.count == 2,
+        Reply::Empty => text == "Empty",
+        Reply::Drained => text == "Drained",
+    }
+}
+
+// How many of the first steps have their reply.
+fn count_shown(replies: &[Reply], steps: &[Step<'_>]) -> usize {
+    let mut count = 0usize;
+    for (reply, (_, _, text)) in replies.iter().zip(steps) {
+        if !is_shown(reply, text) {
+            return count;
+        }
+        count = count.saturating_add(1);
+    }
+    count
+}
+
+// How many replies there are, how many of the first of them are as they are to be, and whether
+// these marks are left.
+type Told = (usize, usize, bool);
+
+fn told(answer: &Run, steps: &[Step<'_>], marks: &[Mark]) -> Told {
+    let replies = answer.replies.items();
+    let is_left = answer.row.marks().items() == marks;
+    (replies.len(), count_shown(replies, steps), is_left)
+}
+
+fn asked(
+    alloc: Global,
+    tiles: u32,
+    capacity: u32,
+    steps: &[Step<'_>],
+    marks: &[Mark],
+) -> Result<Told, Fault>
+    requires tiles { (0 < tiles) × (tiles ≤ MAX_TILES) }
+    requires capacity { (0 < capacity) × (capacity ≤ MAX_CAPACITY) }
+{
+    let answer = run(alloc, tiles, capacity, events_of(alloc, tiles, steps)?)?;
+    Ok(told(&answer, steps, marks))
+}
+
+fn of_one_tile() -> [Step<'static>; 10] {
+    [
+        (0, "x", "Accepted"),
+        (0, "y", "Accepted"),
+        (0, "z", "Full"),
+        (0, "take", "Line x"),
+        (0, "close", "Accepted"),
+        (0, "w", "Closed"),
+        (0, "take", "Line y"),
+        (0, "take", "End 2"),
+        (0, "take", "Drained"),
+        (0, "close", "Closed"),
+    ]
+}
+
+fn marks_of_one_tile() -> [Mark; 6] {
+    [
         mark(0, Kind::Put, 0),
         mark(0, Kind::Put, 1),
         mark(0, Kind::Take, 0),
         mark(0, Kind::Close, 2),
         mark(0, Kind::Take, 1),
         mark(0, Kind::Take, 2),
-    ];
-    assert_eq!(rt; answer.row.marks().items(), marks.as_slice());
-    Ok(())
-}
-
-fn two_tiles(alloc: Global) -> Result<Events, AllocError>
-    ensures { IfOk result (All (λ event. event_tile event < 2)) }
-{
-    let events = vec![in alloc;
-        Event::Put(0, line(alloc, "x")?),
-        Event::Put(1, line(alloc, "y")?),
-        Event::Put(0, line(alloc, "z")?),
-        Event::Take(1),
-        Event::Take(1),
-        Event::Close(0, END),
-        Event::Take(0),
-        Event::Close(0, END),
-        Event::Take(0),
-        Event::Take(0),
-    ]?;
-    Ok(Events::from_vec(events))
+    ]
 }
 
 #[test]
-fn two_tiles_share_a_row(rt: HostRuntime) -> Result<(), Fail> {
-    let alloc = rt.alloc();
-    let answer = run(alloc, 2, 1, two_tiles(alloc)?)?;
-    let texts = [
-        "Accepted", "Accepted", "Full", "Line y", "Empty", "Full", "Line x", "Accepted", "End 2",
-        "Drained",
-    ];
-    expect_replies(&rt, alloc, &answer, &texts)?;
-    let marks = [
+fn a_tile_is_put_taken_and_closed(rt: HostRuntime) -> Result<(), Fault> {
+    let (count, shown, is_left) = asked(rt.alloc(), 1, 2, &of_one_tile(), &marks_of_one_tile())?;
+    assert!(rt; shown == 10, "step {shown}");
+    assert!(rt; count == 10 && is_left);
+    Ok(())
+}
+
+fn of_two_tiles() -> [Step<'static>; 10] {
+    [
+        (0, "x", "Accepted"),
+        (1, "y", "Accepted"),
+        (0, "z", "Full"),
+        (1, "take", "Line y"),
+        (1, "take", "Empty"),
+        (0, "close", "Full"),
+        (0, "take", "Line x"),
+        (0, "close", "Accepted"),
+        (0, "take", "End 2"),
+        (0, "take", "Drained"),
+    ]
+}
+
+fn marks_of_two_tiles() -> [Mark; 6] {
+    [
         mark(0, Kind::Put, 0),
         mark(1, Kind::Put, 0),
         mark(1, Kind::Take, 0),
         mark(0, Kind::Take, 0),
         mark(0, Kind::Close, 1),
         mark(0, Kind::Take, 1),
-    ];
-    assert_eq!(rt; answer.row.marks().items(), marks.as_slice());
+    ]
+}
+
+#[test]
+fn two_tiles_share_a_row(rt: HostRuntime) -> Result<(), Fault> {
+    let (count, shown, is_left) = asked(rt.alloc(), 2, 1, &of_two_tiles(), &marks_of_two_tiles())?;
+    assert!(rt; shown == 10, "step {shown}");
+    assert!(rt; count == 10 && is_left);
     Ok(())
 }
 
 #[test]
-fn no_events_leave_nothing(rt: HostRuntime) -> Result<(), Fail> {
-    let alloc = rt.alloc();
-    let answer = run(alloc, 64, 1024, Events::from_vec(Vec::new(alloc)))?;
-    assert!(rt; answer.replies.items().is_empty());
-    assert!(rt; answer.row.marks().items().is_empty());
-    Ok(())
+fn no_events_leave_nothing(rt: HostRuntime) {
+    assert!(rt; asked(rt.alloc(), 64, 1024, &[], &[]) == Ok((0, 0, true)));
 }
 
-fn one_place(alloc: Global) -> Result<Events, AllocError>
-    ensures { IfOk result (All (λ event. event_tile event < 1)) }
-{
-    let events = vec![in alloc;
-        Event::Take(0),
-        Event::Put(0, line(alloc, "x")?),
-        Event::Close(0, END),
-    ]?;
-    Ok(Events::from_vec(events))
+fn of_one_place() -> [Step<'static>; 3] {
+    [
+        (0, "take", "Empty"),
+        (0, "x", "Accepted"),
+        (0, "close", "Full"),
+    ]
 }
 
 #[test]
-fn an_end_note_takes_a_place(rt: HostRuntime) -> Result<(), Fail> {
-    let alloc = rt.alloc();
-    let answer = run(alloc, 1, 1, one_place(alloc)?)?;
-    expect_replies(&rt, alloc, &answer, &["Empty", "Accepted", "Full"])?;
+fn an_end_note_takes_a_place(rt: HostRuntime) -> Result<(), Fault> {
+    let (count, shown, _) = asked(rt.alloc(), 1, 1, &of_one_place(), &[])?;
+    assert!(rt; shown == 3, "step {shown}");
+    assert!(rt; count == 3);
     Ok(())
 }
 
-#[test]
-fn a_row_is_asked_by_calls(rt: HostRuntime) -> Result<(), Fail> {
-    let alloc = rt.alloc();
+fn is_line(took: Took, text: &str) -> bool {
+    match took {
+        Took::Line(line) => line.items() == text.as_bytes(),
+        _ => false,
+    }
+}
+
+fn is_end(took: Took) -> bool {
+    match took {
+        Took::End(end) => end == END,
+        _ => false,
+    }
+}
+
+fn is_drained(took: Took) -> bool {
+    matches!(took, Took::Drained)
+}
+
+fn is_done(answer: Result<(), NoPut>) -> bool {
+    answer.is_ok()
+}
+
+fn is_full(answer: Result<(), NoPut>, text: &str) -> bool {
+    match answer {
+        Err(NoPut::Full(back)) => back.items() == text.as_bytes(),
+        _ => false,
+    }
+}
+
+fn was_taken(answer: Result<Took, Fault>, text: &str) -> bool {
+    match answer {
+        Ok(took) => is_line(took, text),
+        Err(_) => false,
+    }
+}
+
+// Whether each call of a row answers as it is to.
+fn row_answers(alloc: Global) -> Result<[bool; 4], Fault> {
+    let x = line(alloc, "x")?;
     let mut row = Row::new(alloc, 1, 1)?;
-    assert!(rt; row.put(0, line(alloc, "x")?).is_ok());
-    assert_eq!(rt; row.close(0, END), Err(NoClose::Full));
-    assert!(rt; matches!(&row.take(0)?, Took::Line(x) if is_line(x, "x")));
-    assert!(rt; row.close(0, END).is_ok());
-    Ok(())
+    let put = is_done(row.put(0, x));
+    let full = row.close(0, END) == Err(NoClose::Full);
+    let taken = was_taken(row.take(0), "x");
+    Ok([put, full, taken, row.close(0, END) == Ok(())])
 }
 
 #[test]
-fn queues_are_filled_and_drained(rt: HostRuntime) -> Result<(), Fail> {
-    let alloc = rt.alloc();
+fn a_row_is_asked_by_calls(rt: HostRuntime) -> Result<(), Fault> {
+    for (call, is_so) in row_answers(rt.alloc())?.iter().enumerate() {
+        assert!(rt; *is_so, "call {call}");
+    }
+    Ok(())
+}
+
+// Whether each call of queues answers as it is to.
+fn queues_answer(alloc: Global) -> Result<[bool; 6], Fault> {
+    let (x, y) = (line(alloc, "x")?, line(alloc, "y")?);
     let mut queues = Queues::new(alloc, 2, 1)?;
-    assert!(rt; queues.put(1, line(alloc, "x")?).is_ok());
-    let full = queues.put(1, line(alloc, "y")?);
-    assert!(rt; matches!(&full, Err(NoPut::Full(back)) if is_line(back, "y")));
-    assert!(rt; matches!(&queues.take(1), Took::Line(x) if is_line(x, "x")));
-    assert!(rt; queues.close(1, END).is_ok());
-    assert!(rt; matches!(&queues.take(1), Took::End(end) if *end == END));
-    assert!(rt; matches!(queues.take(1), Took::Drained));
-    Ok(())
+    let put = is_done(queues.put(1, x));
+    let full = is_full(queues.put(1, y), "y");
+    let taken = is_line(queues.take(1), "x");
+    let closed = queues.close(1, END) == Ok(());
+    let ended = is_end(queues.take(1));
+    Ok([put, full, taken, closed, ended, is_drained(queues.take(1))])
 }
 
 #[test]
-fn lists_keep_their_items(rt: HostRuntime) -> Result<(), Fail> {
-    let alloc = rt.alloc();
-    let marks = Marks::from_vec(vec![in alloc; mark(3, Kind::Take, 7)]?);
-    assert_eq!(rt;
-        marks.into_vec().as_slice(),
-        [mark(3, Kind::Take, 7)].as_slice()
-    );
-    let replies = Replies::from_vec(vec![in alloc; Reply::Empty]?);
-    assert!(rt; matches!(replies.into_vec().pop(), Some(Reply::Empty)));
-    let events = two_tiles(alloc)?;
-    assert_eq!(rt; events.items().len(), 10);
-    assert_eq!(rt; events.into_vec().len(), 10);
-    order_and_close();
+fn queues_are_filled_and_drained(rt: HostRuntime) -> Result<(), Fault> {
+    for (call, is_so) in queues_answer(rt.alloc())?.iter().enumerate() {
+        assert!(rt; *is_so, "call {call}");
+    }
     Ok(())
+}
+
+fn marks_are_kept(alloc: Global) -> Result<bool, AllocError> {
+    let marks = Marks::from_vec(vec![in alloc; mark(3, Kind::Take, 7)]?);
+    Ok(marks.into_vec().as_slice() == [mark(3, Kind::Take, 7)].as_slice())
+}
+
+fn replies_are_kept(alloc: Global) -> Result<bool, AllocError> {
+    let replies = Replies::from_vec(vec![in alloc; Reply::Empty]?);
+    Ok(matches!(replies.into_vec().pop(), Some(Reply::Empty)))
+}
+
+fn events_are_kept(alloc: Global) -> Result<bool, AllocError> {
+    let events = events_of(alloc, 2, &of_two_tiles())?;
+    Ok(events.items().len() == 10 && events.into_vec().len() == 10)
+}
+
+#[test]
+fn lists_keep_their_items(rt: HostRuntime) {
+    assert!(rt; marks_are_kept(rt.alloc()) == Ok(true));
+    assert!(rt; replies_are_kept(rt.alloc()) == Ok(true));
+    assert!(rt; events_are_kept(rt.alloc()) == Ok(true));
+    order_and_close();
 }
 
 // The line of tile `t` with this number.
@@ -247,20 +335,36 @@ fn largest_row(alloc: Global) -> Result<Events, AllocError>
     Ok(Events::from_vec(events))
 }
 
-#[test]
-fn the_largest_row_is_filled_and_drained(rt: HostRuntime) -> Result<(), Fail> {
-    let alloc = rt.alloc();
-    let answer = run(alloc, MAX_TILES, MAX_CAPACITY, largest_row(alloc)?)?;
-    let replies = answer.replies.items();
-    assert_eq!(rt; replies.len(), (ROUNDS * MAX_TILES) as usize);
-    for (i, reply) in (0..ROUNDS * MAX_TILES).zip(replies) {
-        let (round, t) = (i / MAX_TILES, i % MAX_TILES);
-        assert!(rt;
-            is_reply_in(alloc, round, t, reply)?,
-            "round {round}, tile {t}: {reply:?}"
-        );
+// How many of the first replies are as they are to be.
+fn count_replied(alloc: Global, replies: &[Reply]) -> Result<u32, AllocError> {
+    let mut count = 0u32;
+    for reply in replies {
+        if !is_reply_in(alloc, count / MAX_TILES, count % MAX_TILES, reply)? {
+            return Ok(count);
+        }
+        count = count.saturating_add(1);
     }
+    Ok(count)
+}
+
+// How many replies and marks there are, and how many of the first replies are as they are to be.
+fn largest_told(alloc: Global, answer: &Run) -> Result<(usize, usize, u32), AllocError> {
+    let replies = answer.replies.items();
     let marks = answer.row.marks().items();
-    assert_eq!(rt; marks.len(), (2 * (MAX_CAPACITY + 1) * MAX_TILES) as usize);
+    Ok((replies.len(), marks.len(), count_replied(alloc, replies)?))
+}
+
+fn largest_row_answers(alloc: Global) -> Result<(usize, usize, u32), Fault> {
+    let answer = run(alloc, MAX_TILES, MAX_CAPACITY, largest_row(alloc)?)?;
+    Ok(largest_told(alloc, &answer)?)
+}
+
+#[test]
+fn the_largest_row_is_filled_and_drained(rt: HostRuntime) -> Result<(), Fault> {
+    let (count, marks, replied) = largest_row_answers(rt.alloc())?;
+    let (round, t) = (replied / MAX_TILES, replied % MAX_TILES);
+    assert!(rt; replied == ROUNDS * MAX_TILES, "round {round}, tile {t}");
+    assert!(rt; count == (ROUNDS * MAX_TILES) as usize);
+    assert!(rt; marks == (2 * (MAX_CAPACITY + 1) * MAX_TILES) as usize);
     Ok(())
 }
