@@ -240,7 +240,7 @@ fn a_late_fault_is_told_after_all_that_is_before_it(rt: HostRuntime) -> Result<(
     let choice = every_feature();
     let status = run_filter(alloc, &mut tile, &choice, &mut output, &mut errors);
     assert!(rt; status == 1);
-    assert!(rt; output.bytes() == &input[..written.min(input.len())] == true);
+    assert!(rt; output.bytes() == &input[..written.min(input.len())]);
     assert!(rt;
         errors.bytes()
             == b"citymerge: tile 1 line 10002: the line is not a CityJSONFeature\n".as_slice()
@@ -323,8 +323,8 @@ fn what_is_gathered_is_passed_on_at_the_end(rt: HostRuntime) -> Result<(), Fail>
         let choice = every_feature();
         assert!(rt; run_filter(alloc, &mut tile, &choice, &mut output, &mut errors) == status);
         assert!(rt; errors.bytes() == said.as_bytes());
-        assert!(rt; writes.load(SeqCst) > 0 == true);
-        assert!(rt; flushes.load(SeqCst) > 0 == !fails);
+        assert!(rt; writes.load(SeqCst) > 0);
+        assert!(rt; (flushes.load(SeqCst) > 0) != fails);
     }
     Ok(())
 }
