@@ -145,8 +145,8 @@ WORST = (
     Worst("a document on the first line of a merged tile: 200 buildings, a large appearance", "merge", 200, lambda n: with_appearance(n, MEGA), 9),
     Worst("a document on the first line of a tile merged in turn: the same", "merge --in-turn", 200, lambda n: with_appearance(n, MEGA), 9),
     Worst("a document on the first line of a merged tile: small objects", "merge", 60_000, apart, 9),
-    Worst("a document on the first line of a merged tile: empty objects", "merge", 300_000, bare, 35),
-    Worst("a document on the first line of a merged tile: objects that name one child", "merge", 200_000, with_child, 21),
+    Worst("a document on the first line of a merged tile: empty objects", "merge", 300_000, bare, 33),
+    Worst("a document on the first line of a merged tile: objects that name one child", "merge", 200_000, with_child, 17),
     Worst("a document on the first line, refused: small objects", "filter", 60_000, orphan(apart), 23, ORPHAN),
 )
 
