@@ -831,4 +831,25 @@ for order in '' --in-turn; do
     expect "a merge $order of the deepest lines in small stacks" '1|citymerge: tile 2 line 2: a vertex number is not written as a whole number' "$(in_small_stack merge $order "$room/deep" "$room/deep_refused")$(cmp "$room/deep" "$room/out")"
 done
 
+# An appearance that each of 200 features bears is held once, whoever cuts the document: its stream has 200 MB.
+{
+    printf '%s' "$header" | sed 's/"CityObjects".*//'
+    printf '"CityObjects":{"b0":{"type":"Building"}'
+    for number in $(seq 199); do printf ',"b%s":{"type":"Building"}' "$number"; done
+    printf '},"vertices":[[0,0,0]],"appearance":{"textures":["'
+    head -c 1000000 /dev/zero | tr '\0' a
+    printf '"]}}\n'
+} >"$room/textured"
+in_little_memory() {
+    (ulimit -v 150000; exec timeout 60 "$program" "$@") 2>"$room/errors" |
+        awk '{ ends += substr($0, length($0) - 5) == "aa\"]}}" && length($0) > 1000000 } END { printf "%d features of %d lines", ends, NR }'
+    cat "$room/errors"
+}
+for command in cat filter; do
+    expect "$command, 200 features with a large appearance" '200 features of 201 lines' "$(in_little_memory $command <"$room/textured")"
+done
+for order in '' --in-turn; do
+    expect "merge $order, 200 features with a large appearance" '200 features of 201 lines' "$(in_little_memory merge $order "$room/textured")"
+done
+
 counted 'The program at its edges'
