@@ -6,7 +6,7 @@ use Rattle.tile_handoff.specs.declared.note.End.{End}
 use Rattle.tile_handoff.specs.declared.note.Note.{Note}
 use Rattle.tile_handoff.specs.declared.note.Note.TheVariants.{Line as LineNote, End as EndNote}
 use Rattle.city_feature.specs.Choice.{IsChosen}
-use Rattle.tile_stream.specs.Coming.{ComesBack, GivesText, MayComeTo, SomethingComes}
+use Rattle.tile_stream.specs.Coming.{ComesBack, GivesText, LinesMayComeTo, SomethingComes}
 use Rattle.tile_merge.specs.Giving.{Giving}
 use Rattle.tile_merge.specs.EndNotes.{end_of, ended_so, notes_of}
 use Rattle.tile_stream.specs.Texts.{Outcome}
@@ -68,23 +68,23 @@ module _ {R : Type 0} (gives : Giving R) (fed : Fed R) (Unasked : Type 0) (old :
   }
     where
       stopped : (stop : Outcome) → is_some stop ≡ true
-          → UnlessStopped stop (MayComeTo gives (IsChosen fed.choice) fed.shift fed.unread) [] stop
+          → UnlessStopped stop (LinesMayComeTo gives (IsChosen fed.choice) fed.shift fed.unread) [] stop
       stopped None is = absurd (cc is)
       stopped (Some at) is = (refl, refl)
 
   module _ (goes : is_some fed.begun.stop ≡ false) (now : List (List ℕ) → Outcome → Type 0) (count : ℕ)
-      (new : List Note) (so_far : FedSoFar (MayComeTo gives (IsChosen fed.choice) fed.shift fed.unread) now
+      (new : List Note) (so_far : FedSoFar (LinesMayComeTo gives (IsChosen fed.choice) fed.shift fed.unread) now
       fed.begun.count count old new) (end : End) (newer : List Note) (put : newer ≡ new ++ EndNote end ∷ []) where
     put_all : newer ≡ old ++ notes_of so_far.texts end
     put_all = put ∙ ap (λ ns. ns ++ EndNote end ∷ []) so_far.put
         ∙ append_assoc old (map line_note so_far.texts) (EndNote end ∷ [])
 
     not_stopped : (texts : List (List ℕ)) (outcome : Outcome)
-        → MayComeTo gives (IsChosen fed.choice) fed.shift fed.unread texts outcome → MayFeed gives fed texts outcome
+        → LinesMayComeTo gives (IsChosen fed.choice) fed.shift fed.unread texts outcome → MayFeed gives fed texts outcome
     not_stopped texts outcome comes = unless fed.begun.stop goes
       where
         unless : (stop : Outcome) → is_some stop ≡ false
-            → UnlessStopped stop (MayComeTo gives (IsChosen fed.choice) fed.shift fed.unread) texts outcome
+            → UnlessStopped stop (LinesMayComeTo gives (IsChosen fed.choice) fed.shift fed.unread) texts outcome
         unless None is = comes
         unless (Some at) is = absurd (cc is)
 

@@ -10,7 +10,7 @@ use Rattle.tile_handoff.specs.declared.note.End.{End}
 use Rattle.tile_handoff.specs.declared.note.Note.{Note}
 use Rattle.tile_handoff.specs.declared.note.Note.TheVariants.{Line as LineNote, End as EndNote}
 use Rattle.byte_streams.specs.declared.places.LineFault.{LineFault}
-use Rattle.tile_stream.specs.Coming.{MayComeTo, ComesBack, GivesText, GivesTexts, SomethingComes}
+use Rattle.tile_stream.specs.Coming.{LinesMayComeTo, MayComeTo, ComesBack, GivesText, GivesTexts, SomethingComes}
 use Rattle.tile_merge.specs.Giving.{Giving}
 use Rattle.tile_merge.specs.declared.merging.ends.TileEnd.{TileEnd}
 use Rattle.tile_merge.specs.EndNotes.{end_of, ended_so}
@@ -18,7 +18,7 @@ use Rattle.tile_merge.specs.Opened.{OpenState}
 use Rattle.tile_merge.specs.Rounds.{IsFeedOf}
 use Rattle.tile_merge.specs.Feeds.{FeedState, Course, behind, course_of, text_before, most_ahead, ThenComes, NotesCome, MayTake, TakesNone, TakesTurn, SomeCourse}
 use Rattle.tile_stream.specs.Texts.{Outcome}
-use Rattle.tile_stream.specs.TileState.{TileState, most_to_come}
+use Rattle.tile_stream.specs.Unread.{Unread, most_left}
 use Rattle.tile_merge.proofs.FaultNumbers.{end_tells}
 
 not_empty : (left : List Note) (note : Note) → left ++ note ∷ [] ≡ [] → ⊥
@@ -128,7 +128,7 @@ none_left texts at beyond queue = ap (λ ts. behind ts queue) (drop_all at texts
 
 -- a feed that was just made: the texts of the first line were taken
 module _ {R : Type 0} (gives : Giving R) (IsWanted : FeatureValue → Type 0) (tile : OpenState R) (shift : Triple)
-    (capacity : ℕ) (now : TileState R) where
+    (capacity : ℕ) (now : Unread R) where
   abbrev new_feed : List (List ℕ) → Queue → ℕ → FeedState R
   new_feed first queue count = record {
     unread = now;
@@ -140,7 +140,7 @@ module _ {R : Type 0} (gives : Giving R) (IsWanted : FeatureValue → Type 0) (t
   }
 
   pub feed_begins : (first : List (List ℕ)) → GivesTexts (MayComeTo gives IsWanted shift tile.unread)
-      (MayComeTo gives IsWanted shift now) first → SomethingComes (MayComeTo gives IsWanted shift now)
+      (LinesMayComeTo gives IsWanted shift now) first → SomethingComes (LinesMayComeTo gives IsWanted shift now)
       → (queue : Queue) → queue ≡ empty_queue → (count : ℕ) → count ≡ length first
       → IsFeedOf gives IsWanted tile shift (new_feed first queue count)
   feed_begins first texts some queue is count counts =
@@ -199,8 +199,8 @@ set_there queues queue one = get_or-set_same queues.tiles 0 queue _ (omega (arit
 
 -- a feed before and after one more note was read
 module _ {R : Type 0} (gives : Giving R) (IsWanted : FeatureValue → Type 0) (shift : Triple)
-    (places later_places count : ℕ) (last : Option TileEnd) (before after : TileState R) where
-  abbrev feed : TileState R → ℕ → ℕ → Queue → FeedState R
+    (places later_places count : ℕ) (last : Option TileEnd) (before after : Unread R) where
+  abbrev feed : Unread R → ℕ → ℕ → Queue → FeedState R
   feed unread capacity lines queue = record {
     unread = unread;
     shift = shift;
@@ -211,13 +211,13 @@ module _ {R : Type 0} (gives : Giving R) (IsWanted : FeatureValue → Type 0) (s
     last = last;
   }
 
-  abbrev Comes : TileState R → List (List ℕ) → Outcome → Type 0
-  Comes unread texts outcome = MayComeTo gives IsWanted shift unread texts outcome
+  abbrev Comes : Unread R → List (List ℕ) → Outcome → Type 0
+  Comes unread texts outcome = LinesMayComeTo gives IsWanted shift unread texts outcome
 
   module _ (queue : Queue) (is_open : queue.closed ≡ false) where
     -- a line was read
-    module _ (text : List ℕ) (given : GivesText (MayComeTo gives IsWanted shift before)
-        (MayComeTo gives IsWanted shift after) text) (new : Queue) (is_new : new ≡ longer queue (LineNote text)) where
+    module _ (text : List ℕ) (given : GivesText (LinesMayComeTo gives IsWanted shift before)
+        (LinesMayComeTo gives IsWanted shift after) text) (new : Queue) (is_new : new ≡ longer queue (LineNote text)) where
       step : (more : List (List ℕ)) (ended : TileEnd)
           → ThenComes false gives IsWanted shift after (count + 1) last (course_of more ended)
           → ThenComes false gives IsWanted shift before count last (course_of (text ∷ more) ended)
@@ -239,7 +239,7 @@ module _ {R : Type 0} (gives : Giving R) (IsWanted : FeatureValue → Type 0) (s
           line_taken-open queue.closed is_open course.texts course.ended (subst P is_new come)
 
       line_some-open : (closed : Bool) → closed ≡ false → (texts : List (List ℕ)) (ended : TileEnd)
-          → has_end queue.left ≡ false → SomethingComes (MayComeTo gives IsWanted shift after)
+          → has_end queue.left ≡ false → SomethingComes (LinesMayComeTo gives IsWanted shift after)
           → NotesCome (ThenComes closed gives IsWanted shift before count last) queue.left texts ended
           → SomeCourse (λ course. NotesCome (ThenComes closed gives IsWanted shift after (count + 1) last)
           (queue.left ++ LineNote text ∷ []) course.texts course.ended)
@@ -250,7 +250,7 @@ module _ {R : Type 0} (gives : Giving R) (IsWanted : FeatureValue → Type 0) (s
           (ThenComes false gives IsWanted shift after (count + 1) last) text some.0 end (some.1.1, refl) queue.left
           none texts ended come
 
-      pub line_some : has_end queue.left ≡ false → SomethingComes (MayComeTo gives IsWanted shift after)
+      pub line_some : has_end queue.left ≡ false → SomethingComes (LinesMayComeTo gives IsWanted shift after)
           → SomeCourse (MayTake gives IsWanted (feed before places count queue))
           → SomeCourse (MayTake gives IsWanted (feed after later_places (count + 1) new))
       line_some none some was =
@@ -260,7 +260,7 @@ module _ {R : Type 0} (gives : Giving R) (IsWanted : FeatureValue → Type 0) (s
           (there.0, subst P (sym is_new) there.1)
 
     -- a line was read that is not chosen
-    module _ (back : ComesBack (MayComeTo gives IsWanted shift before) (MayComeTo gives IsWanted shift after)) where
+    module _ (back : ComesBack (LinesMayComeTo gives IsWanted shift before) (LinesMayComeTo gives IsWanted shift after)) where
       nothing_taken-open : (closed : Bool) → closed ≡ false → (texts : List (List ℕ)) (ended : TileEnd)
           → NotesCome (ThenComes closed gives IsWanted shift after count last) queue.left texts ended
           → NotesCome (ThenComes closed gives IsWanted shift before count last) queue.left texts ended
@@ -275,7 +275,7 @@ module _ {R : Type 0} (gives : Giving R) (IsWanted : FeatureValue → Type 0) (s
       nothing_taken course come = nothing_taken-open queue.closed is_open course.texts course.ended come
 
       nothing_some-open : (closed : Bool) → closed ≡ false → (texts : List (List ℕ)) (ended : TileEnd)
-          → has_end queue.left ≡ false → SomethingComes (MayComeTo gives IsWanted shift after)
+          → has_end queue.left ≡ false → SomethingComes (LinesMayComeTo gives IsWanted shift after)
           → NotesCome (ThenComes closed gives IsWanted shift before count last) queue.left texts ended
           → SomeCourse (λ course. NotesCome (ThenComes closed gives IsWanted shift after count last) queue.left
           course.texts course.ended)
@@ -286,7 +286,7 @@ module _ {R : Type 0} (gives : Giving R) (IsWanted : FeatureValue → Type 0) (s
           (ThenComes false gives IsWanted shift after count last) some.0 end (some.1.1, refl) queue.left none texts
           ended come
 
-      pub nothing_some : has_end queue.left ≡ false → SomethingComes (MayComeTo gives IsWanted shift after)
+      pub nothing_some : has_end queue.left ≡ false → SomethingComes (LinesMayComeTo gives IsWanted shift after)
           → SomeCourse (MayTake gives IsWanted (feed before places count queue))
           → SomeCourse (MayTake gives IsWanted (feed after later_places count queue))
       nothing_some none some was = nothing_some-open queue.closed is_open was.0.texts was.0.ended none some was.1
@@ -354,7 +354,7 @@ line_turn gives IsWanted before queue text is same was =
     let first = line_first (Then before.notes.closed) text queue.left before.notes.left is was in
     let Comes : Course → Bool → Type 0 = λ course closed.
     NotesCome (Then closed) queue.left course.texts course.ended in
-    let open_part = ap (λ closed. if closed then 0 else 1 + most_to_come before.unread) same in (
+    let open_part = ap (λ closed. if closed then 0 else 1 + most_left before.unread) same in (
       λ course come. first.0 course (subst (Comes course) same come),
       (first.1.0, subst (Comes first.1.0) (sym same) first.1.1),
       omega (arith, ap length is, open_part),

@@ -88,7 +88,7 @@ module _ {R : Type 0} (gives : Giving R) (IsWanted : FeatureValue → Type 0) wh
         merged = one ∷ more.merged;
         heads = ((head.1, head.2), more.heads);
         comes = (
-          tile_comes gives IsWanted shift tile.unread opened.0.head.0 opened.0.head.1 opened.0.none_ready
+          tile_comes gives IsWanted shift tile.unread opened.0.head.0 opened.0.head.1
               (omega (arith, opened.0.line, opened.0.later)) course.texts course.ended.stop comes,
           more.comes,
         );

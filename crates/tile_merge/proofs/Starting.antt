@@ -19,8 +19,8 @@ use Rattle.tile_merge.specs.Threaded.{HeadersJoin, HasNoThread, IsRefusedThreade
 use Rattle.tile_merge.specs.Threads.{Fed, MayFeed, RunningState, AreFresh, IsRunOf, IsUnstarted, fresh_run}
 use Rattle.tile_merge.specs.EndNotes.{ended_so}
 use Rattle.tile_merge.specs.declared.merging.ends.TileEnd.{TileEnd}
-use Rattle.tile_stream.specs.Coming.{GivesTexts, MayComeTo}
-use Rattle.tile_stream.specs.TileState.{TileState}
+use Rattle.tile_stream.specs.Coming.{GivesTexts, LinesMayComeTo, MayComeTo}
+use Rattle.tile_stream.specs.Unread.{Unread}
 use Rattle.byte_streams.specs.declared.places.MergeFault.{MergeFault}
 use Rattle.tile_merge.specs.declared.merging.report.Report.{Report}
 use Rattle.tile_merge.proofs.Answering.{of_early}
@@ -92,12 +92,12 @@ are_fresh gives choice (tile ∷ tiles) [] running runs = absurd runs
 are_fresh gives choice (tile ∷ tiles) (shift ∷ shifts) [] runs = absurd runs
 
 -- what a tile gives whose first line was taken, and that of its thread
-module _ {R : Type 0} (gives : Giving R) (choice : Choice) (tile : OpenState R) (shift : Triple) (now : TileState R) where
+module _ {R : Type 0} (gives : Giving R) (choice : Choice) (tile : OpenState R) (shift : Triple) (now : Unread R) where
   abbrev of_thread : TileEnd → Fed R
   of_thread begun = record { unread = now; shift = shift; choice = choice; begun = begun }
 
   pub runs_on : (first : List (List ℕ)) → GivesTexts (MayComeTo gives (IsChosen choice) shift tile.unread)
-      (MayComeTo gives (IsChosen choice) shift now) first → (begun : TileEnd) → begun ≡ ended_so (length first) None
+      (LinesMayComeTo gives (IsChosen choice) shift now) first → (begun : TileEnd) → begun ≡ ended_so (length first) None
       → IsRunOf gives choice tile shift (fresh_run (record { fed = of_thread begun; first = first }))
   runs_on first texts begun is = record {
     comes = λ all outcome come.

@@ -5,16 +5,16 @@ use Rattle.city_grid.specs.Axes.{Triple}
 use Rattle.tile_handoff.specs.Queues.{Queue}
 use Rattle.tile_handoff.specs.declared.note.Note.{Note}
 use Rattle.tile_handoff.specs.declared.note.Note.TheVariants.{Line as LineNote, End as EndNote}
-use Rattle.tile_stream.specs.Coming.{MayComeTo}
+use Rattle.tile_stream.specs.Coming.{LinesMayComeTo}
 use Rattle.tile_merge.specs.Giving.{Giving}
 use Rattle.tile_merge.specs.EndNotes.{end_of}
 use Rattle.tile_merge.specs.declared.merging.ends.TileEnd.{TileEnd}
-use Rattle.tile_stream.specs.TileState.{TileState, most_to_come}
+use Rattle.tile_stream.specs.Unread.{Unread, most_left}
 
 -- The reader, the shift, how many notes may be read ahead, those that were, how many lines were put
 -- among them, and how it ended once the end note was taken.
 pub record FeedState (R : Type 0) : Type 0 where
-  pub unread : TileState R
+  pub unread : Unread R
   pub shift : Triple
   pub capacity : ℕ
   pub notes : Queue
@@ -38,11 +38,11 @@ abbrev pub text_before : List ℕ → Course → Course
 text_before text course = record { texts = text ∷ course.texts; ended = course.ended }
 
 -- what follows the notes: what may be read, or once the tile was closed nothing more than its end
-abbrev pub ThenComes : {R : Type 0} → Bool → Giving R → (FeatureValue → Type 0) → Triple → TileState R → ℕ → Option TileEnd → Course → Type 0
+abbrev pub ThenComes : {R : Type 0} → Bool → Giving R → (FeatureValue → Type 0) → Triple → Unread R → ℕ → Option TileEnd → Course → Type 0
 ThenComes true gives IsWanted shift unread count last course =
     (course.texts ≡ []) × (last ≡ Some course.ended)
 ThenComes false gives IsWanted shift unread count last course =
-    MayComeTo gives IsWanted shift unread course.texts course.ended.stop
+    LinesMayComeTo gives IsWanted shift unread course.texts course.ended.stop
     × (course.ended.count ≡ count + length course.texts)
 
 -- these notes come first: their texts, and the end note is the last
@@ -83,11 +83,11 @@ HasFreePlace feed = (feed.notes.closed ≡ false) × (length feed.notes.left < f
 
 -- how many notes may be ahead at most
 abbrev pub most_ahead : {R : Type 0} → FeedState R → ℕ
-most_ahead feed = (if feed.notes.closed then 0 else 1 + most_to_come feed.unread) + length feed.notes.left
+most_ahead feed = (if feed.notes.closed then 0 else 1 + most_left feed.unread) + length feed.notes.left
 
 -- how many more lines may be read at most, the end among them
 abbrev pub most_lines : {R : Type 0} → FeedState R → ℕ
-most_lines feed = if feed.notes.closed then 0 else 1 + most_to_come feed.unread
+most_lines feed = if feed.notes.closed then 0 else 1 + most_left feed.unread
 
 -- one turn of a tile: it gave this text, or none since it is over
 abbrev pub TakesTurn : {R : Type 0} → Giving R → (FeatureValue → Type 0) → FeedState R → FeedState R → Option (List ℕ) → Type 0

@@ -28,7 +28,6 @@ pub record OpenState (R : Type 0) : Type 0 where
 -- features that come first, and what may be left comes after it.
 pub record IsOpened {R : Type 0} (gives : Giving R) (reader : R) (tile : OpenState R) (header : HeaderValue) : Type 0 where
   pub line : tile.line ≡ tile.unread.held.line
-  pub none_ready : tile.unread.ready ≡ []
   pub later : tile.line < tile.unread.lines.number
   pub head : GivesHeld (IsOfTile (gives reader) stream_limits) (Leaves gives tile.unread.lines) header tile.unread.held
   pub some : (left : TileLines) × MayLeave gives tile.unread.lines left

@@ -12,7 +12,7 @@ use Rattle.tile_handoff.specs.declared.note.End.{End}
 use Rattle.tile_handoff.specs.declared.note.Note.{Note}
 use Rattle.tile_handoff.specs.declared.note.Note.TheVariants.{Line as LineNote, End as EndNote}
 use Rattle.tile_merge.specs.declared.merging.ends.TileEnd.{TileEnd}
-use Rattle.tile_stream.specs.Coming.{MayComeTo, ReadyFirst}
+use Rattle.tile_stream.specs.Coming.{LinesMayComeTo, MayComeTo}
 use Rattle.tile_merge.specs.Giving.{Giving}
 use Rattle.tile_merge.specs.EndNotes.{IsToldBy, end_of, ended_so, notes_of}
 use Rattle.tile_merge.specs.Feeds.{Course}
@@ -20,15 +20,15 @@ use Rattle.tile_merge.specs.Interleaves.{Interleaves}
 use Rattle.tile_merge.specs.Opened.{OpenState}
 use Rattle.tile_stream.specs.Stream.{stream}
 use Rattle.tile_stream.specs.Texts.{Outcome}
-use Rattle.tile_stream.specs.TileState.{TileState}
+use Rattle.tile_stream.specs.Unread.{Unread}
 use Rattle.byte_streams.specs.declared.places.MergeFault.{MergeFault}
 
 -- ---- in the thread of a tile ----
 
--- What the thread of a tile is given: the tile, its shift, what is chosen of it, and what came before: how many texts, and
+-- What the thread of a tile is given: its lines after the first, its shift, what is chosen of it, and what came before: how many texts, and
 -- where the tile stops, if its first line is at fault.
 pub record Fed (R : Type 0) : Type 0 where
-  pub unread : TileState R
+  pub unread : Unread R
   pub shift : Triple
   pub choice : Choice
   pub begun : TileEnd
@@ -41,7 +41,7 @@ UnlessStopped (Some at) Comes texts outcome = (texts ≡ []) × (outcome ≡ Som
 -- these texts may come of the tile, and then this end
 abbrev pub MayFeed : {R : Type 0} → Giving R → Fed R → List (List ℕ) → Outcome → Type 0
 MayFeed gives fed texts outcome =
-    UnlessStopped fed.begun.stop (MayComeTo gives (IsChosen fed.choice) fed.shift fed.unread) texts outcome
+    UnlessStopped fed.begun.stop (LinesMayComeTo gives (IsChosen fed.choice) fed.shift fed.unread) texts outcome
 
 -- Texts that come first of those that may come of the tile, and an end note, were put after these
 -- notes. Where it was not asked to stop, they are all that came, and the note tells how the tile ended.
@@ -79,6 +79,10 @@ TellsEnd (Some ended) notes =
 pub record Begun (R : Type 0) : Type 0 where
   pub fed : Fed R
   pub first : List (List ℕ)
+
+-- these texts come first, and then what else comes
+abbrev pub ReadyFirst : List (List ℕ) → (List (List ℕ) → Outcome → Type 0) → List (List ℕ) → Outcome → Type 0
+ReadyFirst ready Then texts outcome = (more : List (List ℕ)) × (texts ≡ ready ++ more) × Then more outcome
 
 -- these texts may come of the tile, those of its first line before what its thread puts
 abbrev pub MayComeOf : {R : Type 0} → Giving R → Begun R → List (List ℕ) → Outcome → Type 0

@@ -91,7 +91,7 @@ module _ (MayBe : TileLines → Type 0) (IsWanted : FeatureValue → Type 0) whe
 
   -- what is read of a tile whose head was given
   module _ {R : Type 0} (gives : R → List ℕ → Bool → Type 0) (now : TileState R) (header : HeaderValue)
-      (none : now.ready ≡ []) (later : now.held.line < now.lines.number)
+      (later : now.held.line < now.lines.number)
       (given : GivesHeld MayBe (Leaves gives now.lines) header now.held) where
     abbrev Comes : List (List ℕ) → Outcome → Type 0
     Comes texts outcome = MayComeTo gives IsWanted no_steps now texts outcome
@@ -106,7 +106,7 @@ module _ (MayBe : TileLines → Type 0) (IsWanted : FeatureValue → Type 0) whe
             given.0,
             comes.0,
             head.2,
-            tile_comes gives IsWanted no_steps now given.0 given.1 none later texts outcome comes,
+            tile_comes gives IsWanted no_steps now given.0 given.1 later texts outcome comes,
           ),
         )
 

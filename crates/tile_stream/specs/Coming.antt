@@ -25,17 +25,13 @@ abbrev pub LinesMayComeTo : {R : Type 0} → (R → List ℕ → Bool → Type 0
 LinesMayComeTo gives IsWanted k lines texts outcome =
     (left : TileLines) × MayLeave gives lines left × LeftComesTo IsWanted k lines.number left texts outcome
 
--- these texts come first, and then what else comes
-abbrev pub ReadyFirst : List (List ℕ) → (List (List ℕ) → Outcome → Type 0) → List (List ℕ) → Outcome → Type 0
-ReadyFirst ready Then texts outcome = (more : List (List ℕ)) × (texts ≡ ready ++ more) × Then more outcome
-
--- The same of a tile: first the texts that are ready, then those of the features that it holds, each
--- moved as if its text were a line, then those of the lines that may be left.
+-- The same of a tile: first the texts of the features that it holds, each moved as if its text were a
+-- line, then those of the lines that may be left.
 abbrev pub MayComeTo : {R : Type 0} → (R → List ℕ → Bool → Type 0) → (FeatureValue → Type 0) → Triple → TileState R → List (List ℕ) → Outcome → Type 0
 MayComeTo gives IsWanted k tile texts outcome =
     (left : TileLines)
     × MayLeave gives tile.lines left
-    × ReadyFirst tile.ready (TextsFirst IsWanted k tile.held (LeftComesTo IsWanted k tile.lines.number left)) texts outcome
+    × TextsFirst IsWanted k tile.held (LeftComesTo IsWanted k tile.lines.number left) texts outcome
 
 -- Whatever may be to come after, may with this text in front have been to come before.
 abbrev pub GivesText : (List (List ℕ) → Outcome → Type 0) → (List (List ℕ) → Outcome → Type 0) → List ℕ → Type 0

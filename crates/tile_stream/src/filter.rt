@@ -5,7 +5,7 @@ ghost use Rattle.byte_streams.specs.Failures.{after_call};
 ghost use Rattle.city_feature.specs.Choice.{IsChosen};
 ghost use Rattle.city_feature.specs.Header.{HeaderValue};
 ghost use Rattle.city_feature.specs.Values.{header_value};
-ghost use Rattle.tile_stream.specs.Coming.{MayComeTo, MayLeave};
+ghost use Rattle.tile_stream.specs.Coming.{LinesMayComeTo, MayComeTo, MayLeave};
 ghost use Rattle.tile_stream.specs.Filtered.{WroteStream, IsRefusedFilter, CountsReads, PassedOn, ToldAfter, failures_after_filter, failed_reads_after_filter};
 ghost use Rattle.city_feature.specs.Quick.{no_steps};
 ghost use Rattle.tile_stream.specs.Head.{HasNoHead, SomeTile, GivesHeld};
@@ -13,7 +13,7 @@ ghost use Rattle.tile_stream.specs.Progress.{SoFar, WroteTexts, IsRefusedAfter};
 ghost use Rattle.tile_stream.specs.Stream.{with_newline};
 ghost use Rattle.tile_stream.specs.Tile.{TileLines, stream_limits};
 ghost use Rattle.tile_stream.specs.TileState.{most_to_come, most_texts};
-ghost use Rattle.tile_stream.specs.Unread.{IsOfTile, Leaves, has_failed, is_read, failed_reads_between};
+ghost use Rattle.tile_stream.specs.Unread.{IsOfTile, Leaves, most_left, has_failed, is_read, failed_reads_between};
 
 use crate::spare::emptied;
 use crate::tile_reader::{Head, Passed, TileReader};
@@ -122,7 +122,6 @@ fn take_header_line<R: Source>(alloc: Global, tile: &mut TileReader<R>) -> Resul
         × (line ≡ compact header.value)
         × GivesHeld (Leaves R.gives tile.old.lines) (Leaves R.gives tile.new.lines)
         header tile.new.held) }
-    ensures none_ready { OnOk result (tile.new.ready ≡ []) }
     ensures later { OnOk result (tile.new.held.line < tile.new.lines.number) }
     ensures refused { IfErr result (λ e. SomeTile (Leaves R.gives tile.old.lines) (λ lines.
         HasNoHead lines (record { line = e.line; fault = e.fault }))) }
@@ -168,9 +167,10 @@ fn write_held<R: Source, W: Sink>(
     requires not_failed { has_failed tile.old.lines ≡ false }
     ensures ok { IfOk result (λ count. SoFar
         (MayComeTo R.gives (IsChosen choice.now) no_steps tile.old)
-        (MayComeTo R.gives (IsChosen choice.now) no_steps tile.new) count
+        (LinesMayComeTo R.gives (IsChosen choice.now) no_steps tile.new.lines) count
         (W.taken output.old) (W.taken output.new)) }
-    ensures fewer { IfOk result (λ count. count + most_to_come tile.new ≤ most_to_come tile.old) }
+    ensures fewer { IfOk result (λ count.
+        count + most_left tile.new.lines ≤ most_to_come tile.old) }
     ensures refused { IfErr result (λ e. IsRefusedAfter
         (MayComeTo R.gives (IsChosen choice.now) no_steps tile.old) e.fault e.tile e.line
         (W.taken output.old) (W.taken output.new)) }

@@ -1,62 +1,63 @@
 ghost use Rattle.std.specs.Prelude.{◌≡◌, ◌≢◌, ◌≤◌, ◌<◌, ◌↔◌, ℕ, List, [], true, false, Some, None, IfOk, IfErr, IfSome, IfNone, OnOk, OnErr, ◌+◌, length};
 ghost use Rattle.city_feature.specs.Choice.{IsChosen};
 ghost use Rattle.city_feature.specs.Values.{header_value};
-ghost use Rattle.tile_stream.specs.Coming.{MayComeTo, MayLeave, GivesText, GivesTexts, ComesBack, SomethingComes};
+ghost use Rattle.tile_stream.specs.Coming.{LinesMayComeTo, MayComeTo, MayLeave, GivesText, GivesTexts, ComesBack, SomethingComes};
 ghost use Rattle.tile_stream.specs.Head.{HasNoHead, SomeTile, GivesHeld, RanOutAt};
 ghost use Rattle.tile_stream.specs.Tile.{TileLines, stream_limits};
-ghost use Rattle.tile_stream.specs.TileState.{IsPassed, most_to_come, most_texts};
-ghost use Rattle.tile_stream.specs.Unread.{Leaves, IsOfTile, has_failed, is_read, is_refused, failed_reads_between};
+ghost use Rattle.tile_stream.specs.TileState.{most_to_come, most_texts};
+ghost use Rattle.tile_stream.specs.Unread.{Leaves, IsOfTile, most_left, has_failed, is_read, is_refused, failed_reads_between};
 
-mod feature_lines;
 mod head;
 mod held;
 mod ready;
 
 use crate::lines::Lines;
-pub use crate::tile_reader::feature_lines::Passed;
-use crate::tile_reader::feature_lines::{pass_line, take_feature};
+use crate::spare::emptied;
 pub use crate::tile_reader::head::Head;
 use crate::tile_reader::head::{FirstLine, read_first_line};
-use crate::tile_reader::held::{Held, lines_of, texts_of};
+use crate::tile_reader::held::{Held, texts_of};
 pub use crate::tile_reader::ready::ReadyTexts;
 use byte_streams::{Fault, Line, LineFault, Source};
 use city_cut::FeatureTexts;
-use city_feature::Choice;
+use city_feature::{Choice, feature_line};
 use city_grid::Shift;
 use std::alloc::Global;
-use std::collections::VecDeque;
 use std::marker::Model;
 use std::mem;
 
-/// A tile that is being read: first its header is taken, then the texts of its features, one after
-/// another. Where its first line is a document, the features that are cut from it come first.
+/// A tile that is being read: first its header is taken; then, where its first line is a document, the
+/// texts of the features that are cut from it, at once; then those of the lines after it, one by one.
 #[derive(Debug, Drop)]
 pub struct TileReader<R> {
     lines: Lines<R>,
     held: Held,
-    ready: VecDeque<Line>,
+}
+
+/// What the next line of a tile came to: the text of its feature, or, where that is not chosen,
+/// nothing.
+#[derive(Debug, Drop)]
+pub struct Passed {
+    pub is_chosen: bool,
+    pub text: Line,
 }
 
 impl<R> Model for TileReader<R> {
-    ghost use Rattle.std.specs.Prelude.{◌≡◌, [], true};
     ghost use Rattle.std.specs.Coded.{codes};
     ghost use Rattle.city_cut.specs.HeldTexts.{texts_in};
     ghost use Rattle.city_cut.specs.contracts.held.FeatureTexts as texts_type;
     ghost use Rattle.tile_stream.specs.TileState.{TileState};
-    ghost use Rattle.tile_stream.specs.Unread.{EndsFrom, has_failed};
+    ghost use Rattle.tile_stream.specs.Unread.{EndsFrom};
 
     ghost Value = { TileState R };
 
     ghost coded = { Prim.hlevel (codes, texts_type.the_row.coded) };
 
     ghost view = { λ tile. record {
-      ready = tile.ready.items;
       held = record { line = tile.held.line; texts = texts_in tile.held.texts };
       lines = tile.lines;
     } };
 
-    ghost invariant = { λ tile. EndsFrom tile.lines.number tile.lines.ended
-        × (has_failed tile.lines ≡ true → (tile.ready.items ≡ []) × (texts_in tile.held.texts ≡ [])) };
+    ghost invariant = { λ tile. EndsFrom tile.lines.number tile.lines.ended };
 }
 
 impl<R: Source> TileReader<R> {
@@ -73,7 +74,6 @@ impl<R: Source> TileReader<R> {
                 line: 0,
                 texts: FeatureTexts::none(alloc),
             },
-            ready: VecDeque::new(alloc),
         }
     }
 
@@ -90,7 +90,6 @@ impl<R: Source> TileReader<R> {
             (Leaves R.gives self.new.lines) (header_value head.header) self.new.held) }
         ensures line { IfOk result (λ head. head.line ≡ self.new.held.line) }
         ensures counted { IfOk result (λ head. 0 < head.line) }
-        ensures none_ready { OnOk result (self.new.ready ≡ []) }
         ensures later { IfOk result (λ head. head.line < self.new.lines.number) }
         ensures refused { IfErr result (λ e. SomeTile (Leaves R.gives self.old.lines) (λ tile.
             HasNoHead tile (record { line = e.line; fault = e.fault }))) }
@@ -111,7 +110,6 @@ impl<R: Source> TileReader<R> {
             (R.failures self.old.lines.ahead.reader) }
     {
         self.held.texts = FeatureTexts::none(alloc);
-        self.ready = VecDeque::new(alloc);
         let line = match self.lines.next() {
             Ok(Some(line)) => line,
             Ok(None) => {
@@ -142,97 +140,13 @@ impl<R: Source> TileReader<R> {
         }
     }
 
-    /// Takes the compact text of the next feature that is chosen when it is moved by the shift, so
-    /// moved. None after the last. `spare` is a buffer to reuse.
-    ///
-    /// # Errors
-    ///
-    /// The first line at fault, or [`Fault::Memory`] at the line that did not find room. Then
-    /// nothing more is to be taken of the tile. The features of the first line are all moved before
-    /// one of them is given; where one cannot be, that line is at fault and gives none.
-    pub fn take_text(
-        &mut self,
-        alloc: Global,
-        shift: Shift,
-        choice: &Choice,
-        spare: Line,
-    ) -> Result<Option<Line>, LineFault>
-        ensures text { IfOk result (λ taken. IfSome taken
-            (GivesText (MayComeTo R.gives (IsChosen choice.now) shift self.old)
-            (MayComeTo R.gives (IsChosen choice.now) shift self.new))) }
-        ensures over { IfOk result (λ taken. IfNone taken
-            (MayComeTo R.gives (IsChosen choice.now) shift self.old [] None)) }
-        ensures refused { IfErr result (λ e. MayComeTo R.gives (IsChosen choice.now) shift
-            self.old [] (Some (record { line = e.line; fault = e.fault }))) }
-        ensures not_written { IfErr result (λ e. e.fault ≢ Fault.Write) }
-        ensures some { SomethingComes (MayComeTo R.gives (IsChosen choice.now) shift self.new) }
-        ensures fewer { IfOk result (λ taken. IfSome taken (λ text.
-            most_to_come self.new < most_to_come self.old)) }
-        ensures had_not_failed { OnOk result (has_failed self.old.lines ≡ false) }
-        ensures not_failed { OnOk result (has_failed self.new.lines ≡ false) }
-        ensures failed { IfErr result (λ e. has_failed self.new.lines ≡ is_read e.fault) }
-        ensures failures { R.failures self.new.lines.ahead.reader ≡ failed_reads_between
-            (has_failed self.old.lines) (has_failed self.new.lines)
-            (R.failures self.old.lines.ahead.reader) }
-    {
-        match self.take_ready(alloc, shift, choice)? {
-            Some(text) => Ok(Some(text)),
-            None => take_feature(alloc, &mut self.lines, shift, choice, spare),
-        }
-    }
-
-    /// Takes the text of the next feature of the first line that is chosen, or else the next line,
-    /// which may come to nothing. None after the last. `spare` is a buffer to reuse, and
-    /// comes back empty where that line comes to nothing.
-    ///
-    /// # Errors
-    ///
-    /// Those of [`TileReader::take_text`].
-    pub fn pass(
-        &mut self,
-        alloc: Global,
-        shift: Shift,
-        choice: &Choice,
-        spare: Line,
-    ) -> Result<Option<Passed>, LineFault>
-        ensures text { IfOk result (λ taken. IfSome taken (λ passed. passed.is_chosen ≡ true
-            → GivesText (MayComeTo R.gives (IsChosen choice.now) shift self.old)
-            (MayComeTo R.gives (IsChosen choice.now) shift self.new) passed.text)) }
-        ensures skipped { IfOk result (λ taken. IfSome taken (λ passed. passed.is_chosen ≡ false
-            → (passed.text ≡ [])
-            × ComesBack (MayComeTo R.gives (IsChosen choice.now) shift self.old)
-            (MayComeTo R.gives (IsChosen choice.now) shift self.new))) }
-        ensures over { IfOk result (λ taken. IfNone taken
-            (MayComeTo R.gives (IsChosen choice.now) shift self.old [] None)) }
-        ensures refused { IfErr result (λ e. MayComeTo R.gives (IsChosen choice.now) shift
-            self.old [] (Some (record { line = e.line; fault = e.fault }))) }
-        ensures not_written { IfErr result (λ e. e.fault ≢ Fault.Write) }
-        ensures some { SomethingComes (MayComeTo R.gives (IsChosen choice.now) shift self.new) }
-        ensures fewer { IfOk result (λ taken. IfSome taken (λ passed.
-            most_to_come self.new < most_to_come self.old)) }
-        ensures had_not_failed { OnOk result (has_failed self.old.lines ≡ false) }
-        ensures not_failed { OnOk result (has_failed self.new.lines ≡ false) }
-        ensures failed { IfErr result (λ e. has_failed self.new.lines ≡ is_read e.fault) }
-        ensures failures { R.failures self.new.lines.ahead.reader ≡ failed_reads_between
-            (has_failed self.old.lines) (has_failed self.new.lines)
-            (R.failures self.old.lines.ahead.reader) }
-    {
-        let ready = self.take_ready(alloc, shift, choice)?;
-        match ready {
-            Some(text) => Ok(Some(Passed {
-                is_chosen: true,
-                text,
-            })),
-            None => pass_line(alloc, &mut self.lines, shift, choice, spare),
-        }
-    }
-
     /// Takes the texts of the features that the first line holds and that are chosen when they are moved
-    /// by the shift, so moved, unless some were taken already: then it takes none.
+    /// by the shift, so moved. After that it holds none.
     ///
     /// # Errors
     ///
-    /// Those of that line: one of its features cannot be moved so, or [`Fault::Memory`].
+    /// Those of that line, which then gives no text: one of its features cannot be moved so, or
+    /// [`Fault::Memory`].
     pub fn take_held(
         &mut self,
         alloc: Global,
@@ -241,19 +155,17 @@ impl<R: Source> TileReader<R> {
     ) -> Result<ReadyTexts, LineFault>
         ensures texts { IfOk result (λ texts. GivesTexts
             (MayComeTo R.gives (IsChosen choice.now) shift self.old)
-            (MayComeTo R.gives (IsChosen choice.now) shift self.new) texts) }
+            (LinesMayComeTo R.gives (IsChosen choice.now) shift self.new.lines) texts) }
         ensures refused { IfErr result (λ e. MayComeTo R.gives (IsChosen choice.now) shift
             self.old [] (Some (record { line = e.line; fault = e.fault }))) }
         ensures kind { IfErr result (λ e. (e.fault ≢ Fault.Write) × (is_read e.fault ≡ false)) }
-        ensures some { SomethingComes (MayComeTo R.gives (IsChosen choice.now) shift self.new) }
+        ensures some { SomethingComes
+            (LinesMayComeTo R.gives (IsChosen choice.now) shift self.new.lines) }
         ensures fewer { IfOk result (λ texts.
-            length texts + most_to_come self.new ≤ most_to_come self.old) }
-        ensures no_more { most_to_come self.new ≤ most_to_come self.old }
+            length texts + most_left self.new.lines ≤ most_to_come self.old) }
+        ensures none_held { self.new.held.texts ≡ [] }
         ensures lines { self.new.lines ≡ self.old.lines }
     {
-        if !self.ready.is_empty() {
-            return Ok(ReadyTexts::none(alloc));
-        }
         if self.held.texts.len() == 0 {
             return Ok(ReadyTexts::none(alloc));
         }
@@ -267,72 +179,63 @@ impl<R: Source> TileReader<R> {
         }
     }
 
-    /// Whether the next line was read already, so that taking it does not wait for the reader. It
-    /// may be false where the tile is over, and of a feature of the first line.
-    pub fn holds_line(&self) -> bool {
-        !self.ready.is_empty() || self.lines.holds_line()
-    }
-
-    /// Takes the text of the next of the features that the first line holds. None after the last.
-    fn take_ready(
+    /// Takes the next of the lines after the first, which may come to nothing, and gives the compact
+    /// text of its feature, moved by the shift, where it is chosen when it is so moved. None after the
+    /// last. `spare` is a buffer to reuse, and comes back empty where the line comes to nothing.
+    ///
+    /// # Errors
+    ///
+    /// That of the line, or [`Fault::Memory`] at the line that did not find room. Then nothing more is to
+    /// be taken of the tile.
+    pub fn pass(
         &mut self,
         alloc: Global,
         shift: Shift,
         choice: &Choice,
-    ) -> Result<Option<Line>, LineFault>
-        ensures text { IfOk result (λ taken. IfSome taken
-            (GivesText (MayComeTo R.gives (IsChosen choice.now) shift self.old)
-            (MayComeTo R.gives (IsChosen choice.now) shift self.new))) }
-        ensures over { IfOk result (λ taken. IfNone taken (IsPassed self.new
-            × ComesBack (MayComeTo R.gives (IsChosen choice.now) shift self.old)
-            (MayComeTo R.gives (IsChosen choice.now) shift self.new))) }
-        ensures refused { IfErr result (λ e. MayComeTo R.gives (IsChosen choice.now) shift
-            self.old [] (Some (record { line = e.line; fault = e.fault }))) }
-        ensures kind { IfErr result (λ e. (e.fault ≢ Fault.Write) × (is_read e.fault ≡ false)) }
-        ensures some { SomethingComes (MayComeTo R.gives (IsChosen choice.now) shift self.new) }
-        ensures fewer { IfOk result (λ taken. IfSome taken (λ text.
-            most_to_come self.new < most_to_come self.old)) }
-        ensures no_more { most_to_come self.new ≤ most_to_come self.old }
-        ensures lines { self.new.lines ≡ self.old.lines }
-        ensures had_not_failed { IfOk result (λ taken. IfSome taken (λ line.
-            has_failed self.old.lines ≡ false)) }
-        ensures not_failed { OnErr result (has_failed self.old.lines ≡ false) }
+        spare: Line,
+    ) -> Result<Option<Passed>, LineFault>
+        ensures text { IfOk result (λ taken. IfSome taken (λ passed. passed.is_chosen ≡ true
+            → GivesText (LinesMayComeTo R.gives (IsChosen choice.now) shift self.old.lines)
+            (LinesMayComeTo R.gives (IsChosen choice.now) shift self.new.lines) passed.text)) }
+        ensures skipped { IfOk result (λ taken. IfSome taken (λ passed. passed.is_chosen ≡ false
+            → (passed.text ≡ [])
+            × ComesBack (LinesMayComeTo R.gives (IsChosen choice.now) shift self.old.lines)
+            (LinesMayComeTo R.gives (IsChosen choice.now) shift self.new.lines))) }
+        ensures over { IfOk result (λ taken. IfNone taken
+            (LinesMayComeTo R.gives (IsChosen choice.now) shift self.old.lines [] None)) }
+        ensures refused { IfErr result (λ e. LinesMayComeTo R.gives (IsChosen choice.now) shift
+            self.old.lines [] (Some (record { line = e.line; fault = e.fault }))) }
+        ensures not_written { IfErr result (λ e. e.fault ≢ Fault.Write) }
+        ensures some { SomethingComes
+            (LinesMayComeTo R.gives (IsChosen choice.now) shift self.new.lines) }
+        ensures fewer { IfOk result (λ taken. IfSome taken (λ passed.
+            most_left self.new.lines < most_left self.old.lines)) }
+        ensures held { self.new.held ≡ self.old.held }
+        ensures had_not_failed { OnOk result (has_failed self.old.lines ≡ false) }
+        ensures not_failed { OnOk result (has_failed self.new.lines ≡ false) }
+        ensures failed { IfErr result (λ e. has_failed self.new.lines ≡ is_read e.fault) }
+        ensures failures { R.failures self.new.lines.ahead.reader ≡ failed_reads_between
+            (has_failed self.old.lines) (has_failed self.new.lines)
+            (R.failures self.old.lines.ahead.reader) }
     {
-        self.make_ready(alloc, shift, choice)?;
-        Ok(self.ready.pop_front())
-    }
-
-    /// Makes the texts of all features that the first line holds, unless this was done.
-    fn make_ready(&mut self, alloc: Global, shift: Shift, choice: &Choice) -> Result<(), LineFault>
-        ensures back { OnOk result (ComesBack
-            (MayComeTo R.gives (IsChosen choice.now) shift self.old)
-            (MayComeTo R.gives (IsChosen choice.now) shift self.new)) }
-        ensures refused { IfErr result (λ e. MayComeTo R.gives (IsChosen choice.now) shift
-            self.old [] (Some (record { line = e.line; fault = e.fault }))) }
-        ensures kind { IfErr result (λ e. (e.fault ≢ Fault.Write) × (is_read e.fault ≡ false)) }
-        ensures some { OnErr result
-            (SomethingComes (MayComeTo R.gives (IsChosen choice.now) shift self.new)) }
-        ensures none_held { OnOk result (self.new.ready ≡ [] → self.new.held.texts ≡ []) }
-        ensures no_more { most_to_come self.new ≤ most_to_come self.old }
-        ensures lines { self.new.lines ≡ self.old.lines }
-        ensures not_failed { OnErr result (has_failed self.old.lines ≡ false) }
-    {
-        if !self.ready.is_empty() {
-            return Ok(());
-        }
-        if self.held.texts.len() == 0 {
-            return Ok(());
-        }
-        let held = mem::replace(&mut self.held.texts, FeatureTexts::none(alloc));
-        match lines_of(alloc, &held, shift, choice) {
-            Ok(texts) => {
-                self.ready = texts;
-                Ok(())
-            }
+        let line = match self.lines.next() {
+            Ok(Some(line)) => line,
+            Ok(None) => return Ok(None),
+            Err(at) => return Err(at),
+        };
+        let mut text = emptied(spare);
+        match feature_line(alloc, line.bytes.items(), shift, choice, &mut text) {
+            Ok(is_chosen) => Ok(Some(Passed { is_chosen, text })),
             Err(fault) => Err(LineFault {
-                line: self.held.line,
+                line: line.number,
                 fault,
             }),
         }
+    }
+
+    /// Whether the next line was read already, so that taking it does not wait for the reader. It
+    /// may be false where the tile is over.
+    pub fn holds_line(&self) -> bool {
+        self.lines.holds_line()
     }
 }

@@ -40,14 +40,15 @@ impl<R> Model for Feed<R> {
     ghost use Rattle.tile_handoff.specs.Notes.{has_end};
     ghost use Rattle.tile_handoff.specs.Queues.{queue_of};
     ghost use Rattle.tile_merge.specs.Feeds.{FeedState, behind};
-    ghost use Rattle.tile_stream.specs.TileState.{most_to_come, most_texts};
+    ghost use Rattle.tile_stream.specs.TileState.{most_texts};
+    ghost use Rattle.tile_stream.specs.Unread.{most_left};
 
     ghost Value = { FeedState R };
 
     ghost coded = { Prim.hlevel (codes, feature_type.the_row.coded) };
 
     ghost view = { λ feed. record {
-      unread = feed.reader;
+      unread = feed.reader.lines;
       shift = feed.shift;
       capacity = feed.notes.capacity;
       notes = behind (drop feed.written feed.first) (queue_of feed.notes 0);
@@ -57,7 +58,7 @@ impl<R> Model for Feed<R> {
 
     ghost invariant = { λ feed. (feed.spare ≡ []) × (length feed.notes.tiles ≡ 1) × (0 < feed.notes.capacity)
         × ((queue_of feed.notes 0).closed ≡ false
-        → (feed.count + most_to_come feed.reader ≤ most_texts)
+        → (feed.count + most_left feed.reader.lines ≤ most_texts)
         × (has_end (queue_of feed.notes 0).left ≡ false)) };
 }
 

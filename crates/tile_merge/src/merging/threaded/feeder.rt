@@ -4,7 +4,8 @@ ghost use Rattle.tile_handoff.specs.Ends.{notes_put, notes_carried, IsSameSender
 ghost use Rattle.tile_handoff.specs.declared.note.Note.{Note};
 ghost use Rattle.tile_merge.specs.EndNotes.{end_of};
 ghost use Rattle.tile_merge.specs.Threads.{IsFed};
-ghost use Rattle.tile_stream.specs.TileState.{most_to_come, most_texts};
+ghost use Rattle.tile_stream.specs.TileState.{most_texts};
+ghost use Rattle.tile_stream.specs.Unread.{most_left};
 
 use crate::merging::ends::TileEnd;
 use crate::merging::threaded::cancelling::Cancellation;
@@ -41,7 +42,7 @@ impl<R> Model for FedTile<R> {
     ghost coded = { Prim.hlevel (codes, feature_type.the_row.coded) };
 
     ghost view = { λ tile. record {
-      unread = tile.reader;
+      unread = tile.reader.lines;
       shift = tile.shift;
       choice = tile.choice;
       begun = tile.begun;
@@ -92,7 +93,7 @@ impl<R: Source + Drop> FedTile<R> {
         sender: Sender,
         links: Links,
     ) -> Finished
-        requires most { self.begun.count + most_to_come self.unread ≤ most_texts }
+        requires most { self.begun.count + most_left self.unread ≤ most_texts }
         ensures own { EndedIn sender result.closed }
         ensures same { SameConsumer links.cancellation.consumer result.cancellation.consumer }
         ensures fed { IsFed R.gives self (received result.cancellation.consumer

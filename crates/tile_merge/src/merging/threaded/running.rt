@@ -5,7 +5,8 @@ ghost use Rattle.tile_merge.specs.Feeds.{Course};
 ghost use Rattle.byte_streams.specs.Failures.{after_call};
 ghost use Rattle.tile_merge.specs.Threads.{fresh_run, is_ended, HasGiven, WroteUnless};
 ghost use Rattle.tile_stream.specs.Stream.{with_newline};
-ghost use Rattle.tile_stream.specs.TileState.{most_to_come, most_texts};
+ghost use Rattle.tile_stream.specs.TileState.{most_texts};
+ghost use Rattle.tile_stream.specs.Unread.{most_left};
 
 use crate::merging::ends::{Ending, TileEnd};
 use crate::merging::threaded::cancelling::{Canceller, cancel_ends};
@@ -89,7 +90,7 @@ where
     H: Threads + Wait + Copy + Send + 'static,
     R: Source + Send + Drop + 'static,
     requires begun { tile.begun.count ≡ length first }
-    requires most { tile.begun.count + most_to_come tile.unread ≤ most_texts }
+    requires most { tile.begun.count + most_left tile.unread ≤ most_texts }
     requires capacity { (0 < capacity) × (capacity ≤ MAX_CAPACITY) }
     ensures ok { IfOk result (λ running. running ≡ fresh_run (record { fed = tile; first = first })) }
     ensures refused { IfErr result (λ fault.
@@ -129,7 +130,7 @@ where
     H: Threads + Wait + Copy + Send + 'static,
     R: Source + Send + Drop + 'static,
     requires begun { tile.begun.count ≡ length caller.first }
-    requires most { tile.begun.count + most_to_come tile.unread ≤ most_texts }
+    requires most { tile.begun.count + most_left tile.unread ≤ most_texts }
     requires pair { ArePair sender caller.receiver }
     requires unused { (notes_put sender ≡ []) × (notes_taken caller.receiver ≡ []) }
     requires word { IsPair caller.canceller.producer links.cancellation.consumer }

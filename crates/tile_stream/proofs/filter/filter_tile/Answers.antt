@@ -20,7 +20,7 @@ returns-in-Err-write_on-clause-refused g c =
     let some = something g.R.Source.gives (IsChosen c.args.choice.now) no_steps now c.take_header_line.ensures.some in
     let wrote = c.in-Err-write_on.ensures.some in
     rw c.of_no_line.ensures (failed_header (Leaves g.R.Source.gives c.args.tile.now.lines) (IsChosen c.args.choice.now)
-    g.R.Source.gives now head.0 c.in-Ok.ensures.none_ready c.in-Ok.ensures.later head.2 some
+    g.R.Source.gives now head.0 c.in-Ok.ensures.later head.2 some
     (g.W.Sink.taken c.args.output.now) (g.W.Sink.taken c.write_on.new.output) c.in-Ok.line head.1 wrote.0 wrote.1)
 
 pub returns-in-Err-write_features-clause-refused : goal.returns-in-Err-write_features-clause-refused
@@ -31,7 +31,7 @@ returns-in-Err-write_features-clause-refused g c =
     let refusal = c.in-Err-write_features.refusal in
     let told = c.told_after in
     of_told (Leaves g.R.Source.gives c.args.tile.now.lines) (IsChosen c.args.choice.now) g.R.Source.gives now head.0
-    c.in-Ok.ensures.none_ready c.in-Ok.ensures.later head.2 (g.W.Sink.taken c.args.output.now)
+    c.in-Ok.ensures.later head.2 (g.W.Sink.taken c.args.output.now)
     (g.W.Sink.taken c.write_on.new.output) c.in-Ok.line head.1 wrote.1 refusal told.result
     (g.W.Sink.is_flushed told.new.output) (g.W.Sink.failures c.write_features.new.output)
     (g.W.Sink.failures told.new.output) (g.W.Sink.taken c.write_features.new.output)
@@ -43,7 +43,7 @@ returns-in-Ok-flush-clause-ok g c =
     let now = c.take_header_line.new.tile in
     let wrote = c.in-Ok-write_on.ensures.all in
     whole_stream (Leaves g.R.Source.gives c.args.tile.now.lines) (IsChosen c.args.choice.now) g.R.Source.gives now
-    head.0 c.in-Ok.ensures.none_ready c.in-Ok.ensures.later head.2 (g.W.Sink.taken c.args.output.now)
+    head.0 c.in-Ok.ensures.later head.2 (g.W.Sink.taken c.args.output.now)
     (g.W.Sink.taken c.write_on.new.output) c.in-Ok.line head.1 wrote.1 c.in-Ok-write_features.count
     (g.W.Sink.taken c.write_features.new.output) (g.W.Sink.taken c.flush.new.self) c.in-Ok-write_features.ensures.ok
     c.in-Ok-flush.ensures.bytes
@@ -54,7 +54,7 @@ returns-in-Err-flush-clause-refused g c =
     let now = c.take_header_line.new.tile in
     let wrote = c.in-Ok-write_on.ensures.all in
     rw c.of_no_line-in-Err-flush.ensures (failed_flush (Leaves g.R.Source.gives c.args.tile.now.lines)
-    (IsChosen c.args.choice.now) g.R.Source.gives now head.0 c.in-Ok.ensures.none_ready c.in-Ok.ensures.later head.2
+    (IsChosen c.args.choice.now) g.R.Source.gives now head.0 c.in-Ok.ensures.later head.2
     (g.W.Sink.taken c.args.output.now) (g.W.Sink.taken c.write_on.new.output) c.in-Ok.line head.1 wrote.1
     c.in-Ok-write_features.count (g.W.Sink.taken c.write_features.new.output) (g.W.Sink.taken c.flush.new.self)
     c.in-Ok-write_features.ensures.ok c.flush.ensures.bytes)

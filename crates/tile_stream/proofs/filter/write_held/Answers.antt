@@ -1,7 +1,7 @@
 use Rattle.std.proofs.Common.{refl}
 use Rattle.city_feature.specs.Choice.{IsChosen}
 use Rattle.city_feature.specs.Quick.{no_steps}
-use Rattle.tile_stream.specs.Coming.{MayComeTo}
+use Rattle.tile_stream.specs.Coming.{LinesMayComeTo, MayComeTo}
 use Rattle.tile_stream.proofs.FirstBytes.{all_given, some_given}
 use Rattle.tile_stream.proofs.Steps.{at_start, at_fault, at_skipped, at_failed_flush, of_line}
 use Rattle.tile_stream.proofs.filter.write_held.Goals as goal
@@ -18,21 +18,21 @@ returns-in-Err-clause-refused g c =
 
 pub returns-in-Err-write-clause-refused : goal.returns-in-Err-write-clause-refused
 returns-in-Err-write-clause-refused g c =
-    let comes = MayComeTo g.R.Source.gives (IsChosen c.args.choice.now) no_steps in
+    let before = MayComeTo g.R.Source.gives (IsChosen c.args.choice.now) no_steps c.args.tile.now in
+    let after = LinesMayComeTo g.R.Source.gives (IsChosen c.args.choice.now) no_steps c.take_held.new.self.lines in
     let gives = rw c.zero.ensures at c.in-Ok.ensures.texts in
     let some = rw c.zero.ensures at c.take_held.ensures.some in
     rw c.of_no_line.ensures (
       refl,
       refl,
-      some_given (comes c.args.tile.now) (comes c.take_held.new.self) (g.W.Sink.taken c.args.output.now) c.in-Ok.texts
+      some_given before after (g.W.Sink.taken c.args.output.now) c.in-Ok.texts
           gives some (g.W.Sink.taken c.write.new.output) c.in-Err-write.ensures.some,
     )
 
 pub returns-in-Ok-pass_on-clause-ok : goal.returns-in-Ok-pass_on-clause-ok
 returns-in-Ok-pass_on-clause-ok g c =
-    let comes = MayComeTo g.R.Source.gives (IsChosen c.args.choice.now) no_steps in
-    let before = comes c.args.tile.now in
-    let after = comes c.take_held.new.self in
+    let before = MayComeTo g.R.Source.gives (IsChosen c.args.choice.now) no_steps c.args.tile.now in
+    let after = LinesMayComeTo g.R.Source.gives (IsChosen c.args.choice.now) no_steps c.take_held.new.self.lines in
     let old = g.W.Sink.taken c.args.output.now in
     let mid = g.W.Sink.taken c.write.new.output in
     let gives = rw c.zero.ensures at c.in-Ok.ensures.texts in
@@ -43,9 +43,8 @@ returns-in-Ok-pass_on-clause-ok g c =
 
 pub returns-clause-refused : goal.returns-clause-refused
 returns-clause-refused g c =
-    let comes = MayComeTo g.R.Source.gives (IsChosen c.args.choice.now) no_steps in
-    let before = comes c.args.tile.now in
-    let after = comes c.take_held.new.self in
+    let before = MayComeTo g.R.Source.gives (IsChosen c.args.choice.now) no_steps c.args.tile.now in
+    let after = LinesMayComeTo g.R.Source.gives (IsChosen c.args.choice.now) no_steps c.take_held.new.self.lines in
     let old = g.W.Sink.taken c.args.output.now in
     let mid = g.W.Sink.taken c.write.new.output in
     let gives = rw c.zero.ensures at c.in-Ok.ensures.texts in

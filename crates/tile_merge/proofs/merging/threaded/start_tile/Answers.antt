@@ -4,8 +4,9 @@ use Rattle.tile_merge.specs.EndNotes.{ended_so}
 use Rattle.tile_merge.specs.Opened.{OpenState}
 use Rattle.tile_merge.specs.Threads.{IsRunOf, fresh_run}
 use Rattle.tile_merge.specs.declared.merging.ends.TileEnd.{TileEnd}
-use Rattle.tile_stream.specs.Coming.{GivesTexts, MayComeTo}
+use Rattle.tile_stream.specs.Coming.{GivesTexts, LinesMayComeTo, MayComeTo}
 use Rattle.tile_stream.specs.TileState.{most_to_come, most_texts}
+use Rattle.tile_stream.specs.Unread.{most_left}
 use Rattle.tile_merge.proofs.Answering.{if_ok}
 use Rattle.tile_merge.proofs.Starting.{runs_on, stops_there}
 use Rattle.tile_merge.proofs.merging.threaded.start_tile.Goals as goal
@@ -25,7 +26,7 @@ start-requires-clause-most g c κs within =
         counted,
         ap (λ p. length p.0) w.first-is,
         ap length w.none.ensures,
-        c.take_held.ensures.no_more,
+        ap most_left c.take_held.ensures.lines,
       )
     ]
 
@@ -39,16 +40,16 @@ returns-clause-ok g c =
     let made = c.match-take_held in
     let begun = c.new.ensures ∙ ap (λ n. ended_so n made.first.1) c.len.ensures.count in
     let run : IsRunOf gives choice tile shift (fresh_run (record {
-      fed = record { unread = now; shift = shift; choice = choice; begun = c.new.result };
+      fed = record { unread = now.lines; shift = shift; choice = choice; begun = c.new.result };
       first = made.first.0;
     })) = elim made.branch [
       | in-Ok w ↦
           let Gives : List (List ℕ) → Type 0 = λ texts. GivesTexts
-          (MayComeTo gives (IsChosen choice) shift tile.unread) (MayComeTo gives (IsChosen choice) shift now) texts in
-          runs_on gives choice tile shift now made.first.0
+          (MayComeTo gives (IsChosen choice) shift tile.unread) (LinesMayComeTo gives (IsChosen choice) shift now.lines) texts in
+          runs_on gives choice tile shift now.lines made.first.0
           (subst Gives (sym (ap (λ p. p.0) w.first-is)) w.in-Ok.ensures.texts) c.new.result
           (begun ∙ ap (λ p. ended_so (length made.first.0) p.1) w.first-is)
-      | in-Err w ↦ stops_there gives choice tile shift now w.in-Err.at w.in-Err.ensures.refused made.first.0
+      | in-Err w ↦ stops_there gives choice tile shift now.lines w.in-Err.at w.in-Err.ensures.refused made.first.0
           (ap (λ p. p.0) w.first-is ∙ w.none.ensures) c.new.result
           (begun ∙ ap (λ p. ended_so (length made.first.0) p.1) w.first-is)
     ] in

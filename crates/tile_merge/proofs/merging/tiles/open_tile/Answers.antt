@@ -9,7 +9,6 @@ returns-clause-ok g c =
     let head = c.in_ok-header in
     record {
       line = head.ensures.line;
-      none_ready = head.ensures.none_ready;
       later = head.ensures.later;
       head = head_given (Leaves gives c.new-reader.result.lines) (IsOfTile (gives c.args.reader) stream_limits)
           (λ (tile : TileLines). (c.new-reader.ensures.tile tile).0) _ _ _ head.ensures.head;

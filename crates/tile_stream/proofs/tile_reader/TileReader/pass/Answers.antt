@@ -1,85 +1,73 @@
-use Rattle.std.proofs.Common.{sym, subst}
-use Rattle.city_cut.specs.HeldTexts.{texts_in}
 use Rattle.city_feature.specs.Choice.{IsChosen}
-use Rattle.tile_stream.specs.Coming.{MayComeTo, ComesBack}
-use Rattle.tile_stream.specs.TileState.{TileState, IsPassed}
-use Rattle.tile_stream.proofs.HeldFirst.{something, passed_given, passed_skipped, lines_over, lines_refused}
-use Rattle.tile_stream.proofs.Leaving.{something_left}
+use Rattle.tile_stream.proofs.Comings.{nothing_comes, fault_comes, refusal_comes, text_comes, none_comes, no_text}
+use Rattle.tile_stream.proofs.HeldFirst.{lines_come}
 use Rattle.tile_stream.proofs.tile_reader.TileReader.pass.Goals as goal
 
-pub returns-in-None-clause-text : goal.returns-in-None-clause-text
-returns-in-None-clause-text g c =
-    let s = c.self.inside in
-    let now : TileState g.row.R.Denot = record {
-      ready = s.ready.items;
-      held = record { line = s.held.line; texts = texts_in s.held.texts };
-      lines =
-          s.lines;
-    } in
-    let Over : TileState g.row.R.Denot → Type 0 = λ tile. IsPassed tile
-    × ComesBack (MayComeTo g.R.Source.gives (IsChosen c.args.choice.now) c.args.shift c.args.self.now)
-    (MayComeTo g.R.Source.gives (IsChosen c.args.choice.now) c.args.shift tile) in
-    let over = subst Over (sym c.self.view_is) (rw c.in-None.is at c.in_ok-ready.ensures.over) in
-    passed_given g.R.Source.gives (IsChosen c.args.choice.now) c.args.shift c.args.self.now now over.1 over.0
-    c.pass_line.new.lines c.pass_line.result c.pass_line.ensures.text
+pub returns-in-Ok-None-clause-over : goal.returns-in-Ok-None-clause-over
+returns-in-Ok-None-clause-over g c =
+    let over = rw c.in-Ok-None.field-0-is at c.in-Ok-None.ensures.over in
+    rw (← c.self.view_is) (nothing_comes g.R.Source.gives (IsChosen c.args.choice.now) c.args.shift c.self.inside.lines
+    over)
 
-pub returns-in-None-clause-skipped : goal.returns-in-None-clause-skipped
-returns-in-None-clause-skipped g c =
-    let s = c.self.inside in
-    let now : TileState g.row.R.Denot = record {
-      ready = s.ready.items;
-      held = record { line = s.held.line; texts = texts_in s.held.texts };
-      lines =
-          s.lines;
-    } in
-    let Over : TileState g.row.R.Denot → Type 0 = λ tile. IsPassed tile
-    × ComesBack (MayComeTo g.R.Source.gives (IsChosen c.args.choice.now) c.args.shift c.args.self.now)
-    (MayComeTo g.R.Source.gives (IsChosen c.args.choice.now) c.args.shift tile) in
-    let over = subst Over (sym c.self.view_is) (rw c.in-None.is at c.in_ok-ready.ensures.over) in
-    passed_skipped g.R.Source.gives (IsChosen c.args.choice.now) c.args.shift c.args.self.now now over.1 over.0
-    c.pass_line.new.lines c.pass_line.result c.pass_line.ensures.skipped
+pub returns-in-Ok-None-clause-some : goal.returns-in-Ok-None-clause-some
+returns-in-Ok-None-clause-some g c =
+    lines_come g.R.Source.gives (IsChosen c.args.choice.now) c.args.shift g.met.R.Source.gives_something c.next.new.self
+    c.next.ensures.ended
 
-pub returns-in-None-clause-over : goal.returns-in-None-clause-over
-returns-in-None-clause-over g c =
-    let s = c.self.inside in
-    let now : TileState g.row.R.Denot = record {
-      ready = s.ready.items;
-      held = record { line = s.held.line; texts = texts_in s.held.texts };
-      lines =
-          s.lines;
-    } in
-    let Over : TileState g.row.R.Denot → Type 0 = λ tile. IsPassed tile
-    × ComesBack (MayComeTo g.R.Source.gives (IsChosen c.args.choice.now) c.args.shift c.args.self.now)
-    (MayComeTo g.R.Source.gives (IsChosen c.args.choice.now) c.args.shift tile) in
-    let over = subst Over (sym c.self.view_is) (rw c.in-None.is at c.in_ok-ready.ensures.over) in
-    lines_over g.R.Source.gives (IsChosen c.args.choice.now) c.args.shift c.args.self.now now over.1 over.0
-    c.pass_line.result c.pass_line.ensures.over
+pub returns-in-Err-clause-refused : goal.returns-in-Err-clause-refused
+returns-in-Err-clause-refused g c =
+    rw (← c.self.view_is) (fault_comes g.R.Source.gives (IsChosen c.args.choice.now) c.args.shift c.self.inside.lines
+    c.in-Err.at.fault c.in-Err.at.line c.in-Err.ensures.at c.in-Err.ensures.refused)
 
-pub returns-in-None-clause-refused : goal.returns-in-None-clause-refused
-returns-in-None-clause-refused g c =
-    let s = c.self.inside in
-    let now : TileState g.row.R.Denot = record {
-      ready = s.ready.items;
-      held = record { line = s.held.line; texts = texts_in s.held.texts };
-      lines =
-          s.lines;
-    } in
-    let Over : TileState g.row.R.Denot → Type 0 = λ tile. IsPassed tile
-    × ComesBack (MayComeTo g.R.Source.gives (IsChosen c.args.choice.now) c.args.shift c.args.self.now)
-    (MayComeTo g.R.Source.gives (IsChosen c.args.choice.now) c.args.shift tile) in
-    let over = subst Over (sym c.self.view_is) (rw c.in-None.is at c.in_ok-ready.ensures.over) in
-    lines_refused g.R.Source.gives (IsChosen c.args.choice.now) c.args.shift c.args.self.now now over.1 over.0
-    c.pass_line.result c.pass_line.ensures.refused
+pub returns-in-Err-clause-some : goal.returns-in-Err-clause-some
+returns-in-Err-clause-some g c =
+    lines_come g.R.Source.gives (IsChosen c.args.choice.now) c.args.shift g.met.R.Source.gives_something c.next.new.self
+    c.next.ensures.ended
 
-pub returns-in-None-clause-some : goal.returns-in-None-clause-some
-returns-in-None-clause-some g c =
-    let s = c.self.inside in
-    let after : TileState g.row.R.Denot = record {
-      ready = s.ready.items;
-      held = record { line = s.held.line; texts = texts_in s.held.texts };
-      lines =
-          c.pass_line.new.lines;
-    } in
-    let some = something_left g.R.Source.gives g.met.R.Source.gives_something c.pass_line.new.lines
-    c.pass_line.ensures.ended in
-    something g.R.Source.gives (IsChosen c.args.choice.now) c.args.shift after (some.0, (some.1, some.2))
+pub returns-in-Ok-clause-text : goal.returns-in-Ok-clause-text
+returns-in-Ok-clause-text g c =
+    let taken = rw c.in-Ok-Some.field-0-is at c.in-Ok-Some.ensures.line in
+    let from = rw c.in-Ok-Some.field-0-is at c.in-Ok-Some.ensures.first in
+    let later = rw c.in-Ok-Some.field-0-is at c.in-Ok-Some.ensures.later in
+    let given = rw c.items.ensures at c.in-Ok.ensures.ok in
+    let lines = c.self.inside.lines in
+    rw (← c.self.view_is) (λ chosen. text_comes g.R.Source.gives (IsChosen c.args.choice.now) c.args.shift lines
+    c.next.new.self c.in-Ok-Some.line.number c.in-Ok-Some.line.bytes taken from lines
+    (λ texts outcome comes. comes) later given.0 c.in-Ok.is_chosen given.1 given.2 chosen c.emptied-text.result
+    c.feature_line.new.text c.emptied-text.ensures given.3)
+
+pub returns-in-Ok-clause-skipped : goal.returns-in-Ok-clause-skipped
+returns-in-Ok-clause-skipped g c =
+    let taken = rw c.in-Ok-Some.field-0-is at c.in-Ok-Some.ensures.line in
+    let from = rw c.in-Ok-Some.field-0-is at c.in-Ok-Some.ensures.first in
+    let later = rw c.in-Ok-Some.field-0-is at c.in-Ok-Some.ensures.later in
+    let given = rw c.items.ensures at c.in-Ok.ensures.ok in
+    let lines = c.self.inside.lines in
+    rw (← c.self.view_is) (λ skipped. (
+      no_text given.0 c.in-Ok.is_chosen given.2 skipped c.emptied-text.result c.feature_line.new.text
+          c.emptied-text.ensures given.3,
+      none_comes g.R.Source.gives (IsChosen c.args.choice.now) c.args.shift lines c.next.new.self
+          c.in-Ok-Some.line.number c.in-Ok-Some.line.bytes taken from lines (λ texts outcome comes. comes)
+          later given.0 c.in-Ok.is_chosen given.1 given.2 skipped,
+    ))
+
+pub returns-in-Ok-clause-some : goal.returns-in-Ok-clause-some
+returns-in-Ok-clause-some g c =
+    lines_come g.R.Source.gives (IsChosen c.args.choice.now) c.args.shift g.met.R.Source.gives_something c.next.new.self
+    c.next.ensures.ended
+
+pub returns-clause-refused : goal.returns-clause-refused
+returns-clause-refused g c =
+    let taken = rw c.in-Ok-Some.field-0-is at c.in-Ok-Some.ensures.line in
+    let from = rw c.in-Ok-Some.field-0-is at c.in-Ok-Some.ensures.first in
+    let refused = rw c.items.ensures at c.in-Err-feature_line.ensures.refusal in
+    let some = c.next.ensures.some in
+    let lines = c.self.inside.lines in
+    rw (← c.self.view_is) (refusal_comes g.R.Source.gives (IsChosen c.args.choice.now) c.args.shift lines
+    c.next.new.self c.in-Ok-Some.line.number c.in-Ok-Some.line.bytes taken from some.0 some.1
+    c.in-Err-feature_line.fault refused)
+
+pub returns-clause-some : goal.returns-clause-some
+returns-clause-some g c =
+    lines_come g.R.Source.gives (IsChosen c.args.choice.now) c.args.shift g.met.R.Source.gives_something c.next.new.self
+    c.next.ensures.ended

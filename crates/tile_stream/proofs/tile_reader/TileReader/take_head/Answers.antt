@@ -43,4 +43,4 @@ pub returns-in-Ok-clause-most : goal.returns-in-Ok-clause-most
 returns-in-Ok-clause-most g c =
     let long = texts_long c.in-Ok.field-0.texts in
     let few = c.known.ensures in
-    grind (arith, common_steps, long, few, c.new.ensures.items, c.in-Ok-Some.ensures.most)
+    grind (arith, common_steps, long, few, c.in-Ok-Some.ensures.most)

@@ -7,7 +7,7 @@ use Rattle.tile_stream.proofs.HeldTexts.{text_held}
 use Rattle.tile_stream.proofs.tile_reader.held.add_text.Goals as goal
 
 pub returns-in_err-add_line-clause-refused : goal.returns-in_err-add_line-clause-refused
-returns-in_err-add_line-clause-refused g c =
+returns-in_err-add_line-clause-refused c =
     let text = text_held c.args.held.now c.args.at c.requires c.emptied-line.result c.append_to.new.line
     c.items.result.now c.emptied-line.ensures c.in_ok-append_to.ensures.ok c.items.ensures in
     let e = err_from_is_err_and c.from_residual-in_err-add_line.result c.from_residual-in_err-add_line.ensures.1 in
@@ -16,7 +16,7 @@ returns-in_err-add_line-clause-refused g c =
     c.in_err-add_line.ensures.refused)
 
 pub returns-clause-ok : goal.returns-clause-ok
-returns-clause-ok g c =
+returns-clause-ok c =
     let text = text_held c.args.held.now c.args.at c.requires c.emptied-line.result c.append_to.new.line
     c.items.result.now c.emptied-line.ensures c.in_ok-append_to.ensures.ok c.items.ensures in
     let given = c.in_ok-add_line.ensures.ok in (

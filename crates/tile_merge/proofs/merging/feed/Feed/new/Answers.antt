@@ -18,21 +18,21 @@ returns g c =
     let now = c.take_held.new.self in
     let made = c.match-take_held in
     let is : IsFeedOf gives chosen tile c.args.shift (record {
-      unread = now;
+      unread = now.lines;
       shift = c.args.shift;
       capacity = made.notes.capacity;
       notes = behind made.first (queue_of made.notes 0);
       count = c.len.result;
       last = None;
     }) = elim made.branch [
-      | in-Ok w ↦ rw (w.first-is, w.notes-is) (feed_begins gives chosen tile c.args.shift c.args.notes.capacity now
+      | in-Ok w ↦ rw (w.first-is, w.notes-is) (feed_begins gives chosen tile c.args.shift c.args.notes.capacity now.lines
           w.in-Ok.texts w.in-Ok.ensures.texts c.take_held.ensures.some (queue_of c.args.notes 0) c.requires.empty
           c.len.result (c.len.ensures.count ∙ ap length w.first-is))
       | in-Err w ↦
           let note = EndNote w.note.result in
           let is_queue = ap (λ queues. queue_of queues 0) w.store_end.ensures ∙ set_there c.args.notes _ c.requires.one
           ∙ ap (λ queue. longer queue note) c.requires.empty in
-          rw (w.first-is, w.notes-is) (feed_stops gives chosen tile c.args.shift w.store_end.new.self.capacity now
+          rw (w.first-is, w.notes-is) (feed_stops gives chosen tile c.args.shift w.store_end.new.self.capacity now.lines
           w.in-Err.at w.in-Err.ensures.refused w.none-first.result w.none-first.ensures w.note.result
           (w.note.ensures ∙ ap end_of w.new.ensures) (queue_of w.store_end.new.self 0) is_queue c.len.result)
     ] in

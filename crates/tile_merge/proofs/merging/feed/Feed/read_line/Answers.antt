@@ -15,7 +15,7 @@ returns-then-not-is_chosen-clause-none g c =
     let is_open = ap (λ feed. feed.notes.closed) c.self.view_is ∙ c.requires.room.0 in
     let skipped = (rw c.in-Ok-Some.field-0-is at c.in-Ok-Some.ensures.skipped) c.if-not-is_chosen.true in
     rw (← c.self.view_is) (nothing_taken g.R.Source.gives (IsChosen c.args.choice.now) inside.shift
-    inside.notes.capacity inside.notes.capacity inside.count inside.last inside.reader c.pass.new.self
+    inside.notes.capacity inside.notes.capacity inside.count inside.last inside.reader.lines c.pass.new.self.lines
     (behind first queue) is_open skipped.1)
 
 pub returns-then-not-is_chosen-clause-some : goal.returns-then-not-is_chosen-clause-some
@@ -27,7 +27,7 @@ returns-then-not-is_chosen-clause-some g c =
     let skipped = (rw c.in-Ok-Some.field-0-is at c.in-Ok-Some.ensures.skipped) c.if-not-is_chosen.true in
     let was = rw (← c.self.view_is) at c.requires.some in
     nothing_some g.R.Source.gives (IsChosen c.args.choice.now) inside.shift inside.notes.capacity inside.notes.capacity
-    inside.count inside.last inside.reader c.pass.new.self (behind first queue) is_open skipped.1
+    inside.count inside.last inside.reader.lines c.pass.new.self.lines (behind first queue) is_open skipped.1
     (open_behind first queue.left (c.self.invariant.3 is_open).1) c.pass.ensures.some was
 
 pub returns-clause-none : goal.returns-clause-none
@@ -40,7 +40,7 @@ returns-clause-none g c =
     let is_new = ap (λ queues. behind first (queue_of queues 0)) c.store_line.ensures
     ∙ ap (behind first) (set_there inside.notes _ c.self.invariant.1) ∙ behind_longer first queue (LineNote c.in-Ok-Some.passed.text) in
     rw (← c.self.view_is) (line_taken g.R.Source.gives (IsChosen c.args.choice.now) inside.shift inside.notes.capacity
-    (c.store_line.new.self).capacity inside.count inside.last inside.reader c.pass.new.self
+    (c.store_line.new.self).capacity inside.count inside.last inside.reader.lines c.pass.new.self.lines
     (behind first queue) is_open c.in-Ok-Some.passed.text text (behind first (queue_of c.store_line.new.self 0)) is_new)
 
 pub returns-clause-some : goal.returns-clause-some
@@ -54,7 +54,7 @@ returns-clause-some g c =
     ∙ ap (behind first) (set_there inside.notes _ c.self.invariant.1) ∙ behind_longer first queue (LineNote c.in-Ok-Some.passed.text) in
     let was = rw (← c.self.view_is) at c.requires.some in
     line_some g.R.Source.gives (IsChosen c.args.choice.now) inside.shift inside.notes.capacity
-    (c.store_line.new.self).capacity inside.count inside.last inside.reader c.pass.new.self
+    (c.store_line.new.self).capacity inside.count inside.last inside.reader.lines c.pass.new.self.lines
     (behind first queue) is_open c.in-Ok-Some.passed.text text (behind first (queue_of c.store_line.new.self 0)) is_new
     (open_behind first queue.left (c.self.invariant.3 is_open).1) c.pass.ensures.some was
 
@@ -68,7 +68,7 @@ returns-in-Ok-None-clause-none g c =
     let is_new = ap (λ queues. behind first (queue_of queues 0)) c.store_end.ensures
     ∙ ap (behind first) (set_there inside.notes _ c.self.invariant.1) ∙ behind_longer first queue (EndNote c.note.result) in
     rw (← c.self.view_is) (end_taken g.R.Source.gives (IsChosen c.args.choice.now) inside.shift inside.notes.capacity
-    (c.store_end.new.self).capacity inside.count inside.last inside.reader c.pass.new.self (behind first queue)
+    (c.store_end.new.self).capacity inside.count inside.last inside.reader.lines c.pass.new.self.lines (behind first queue)
     is_open None over c.note.result (c.note.ensures ∙ ap end_of c.new-in-Ok-None.ensures)
     (behind first (queue_of c.store_end.new.self 0)) is_new)
 
@@ -83,7 +83,7 @@ returns-in-Ok-None-clause-some g c =
     ∙ ap (behind first) (set_there inside.notes _ c.self.invariant.1) ∙ behind_longer first queue (EndNote c.note.result) in
     let was = rw (← c.self.view_is) at c.requires.some in
     end_some g.R.Source.gives (IsChosen c.args.choice.now) inside.shift inside.notes.capacity
-    (c.store_end.new.self).capacity inside.count inside.last inside.reader c.pass.new.self (behind first queue)
+    (c.store_end.new.self).capacity inside.count inside.last inside.reader.lines c.pass.new.self.lines (behind first queue)
     is_open None over c.note.result (c.note.ensures ∙ ap end_of c.new-in-Ok-None.ensures)
     (behind first (queue_of c.store_end.new.self 0)) is_new
     (open_behind first queue.left (c.self.invariant.3 is_open).1) was
@@ -98,7 +98,7 @@ returns-in-Err-clause-none g c =
     let is_new = ap (λ queues. behind first (queue_of queues 0)) c.store_end-in-Err.ensures
     ∙ ap (behind first) (set_there inside.notes _ c.self.invariant.1) ∙ behind_longer first queue (EndNote c.note-in-Err.result) in
     rw (← c.self.view_is) (end_taken g.R.Source.gives (IsChosen c.args.choice.now) inside.shift inside.notes.capacity
-    (c.store_end-in-Err.new.self).capacity inside.count inside.last inside.reader c.pass.new.self
+    (c.store_end-in-Err.new.self).capacity inside.count inside.last inside.reader.lines c.pass.new.self.lines
     (behind first queue) is_open (Some c.in-Err.at) over
     c.note-in-Err.result (c.note-in-Err.ensures ∙ ap end_of c.new-in-Err.ensures)
     (behind first (queue_of c.store_end-in-Err.new.self 0)) is_new)
@@ -114,7 +114,7 @@ returns-in-Err-clause-some g c =
     ∙ ap (behind first) (set_there inside.notes _ c.self.invariant.1) ∙ behind_longer first queue (EndNote c.note-in-Err.result) in
     let was = rw (← c.self.view_is) at c.requires.some in
     end_some g.R.Source.gives (IsChosen c.args.choice.now) inside.shift inside.notes.capacity
-    (c.store_end-in-Err.new.self).capacity inside.count inside.last inside.reader c.pass.new.self
+    (c.store_end-in-Err.new.self).capacity inside.count inside.last inside.reader.lines c.pass.new.self.lines
     (behind first queue) is_open (Some c.in-Err.at) over
     c.note-in-Err.result (c.note-in-Err.ensures ∙ ap end_of c.new-in-Err.ensures)
     (behind first (queue_of c.store_end-in-Err.new.self 0)) is_new

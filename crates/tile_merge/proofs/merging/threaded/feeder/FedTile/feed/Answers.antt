@@ -2,21 +2,22 @@ use Rattle.std.proofs.Common.{◌≡◌, ◌≤◌, ◌+◌, Some, None, length,
 use Rattle.rtrb.specs.Ring.{received}
 use Rattle.city_feature.specs.Choice.{IsChosen}
 use Rattle.tile_handoff.specs.Ends.{notes_put, notes_carried}
-use Rattle.tile_stream.specs.Coming.{MayComeTo}
+use Rattle.tile_stream.specs.Coming.{LinesMayComeTo}
 use Rattle.tile_merge.specs.EndNotes.{end_of}
 use Rattle.tile_merge.specs.Threads.{Fed, FedSoFar}
-use Rattle.tile_stream.specs.TileState.{most_to_come, most_texts}
+use Rattle.tile_stream.specs.TileState.{most_texts}
+use Rattle.tile_stream.specs.Unread.{most_left}
 use Rattle.tile_merge.proofs.Feeder.{fed_start, fed_text, fed_nothing, fed_whole, fed_front, fed_stopped}
 use Rattle.tile_merge.proofs.merging.threaded.feeder.FedTile.feed.Goals as goal
 use Rattle.tile_merge.proofs.merging.threaded.feeder.FedTile.feed.Goals.{then-is_chosen, else-is_chosen}
 
 pub lines-init : goal.lines-init
 lines-init g c =
-    let most = subst (λ (fed : Fed g.row.R.Denot). fed.begun.count + most_to_come fed.unread ≤ most_texts)
+    let most = subst (λ (fed : Fed g.row.R.Denot). fed.begun.count + most_left fed.unread ≤ most_texts)
     (sym c.self.view_is) c.requires.most in
     record {
-      so_far = fed_start (MayComeTo g.R.Source.gives (IsChosen c.self.inside.choice) c.self.inside.shift
-          c.self.inside.reader) c.self.inside.begun.count (notes_put c.args.sender);
+      so_far = fed_start (LinesMayComeTo g.R.Source.gives (IsChosen c.self.inside.choice) c.self.inside.shift
+          c.self.inside.reader.lines) c.self.inside.begun.count (notes_put c.args.sender);
       own = search rules;
       same = search rules;
       unseen = refl;
@@ -27,7 +28,7 @@ pub returns-then-is_some-clause-fed : goal.returns-then-is_some-clause-fed
 returns-then-is_some-clause-fed g c =
     let Unasked = received c.finish.result.cancellation.consumer ≡ received c.args.links.cancellation.consumer in
     let fed = fed_stopped g.R.Source.gives (record
-    { unread = c.self.inside.reader; shift = c.self.inside.shift; choice = c.self.inside.choice; begun = c.self.inside.begun })
+    { unread = c.self.inside.reader.lines; shift = c.self.inside.shift; choice = c.self.inside.choice; begun = c.self.inside.begun })
     Unasked (notes_put c.args.sender) (sym c.is_some.ensures ∙ c.if-is_some.true) (notes_carried c.finish.result.closed)
     c.finish.ensures.put in
     rw (← c.self.view_is) fed
@@ -35,36 +36,36 @@ returns-then-is_some-clause-fed g c =
 pub returns-in-Ok-None-clause-fed : goal.returns-in-Ok-None-clause-fed
 returns-in-Ok-None-clause-fed g c =
     let over = rw c.in-Ok-None.field-0-is at c.in-Ok-None.ensures.over in
-    let comes = MayComeTo g.R.Source.gives (IsChosen c.self.inside.choice) c.self.inside.shift in
+    let comes = LinesMayComeTo g.R.Source.gives (IsChosen c.self.inside.choice) c.self.inside.shift in
     let Unasked = received c.finish-in-Ok-None.result.cancellation.consumer ≡ received c.args.links.cancellation.consumer in
     let fed = fed_whole g.R.Source.gives (record
-    { unread = c.self.inside.reader; shift = c.self.inside.shift; choice = c.self.inside.choice; begun = c.self.inside.begun })
-    Unasked (notes_put c.args.sender) (sym c.is_some.ensures ∙ c.if-is_some.false) (comes c.lines.reader) c.lines.count (notes_put c.lines.sender)
+    { unread = c.self.inside.reader.lines; shift = c.self.inside.shift; choice = c.self.inside.choice; begun = c.self.inside.begun })
+    Unasked (notes_put c.args.sender) (sym c.is_some.ensures ∙ c.if-is_some.false) (comes c.lines.reader.lines) c.lines.count (notes_put c.lines.sender)
     c.lines.invariant.so_far (end_of c.new.result) (notes_carried c.finish-in-Ok-None.result.closed) c.finish-in-Ok-None.ensures.put None
     over (ap end_of c.new.ensures) in
     rw (← c.self.view_is) fed
 
 pub returns-in-Err-clause-fed : goal.returns-in-Err-clause-fed
 returns-in-Err-clause-fed g c =
-    let comes = MayComeTo g.R.Source.gives (IsChosen c.self.inside.choice) c.self.inside.shift in
+    let comes = LinesMayComeTo g.R.Source.gives (IsChosen c.self.inside.choice) c.self.inside.shift in
     let finish = c.finish-in-Err in
     let Unasked = received finish.result.cancellation.consumer ≡ received c.args.links.cancellation.consumer in
     let fed = fed_whole g.R.Source.gives (record
-    { unread = c.self.inside.reader; shift = c.self.inside.shift; choice = c.self.inside.choice; begun = c.self.inside.begun })
-    Unasked (notes_put c.args.sender) (sym c.is_some.ensures ∙ c.if-is_some.false) (comes c.lines.reader) c.lines.count (notes_put c.lines.sender)
+    { unread = c.self.inside.reader.lines; shift = c.self.inside.shift; choice = c.self.inside.choice; begun = c.self.inside.begun })
+    Unasked (notes_put c.args.sender) (sym c.is_some.ensures ∙ c.if-is_some.false) (comes c.lines.reader.lines) c.lines.count (notes_put c.lines.sender)
     c.lines.invariant.so_far (end_of c.new-in-Err.result) (notes_carried finish.result.closed) finish.ensures.put
     (Some c.in-Err.at) c.in-Err.ensures.refused (ap end_of c.new-in-Err.ensures) in
     rw (← c.self.view_is) fed
 
 pub returns-then-is_asked-clause-fed : goal.returns-then-is_asked-clause-fed
 returns-then-is_asked-clause-fed g c =
-    let comes = MayComeTo g.R.Source.gives (IsChosen c.self.inside.choice) c.self.inside.shift in
+    let comes = LinesMayComeTo g.R.Source.gives (IsChosen c.self.inside.choice) c.self.inside.shift in
     let old = notes_put c.args.sender in
     let text = rw c.in-Ok-Some.field-0-is at c.in-Ok-Some.ensures.text in
     let skipped = rw c.in-Ok-Some.field-0-is at c.in-Ok-Some.ensures.skipped in
-    let before = comes c.self.inside.reader in
-    let now = comes c.lines.reader in
-    let after = comes c.pass.new.self in
+    let before = comes c.self.inside.reader.lines in
+    let now = comes c.lines.reader.lines in
+    let after = comes c.pass.new.self.lines in
     let so_far = c.lines.invariant.so_far in
     let passed : FedSoFar before after c.self.inside.begun.count c.if-is_chosen.count old (notes_put c.if-is_chosen.sender) =
     elim c.if-is_chosen.branch [
@@ -83,7 +84,7 @@ returns-then-is_asked-clause-fed g c =
     let unseen = ap length c.lines.invariant.unseen in
     let kept = ap received finish.ensures.asked in
     let fed = fed_front g.R.Source.gives (record
-    { unread = c.self.inside.reader; shift = c.self.inside.shift; choice = c.self.inside.choice; begun = c.self.inside.begun })
+    { unread = c.self.inside.reader.lines; shift = c.self.inside.shift; choice = c.self.inside.choice; begun = c.self.inside.begun })
     Unasked old (sym c.is_some.ensures ∙ c.if-is_some.false) after
     c.if-is_chosen.count (notes_put c.if-is_chosen.sender) passed (end_of c.new-then-is_asked.result)
     (notes_carried finish.result.closed) finish.ensures.put c.pass.ensures.some
@@ -92,14 +93,14 @@ returns-then-is_asked-clause-fed g c =
 
 pub lines-preserved : goal.lines-preserved
 lines-preserved g c =
-    let comes = MayComeTo g.R.Source.gives (IsChosen c.self.inside.choice) c.self.inside.shift in
+    let comes = LinesMayComeTo g.R.Source.gives (IsChosen c.self.inside.choice) c.self.inside.shift in
     let old = notes_put c.args.sender in
     let text = rw c.in-Ok-Some.field-0-is at c.in-Ok-Some.ensures.text in
     let skipped = rw c.in-Ok-Some.field-0-is at c.in-Ok-Some.ensures.skipped in
     let fewer = rw c.in-Ok-Some.field-0-is at c.in-Ok-Some.ensures.fewer in
-    let before = comes c.self.inside.reader in
-    let now = comes c.lines.reader in
-    let after = comes c.pass.new.self in
+    let before = comes c.self.inside.reader.lines in
+    let now = comes c.lines.reader.lines in
+    let after = comes c.pass.new.self.lines in
     let so_far = c.lines.invariant.so_far in
     let passed : FedSoFar before after c.self.inside.begun.count c.if-is_chosen.count old (notes_put c.if-is_chosen.sender) =
     elim c.if-is_chosen.branch [
@@ -112,7 +113,7 @@ lines-preserved g c =
           (fed_nothing before c.self.inside.begun.count old now c.lines.count (notes_put c.lines.sender) so_far after
           (skipped w.if-is_chosen.false).1)
     ] in
-    let bound : c.if-is_chosen.count + most_to_come c.pass.new.self ≤ most_texts =
+    let bound : c.if-is_chosen.count + most_left c.pass.new.self.lines ≤ most_texts =
     elim c.if-is_chosen.branch [
       | then-is_chosen w ↦ omega (arith, c.lines.invariant.bounded, fewer, w.count-is)
       | else-is_chosen w ↦ omega (arith, c.lines.invariant.bounded, fewer, w.count-is)

@@ -2,15 +2,15 @@ use Rattle.std.proofs.Common.{◌≤◌, ◌-◌, length, take}
 use Rattle.city_cut.specs.HeldTexts.{texts_in}
 use Rattle.city_feature.specs.Choice.{IsChosen}
 use Rattle.tile_stream.proofs.HeldTexts.{MadeSoFar}
-use Rattle.tile_stream.proofs.tile_reader.held.keep_texts.Given as goal
+use Rattle.tile_stream.proofs.tile_reader.held.texts_of.Given as goal
 
 -- the texts of the features so far were made
 abbrev pub invariant-held : goal.invariant-held
-invariant-held g l =
+invariant-held l =
     record {
       within : l.at ≤ length (texts_in l.held);
-      made : MadeSoFar (IsChosen l.choice) l.shift (take l.at (texts_in l.held)) (g.K.Keep.kept l.texts);
+      made : MadeSoFar (IsChosen l.choice) l.shift (take l.at (texts_in l.held)) l.texts;
     }
 
 abbrev pub decreases-held : goal.decreases-held
-decreases-held g l = length (texts_in l.held) - l.at
+decreases-held l = length (texts_in l.held) - l.at
