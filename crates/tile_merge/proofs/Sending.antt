@@ -3,12 +3,6 @@ use denote.RattleType.{RattleType}
 use denote.Param.Send.{IsSend, recorded_send, struct_send, view_send}
 use denote.Struct.Declared.{shape}
 use denote.Struct.Struct.{Struct}
-use Rattle.std.proofs.Crossing as crossing
-use Rattle.std.specs.contracts.alloc.Global as heap
-use Rattle.std.specs.contracts.collections.VecDeque as deque
-use Rattle.std.specs.contracts.impls.GlobalAllocator.TheImpl.{ghosts}
-use Rattle.byte_streams.specs.contracts.line.Line as line_type
-use Rattle.byte_streams.proofs.line.Line.TheSendSync as line
 use Rattle.city_grid.proofs.shifts.Shift.TheSendSync as shift
 use Rattle.city_feature.proofs.choices.Choice.TheSendSync as choice
 use Rattle.tile_merge.proofs.merging.ends.TileEnd.TheSendSync as begun
@@ -19,14 +13,11 @@ use Rattle.tile_stream.specs.contracts.tile_reader.TileReader.TheInside as reade
 use Rattle.tile_stream.proofs.tile_reader.held.Held.TheSendSync as held
 use Rattle.tile_stream.proofs.lines.Lines.TheSendSync as lines
 
-ready_send : IsSend (deque.the_row line_type.the_row heap.the_row ghosts)
-ready_send = crossing.Deque-send line_type.the_row line.the_send
-
 module _ (R : RattleType) (reader : IsSend R) where
   reader_inside_send : IsSend (reader_inside.the_row R)
   reader_inside_send =
       let T = reader_inside.the_type R in
-      let fields = struct_send (shape T) (lines.the_send R reader, (held.the_field_send, (ready_send, tt))) in
+      let fields = struct_send (shape T) (lines.the_send R reader, (held.the_field_send, tt)) in
       recorded_send (Struct (shape T)) T.D T.to T.to_one fields
 
   reader_send : IsSend (reader_type.the_row R)
