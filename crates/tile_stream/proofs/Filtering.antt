@@ -1,5 +1,5 @@
 -- From the features that were written to the answer of the whole call.
-use Rattle.std.proofs.Common.{◌≡◌, ◌≢◌, ◌↔◌, ◌<◌, ◌+◌, ℕ, Bool, Result, Ok, Err, IfOk, IfErr, List, [], Option, Some, None, length, take, flat_map, refl, sym, ap, subst, ◌∙◌, inl, inr, take_all, le_refl}
+use Rattle.std.proofs.Common.{◌≡◌, ◌≢◌, ◌↔◌, ◌<◌, ◌+◌, ℕ, Bool, Result, Ok, Err, IfOk, IfErr, List, Option, Some, None, length, take, flat_map, refl, sym, ap, subst, ◌∙◌, inl, inr, take_all, le_refl}
 use Rattle.std.proofs.Math.Seq.{take-append-add}
 use Rattle.std.specs.Io.KnownBytes.{Appends, Keeps}
 use Rattle.std.proofs.KnownBytes.{Appends-trans, Keeps-refl, Keeps-trans}

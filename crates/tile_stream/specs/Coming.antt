@@ -1,5 +1,5 @@
 -- What is still to come of a tile that is being read: texts, and how it ends.
-use Rattle.std.specs.Prelude.{◌≡◌, ◌++◌, ℕ, Bool, List, ◌∷◌}
+use Rattle.std.specs.Prelude.{◌++◌, ℕ, Bool, List, ◌∷◌}
 use Rattle.city_feature.specs.Feature.{FeatureValue}
 use Rattle.city_feature.specs.FeatureLine.{GivesFeature, RefusesFeatureLine}
 use Rattle.city_grid.specs.Axes.{Triple}
