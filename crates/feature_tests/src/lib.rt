@@ -3,29 +3,21 @@
 #![tactic(auto)]
 
 #[cfg(test)]
+mod answers;
+#[cfg(test)]
 mod changes;
 #[cfg(test)]
 mod choices;
 #[cfg(test)]
-mod common_lines;
-#[cfg(test)]
-mod features;
-#[cfg(test)]
-mod first_types;
-#[cfg(test)]
 mod generated;
 #[cfg(test)]
 mod headers;
-#[cfg(test)]
-mod joined_lines;
 #[cfg(test)]
 mod joining;
 #[cfg(test)]
 mod lines;
 #[cfg(test)]
 mod many_extensions;
-#[cfg(test)]
-mod origins;
 #[cfg(test)]
 mod texts;
 #[cfg(test)]

@@ -1,149 +1,423 @@
-//! Lines with a fault: which it is, and that the text stays as it was.
-use crate::texts::{ALL, Asked, answers, filled};
+//! Lines of features: which are chosen, how they are moved, and which fault they have.
+use crate::answers::{gives_asked, has_room, holds, is_answered};
+use crate::texts::{Numbers, below, filled, repeated, split};
 use byte_streams::Fault;
-use std::alloc::{AllocError, Global};
+use city_feature::Choice;
+use city_grid::Shift;
+use std::alloc::{AllocError, AllocGlobal, Global};
+use std::process::Abort;
 
-const MOVED: Asked<'static> = Asked {
-    shift: [10, 20, 30],
-    ..ALL
-};
+/// The rows of a table hold.
+fn expect(rt: &(impl Abort + AllocGlobal), form: &str, table: &str, is_quick: bool) {
+    for row in table.lines() {
+        let answer = holds(rt.alloc(), form, row, is_quick);
+        assert!(rt; row.is_empty() || answer == Ok(true), "{row}");
+    }
+}
 
-const REFUSED: [(&str, Fault); 17] = [
-    (
-        r#"{"type":"CityJSON","id":"a","CityObjects":{},"vertices":[]}"#,
-        Fault::NotAFeature,
-    ),
-    (
-        r#"{"type":"CityJSONFeature","id":1,"CityObjects":{},"vertices":[]}"#,
-        Fault::NotAFeature,
-    ),
-    (
-        r#"{"type":"CityJSONFeature","id":"a","CityObjects":[],"vertices":[]}"#,
-        Fault::NotAFeature,
-    ),
-    (
-        r#"{"type":"CityJSONFeature","id":"a","CityObjects":{}}"#,
-        Fault::NotAFeature,
-    ),
-    (
-        r#"{"type":"CityJSONFeature","id":"a","CityObjects":{},"vertices":{}}"#,
-        Fault::NotAFeature,
-    ),
-    (
-        r#"{"type":"CityJSONFeature","id":"a","CityObjects":{},"vertices":[[1,2,3,4]]}"#,
-        Fault::VertexShape,
-    ),
-    (
-        r#"{"type":"CityJSONFeature","id":"a","CityObjects":{},"vertices":[[1,2,3],[1,2],[1,2,3]]}"#,
-        Fault::VertexShape,
-    ),
-    (
-        r#"{"type":"CityJSONFeature","id":"a","CityObjects":{},"vertices":[[1,2,3],[1.0,2,3]]}"#,
-        Fault::VertexNotInteger,
-    ),
-    (
-        r#"{"type":"CityJSONFeature","id":"a","CityObjects":{},"vertices":[[1,2,10000000000000000]]}"#,
-        Fault::VertexRange,
-    ),
-    (
-        r#"{"type":"CityJSONFeature","id":"a","CityObjects":{},"vertices":[[1,2,9007199254740991]]}"#,
-        Fault::VertexRange,
-    ),
-    (
-        r#"{"type":"CityJSONFeature","id":"a","CityObjects":{},"vertices":[[1,2,3]],"id":"b"}"#,
-        Fault::DuplicateName,
-    ),
-    ("{", Fault::Syntax),
-    ("{\"a\":1,\"\\u0061\":2}", Fault::DuplicateName),
-    ("[]", Fault::NotAFeature),
-    (
-        r#"{"type":"CityJSONFeature","id":"i","CityObjects":{},"vertices":[[1,2,3],[1,2]]}"#,
-        Fault::VertexShape,
-    ),
-    (
-        r#"{"type":"CityJSONFeature","id":"i","CityObjects":{},"vertices":[[1e2,0,0]]}"#,
-        Fault::VertexNotInteger,
-    ),
-    (
-        r#"{"type":"CityJSONFeature","id":"i","CityObjects":{},"vertices":[[0,0,0],[9007199254740991,0,0]]}"#,
-        Fault::VertexRange,
-    ),
-];
+/// Lines of a common spelling, which are answered with no value built. The area is that of the feature as it is moved.
+const TAKEN: &str = r#"
+10,20,30 => {"type":"CityJSONFeature","id":"a","CityObjects":{},"vertices":[]} => {"type":"CityJSONFeature","id":"a","CityObjects":{},"vertices":[]}
+10,20,30 => {"vertices":[[1,2,3],[-4,-5,-6]],"CityObjects":{"a":{"type":"Building"}},"id":"a","type":"CityJSONFeature"} => {"vertices":[[11,22,33],[6,15,24]],"CityObjects":{"a":{"type":"Building"}},"id":"a","type":"CityJSONFeature"}
+10,20,30 =>  { "type" : "CityJSONFeature" , "more" : [1.50] , "id" : "\u00e9" , "vertices" : [ [ 1 , 2 , 3 ] ] , "CityObjects" : { "\u0061" : { } } }  => {"type":"CityJSONFeature","more":[1.50],"id":"é","vertices":[[11,22,33]],"CityObjects":{"a":{}}}
+10,20,30 => {"type":"CityJSONFeature","id":"","CityObjects":{},"vertices":[[9007199254740981,-9007199254740991,0],[-10,-20,-30],[1000000000000000,0,0]]} => {"type":"CityJSONFeature","id":"","CityObjects":{},"vertices":[[9007199254740991,-9007199254740971,30],[0,0,0],[1000000000000010,20,30]]}
+all =>  {"vertices": [[1,2,3], [-4,0,6]], "id":"a", "type":"CityJSONFeature", "CityObjects":{}} => {"vertices":[[1,2,3],[-4,0,6]],"id":"a","type":"CityJSONFeature","CityObjects":{}}
+all => {"type":"CityJSONFeature", "id":"a", "CityObjects":{"a":{"type":"Building", "attributes":{"h":1.50e+3}}}, "vertices":[[1,2,3]]} => {"type":"CityJSONFeature","id":"a","CityObjects":{"a":{"type":"Building","attributes":{"h":1.50e+3}}},"vertices":[[1,2,3]]}
+1500,0,0;;1510,0,1510,100 => {"type":"CityJSONFeature","id":"b","CityObjects":{"b":{"type":"Building"}},"vertices":[[10,20,30]]} => {"type":"CityJSONFeature","id":"b","CityObjects":{"b":{"type":"Building"}},"vertices":[[1510,20,30]]}
+10,20,30;Road,Building => {"type":"CityJSONFeature","id":"\u00e9","CityObjects":{"é":{"type":""},"a":{"type":"Building"}},"vertices":[[1,2,3]]} => none
+10,20,30;Building;0,0,10,20;others => {"type":"CityJSONFeature","id":"\u00e9","CityObjects":{"é":{"type":""},"a":{"type":"Building"}},"vertices":[[1,2,3]]} => chosen
+"#;
+
+/// The vertices of a building.
+const BUILDING: &str =
+    r#"{"type":"CityJSONFeature","id":"b","CityObjects":{"b":{"type":"Building"}},"vertices":ROW}"#;
+
+/// Vertices are moved along each axis, and the area is tried on them as they are moved.
+const MOVED: &str = "
+1500,0,0 => [[10,20,30]] => [[1510,20,30]]
+0,0,0 => [[1,2,3]] => [[1,2,3]]
+7,0,0 => [] => []
+0,0,0 => [[-0,0,0]] => [[0,0,0]]
+5,0,0 => [[-5,-0,-7],[5,1,2],[0,0,0],[1,2,3]] => [[0,0,-7],[10,1,2],[5,0,0],[6,2,3]]
+-1,0,0 => [[9007199254740991,0,0]] => [[9007199254740990,0,0]]
+9007199254740991,0,0 => [[-9007199254740991,0,0]] => [[0,0,0]]
+100,-20,3 => [[1,2,3],[4,5,6]] => [[101,-18,6],[104,-15,9]]
+10,20,30;;15,25,40,40 => [[0,0,0],[5,5,5]] => chosen
+10,20,30;;15,25,40,40;others => [[0,0,0],[5,5,5]] => none
+10,20,30;;16,25,40,40 => [[0,0,0],[5,5,5]] => none
+10,20,30;;16,25,40,40;others => [[0,0,0],[5,5,5]] => chosen
+10,20,30;;0,0,10,20 => [[0,0,0],[5,5,5]] => chosen
+10,20,30;;0,0,10,20;others => [[0,0,0],[5,5,5]] => none
+10,20,30;;0,0,9,20 => [[0,0,0],[5,5,5]] => none
+10,20,30;;0,0,9,20;others => [[0,0,0],[5,5,5]] => chosen
+1500,0,0;;10,0,10,100 => [[10,20,30]] => none
+";
+
+/// All else is kept.
+const KEPT: &str = r#"
+0,0,0 => {"vertices":[[1,2,3]],"x":[[1,2,3]],"CityObjects":{"a":{"attributes":{"h":12.30,"e":1.50e+3,"vertices":[[1,2,3]]}}},"id":"a","type":"CityJSONFeature"} => {"vertices":[[1,2,3]],"x":[[1,2,3]],"CityObjects":{"a":{"attributes":{"h":12.30,"e":1.50e+3,"vertices":[[1,2,3]]}}},"id":"a","type":"CityJSONFeature"}
+1,0,0 => {"vertices":[[1,2,3]],"x":[[1,2,3]],"CityObjects":{"a":{"attributes":{"h":12.30,"e":1.50e+3,"vertices":[[1,2,3]]}}},"id":"a","type":"CityJSONFeature"} => {"vertices":[[2,2,3]],"x":[[1,2,3]],"CityObjects":{"a":{"attributes":{"h":12.30,"e":1.50e+3,"vertices":[[1,2,3]]}}},"id":"a","type":"CityJSONFeature"}
+0,0,0 => {"id":"","vertices":[[1,2,3]],"Vertices":[[-0,0]],"vertices-texture":[[0.5,-0]],"transform":{"scale":[1,1,1],"translate":[1,1,1]},"type":"CityJSONFeature","CityObjects":{}} => {"id":"","vertices":[[1,2,3]],"Vertices":[[-0,0]],"vertices-texture":[[0.5,-0]],"transform":{"scale":[1,1,1],"translate":[1,1,1]},"type":"CityJSONFeature","CityObjects":{}}
+1,0,0 => {"id":"","vertices":[[1,2,3]],"Vertices":[[-0,0]],"vertices-texture":[[0.5,-0]],"transform":{"scale":[1,1,1],"translate":[1,1,1]},"type":"CityJSONFeature","CityObjects":{}} => {"id":"","vertices":[[2,2,3]],"Vertices":[[-0,0]],"vertices-texture":[[0.5,-0]],"transform":{"scale":[1,1,1],"translate":[1,1,1]},"type":"CityJSONFeature","CityObjects":{}}
+"#;
+
+/// Vertices at fault, of which the first is told.
+const FAULTY_VERTICES: &str = r#"
+all => [[1.0,0,0]] => VertexNotInteger
+all => [[1e2,0,0]] => VertexNotInteger
+all => [[0,0,0],[0,0,0],[1.0,0,0],[1,2]] => VertexNotInteger
+all => [[1,2]] => VertexShape
+all => [["1",2,3]] => VertexShape
+all => [[0,0,0],[1,2],[1.0,0,0],[9007199254740992,0,0]] => VertexShape
+all => [[0,0,0],null] => VertexShape
+all => [1,2,3] => VertexShape
+all => [[9007199254740992,0,0]] => VertexRange
+all => [[0,0,0],[0,0,9007199254740992],[1,2],[0,0,1.0]] => VertexRange
+10,20,30 => [[1,2,3,4]] => VertexShape
+10,20,30 => [[1,2,3],[1,2],[1,2,3]] => VertexShape
+10,20,30 => [[1,2,3],[1.0,2,3]] => VertexNotInteger
+10,20,30 => [[1,2,10000000000000000]] => VertexRange
+10,20,30 => [[1,2,9007199254740991]] => VertexRange
+10,20,30 => [[1,2,3],[1,2]] => VertexShape
+10,20,30 => [[1e2,0,0]] => VertexNotInteger
+10,20,30 => [[0,0,0],[9007199254740991,0,0]] => VertexRange
+all => [[9007199254740991,0,0]] => chosen
+1,0,0 => [[9007199254740991,0,0]] => VertexRange
+all => [[0,0,0],[1,2,3],[9007199254740991,0,0]] => chosen
+1,0,0 => [[0,0,0],[1,2,3],[9007199254740991,0,0]] => VertexRange
+all => [[9007199254740991,0,0],[0,0,0]] => chosen
+1,0,0 => [[9007199254740991,0,0],[0,0,0]] => VertexRange
+"#;
+
+/// Texts that are no feature.
+const NO_FEATURES: &str = r#"
+all => [] => NotAFeature
+all => {} => NotAFeature
+all => {"type":"CityJSON","version":"2.0","transform":{"scale":[0.001,0.001,0.001],"translate":[0,0,0]},"CityObjects":{},"vertices":[]} => NotAFeature
+all => {"type":"CityJSONFeature","id":7,"CityObjects":{},"vertices":[]} => NotAFeature
+all => {"type":"CityJSONFeature","CityObjects":{},"vertices":[]} => NotAFeature
+all => {"type":"CityJSONFeature","id":"a","CityObjects":[],"vertices":[]} => NotAFeature
+all => {"type":"CityJSONFeature","id":"a","vertices":[]} => NotAFeature
+all => {"type":"CityJSONFeature","id":"a","CityObjects":{},"vertices":{}} => NotAFeature
+all => {"type":"CityJSONFeature","id":"a","CityObjects":{}} => NotAFeature
+all => {"type":"CityJSONFeatures","id":"a","CityObjects":{},"vertices":[]} => NotAFeature
+all => {"type":"CityJSONFeature","id":7,"CityObjects":{},"vertices":[1.5]} => NotAFeature
+10,20,30 => {"type":"CityJSON","id":"a","CityObjects":{},"vertices":[]} => NotAFeature
+10,20,30 => {"type":"CityJSONFeature","id":1,"CityObjects":{},"vertices":[]} => NotAFeature
+10,20,30 => {"type":"CityJSONFeature","id":"a","CityObjects":[],"vertices":[]} => NotAFeature
+10,20,30 => {"type":"CityJSONFeature","id":"a","CityObjects":{}} => NotAFeature
+10,20,30 => {"type":"CityJSONFeature","id":"a","CityObjects":{},"vertices":{}} => NotAFeature
+10,20,30 => {"type":"CityJSONFeature","id":"a","CityObjects":{},"vertices":[[1,2,3]],"id":"b"} => DuplicateName
+10,20,30 => { => Syntax
+10,20,30 => {"a":1,"\u0061":2} => DuplicateName
+10,20,30 => [] => NotAFeature
+"#;
+
+/// Vertices of any size, which stay as they are.
+const SIZES: &str =
+    "0 7 -8 12345678 -123456789 999999999999999 -1000000000000000 9007199254740991 -9007199254740991";
+
+const SIZED: &str = "
+all => [[ROW,2,3],[1,ROW,3],[1,2,ROW]] => [[ROW,2,3],[1,ROW,3],[1,2,ROW]]
+;;0,0,100,100 => [[ROW,2,3],[1,ROW,3],[1,2,ROW]] => [[ROW,2,3],[1,ROW,3],[1,2,ROW]]
+all => [[ROW,2,3],[1,ROW,3],[1,2,ROW],[1,2,3]] => [[ROW,2,3],[1,ROW,3],[1,2,ROW],[1,2,3]]
+;;0,0,100,100 => [[ROW,2,3],[1,ROW,3],[1,2,ROW],[1,2,3]] => [[ROW,2,3],[1,ROW,3],[1,2,ROW],[1,2,3]]
+all => [[ROW,2,3],[1,ROW,3],[1,2,ROW],[10000000,20000000,30000000],[-4,-5,-6]] => [[ROW,2,3],[1,ROW,3],[1,2,ROW],[10000000,20000000,30000000],[-4,-5,-6]]
+;;0,0,100,100 => [[ROW,2,3],[1,ROW,3],[1,2,ROW],[10000000,20000000,30000000],[-4,-5,-6]] => [[ROW,2,3],[1,ROW,3],[1,2,ROW],[10000000,20000000,30000000],[-4,-5,-6]]
+";
+
+/// Vertices, and members that are no vertices.
+const ZERO: &str =
+    r#"{"id":"a","vertices":ROW,"more":[-0,-0.0],"CityObjects":{"a":{"type":"Building"}},"type":"CityJSONFeature"}"#;
+
+/// A zero with a minus sign is one without when it is written, where the vertices are moved and where they are not.
+const ZEROS: &str = "
+;Building => [[-0,2,3]] => [[0,2,3]]
+;Building => [[1,2,3],[4,-0,-6],[7,8,-9]] => [[1,2,3],[4,0,-6],[7,8,-9]]
+;Building => [[100,200,300],[1,2,-0]] => [[100,200,300],[1,2,0]]
+;Building => [[-0,-0,-0],[-0,0,-0]] => [[0,0,0],[0,0,0]]
+10,20,30;Building => [[-0,2,3]] => [[10,22,33]]
+10,20,30;Building => [[1,2,3],[4,-0,-6],[7,8,-9]] => [[11,22,33],[14,20,24],[17,28,21]]
+10,20,30;Building => [[100,200,300],[1,2,-0]] => [[110,220,330],[11,22,30]]
+10,20,30;Building => [[-0,-0,-0],[-0,0,-0]] => [[10,20,30],[10,20,30]]
+";
+
+/// The same where an area is asked for.
+const ZEROS_IN_AREA: &str = "
+;Building;0,0,100,100 => [[-0,2,3]] => [[0,2,3]]
+;Building;0,0,100,100 => [[1,2,3],[4,-0,-6],[7,8,-9]] => [[1,2,3],[4,0,-6],[7,8,-9]]
+;Building;0,0,100,100 => [[100,200,300],[1,2,-0]] => [[100,200,300],[1,2,0]]
+;Building;0,0,100,100 => [[-0,-0,-0],[-0,0,-0]] => [[0,0,0],[0,0,0]]
+10,20,30;Building;0,0,100,100 => [[-0,2,3]] => [[10,22,33]]
+10,20,30;Building;0,0,100,100 => [[1,2,3],[4,-0,-6],[7,8,-9]] => [[11,22,33],[14,20,24],[17,28,21]]
+10,20,30;Building;0,0,100,100 => [[100,200,300],[1,2,-0]] => [[110,220,330],[11,22,30]]
+10,20,30;Building;0,0,100,100 => [[-0,-0,-0],[-0,0,-0]] => [[10,20,30],[10,20,30]]
+";
+
+/// Nothing is chosen in an area where there is nothing.
+const FAR_ZEROS: &str = "
+;;-9,-9,-8,-8 => [[-0,2,3]] => none
+;;-9,-9,-8,-8 => [[1,2,3],[4,-0,-6],[7,8,-9]] => none
+;;-9,-9,-8,-8 => [[100,200,300],[1,2,-0]] => none
+;;-9,-9,-8,-8 => [[-0,-0,-0],[-0,0,-0]] => none
+10,20,30;;-9,-9,-8,-8 => [[-0,2,3]] => none
+10,20,30;;-9,-9,-8,-8 => [[1,2,3],[4,-0,-6],[7,8,-9]] => none
+10,20,30;;-9,-9,-8,-8 => [[100,200,300],[1,2,-0]] => none
+10,20,30;;-9,-9,-8,-8 => [[-0,-0,-0],[-0,0,-0]] => none
+";
 
 #[test]
-fn each_fault_leaves_the_text_as_it_was(rt: HostRuntime) {
-    for (line, fault) in REFUSED.iter() {
+fn lines_are_answered_as_their_values_are(rt: HostRuntime) {
+    expect(&rt, "ROW", TAKEN, true);
+    expect(&rt, BUILDING, MOVED, false);
+    expect(&rt, "ROW", KEPT, false);
+    expect(&rt, BUILDING, FAULTY_VERTICES, false);
+    expect(&rt, "ROW", NO_FEATURES, false);
+    expect(&rt, ZERO, ZEROS, false);
+    expect(&rt, ZERO, ZEROS_IN_AREA, false);
+    expect(&rt, ZERO, FAR_ZEROS, false);
+}
+
+fn expect_room(rt: &(impl Abort + AllocGlobal), table: &str) {
+    for row in table.lines() {
         assert!(rt;
-            answers(rt.alloc(), line.as_bytes(), &MOVED, Err(*fault)),
-            "{line}"
+            row.is_empty() || has_room(rt.alloc(), ZERO, row) == Ok(true),
+            "{row}"
         );
     }
 }
 
 #[test]
-fn a_line_that_is_no_text_is_refused(rt: HostRuntime) {
-    assert!(rt; answers(rt.alloc(), b"\xff", &MOVED, Err(Fault::NotUtf8)));
+fn a_moved_line_has_room_for_more(rt: HostRuntime) {
+    expect_room(&rt, ZEROS);
+    expect_room(&rt, ZEROS_IN_AREA);
+}
+
+fn is_refused(alloc: Global, bytes: &[u8], fault: Fault) -> bool {
+    let choice = Choice::new(None, None, false);
+    match Shift::new(10, 20, 30) {
+        Some(shift) => is_answered(alloc, bytes, (shift, &choice), b"", Some(fault)),
+        None => false,
+    }
 }
 
 fn deep_line_is_refused(alloc: Global) -> bool {
     match "[".repeat(alloc, 129) {
-        Ok(line) => answers(alloc, line.as_bytes(), &MOVED, Err(Fault::TooDeep)),
+        Ok(line) => is_refused(alloc, line.as_bytes(), Fault::TooDeep),
         Err(_) => false,
     }
 }
 
 #[test]
-fn a_deep_line_is_refused(rt: HostRuntime) {
+fn bytes_that_are_no_text_and_deep_lines_are_refused(rt: HostRuntime) {
+    assert!(rt; is_refused(rt.alloc(), b"\xff", Fault::NotUtf8));
     assert!(rt; deep_line_is_refused(rt.alloc()));
 }
 
-const VERTICES: [(&str, Fault); 9] = [
-    ("[1,2]", Fault::VertexShape),
-    ("[1,2,3,4]", Fault::VertexShape),
-    ("7", Fault::VertexShape),
-    ("[1,\"2\",3]", Fault::VertexShape),
-    ("[1,2.0,3]", Fault::VertexNotInteger),
-    ("[1,2,3e0]", Fault::VertexNotInteger),
-    ("[1,2,9007199254740992]", Fault::VertexRange),
-    ("[1,-10000000000000000,3]", Fault::VertexRange),
-    ("[9007199254740991,2,3]", Fault::VertexRange),
-];
-
-/// Lines in which a vertex stands for `ROW`.
-const LINES: [&str; 3] = [
-    r#"{"type":"CityJSONFeature","id":"b","CityObjects":{"b":{"type":"Building"}},"vertices":[ROW,[4,5,6],[7,8,9]]}"#,
-    r#"{"type":"CityJSONFeature","id":"b","CityObjects":{"b":{"type":"Building"}},"vertices":[[4,5,6],ROW,[7,8,9]]}"#,
-    r#"{"type":"CityJSONFeature","id":"b","CityObjects":{"b":{"type":"Building"}},"vertices":[[4,5,6],[7,8,9],ROW]}"#,
-];
-
-fn vertex_is_refused(
-    alloc: Global,
-    line: &str,
-    vertex: &str,
-    fault: Fault,
-) -> Result<bool, AllocError> {
-    let asked = Asked {
-        shift: [1, 0, 0],
-        ..ALL
-    };
-    let line = filled(alloc, line, vertex)?;
-    Ok(answers(alloc, line.as_bytes(), &asked, Err(fault)))
+/// The rows of a table hold, where these rows stand for `ROW` in the form and in the table.
+fn expect_filled(
+    rt: &(impl Abort + AllocGlobal),
+    (form, row): (&str, &str),
+    (table, other): (&str, &str),
+    is_quick: bool,
+) -> Result<(), AllocError> {
+    let form = filled(rt.alloc(), form, row)?;
+    let table = filled(rt.alloc(), table, other)?;
+    expect(rt, &form, &table, is_quick);
+    Ok(())
 }
 
-/// The first of the vertices that is not refused as it is to be.
-fn first_other(alloc: Global, line: &str) -> Option<&'static str> {
-    for (vertex, fault) in VERTICES.iter() {
-        if vertex_is_refused(alloc, line, vertex, *fault) != Ok(true) {
-            return Some(vertex);
+/// Where a vertex may stand among others.
+const PLACES: &str = "[ROW,[4,5,6],[7,8,9]] [[4,5,6],ROW,[7,8,9]] [[4,5,6],[7,8,9],ROW]";
+
+const FAULTS: &str = r#"
+1,0,0 => [1,2] => VertexShape
+1,0,0 => [1,2,3,4] => VertexShape
+1,0,0 => 7 => VertexShape
+1,0,0 => [1,"2",3] => VertexShape
+1,0,0 => [1,2.0,3] => VertexNotInteger
+1,0,0 => [1,2,3e0] => VertexNotInteger
+1,0,0 => [1,2,9007199254740992] => VertexRange
+1,0,0 => [1,-10000000000000000,3] => VertexRange
+1,0,0 => [9007199254740991,2,3] => VertexRange
+"#;
+
+#[test]
+fn vertices_are_told_or_kept_wherever_they_stand(rt: HostRuntime) -> Result<(), AllocError> {
+    for place in PLACES.split(' ') {
+        expect_filled(&rt, (BUILDING, place), (FAULTS, ""), false)?;
+    }
+    for number in SIZES.split(' ') {
+        expect_filled(&rt, (BUILDING, "ROW"), (SIZED, number), true)?;
+    }
+    Ok(())
+}
+
+/// A feature of these members.
+const MEMBERS: &str = r#"{"type":"CityJSONFeature",ROW,"vertices":[[1,-2,30]]}"#;
+
+/// Members of a feature, and its type, wherever it stands: it is that of the object that the identifier names.
+const TYPES: &str = r#"
+"id":"a","CityObjects":{"a":{"type":"Road"}} => Road
+"CityObjects":{"a":{"type":"Road"},"b":{"type":"Bridge"}},"id":"a" => Road
+"id":"b","CityObjects":{"a":{"type":"Bridge"},"b":{"type":"Road"}} => Road
+"id":"a","CityObjects":{"ab":{"type":"Bridge"},"a":{"type":"Road"}} => Road
+"id":"ab","CityObjects":{"a":{"type":"Bridge"},"ab":{"type":"Road"}} => Road
+"id":"a","CityObjects":{"a":{"attributes":{"type":"Bridge"},"type":"Road"}} => Road
+"id":"a","CityObjects":{"a":{"typ":"Bridge","type":"Road"}} => Road
+"id":"a","CityObjects":{"a" : { "type" : "Road" , "x":1}} => Road
+"id":"a","CityObjects":{ "a":{"t\u0079pe":"Road"}} => Road
+"id":"a","CityObjects":{"a":{"type":"Ro\u0061d"}} => Road
+"id":"a\"","CityObjects":{"a\"":{"type":"Road"},"a":{"type":"Bridge"}} => Road
+"id":"\u00e9","CityObjects":{"é":{"type":"Road"}} => Road
+"id":"é","CityObjects":{"\u00e9":{"type":"Road"}} => Road
+"id":"","CityObjects":{"":{"type":"+GenericCityObject2"}} => +GenericCityObject2
+"id":"a","CityObjects":{"a":{"type":"+Noise-Barrier"}} => +Noise-Barrier
+"id":"a","CityObjects":{"a":{"type":"Straße"}} => Straße
+"id":"a","CityObjects":{"a":{"type":"Ro ad"}} => Ro ad
+"id":"a","CityObjects":{"a":{"type":"[Road]"}} => [Road]
+"id":"\u00e9","CityObjects":{"a":{"type":"Bridge"},"é":{"attributes":{"type":"Road"},"type":"Building"},"type":{"type":"Tunnel"}} => Building
+"id":"\u00e9","CityObjects":{ "\u00e9" : { "type" : "\u0042uilding", "children" : ["é"] } } => Building
+"#;
+
+/// Types that are asked for, of which `ROW` is that of the feature, and whether it is chosen.
+const ASKED: &str = "
+;ROW => it => chosen
+;Tunnel,ROW,Bridge2 => it => chosen
+;Bridge => it => none
+;Roa => it => none
+;oad => it => none
+;road => it => none
+;Tunnel,BuildingPart => it => none
+;ROWs => it => none
+10,20,30;Road,ROW,Bridge => it => chosen
+10,20,30;ROW;0,0,10,20;others => it => chosen
+";
+
+#[test]
+fn the_type_is_told_wherever_it_stands(rt: HostRuntime) -> Result<(), AllocError> {
+    for row in TYPES.lines() {
+        let (members, name) = split(row);
+        if !row.is_empty() {
+            expect_filled(&rt, (MEMBERS, members), (ASKED, name), true)?;
         }
     }
-    None
+    Ok(())
+}
+
+/// The city object of a feature.
+const OBJECT: &str = r#"{"type":"CityJSONFeature","id":"a","CityObjects":ROW,"vertices":[]}"#;
+
+/// A type that is no text, or that of another object, is none of the types.
+const OTHER_TYPES: &str = r#"
+;Road => {"a":{"type":1}} => none
+;Road => {"a":{"type":["Road"]}} => none
+;Road => {"a":{}} => none
+;Road => {"a":[]} => none
+;Road => {"a":"Road"} => none
+;Road => {"a":null} => none
+;Bridge,Gebäude => {"b":{"type":"Gebäude"},"a":{"type":"Road"}} => none
+;Bridge,Gebäude => {"b":{"type":"Road"},"a":{"type":"Gebäude"}} => chosen
+;Bridge,Gebäude => {"b":{"type":"Gebäude"},"a":{}} => none
+;Bridge,Gebäude => {"a":{"type":["Gebäude"]}} => none
+;Bridge,Gebäude => {"a":"Gebäude"} => none
+;Bridge,Gebäude => {"a":null} => none
+;Bridge,Gebäude => {"A":{"type":"Gebäude"}} => none
+;Bridge,Gebäude => {} => none
+;Bridge,Gebäude => {"\u0061":{"type":"Geb\u00e4ude"}} => chosen
+"#;
+
+#[test]
+fn a_type_that_is_no_text_is_none_of_the_types(rt: HostRuntime) {
+    expect(&rt, OBJECT, OTHER_TYPES, false);
+}
+
+/// Many vertices, `GIVEN` in a line and `WRITTEN` in its text, are all moved.
+const MANY: &str = "
+100000000,0,0 => [[7,-7,7]GIVEN] => [[100000007,-7,7]WRITTEN]
+100000000,0,0;;100000001,-1,100000001,-1 => [[7,-7,7]GIVEN] => [[100000007,-7,7]WRITTEN]
+";
+
+/// All of them count.
+const CORNERS: &str = "
+;;9999,-9999,9999,-9999 => [[7,-7,7]GIVEN] => chosen
+;;1,-1,1,-1 => [[7,-7,7]GIVEN] => chosen
+;;10000,-9999,10000,0 => [[7,-7,7]GIVEN] => none
+;;0,-10001,9999,-10000 => [[7,-7,7]GIVEN] => none
+;;-5,-5,0,0 => [[7,-7,7]GIVEN] => none
+;;0,0,5,5 => [[7,-7,7]GIVEN] => none
+";
+
+fn with_many(alloc: Global, table: &str, last: u32) -> Result<String, AllocError> {
+    let numbers = Numbers {
+        first: 1,
+        ..below(last)
+    };
+    let table = repeated(alloc, table, "GIVEN", (",[NUMBER,-NUMBER,7]", ""), numbers)?;
+    repeated(
+        alloc,
+        &table,
+        "WRITTEN",
+        (",[1DIGITS,-NUMBER,7]", ""),
+        numbers,
+    )
 }
 
 #[test]
-fn a_faulty_vertex_is_told_wherever_it_stands(rt: HostRuntime) {
-    for line in LINES.iter() {
-        let other = first_other(rt.alloc(), line);
-        assert!(rt; other.is_none(), "{} {line}", other.unwrap_or(""));
+fn many_vertices_are_moved_and_count(rt: HostRuntime) -> Result<(), AllocError> {
+    expect(&rt, BUILDING, &with_many(rt.alloc(), MANY, 100_000)?, true);
+    expect(
+        &rt,
+        BUILDING,
+        &with_many(rt.alloc(), CORNERS, 10_000)?,
+        true,
+    );
+    Ok(())
+}
+
+/// Features p, q, r and z, of which z has no object that its identifier names.
+const FEATURES: &str =
+    r#"{"type":"CityJSONFeature","id":"p","CityObjects":{"p":{"type":"Building"}},"vertices":[[0,0,0],[10,10,0]]}
+{"type":"CityJSONFeature","id":"q","CityObjects":{"q":{"type":"Building"}},"vertices":[[10,20,0]]}
+{"type":"CityJSONFeature","id":"r","CityObjects":{"r":{"type":"Building"}},"vertices":[]}
+{"type":"CityJSONFeature","id":"z","CityObjects":{"y":{"type":"Building"}},"vertices":[]}"#;
+
+/// What is asked for, and which of them it selects.
+const SELECTED: &str = "
+all => pqrz
+;;;others => ----
+;Building => pqr-
+;Building;;others => ---z
+;Bridge,Road,Building => pqr-
+;Bridge => ----
+;building,Buildin,Buildings => ----
+;;10,10,20,20 => pq--
+;;-5,0,10,10 => p---
+;;10,10,20,20;others => --rz
+;;3,4,5,6 => p---
+;;11,0,20,19 => ----
+;;-9,-9,-1,99 => ----
+;Bridge;10,10,20,20 => ----
+;Building;10,10,20,20 => pq--
+;Building;10,20,20,20;others => p-rz
+";
+
+fn are_selected(alloc: Global, asked: &str, marks: &str) -> bool {
+    let mut agree = !marks.is_empty();
+    for (line, mark) in FEATURES.lines().zip(marks.bytes()) {
+        let wanted = if mark == b'-' { "none" } else { line };
+        agree = agree && gives_asked(alloc, line, asked, wanted);
+    }
+    agree
+}
+
+#[test]
+fn types_and_areas_select_features(rt: HostRuntime) {
+    for row in SELECTED.lines() {
+        let (asked, marks) = split(row);
+        assert!(rt;
+            row.is_empty() || are_selected(rt.alloc(), asked, marks),
+            "{row}"
+        );
     }
 }

@@ -1,7 +1,5 @@
-//! Texts, and what is answered of a feature's line.
-use byte_streams::{Fault, Line};
-use city_feature::{Choice, area, feature_line, types};
-use city_grid::Shift;
+//! Texts: tables of rows, one on each line, and long texts.
+use byte_streams::Fault;
 use std::alloc::{AllocError, Global};
 
 /// The text, in which this row stands for `ROW`.
@@ -9,70 +7,73 @@ pub(crate) fn filled(alloc: Global, text: &str, row: &str) -> Result<String, All
     text.replace(alloc, "ROW", row)
 }
 
-/// Which features are asked for, and how far they are moved; an empty text stands for all types, or for all areas.
-#[derive(Clone, Copy)]
-pub(crate) struct Asked<'a> {
-    pub(crate) shift: [i64; 3],
-    pub(crate) types: &'a str,
-    pub(crate) area: &'a str,
-    pub(crate) exclude: bool,
-}
-
-pub(crate) const ALL: Asked<'static> = Asked {
-    shift: [0, 0, 0],
-    types: "",
-    area: "",
-    exclude: false,
-};
-
-pub(crate) fn choice_of(alloc: Global, asked: &Asked<'_>) -> Result<Choice, Fault> {
-    Ok(Choice::new(types(alloc, asked.types)?, area(asked.area), asked.exclude))
-}
-
-pub(crate) fn shift_of(steps: [i64; 3]) -> Option<Shift> {
-    Shift::new(steps[0], steps[1], steps[2])
-}
-
-/// What stands in the text before a feature is added to it.
-const FRONT: &[u8] = b"front ";
-
-fn front(alloc: Global) -> Result<Line, AllocError> {
-    Ok(Line::from_vec(FRONT.to_vec(alloc)?))
-}
-
-/// What is answered of a line, where a text is added to what stands there.
-pub(crate) fn told(
-    alloc: Global,
-    line: &[u8],
-    asked: &Asked<'_>,
-    text: &mut Line,
-) -> Option<Result<bool, Fault>> {
-    let shift = shift_of(asked.shift)?;
-    match choice_of(alloc, asked) {
-        Ok(choice) => Some(feature_line(alloc, line, shift, &choice, text)),
-        Err(_) => None,
+/// What stands before the first arrow of a row, and after it.
+pub(crate) fn split(row: &str) -> (&str, &str) {
+    match row.split_once(" => ") {
+        Some(parts) => parts,
+        None => (row, ""),
     }
 }
 
-/// Whether the line is that of a feature that is chosen, and this text is added for it.
-pub(crate) fn gives(alloc: Global, line: &str, asked: &Asked<'_>, wanted: &str) -> bool {
-    let Ok(mut text) = front(alloc) else {
-        return false;
-    };
-    told(alloc, line.as_bytes(), asked, &mut text) == Some(Ok(true))
-        && text.items().get(FRONT.len()..) == Some(wanted.as_bytes())
+pub(crate) fn is_named(alloc: Global, fault: Fault, name: &str) -> bool {
+    match format!(in alloc; "{fault:?}") {
+        Ok(text) => text.as_str() == name,
+        Err(_) => false,
+    }
 }
 
-/// Whether this is answered of the line, and a text is added only where its feature is chosen.
-pub(crate) fn answers(
+/// Which numbers, in which order: the places from the first on and below the last, each times the step, modulo the last.
+#[derive(Clone, Copy)]
+pub(crate) struct Numbers {
+    pub(crate) first: u32,
+    pub(crate) last: u32,
+    pub(crate) step: u32,
+}
+
+/// The numbers below this one, in their order.
+pub(crate) const fn below(last: u32) -> Numbers {
+    Numbers {
+        first: 0,
+        last,
+        step: 1,
+    }
+}
+
+/// The form, in which this number stands for `NUMBER`, and with eight digits for `DIGITS`.
+fn numbered(alloc: Global, form: &str, number: u32) -> Result<String, AllocError> {
+    let text = form.replace(alloc, "NUMBER", &format!(in alloc; "{number}")?)?;
+    text.replace(alloc, "DIGITS", &format!(in alloc; "{number:08}")?)
+}
+
+fn put_numbered(
+    text: &mut String,
     alloc: Global,
-    line: &[u8],
-    asked: &Asked<'_>,
-    wanted: Result<bool, Fault>,
-) -> bool {
-    let Ok(mut text) = front(alloc) else {
-        return false;
-    };
-    told(alloc, line, asked, &mut text) == Some(wanted)
-        && (text.items() == FRONT) == (wanted != Ok(true))
+    (form, separator): (&str, &str),
+    number: u32,
+) -> Result<(), AllocError> {
+    if !text.is_empty() {
+        text.push_str(separator)?;
+    }
+    text.push_str(&numbered(alloc, form, number)?)
+}
+
+/// The forms of these numbers, with the separator between two of them.
+fn for_each(alloc: Global, form: (&str, &str), numbers: Numbers) -> Result<String, AllocError> {
+    let mut text = String::new(alloc);
+    for place in numbers.first..numbers.last {
+        let number = place.wrapping_mul(numbers.step).checked_rem(numbers.last);
+        put_numbered(&mut text, alloc, form, number.unwrap_or(0))?;
+    }
+    Ok(text)
+}
+
+/// The text, in which the forms of these numbers stand for the name.
+pub(crate) fn repeated(
+    alloc: Global,
+    text: &str,
+    name: &str,
+    form: (&str, &str),
+    numbers: Numbers,
+) -> Result<String, AllocError> {
+    text.replace(alloc, name, &for_each(alloc, form, numbers)?)
 }

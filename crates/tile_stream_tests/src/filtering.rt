@@ -1,338 +1,269 @@
 //! One tile, filtered: what is written, and what is refused where.
 
-use byte_streams::{Bin, Device, Fault, Line, MergeFault, Source, Tape};
-use city_feature::{Choice, area, types};
-use std::alloc::{AllocError, Global};
+use crate::texts::{
+    FEATURE_A, HEADER, NOT_WRITTEN, Way, choice_of, every_feature, filters, filters_anyhow,
+    is_told, stream_of,
+};
+use byte_streams::{Bin, Device, Fault, Line, Source, Tape};
+use city_feature::Choice;
+use std::alloc::{AllocError, AllocGlobal, Global};
 use std::io::{self, ErrorKind, Write};
 use std::process::Abort;
 use std::sync::atomic::AtomicU64;
 use std::sync::atomic::Ordering::SeqCst;
-use std::test::Fail;
 use tile_stream::{TileReader, filter_stream, filter_tile};
 
-pub(crate) const HEADER: &str =
-    r#"{"type":"CityJSON","version":"2.0","transform":{"scale":[0.001,0.001,0.001],"translate":[0,0,0]},"CityObjects":{},"vertices":[]}"#;
+/// What stands before the first arrow of a row, and after it.
+fn split(row: &str) -> (&str, &str) {
+    match row.split_once("=>") {
+        Some((before, after)) => (before.trim(), after.trim()),
+        None => (row.trim(), ""),
+    }
+}
 
-const HEADER_WITH_METADATA: &str =
-    r#"{"type":"CityJSON","version":"2.0","transform":{"scale":[0.001,0.001,0.001],"translate":[0,0,0]},"CityObjects":{},"vertices":[],"metadata":{"geographicalExtent":[0,0,0,1,1,1],"title":"t"}}"#;
+/// Whether the row holds: the lines of a tile by their words, those that are written, and the answer.
+fn holds(alloc: Global, choice: &Choice, row: &str, fails: bool) -> Result<bool, AllocError> {
+    let (words, wanted) = split(row);
+    let (written, answer) = split(wanted);
+    let input = stream_of(alloc, words)?;
+    let written = stream_of(alloc, written)?;
+    Ok(filters_anyhow(
+        alloc,
+        choice,
+        (input.as_bytes(), fails),
+        (written.as_bytes(), answer),
+    ))
+}
 
-pub(crate) const FEATURE_A: &str =
-    r#"{"type":"CityJSONFeature","id":"a","CityObjects":{"a":{"type":"Building"}},"vertices":[]}"#;
+/// All features are asked for.
+fn expect(rt: &(impl Abort + AllocGlobal), table: &str, fails: bool) {
+    for row in table.lines() {
+        let answer = holds(rt.alloc(), &every_feature(), row, fails);
+        assert!(rt; answer == Ok(true), "{row}");
+    }
+}
 
-const FEATURE_B: &str =
-    r#"{"type":"CityJSONFeature","id":"b","CityObjects":{"b":{"type":"Building"}},"vertices":[]}"#;
+/// Blank lines alone are no stream; white space is left out, and a header stays as it is; lines and vertices are refused
+/// where they stand.
+const WHOLE: &str = r#" =>  => tile 1 line 0: NoHeader
+EMPTY BLANK =>  => tile 1 line 0: NoHeader
+SPACED_HEADER SPACED_FEATURE => HEADER COMPACT_FEATURE => 1
+{"type":"CityJSON","version":"2.0","transform":{"scale":[0.001,0.001,0.001],"translate":[0,0,0]},"CityObjects":{},"vertices":[],"metadata":{"geographicalExtent":[0,0,0,1,1,1],"title":"t"}} => {"type":"CityJSON","version":"2.0","transform":{"scale":[0.001,0.001,0.001],"translate":[0,0,0]},"CityObjects":{},"vertices":[],"metadata":{"geographicalExtent":[0,0,0,1,1,1],"title":"t"}} => 0
+HEADER HEADER => HEADER => tile 1 line 2: NotAFeature
+[] A =>  => tile 1 line 1: NotCityJson
+[ A =>  => tile 1 line 1: Syntax
+HEADER {"type":"CityJSONFeature","id":"a","CityObjects":{"a":{"type":"Building"}},"vertices":[[1.0,0,0]]} B => HEADER => tile 1 line 2: VertexNotInteger
+HEADER {"type":"CityJSONFeature","id":"a","CityObjects":{"a":{"type":"Building"}},"vertices":[[1e2,0,0]]} B => HEADER => tile 1 line 2: VertexNotInteger
+HEADER {"type":"CityJSONFeature","id":"a","CityObjects":{"a":{"type":"Building"}},"vertices":[[1,2]]} B => HEADER => tile 1 line 2: VertexShape
+HEADER {"type":"CityJSONFeature","id":"a","CityObjects":{"a":{"type":"Building"}},"vertices":[["1",2,3]]} B => HEADER => tile 1 line 2: VertexShape
+HEADER {"type":"CityJSONFeature","id":"a","CityObjects":{"a":{"type":"Building"}},"vertices":[[9007199254740992,0,0]]} B => HEADER => tile 1 line 2: VertexRange
+HEADER {"type":"CityJSONFeature","id":"a","CityObjects":{"a":{"type":"Building"}},"vertices":[[-0,0,0]]} => HEADER {"type":"CityJSONFeature","id":"a","CityObjects":{"a":{"type":"Building"}},"vertices":[[0,0,0]]} => 1"#;
+
+/// Lines before a failed read are written.
+const FAILING: &str = " =>  => tile 1 line 1: Read
+HEADER => HEADER => tile 1 line 2: Read
+HEADER A => HEADER A => tile 1 line 3: Read";
+
+#[test]
+fn tiles_are_filtered(rt: HostRuntime) {
+    expect(&rt, WHOLE, false);
+    expect(&rt, FAILING, true);
+}
+
+/// What stands in a tile of blank lines, and a last line that no newline ends.
+fn blanks_are_left_out(
+    alloc: Global,
+    (last, fails): (&str, bool),
+    written: &str,
+    answer: &str,
+) -> Result<bool, AllocError> {
+    let input = format!(in alloc; "\n{HEADER}\r\n \t\r\n{FEATURE_A}\r\n{last}")?;
+    let written = stream_of(alloc, written)?;
+    Ok(filters_anyhow(
+        alloc,
+        &every_feature(),
+        (input.as_bytes(), fails),
+        (written.as_bytes(), answer),
+    ))
+}
+
+#[test]
+fn blank_lines_are_counted_and_left_out(rt: HostRuntime) {
+    let alloc = rt.alloc();
+    let answer = "tile 1 line 5: Syntax";
+    assert!(rt; blanks_are_left_out(alloc, ("{", false), "HEADER A", answer) == Ok(true));
+    assert!(rt; blanks_are_left_out(alloc, (FEATURE_A, false), "HEADER A A", "2") == Ok(true));
+    // A line that no newline ends is at fault with the read.
+    let answer = "tile 1 line 5: Read";
+    assert!(rt; blanks_are_left_out(alloc, (FEATURE_A, true), "HEADER A", answer) == Ok(true));
+}
 
 /// Features p, q and r, and one whose identifier names no object.
-const PLACED: [&str; 4] = [
-    r#"{"type":"CityJSONFeature","id":"p","CityObjects":{"p":{"type":"Building"}},"vertices":[[0,0,0],[10,10,0]]}"#,
-    r#"{"type":"CityJSONFeature","id":"q","CityObjects":{"q":{"type":"Building"}},"vertices":[[10,20,0]]}"#,
-    r#"{"type":"CityJSONFeature","id":"r","CityObjects":{"r":{"type":"Building"}},"vertices":[]}"#,
-    r#"{"type":"CityJSONFeature","id":"z","CityObjects":{"y":{"type":"Building"}},"vertices":[]}"#,
+const PLACED: &str =
+    r#"{"type":"CityJSONFeature","id":"p","CityObjects":{"p":{"type":"Building"}},"vertices":[[0,0,0],[10,10,0]]}
+{"type":"CityJSONFeature","id":"q","CityObjects":{"q":{"type":"Building"}},"vertices":[[10,20,0]]}
+{"type":"CityJSONFeature","id":"r","CityObjects":{"r":{"type":"Building"}},"vertices":[]}
+{"type":"CityJSONFeature","id":"z","CityObjects":{"y":{"type":"Building"}},"vertices":[]}"#;
+
+/// The types and the area of what is chosen, whether all others are, and which of the four it is.
+const CHOSEN: [(&str, &str, bool, &str); 8] = [
+    ("", "10,10,20,20", false, "pq"),
+    ("", "-5,0,10,10", false, "p"),
+    ("", "10,10,20,20", true, "rz"),
+    ("", "", true, ""),
+    ("", "", false, "pqrz"),
+    ("Building", "", false, "pqr"),
+    ("Building", "", true, "z"),
+    ("Bridge", "10,10,20,20", false, ""),
 ];
 
-/// A stream as people write it, and the same with no white space.
-pub(crate) const SPACED: [&str; 2] = [
-    r#"{ "type": "CityJSON", "version": "2.0", "transform": {"scale": [0.001, 0.001, 0.001], "translate": [0, 0, 0]}, "CityObjects": {}, "vertices": [] }"#,
-    r#"{"type":"CityJSONFeature", "id":"a", "CityObjects":{"a":{"type":"Building", "attributes":{"h":1.50e+3}}}, "vertices":[[1,2,3]]}"#,
-];
-
-pub(crate) const COMPACT: [&str; 2] = [
-    HEADER,
-    r#"{"type":"CityJSONFeature","id":"a","CityObjects":{"a":{"type":"Building","attributes":{"h":1.50e+3}}},"vertices":[[1,2,3]]}"#,
-];
-
-/// A choice of all features.
-pub(crate) fn every_feature() -> Choice {
-    Choice::new(None, None, false)
-}
-
-pub(crate) fn at_line(line: u64, fault: Fault) -> Result<u64, MergeFault> {
-    Err(MergeFault {
-        tile: 1,
-        line,
-        fault,
-    })
-}
-
-pub(crate) const NOT_WRITTEN: MergeFault = MergeFault {
-    tile: 0,
-    line: 0,
-    fault: Fault::Write,
-};
-
-/// These texts, each followed by a newline.
-pub(crate) fn stream_of(alloc: Global, texts: &[&str]) -> Result<Vec<u8>, AllocError> {
-    let mut stream = Vec::new(alloc);
-    for text in texts {
-        stream.extend_from_slice(text.as_bytes())?;
-        stream.push(b'\n')?;
+/// The header and those of the four that are named.
+fn stream_of_placed(alloc: Global, names: &str) -> Result<String, AllocError> {
+    let mut stream = stream_of(alloc, "HEADER")?;
+    for (line, name) in PLACED.lines().zip("pqrz".chars()) {
+        if names.contains(name) {
+            stream.push_str(line)?;
+            stream.push('\n')?;
+        }
     }
     Ok(stream)
 }
 
-/// Wants this answer of a call, at this step or room.
-pub(crate) fn expect_answer(
-    rt: &impl Abort,
-    found: Result<u64, MergeFault>,
-    wanted: Result<u64, MergeFault>,
-    at: usize,
-) {
-    assert!(rt; found == wanted, "{found:?} at {at}");
+fn chooses(alloc: Global, choice: &Choice, names: &str) -> Result<bool, Fault> {
+    let input = stream_of_placed(alloc, "pqrz")?;
+    let written = stream_of_placed(alloc, names)?;
+    let answer = format!(in alloc; "{}", names.len())?;
+    Ok(filters_anyhow(
+        alloc,
+        choice,
+        (input.as_bytes(), false),
+        (written.as_bytes(), &answer),
+    ))
 }
 
-pub(crate) fn expect_bytes(rt: &impl Abort, found: &[u8], wanted: &[u8], at: usize) {
-    assert!(rt; found == wanted, "{} bytes at {at}", found.len());
+/// And so does a copy of the choice.
+fn copies_choose(alloc: Global, choice: &Choice, names: &str) -> Result<bool, Fault> {
+    let copy = choice.copy(alloc)?;
+    Ok(chooses(alloc, choice, names) == Ok(true) && chooses(alloc, &copy, names) == Ok(true))
 }
 
-pub(crate) fn expect_count(rt: &impl Abort, count: &AtomicU64, wanted: u64) {
-    let found = count.load(SeqCst);
-    assert!(rt; found == wanted, "{found} in place of {wanted}");
-}
-
-/// Filters with ample memory, at few and at many bytes a read and a write, and compares all that is
-/// answered and written.
-pub(crate) fn expect_filter(
-    rt: &(impl Abort + AllocGlobal),
-    choice: &Choice,
-    (input, fails): (&[u8], bool),
-    answer: Result<u64, MergeFault>,
-    written: &[&str],
-) -> Result<(), Fail> {
-    let written = stream_of(rt.alloc(), written)?;
-    for step in [1usize, 7, 100_000] {
-        let tape = Tape::new(
-            Line::from_vec(input.to_vec(rt.alloc())?),
-            step.max(1),
-            fails,
-        );
-        let mut output = Bin::new(rt.alloc(), 65_536, step, false)?;
-        let found = filter_stream(rt.alloc(), tape, choice, &mut output);
-        expect_answer(rt, found, answer, step);
-        expect_bytes(rt, output.bytes(), &written, step);
-    }
-    Ok(())
-}
-
-#[test]
-fn blank_lines_alone_are_no_stream(rt: HostRuntime) -> Result<(), Fail> {
-    for input in ["", "\n \t\r\n"] {
-        let answer = at_line(0, Fault::NoHeader);
-        expect_filter(
-            &rt,
-            &every_feature(),
-            (input.as_bytes(), false),
-            answer,
-            &[],
-        )?;
-    }
-    Ok(())
-}
-
-#[test]
-fn vertices_are_whole_numbers_in_range(rt: HostRuntime) -> Result<(), Fail> {
-    for (vertices, fault) in [
-        ("[[1.0,0,0]]", Fault::VertexNotInteger),
-        ("[[1e2,0,0]]", Fault::VertexNotInteger),
-        ("[[1,2]]", Fault::VertexShape),
-        (r#"[["1",2,3]]"#, Fault::VertexShape),
-        ("[[9007199254740992,0,0]]", Fault::VertexRange),
-    ] {
-        let feature = FEATURE_A.replace(rt.alloc(), "[]", vertices)?;
-        let input = stream_of(rt.alloc(), &[HEADER, &feature, FEATURE_B])?;
-        let answer = at_line(2, fault);
-        expect_filter(&rt, &every_feature(), (&input, false), answer, &[HEADER])?;
-    }
-    let zero = FEATURE_A.replace(rt.alloc(), "[]", "[[0,0,0]]")?;
-    let minus = FEATURE_A.replace(rt.alloc(), "[]", "[[-0,0,0]]")?;
-    let input = stream_of(rt.alloc(), &[HEADER, &minus])?;
-    expect_filter(
-        &rt,
-        &every_feature(),
-        (&input, false),
-        Ok(1),
-        &[HEADER, &zero],
-    )
-}
-
-#[test]
-fn blank_lines_are_counted_and_left_out(rt: HostRuntime) -> Result<(), Fail> {
-    for (last, answer, written) in [
-        (
-            "{",
-            at_line(5, Fault::Syntax),
-            [HEADER, FEATURE_A].as_slice(),
-        ),
-        (FEATURE_B, Ok(2), &[HEADER, FEATURE_A, FEATURE_B]),
-    ] {
-        let input = format!(in rt.alloc(); "\n{HEADER}\r\n \t\r\n{FEATURE_A}\r\n{last}")?;
-        expect_filter(
-            &rt,
-            &every_feature(),
-            (input.as_bytes(), false),
-            answer,
-            written,
-        )?;
-    }
-    Ok(())
-}
-
-/// The choice of these options, as text; the types have no empty name and the area is one.
-fn choice_of(
+fn are_chosen(
     alloc: Global,
-    names: Option<&str>,
-    corners: Option<&str>,
+    types: &str,
+    corners: &str,
     exclude: bool,
-) -> Result<Choice, Fault> {
-    let names = match names {
-        Some(names) => types(alloc, names)?,
-        None => None,
-    };
-    let place = match corners {
-        Some(corners) => area(corners),
-        None => None,
-    };
-    Ok(Choice::new(names, place, exclude))
+    names: &str,
+) -> Result<bool, Fault> {
+    let choice = choice_of(alloc, types, corners, exclude)?;
+    copies_choose(alloc, &choice, names)
 }
 
 #[test]
-fn features_that_are_chosen_are_written(rt: HostRuntime) -> Result<(), Fail> {
-    let [p, q, r, z] = PLACED;
-    let building = Some("Building");
-    for (names, corners, exclude, wanted) in [
-        (None, Some("10,10,20,20"), false, [HEADER, p, q].as_slice()),
-        (None, Some("-5,0,10,10"), false, &[HEADER, p]),
-        (None, Some("10,10,20,20"), true, &[HEADER, r, z]),
-        (None, None, true, &[HEADER]),
-        (None, None, false, &[HEADER, p, q, r, z]),
-        (building, None, false, &[HEADER, p, q, r]),
-        (building, None, true, &[HEADER, z]),
-        (Some("Bridge"), Some("10,10,20,20"), false, &[HEADER]),
-    ] {
-        let choice = choice_of(rt.alloc(), names, corners, exclude)?;
-        let input = stream_of(rt.alloc(), &[HEADER, p, q, r, z])?;
-        let answer = Ok((wanted.len() as u64).saturating_sub(1));
-        expect_filter(&rt, &choice, (&input, false), answer, wanted)?;
-        expect_filter(
-            &rt,
-            &choice.copy(rt.alloc())?,
-            (&input, false),
-            answer,
-            wanted,
-        )?;
+fn features_that_are_chosen_are_written(rt: HostRuntime) {
+    for (types, corners, exclude, names) in CHOSEN.iter() {
+        assert!(rt;
+            are_chosen(rt.alloc(), types, corners, *exclude, names) == Ok(true),
+            "{names}"
+        );
     }
-    Ok(())
+}
+
+/// How a writer fails: how many bytes it has room for, and takes a write, and whether its flush fails; and how many it
+/// then has taken.
+const FAILURES: [(usize, usize, bool, usize); 6] = [
+    (200, 4096, false, 200),
+    (200, 1, false, 200),
+    (100, 4096, false, 100),
+    (128, 4096, false, 128),
+    (4096, 0, false, 0),
+    (4096, 4096, true, 129),
+];
+
+fn fails_to_write(
+    alloc: Global,
+    words: &str,
+    (room, write, flush_fails): (usize, usize, bool),
+    taken: usize,
+) -> Result<bool, Fault> {
+    let input = stream_of(alloc, words)?;
+    let way = Way {
+        read: 50,
+        fails: false,
+        room,
+        write,
+        flush_fails,
+    };
+    let bytes = input.as_bytes();
+    let written = &bytes[..taken.min(bytes.len())];
+    filters(alloc, &every_feature(), bytes, &way, (written, NOT_WRITTEN))
 }
 
 #[test]
-fn white_space_is_left_out(rt: HostRuntime) -> Result<(), Fail> {
-    let input = stream_of(rt.alloc(), &SPACED)?;
-    expect_filter(&rt, &every_feature(), (&input, false), Ok(1), &COMPACT)
+fn a_failed_write_is_answered(rt: HostRuntime) {
+    for (room, write, flush_fails, taken) in FAILURES.iter() {
+        let writer = (*room, *write, *flush_fails);
+        assert!(rt;
+            fails_to_write(rt.alloc(), "HEADER A B", writer, *taken) == Ok(true),
+            "{room}"
+        );
+    }
+    assert!(rt; fails_to_write(rt.alloc(), "HEADER", (4096, 4096, true), 129) == Ok(true));
 }
 
-#[test]
-fn a_header_stays_as_it_is(rt: HostRuntime) -> Result<(), Fail> {
-    let input = stream_of(rt.alloc(), &[HEADER_WITH_METADATA])?;
-    expect_filter(
-        &rt,
+/// All is read before the first line is taken, so that nothing is flushed before a fault.
+fn flush(alloc: Global, row: &str, fails: bool, flush_fails: bool) -> Result<bool, Fault> {
+    let (words, wanted) = split(row);
+    let (written, answer) = split(wanted);
+    let input = stream_of(alloc, words)?;
+    let written = stream_of(alloc, written)?;
+    let way = Way {
+        read: 4096,
+        fails,
+        room: 4096,
+        write: 4096,
+        flush_fails,
+    };
+    filters(
+        alloc,
         &every_feature(),
-        (&input, false),
-        Ok(0),
-        &[HEADER_WITH_METADATA],
+        input.as_bytes(),
+        &way,
+        (written.as_bytes(), answer),
     )
 }
 
+/// Nothing is flushed where nothing was written; a failed flush is answered before a fault.
 #[test]
-fn lines_are_refused_where_they_stand(rt: HostRuntime) -> Result<(), Fail> {
-    for (lines, answer, written) in [
+fn a_failed_flush_is_answered_before_a_fault(rt: HostRuntime) {
+    for (row, fails, flush_fails) in [
         (
-            [HEADER, HEADER],
-            at_line(2, Fault::NotAFeature),
-            [HEADER].as_slice(),
-        ),
-        (["[]", FEATURE_A], at_line(1, Fault::NotCityJson), &[]),
-        (["[", FEATURE_A], at_line(1, Fault::Syntax), &[]),
-    ] {
-        let input = stream_of(rt.alloc(), &lines)?;
-        expect_filter(&rt, &every_feature(), (&input, false), answer, written)?;
-    }
-    Ok(())
-}
-
-#[test]
-fn lines_before_a_failed_read_are_written(rt: HostRuntime) -> Result<(), Fail> {
-    let choice = every_feature();
-    let whole = [HEADER, FEATURE_A];
-    for (lines, written) in [(0, 0), (1, 1), (2, 2)] {
-        let input = stream_of(rt.alloc(), &whole[..lines])?;
-        let answer = at_line(lines as u64 + 1, Fault::Read);
-        expect_filter(&rt, &choice, (&input, true), answer, &whole[..written])?;
-    }
-    // A line that no newline ends is at fault with the read.
-    let input = format!(in rt.alloc(); "{HEADER}\n{FEATURE_A}")?;
-    let answer = at_line(2, Fault::Read);
-    expect_filter(&rt, &choice, (input.as_bytes(), true), answer, &[HEADER])
-}
-
-#[test]
-fn a_failed_write_is_answered(rt: HostRuntime) -> Result<(), Fail> {
-    let whole = [HEADER, FEATURE_A, FEATURE_B];
-    for (count, room, step, flush_fails, taken) in [
-        (3usize, 200usize, 4096usize, false, 200usize),
-        (3, 200, 1, false, 200),
-        (3, 100, 4096, false, 100),
-        (3, 128, 4096, false, 128),
-        (3, 4096, 0, false, 0),
-        (3, 4096, 4096, true, 129),
-        (1, 4096, 4096, true, 129),
-    ] {
-        let input = stream_of(rt.alloc(), &whole[..count])?;
-        let tape = Tape::new(Line::from_vec(input.clone()?), 50, false);
-        let mut output = Bin::new(rt.alloc(), room, step, flush_fails)?;
-        let found = filter_stream(rt.alloc(), tape, &every_feature(), &mut output);
-        expect_answer(&rt, found, Err(NOT_WRITTEN), room);
-        expect_bytes(&rt, output.bytes(), &input[..taken.min(input.len())], room);
-    }
-    Ok(())
-}
-
-#[test]
-fn a_failed_flush_is_answered_before_a_fault(rt: HostRuntime) -> Result<(), Fail> {
-    for (last, fails, answer) in [
-        ("{}", false, at_line(3, Fault::NotAFeature)),
-        // The third line is blank.
-        ("", true, at_line(4, Fault::Read)),
-    ] {
-        let alloc = rt.alloc();
-        let written = stream_of(alloc, &[HEADER, FEATURE_A])?;
-        let input = format!(in alloc; "{HEADER}\n{FEATURE_A}\n{last}\n")?;
-        for (flush_fails, answer) in [(false, answer), (true, Err(NOT_WRITTEN))] {
-            // All is read before the first line is taken, so nothing is flushed before the fault.
-            let tape = Tape::new(Line::from_vec(input.as_bytes().to_vec(alloc)?), 4096, fails);
-            let mut output = Bin::new(alloc, 4096, 4096, flush_fails)?;
-            let found = filter_stream(alloc, tape, &every_feature(), &mut output);
-            expect_answer(&rt, found, answer, 0);
-            expect_bytes(&rt, output.bytes(), &written, 0);
-        }
-    }
-    Ok(())
-}
-
-#[test]
-fn nothing_is_flushed_where_nothing_was_written(rt: HostRuntime) -> Result<(), Fail> {
-    for (input, answer) in [
-        ("", at_line(0, Fault::NoHeader)),
-        ("{}\n", at_line(1, Fault::NotCityJson)),
-    ] {
-        let tape = Tape::new(
-            Line::from_vec(input.as_bytes().to_vec(rt.alloc())?),
-            4096,
+            "HEADER A {} => HEADER A => tile 1 line 3: NotAFeature",
             false,
+            false,
+        ),
+        (
+            "HEADER A {} => HEADER A => tile 0 line 0: Write",
+            false,
+            true,
+        ),
+        (
+            "HEADER A EMPTY => HEADER A => tile 1 line 4: Read",
+            true,
+            false,
+        ),
+        (
+            "HEADER A EMPTY => HEADER A => tile 0 line 0: Write",
+            true,
+            true,
+        ),
+        (" =>  => tile 1 line 0: NoHeader", false, true),
+        ("{} =>  => tile 1 line 1: NotCityJson", false, true),
+    ] {
+        assert!(rt;
+            flush(rt.alloc(), row, fails, flush_fails) == Ok(true),
+            "{row}"
         );
-        let mut output = Bin::new(rt.alloc(), 4096, 4096, true)?;
-        let found = filter_stream(rt.alloc(), tape, &every_feature(), &mut output);
-        expect_answer(&rt, found, answer, 0);
     }
-    Ok(())
 }
 
 /// It counts its calls where the test sees it; the write after so many others fails.
@@ -357,29 +288,38 @@ impl<'a> Write for CountedWriter<'a> {
     }
 }
 
+/// Whether so many writes and flushes are made where one of the writes fails.
+fn are_counted(
+    alloc: Global,
+    failing: Option<u64>,
+    answer: &str,
+    wanted: (u64, u64),
+) -> Result<bool, AllocError> {
+    let input = stream_of(alloc, "HEADER A B")?;
+    let tape = Tape::new(Line::from_vec(input.into_bytes()), 4096, false);
+    let writes = AtomicU64::new(0);
+    let flushes = AtomicU64::new(0);
+    let mut output = Device::new(CountedWriter {
+        writes: &writes,
+        flushes: &flushes,
+        failing,
+    });
+    let found = filter_stream(alloc, tape, &every_feature(), &mut output);
+    Ok(is_told(alloc, found, answer) && (writes.load(SeqCst), flushes.load(SeqCst)) == wanted)
+}
+
 #[test]
-fn each_text_and_each_newline_is_one_write(rt: HostRuntime) -> Result<(), Fail> {
-    for (failing, answer, written, flushed) in [
-        (None, Ok(2), 6u64, 2u64),
-        (Some(0u64), Err(NOT_WRITTEN), 1, 0),
-        (Some(1), Err(NOT_WRITTEN), 2, 0),
-        (Some(2), Err(NOT_WRITTEN), 3, 0),
-    ] {
-        let writes = AtomicU64::new(0);
-        let flushes = AtomicU64::new(0);
-        let input = stream_of(rt.alloc(), &[HEADER, FEATURE_A, FEATURE_B])?;
-        let mut output = Device::new(CountedWriter {
-            writes: &writes,
-            flushes: &flushes,
-            failing,
-        });
-        let tape = Tape::new(Line::from_vec(input), 4096, false);
-        let found = filter_stream(rt.alloc(), tape, &every_feature(), &mut output);
-        expect_answer(&rt, found, answer, 0);
-        expect_count(&rt, &writes, written);
-        expect_count(&rt, &flushes, flushed);
+fn each_text_and_each_newline_is_one_write(rt: HostRuntime) {
+    assert!(rt; are_counted(rt.alloc(), None, "2", (6, 2)) == Ok(true));
+    for failing in 0..3u64 {
+        let answer = are_counted(
+            rt.alloc(),
+            Some(failing),
+            NOT_WRITTEN,
+            (failing.saturating_add(1), 0),
+        );
+        assert!(rt; answer == Ok(true), "{failing}");
     }
-    Ok(())
 }
 
 /// A tape that counts its reads where the test sees it.
@@ -405,45 +345,66 @@ impl<'a> Source for CountedTape<'a> {
     }
 }
 
-#[test]
-fn nothing_is_read_after_a_fault(rt: HostRuntime) -> Result<(), Fail> {
-    // Each read gives the header's line, a line that is no feature, or a part of the others.
-    let wrong = " ".repeat(rt.alloc(), 127)?;
-    let wrong = format!(in rt.alloc(); "{wrong}1")?;
-    let input = stream_of(rt.alloc(), &[HEADER, &wrong, FEATURE_A, FEATURE_B])?;
-    let reads = AtomicU64::new(0);
-    let reader = CountedTape {
-        tape: Tape::new(Line::from_vec(input), 129, true),
-        reads: &reads,
-    };
-    let mut tile = TileReader::new(rt.alloc(), reader);
-    let mut output = Bin::new(rt.alloc(), 4096, 4096, false)?;
-    let found = filter_tile(rt.alloc(), &mut tile, &every_feature(), &mut output);
-    expect_answer(&rt, found, at_line(2, Fault::NotAFeature), 0);
-    expect_count(&rt, &reads, 2);
-    expect_bytes(&rt, output.bytes(), &stream_of(rt.alloc(), &[HEADER])?, 0);
-    Ok(())
+/// A stream of which each read gives the header's line, a line that is no feature, or a part of the others.
+fn faulty_stream(alloc: Global) -> Result<String, AllocError> {
+    let wrong = " ".repeat(alloc, 127)?;
+    format!(in alloc; "{HEADER}\n{wrong}1\n{FEATURE_A}\n{FEATURE_A}\n")
 }
 
-const NUMBERED: &str =
-    "{\"type\":\"CityJSONFeature\",\"id\":\"NUMBER\",\"CityObjects\":{\"NUMBER\":{\"type\":\"Building\"}},\"vertices\":[[NUMBER,2,-3]]}\n";
+fn reads_two_lines(alloc: Global) -> Result<bool, Fault> {
+    let input = faulty_stream(alloc)?;
+    let mut output = Bin::new(alloc, 4096, 4096, false)?;
+    let reads = AtomicU64::new(0);
+    let reader = CountedTape {
+        tape: Tape::new(Line::from_vec(input.into_bytes()), 129, true),
+        reads: &reads,
+    };
+    let mut tile = TileReader::new(alloc, reader);
+    let found = filter_tile(alloc, &mut tile, &every_feature(), &mut output);
+    Ok(
+        is_told(alloc, found, "tile 1 line 2: NotAFeature")
+            && reads.load(SeqCst) == 2
+            && output.bytes().strip_suffix(b"\n") == Some(HEADER.as_bytes()),
+    )
+}
 
 #[test]
-fn a_tile_may_have_many_features_and_long_lines(rt: HostRuntime) -> Result<(), Fail> {
-    let mut input = stream_of(rt.alloc(), &[HEADER])?;
+fn nothing_is_read_after_a_fault(rt: HostRuntime) {
+    assert!(rt; reads_two_lines(rt.alloc()) == Ok(true));
+}
+
+fn put_numbered(input: &mut String, alloc: Global, number: u32) -> Result<(), AllocError> {
+    let form =
+        "{\"type\":\"CityJSONFeature\",\"id\":\"NUMBER\",\"CityObjects\":{\"NUMBER\":{\"type\":\"Building\"}},\"vertices\":[[NUMBER,2,-3]]}\n";
+    input.push_str(&form.replace(alloc, "NUMBER", &format!(in alloc; "{number}")?)?)
+}
+
+/// A tile of ten thousand features, and one of a long type.
+fn large_tile(alloc: Global) -> Result<String, AllocError> {
+    let mut input = stream_of(alloc, "HEADER")?;
     for number in 0..10_000u32 {
-        let number = format!(in rt.alloc(); "{number}")?;
-        let feature = NUMBERED.replace(rt.alloc(), "NUMBER", &number)?;
-        input.extend_from_slice(feature.as_bytes())?;
+        put_numbered(&mut input, alloc, number)?;
     }
-    let long = "long".repeat(rt.alloc(), 1_000_000)?;
-    let feature = FEATURE_A.replace(rt.alloc(), "Building", &long)?;
-    input.extend_from_slice(feature.as_bytes())?;
-    input.push(b'\n')?;
-    let mut output = Bin::new(rt.alloc(), input.len(), 100_000, false)?;
-    let reader = Device::new(input.as_slice());
-    let found = filter_stream(rt.alloc(), reader, &every_feature(), &mut output);
-    expect_answer(&rt, found, Ok(10_001), 0);
-    expect_bytes(&rt, output.bytes(), &input, 0);
-    Ok(())
+    let long = "long".repeat(alloc, 1_000_000)?;
+    input.push_str(&FEATURE_A.replace(alloc, "Building", &long)?)?;
+    input.push('\n')?;
+    Ok(input)
+}
+
+fn large_tile_is_filtered(alloc: Global) -> Result<bool, Fault> {
+    let input = large_tile(alloc)?;
+    let way = Way {
+        read: 100_000,
+        fails: false,
+        room: input.len(),
+        write: 100_000,
+        flush_fails: false,
+    };
+    let bytes = input.as_bytes();
+    filters(alloc, &every_feature(), bytes, &way, (bytes, "10001"))
+}
+
+#[test]
+fn a_tile_may_have_many_features_and_long_lines(rt: HostRuntime) {
+    assert!(rt; large_tile_is_filtered(rt.alloc()) == Ok(true));
 }

@@ -1,13 +1,13 @@
 //! A tile is written and passed on while it is read, and little of it is held.
 ghost use Rattle.std.specs.Prelude.{◌≤◌, length};
 
-use crate::filtering::{FEATURE_A, HEADER, every_feature, expect_answer, expect_count, stream_of};
+use crate::texts::{FEATURE_A, HEADER, choice_of, is_told, stream_of};
 use byte_streams::Device;
-use city_feature::{Choice, types};
+use city_feature::Choice;
+use std::alloc::{AllocError, Global};
 use std::io::{self, ErrorKind, Read, Write};
 use std::sync::atomic::AtomicU64;
 use std::sync::atomic::Ordering::SeqCst;
-use std::test::Fail;
 use tile_stream::filter_stream;
 
 /// Gives so many lines, one a read: the header and then features. A read fails where it comes before the
@@ -91,61 +91,75 @@ impl<'a> Write for Follower<'a> {
     }
 }
 
-/// Each line is passed on before the next is asked for; of features that are not chosen, the header.
-#[test]
-fn flow(rt: HostRuntime) -> Result<(), Fail> {
-    let alloc = rt.alloc();
-    let roads = types(alloc, "Road")?;
-    for (choice, owed, count) in [
-        (every_feature(), u64::MAX, 100usize),
-        (Choice::new(roads, None, false), 129, 0),
-    ] {
-        let given = AtomicU64::new(0);
-        let passed_on = AtomicU64::new(0);
-        let reader = Device::new(LineTeller {
-            lines: 101,
-            given: &given,
-            passed_on: &passed_on,
-            owed,
-        });
-        let mut output = Device::new(Follower {
-            written: 0,
-            given: &given,
-            passed_on: &passed_on,
-            most: 129,
-        });
-        let answer = filter_stream(alloc, reader, &choice, &mut output);
-        expect_answer(&rt, answer, Ok(count as u64), 0);
-        let features = count.saturating_mul(FEATURE_A.len() + 1);
-        let stream = features.saturating_add(HEADER.len() + 1);
-        expect_count(&rt, &passed_on, stream as u64);
-    }
-    Ok(())
+/// How much of a stream of a hundred features is passed on where each line is owed before the next is asked for, or the
+/// header alone.
+fn passed_on(alloc: Global, choice: &Choice, owed: u64, answer: &str) -> Option<u64> {
+    let given = AtomicU64::new(0);
+    let passed_on = AtomicU64::new(0);
+    let reader = Device::new(LineTeller {
+        lines: 101,
+        given: &given,
+        passed_on: &passed_on,
+        owed,
+    });
+    let mut output = Device::new(Follower {
+        written: 0,
+        given: &given,
+        passed_on: &passed_on,
+        most: 129,
+    });
+    let found = filter_stream(alloc, reader, choice, &mut output);
+    is_told(alloc, found, answer).then_some(passed_on.load(SeqCst))
 }
 
-/// Beside the line that is written no more was given than one read of 64 KiB.
-#[test]
-fn bound(rt: HostRuntime) -> Result<(), Fail> {
-    let alloc = rt.alloc();
-    let mut stream = stream_of(alloc, &[HEADER])?;
-    let line = stream_of(alloc, &[FEATURE_A])?;
-    for _ in 0..10_000u32 {
-        stream.extend_from_slice(&line)?;
+fn types_flow(alloc: Global, names: &str, owed: u64, answer: &str) -> Option<u64> {
+    match choice_of(alloc, names, "", false) {
+        Ok(choice) => passed_on(alloc, &choice, owed, answer),
+        Err(_) => None,
     }
+}
+
+/// Each line is passed on before the next is asked for; of features that are not chosen, the header.
+#[test]
+fn flow(rt: HostRuntime) {
+    let features = (FEATURE_A.len() as u64 + 1) * 100;
+    let header = HEADER.len() as u64 + 1;
+    assert!(rt; types_flow(rt.alloc(), "", u64::MAX, "100") == Some(header + features));
+    assert!(rt; types_flow(rt.alloc(), "Road", header, "0") == Some(header));
+}
+
+/// A stream of ten thousand features.
+fn long_stream(alloc: Global) -> Result<String, AllocError> {
+    let mut stream = stream_of(alloc, "HEADER")?;
+    stream.push_str(&stream_of(alloc, "A")?.repeat(alloc, 10_000)?)?;
+    Ok(stream)
+}
+
+/// How much of it is passed on, where no more is given than one read of 64 KiB beside the line that is written.
+fn passed_on_of_bytes(alloc: Global, stream: &[u8]) -> Option<u64> {
     let given = AtomicU64::new(0);
     let passed_on = AtomicU64::new(0);
     let reader = Device::new(PieceTeller {
-        left: &stream,
+        left: stream,
         given: &given,
     });
     let mut output = Device::new(Follower {
         written: 0,
         given: &given,
         passed_on: &passed_on,
-        most: 65_536 + line.len() as u64,
+        most: 65_537 + FEATURE_A.len() as u64,
     });
-    let answer = filter_stream(alloc, reader, &every_feature(), &mut output);
-    expect_answer(&rt, answer, Ok(10_000), 0);
-    expect_count(&rt, &passed_on, stream.len() as u64);
-    Ok(())
+    let choice = Choice::new(None, None, false);
+    let found = filter_stream(alloc, reader, &choice, &mut output);
+    is_told(alloc, found, "10000").then_some(passed_on.load(SeqCst))
+}
+
+fn all_is_passed_on(alloc: Global) -> Result<bool, AllocError> {
+    let stream = long_stream(alloc)?;
+    Ok(passed_on_of_bytes(alloc, stream.as_bytes()) == Some(stream.len() as u64))
+}
+
+#[test]
+fn bound(rt: HostRuntime) {
+    assert!(rt; all_is_passed_on(rt.alloc()) == Ok(true));
 }

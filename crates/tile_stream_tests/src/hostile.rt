@@ -1,85 +1,133 @@
 //! One tile whose stream is cut short or has huge numbers, and a writer that fails at each byte.
 
-use crate::filtering::{
-    COMPACT, FEATURE_A, HEADER, NOT_WRITTEN, SPACED, at_line, every_feature, expect_answer,
-    expect_bytes, expect_filter, stream_of,
+use crate::texts::{
+    FEATURE_A, HEADER, NOT_WRITTEN, SPACED_HEADER, Way, every_feature, filters, filters_anyhow,
+    stream_of,
 };
-use byte_streams::{Bin, Fault, Line, Tape};
-use std::test::Fail;
-use tile_stream::filter_stream;
+use std::alloc::{AllocError, Global};
 
-#[test]
-fn a_stream_may_be_cut_at_each_byte(rt: HostRuntime) -> Result<(), Fail> {
-    let choice = every_feature();
-    let input = stream_of(rt.alloc(), &SPACED)?;
-    let header = SPACED[0].len();
-    for length in 0..input.len() {
-        let (answer, written) = if length == 0 {
-            (at_line(0, Fault::NoHeader), 0usize)
-        } else if length < header {
-            (at_line(1, Fault::Syntax), 0)
-        } else if length <= header.saturating_add(1) {
-            (Ok(0), 1)
-        } else if length < input.len().saturating_sub(1) {
-            (at_line(2, Fault::Syntax), 1)
-        } else {
-            (Ok(1), 2)
-        };
-        let given = (&input[..length], false);
-        expect_filter(&rt, &choice, given, answer, &COMPACT[..written])?;
+/// What is written of a stream of two lines of which so many bytes are left, and what is answered.
+fn of_cut(length: usize, whole: usize) -> (&'static str, &'static str) {
+    let header = SPACED_HEADER.len();
+    if length == 0 {
+        ("", "tile 1 line 0: NoHeader")
+    } else if length < header {
+        ("", "tile 1 line 1: Syntax")
+    } else if length <= header.saturating_add(1) {
+        ("HEADER", "0")
+    } else if length.saturating_add(1) < whole {
+        ("HEADER", "tile 1 line 2: Syntax")
+    } else {
+        ("HEADER COMPACT_FEATURE", "1")
     }
-    expect_filter(&rt, &choice, (&input, false), Ok(1), &COMPACT)
+}
+
+fn is_cut(alloc: Global, input: &[u8], whole: usize) -> Result<bool, AllocError> {
+    let (words, answer) = of_cut(input.len(), whole);
+    let written = stream_of(alloc, words)?;
+    Ok(filters_anyhow(
+        alloc,
+        &every_feature(),
+        (input, false),
+        (written.as_bytes(), answer),
+    ))
+}
+
+/// At how many bytes a stream can be cut, so that what is left is filtered as it should be.
+fn cuts(alloc: Global) -> Result<bool, AllocError> {
+    let input = stream_of(alloc, "SPACED_HEADER SPACED_FEATURE")?;
+    let bytes = input.as_bytes();
+    let mut agree = true;
+    for length in 0..=bytes.len() {
+        agree = agree && is_cut(alloc, &bytes[..length], bytes.len()) == Ok(true);
+    }
+    Ok(agree)
 }
 
 #[test]
-fn an_attribute_may_have_ten_thousand_digits(rt: HostRuntime) -> Result<(), Fail> {
-    let digits = "7".repeat(rt.alloc(), 10_000)?;
-    let feature = format!(in rt.alloc();
-        r#"{{"type":"CityJSONFeature","id":"a","CityObjects":{{"a":{{"attributes":{{"n":{digits},"m":-0.{digits}e-{digits}}}}}}},"vertices":[]}}"#
-    )?;
-    let lines = [HEADER, feature.as_str()];
-    let input = stream_of(rt.alloc(), &lines)?;
-    expect_filter(&rt, &every_feature(), (&input, false), Ok(1), &lines)
+fn a_stream_may_be_cut_at_each_byte(rt: HostRuntime) {
+    assert!(rt; cuts(rt.alloc()) == Ok(true));
+}
+
+/// A header and a line of ten thousand digits, and what is written of them.
+struct Long {
+    lines: &'static str,
+    written: &'static str,
+    answer: &'static str,
+}
+
+/// Ten thousand sevens stand for `SEVENS`, and zeros for `ZEROS`.
+const LONG: [Long; 3] = [
+    Long {
+        lines: r#"HEADER {"type":"CityJSONFeature","id":"a","CityObjects":{"a":{"attributes":{"n":SEVENS,"m":-0.SEVENSe-SEVENS}}},"vertices":[]}"#,
+        written: r#"HEADER {"type":"CityJSONFeature","id":"a","CityObjects":{"a":{"attributes":{"n":SEVENS,"m":-0.SEVENSe-SEVENS}}},"vertices":[]}"#,
+        answer: "1",
+    },
+    Long {
+        lines: r#"HEADER {"type":"CityJSONFeature","id":"a","CityObjects":{},"vertices":[[1,2,3],[1,SEVENS,3]]}"#,
+        written: "HEADER",
+        answer: "tile 1 line 2: VertexRange",
+    },
+    Long {
+        lines: r#"{"type":"CityJSON","version":"2.0","transform":{"scale":[0.001,0.001,0.001],"translate":[0,0.ZEROS1,0]},"CityObjects":{},"vertices":[]} A"#,
+        written: "",
+        answer: "tile 1 line 1: Decimal",
+    },
+];
+
+fn with_digits(alloc: Global, words: &str) -> Result<String, AllocError> {
+    let words = words.replace(alloc, "SEVENS", &"7".repeat(alloc, 10_000)?)?;
+    stream_of(
+        alloc,
+        &words.replace(alloc, "ZEROS", &"0".repeat(alloc, 10_000)?)?,
+    )
+}
+
+fn is_filtered(alloc: Global, row: &Long) -> Result<bool, AllocError> {
+    let input = with_digits(alloc, row.lines)?;
+    let written = with_digits(alloc, row.written)?;
+    Ok(filters_anyhow(
+        alloc,
+        &every_feature(),
+        (input.as_bytes(), false),
+        (written.as_bytes(), row.answer),
+    ))
 }
 
 #[test]
-fn a_vertex_of_ten_thousand_digits_is_out_of_range(rt: HostRuntime) -> Result<(), Fail> {
-    let digits = "7".repeat(rt.alloc(), 10_000)?;
-    let feature = format!(in rt.alloc();
-        r#"{{"type":"CityJSONFeature","id":"a","CityObjects":{{}},"vertices":[[1,2,3],[1,{digits},3]]}}"#
-    )?;
-    let input = stream_of(rt.alloc(), &[HEADER, feature.as_str()])?;
-    let answer = at_line(2, Fault::VertexRange);
-    expect_filter(&rt, &every_feature(), (&input, false), answer, &[HEADER])
+fn numbers_may_have_ten_thousand_digits(rt: HostRuntime) {
+    for row in LONG.iter() {
+        assert!(rt; is_filtered(rt.alloc(), row) == Ok(true), "{}", row.lines);
+    }
 }
 
-#[test]
-fn a_translation_of_five_thousand_zeros_is_no_decimal(rt: HostRuntime) -> Result<(), Fail> {
-    let zeros = "0".repeat(rt.alloc(), 5_000)?;
-    let header = format!(in rt.alloc();
-        r#"{{"type":"CityJSON","version":"2.0","transform":{{"scale":[0.001,0.001,0.001],"translate":[0,0.{zeros}1,0]}},"CityObjects":{{}},"vertices":[]}}"#
-    )?;
-    let input = stream_of(rt.alloc(), &[header.as_str(), FEATURE_A])?;
-    let answer = at_line(1, Fault::Decimal);
-    expect_filter(&rt, &every_feature(), (&input, false), answer, &[])
+/// Whether the front of the stream is written that the writer has room for.
+fn fails_at(alloc: Global, input: &[u8], room: usize, write: usize) -> bool {
+    let way = Way {
+        read: 50,
+        fails: false,
+        room,
+        write,
+        flush_fails: false,
+    };
+    let written = &input[..room.min(input.len())];
+    filters(alloc, &every_feature(), input, &way, (written, NOT_WRITTEN)) == Ok(true)
 }
 
-#[test]
-fn a_write_may_fail_at_each_byte(rt: HostRuntime) -> Result<(), Fail> {
-    let alloc = rt.alloc();
-    let stream = stream_of(alloc, &[HEADER, FEATURE_A])?;
-    // A third line that is refused, too, changes nothing.
-    for last in ["", "{}"] {
-        let input = stream_of(alloc, &[HEADER, FEATURE_A, last])?;
-        for room in 0..stream.len() {
-            for step in [1usize, 7, 4096] {
-                let tape = Tape::new(Line::from_vec(input.clone()?), 50, false);
-                let mut output = Bin::new(alloc, room, step, false)?;
-                let answer = filter_stream(alloc, tape, &every_feature(), &mut output);
-                expect_answer(&rt, answer, Err(NOT_WRITTEN), room);
-                expect_bytes(&rt, output.bytes(), &stream[..room], room);
-            }
+/// Whether a write may fail at each byte of two lines; a third one changes nothing.
+fn writes_fail(alloc: Global, words: &str) -> Result<bool, AllocError> {
+    let input = stream_of(alloc, words)?;
+    let mut agree = true;
+    for room in 0..HEADER.len() + FEATURE_A.len() + 2 {
+        for step in [1usize, 7, 4096] {
+            agree = agree && fails_at(alloc, input.as_bytes(), room, step);
         }
     }
-    Ok(())
+    Ok(agree)
+}
+
+#[test]
+fn a_write_may_fail_at_each_byte(rt: HostRuntime) {
+    assert!(rt; writes_fail(rt.alloc(), "HEADER A EMPTY") == Ok(true));
+    assert!(rt; writes_fail(rt.alloc(), "HEADER A {}") == Ok(true));
 }

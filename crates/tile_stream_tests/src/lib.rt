@@ -10,3 +10,5 @@ mod following;
 mod hostile;
 #[cfg(test)]
 mod lines;
+#[cfg(test)]
+mod texts;
