@@ -58,18 +58,23 @@ fn add_command<'a>(entries: &mut Vec<Entry<'a>>, command: &Command<'a>) -> Resul
     entries.push(entry)?;
     entry.kind = Kind::NoFiles;
     for arg in command.get_arguments() {
-        match arg.get_long() {
-            Some(option) => entries.push(Entry {
-                kind: kind_of(arg),
-                option,
-                help: sentence(arg.get_help()),
-                ..entry
-            })?,
-            None => entry.kind = Kind::Files,
+        if arg.is_positional() {
+            entry.kind = Kind::Files;
+        } else {
+            entries.push(entry_of(entry.command, arg))?;
         }
     }
     entries.push(entry)?;
     Ok(())
+}
+
+fn entry_of<'a>(command: &'a str, option: &Arg<'a>) -> Entry<'a> {
+    Entry {
+        kind: kind_of(option),
+        command,
+        option: option.get_long().unwrap_or(""),
+        help: sentence(option.get_help()),
+    }
 }
 
 fn kind_of(option: &Arg<'_>) -> Kind {

@@ -68,19 +68,19 @@ enum Part {
 pub(crate) fn add_told(out: &mut Output, place: &str, command: &str) {
     match place {
         "version" => add_version(out),
-        "usage" => add_said(out, &["help", command], Part::Usage),
-        "help of command" => add_said(out, &["help", command], Part::Help),
-        "help of all" => add_said(out, &["--help"], Part::Help),
-        "status" => add_said(out, &["--help"], Part::Status),
-        "bad type" => add_said(out, &["filter", "--cotype="], Part::Help),
-        "bad box" => add_said(out, &["filter", "--bbox="], Part::Help),
+        "usage" => add_said(out, &["citymerge", "help", command], Part::Usage),
+        "help of command" => add_said(out, &["citymerge", "help", command], Part::Help),
+        "help of all" => add_said(out, &["citymerge", "--help"], Part::Help),
+        "status" => add_said(out, &["citymerge", "--help"], Part::Status),
+        "bad type" => add_said(out, &["citymerge", "filter", "--cotype="], Part::Help),
+        "bad box" => add_said(out, &["citymerge", "filter", "--bbox="], Part::Help),
         "faults" => add_faults(out),
         text => out.add(text),
     }
 }
 
 fn add_version(out: &mut Output) {
-    match said_to(out.alloc, &["--version"]) {
+    match said_to(out.alloc, &["citymerge", "--version"]) {
         Some(said) => out.add(said.trim_end()),
         None => out.fail(),
     }
@@ -117,17 +117,21 @@ fn add_faults(out: &mut Output) {
     }
 }
 
-/// What the program says to these words after its name: help, or what is wrong with them.
+/// What the program says to these words: help, or what is wrong with them.
 fn said_to(alloc: Global, words: &[&str]) -> Option<String> {
-    let words = std::iter::once(&"citymerge")
-        .chain(words)
-        .map(|word| Str::read(alloc, word))
-        .try_collect(alloc)
-        .ok()?;
-    match parse_words(alloc, &Paths::from_vec(words)) {
+    let words = words_of(alloc, words).ok()?;
+    match parse_words(alloc, &words) {
         Parsed::Help(text) | Parsed::Usage(text) => String::from_utf8(text.into_vec()).ok(),
         _ => None,
     }
+}
+
+fn words_of(alloc: Global, texts: &[&str]) -> Result<Paths, Fault> {
+    let mut words = Paths::new(alloc);
+    for text in texts {
+        words.push(Str::read(alloc, text)?)?;
+    }
+    Ok(words)
 }
 
 fn part_of(said: &str, part: Part) -> &str {
