@@ -5,11 +5,14 @@ use city_json::Str;
 use command_line::{Parsed, Paths, parse_words};
 use std::alloc::{AllocError, Global};
 
+/// Words, with `|` between them, and what is to be answered.
+pub(crate) type Row = (&'static str, &'static str);
+
 /// What the words after the program's name ask for.
-pub(crate) fn parsed(alloc: Global, words: &[&str]) -> Result<Parsed, Fault> {
+pub(crate) fn parsed(alloc: Global, words: &str) -> Result<Parsed, Fault> {
     let mut given = Paths::new(alloc);
     given.push(Str::read(alloc, "citymerge")?)?;
-    for word in words {
+    for word in words.split('|') {
         given.push(Str::read(alloc, word)?)?;
     }
     Ok(parse_words(alloc, &given))
@@ -54,21 +57,21 @@ fn is_shown(alloc: Global, choice: &Choice, wanted: &str) -> bool {
 }
 
 /// Whether the words ask for a filter of this choice.
-pub(crate) fn chooses(alloc: Global, words: &[&str], wanted: &str) -> bool {
+pub(crate) fn chooses(alloc: Global, words: &str, wanted: &str) -> bool {
     match parsed(alloc, words) {
         Ok(Parsed::Filter(choice)) => is_shown(alloc, &choice, wanted),
         _ => false,
     }
 }
 
-fn help_of(alloc: Global, words: &[&str]) -> Option<Line> {
+fn help_of(alloc: Global, words: &str) -> Option<Line> {
     match parsed(alloc, words) {
         Ok(Parsed::Help(text)) => Some(text),
         _ => None,
     }
 }
 
-fn usage_of(alloc: Global, words: &[&str]) -> Option<Line> {
+fn usage_of(alloc: Global, words: &str) -> Option<Line> {
     match parsed(alloc, words) {
         Ok(Parsed::Usage(text)) => Some(text),
         _ => None,
@@ -76,7 +79,7 @@ fn usage_of(alloc: Global, words: &[&str]) -> Option<Line> {
 }
 
 /// Whether the words are a wrong use, of which this is said.
-pub(crate) fn is_wrong_use(alloc: Global, words: &[&str], wanted: &str) -> bool {
+pub(crate) fn is_wrong_use(alloc: Global, words: &str, wanted: &str) -> bool {
     match usage_of(alloc, words) {
         Some(said) => said.items() == wanted.as_bytes(),
         None => false,
@@ -91,7 +94,7 @@ fn names(text: &[u8], named: &str) -> bool {
 }
 
 /// Whether the words are refused by `clap`, with a text that ends its line and names what is wrong.
-pub(crate) fn is_refused(alloc: Global, words: &[&str], named: &str) -> bool {
+pub(crate) fn is_refused(alloc: Global, words: &str, named: &str) -> bool {
     match usage_of(alloc, words) {
         Some(said) => names(said.items(), named),
         None => false,
@@ -110,7 +113,7 @@ fn has_parts(text: &[u8], parts: &[&str]) -> bool {
 }
 
 /// Whether the words ask for a help that has these parts.
-pub(crate) fn helps(alloc: Global, words: &[&str], parts: &[&str]) -> bool {
+pub(crate) fn helps(alloc: Global, words: &str, parts: &[&str]) -> bool {
     match help_of(alloc, words) {
         Some(said) => has_parts(said.items(), parts),
         None => false,
@@ -118,14 +121,14 @@ pub(crate) fn helps(alloc: Global, words: &[&str], parts: &[&str]) -> bool {
 }
 
 /// Whether the words ask for this text.
-pub(crate) fn says(alloc: Global, words: &[&str], wanted: &[u8]) -> bool {
+pub(crate) fn says(alloc: Global, words: &str, wanted: &[u8]) -> bool {
     match help_of(alloc, words) {
         Some(said) => said.items() == wanted,
         None => false,
     }
 }
 
-pub(crate) fn help_is_the_same(alloc: Global, words: &[&str], others: &[&str]) -> bool {
+pub(crate) fn help_is_the_same(alloc: Global, words: &str, others: &str) -> bool {
     match help_of(alloc, others) {
         Some(said) => says(alloc, words, said.items()),
         None => false,
@@ -133,15 +136,11 @@ pub(crate) fn help_is_the_same(alloc: Global, words: &[&str], others: &[&str]) -
 }
 
 /// The word, and then ten thousand times the other one.
-pub(crate) fn many_words(
-    alloc: Global,
-    first: &'static str,
-    other: &'static str,
-) -> Result<Vec<&'static str>, AllocError> {
-    let mut words = Vec::new(alloc);
-    words.push(first)?;
-    for _ in 0..10_000 {
-        words.push(other)?;
+pub(crate) fn many_words(alloc: Global, first: &str, other: &str) -> Result<String, AllocError> {
+    let mut words = String::from_str(alloc, first)?;
+    for _ in 0..10_000u32 {
+        words.push('|')?;
+        words.push_str(other)?;
     }
     Ok(words)
 }
