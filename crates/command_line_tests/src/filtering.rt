@@ -1,5 +1,5 @@
 //! The words of `filter`.
-use crate::answers::{Row, chooses, is_refused, is_wrong_use, many_words};
+use crate::answers::{Row, asks, is_refused, is_wrong_use, many};
 use std::alloc::{AllocError, Global};
 
 /// Options stand in any order and spelling.
@@ -38,7 +38,7 @@ static CHOICES: &[Row] = &[
 #[test]
 fn each_option_chooses(rt: HostRuntime) {
     for (words, wanted) in CHOICES {
-        assert!(rt; chooses(rt.alloc(), words, wanted));
+        assert!(rt; asks(rt.alloc(), words, wanted));
     }
 }
 
@@ -55,7 +55,7 @@ fn many_types_are_taken(alloc: Global) -> Result<bool, AllocError> {
     let refused = format!(in alloc; "filter|--cotype={}", many_types(alloc, "", ",")?)?;
     let wanted = format!(in alloc; "{} anywhere", many_types(alloc, "<", ">")?)?;
     let taken = refused.strip_suffix(',').unwrap_or("");
-    Ok(chooses(alloc, taken, &wanted) && is_wrong_use(alloc, &refused, "citymerge: bad --cotype\n"))
+    Ok(asks(alloc, taken, &wanted) && is_wrong_use(alloc, &refused, "citymerge: bad --cotype\n"))
 }
 
 #[test]
@@ -175,7 +175,7 @@ fn words_that_are_no_use_are_refused(rt: HostRuntime) {
 }
 
 fn many_are_refused(alloc: Global, word: &str, named: &str) -> bool {
-    match many_words(alloc, "filter", word) {
+    match many(alloc, "filter", word) {
         Ok(words) => is_refused(alloc, &words, named),
         Err(_) => false,
     }
@@ -183,6 +183,6 @@ fn many_are_refused(alloc: Global, word: &str, named: &str) -> bool {
 
 #[test]
 fn ten_thousand_words_are_read(rt: HostRuntime) {
-    assert!(rt; many_are_refused(rt.alloc(), "a.city.jsonl", "'a.city.jsonl'"));
-    assert!(rt; many_are_refused(rt.alloc(), "--exclude", "'--exclude'"));
+    assert!(rt; many_are_refused(rt.alloc(), "|a.city.jsonl", "'a.city.jsonl'"));
+    assert!(rt; many_are_refused(rt.alloc(), "|--exclude", "'--exclude'"));
 }

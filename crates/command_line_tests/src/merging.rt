@@ -1,34 +1,6 @@
 //! The words of `merge`.
-use crate::answers::{Row, is_refused, is_wrong_use, many_words, parsed, shown};
-use command_line::{MergeArgs, Parsed};
+use crate::answers::{Row, asks, is_refused, is_wrong_use, many};
 use std::alloc::{AllocError, Global};
-
-/// What a merge is asked as a text: the choice, the flags and the paths.
-fn merge_shown(alloc: Global, args: &MergeArgs) -> Result<String, AllocError> {
-    let mut text = shown(alloc, &args.choice)?;
-    text.push_str(if args.in_turn { " in turn" } else { "" })?;
-    text.push_str(if args.least { " from the least" } else { "" })?;
-    for path in args.paths.items() {
-        text.push_str(" [")?;
-        text.push_str(path.as_str())?;
-        text.push(']')?;
-    }
-    Ok(text)
-}
-
-fn merge_of(alloc: Global, words: &str) -> Option<MergeArgs> {
-    match parsed(alloc, words) {
-        Ok(Parsed::Merge(args)) => Some(args),
-        _ => None,
-    }
-}
-
-fn merges(alloc: Global, words: &str, wanted: &str) -> Result<bool, AllocError> {
-    match merge_of(alloc, words) {
-        Some(args) => Ok(merge_shown(alloc, &args)?.as_str() == wanted),
-        None => Ok(false),
-    }
-}
 
 /// Tiles stay in their order.
 static MERGES: &[Row] = &[
@@ -44,16 +16,14 @@ static MERGES: &[Row] = &[
 #[test]
 fn merge_takes_tiles_in_order(rt: HostRuntime) {
     for (words, wanted) in MERGES {
-        assert!(rt; merges(rt.alloc(), words, wanted) == Ok(true));
+        assert!(rt; asks(rt.alloc(), words, wanted));
     }
 }
 
 fn many_tiles_are_taken(alloc: Global) -> Result<bool, AllocError> {
-    let words = many_words(alloc, "merge", "a.city.jsonl")?;
-    match merge_of(alloc, &words) {
-        Some(args) => Ok(args.paths.items().len() == 10_000),
-        None => Ok(false),
-    }
+    let words = many(alloc, "merge", "|a.city.jsonl")?;
+    let wanted = many(alloc, "all types anywhere", " [a.city.jsonl]")?;
+    Ok(asks(alloc, &words, &wanted))
 }
 
 #[test]
