@@ -2,73 +2,95 @@
 use byte_streams::{Fault, Line};
 use city_feature::{Area, Choice, Types};
 use city_json::Str;
-use command_line::{Parsed, Paths, parse_words};
+use command_line::{MergeArgs, Parsed, Paths, parse_words};
 use std::alloc::{AllocError, Global};
 
+/// Words, with `|` between them, and what is to be answered.
+pub(crate) type Row = (&'static str, &'static str);
+
 /// What the words after the program's name ask for.
-pub(crate) fn parsed(alloc: Global, words: &[&str]) -> Result<Parsed, Fault> {
+fn parsed(alloc: Global, words: &str) -> Result<Parsed, Fault> {
     let mut given = Paths::new(alloc);
     given.push(Str::read(alloc, "citymerge")?)?;
-    for word in words {
+    for word in words.split('|') {
         given.push(Str::read(alloc, word)?)?;
     }
     Ok(parse_words(alloc, &given))
 }
 
-fn types_shown(alloc: Global, types: &Types) -> Result<String, AllocError> {
-    let mut text = String::new(alloc);
+fn add_types(text: &mut String, types: &Types) -> Result<(), AllocError> {
     for name in types.items() {
         text.push('<')?;
         text.push_str(name.as_str())?;
         text.push('>')?;
     }
-    Ok(text)
+    Ok(())
 }
 
-fn area_shown(alloc: Global, area: &Area) -> Result<String, AllocError> {
-    format!(in alloc;
-        "from {} {} to {} {}",
+fn add_area(text: &mut String, area: &Area) -> Result<(), AllocError> {
+    write!(
+        text,
+        " from {} {} to {} {}",
         area.min_x, area.min_y, area.max_x, area.max_y
     )
 }
 
-/// The choice as a text: the types, the area, and whether it is excluded.
-pub(crate) fn shown(alloc: Global, choice: &Choice) -> Result<String, AllocError> {
-    let types = match &choice.types {
-        Some(types) => types_shown(alloc, types)?,
-        None => String::from_str(alloc, "all types")?,
-    };
-    let area = match &choice.area {
-        Some(area) => area_shown(alloc, area)?,
-        None => String::from_str(alloc, "anywhere")?,
-    };
-    let excluded = if choice.exclude { " excluded" } else { "" };
-    format!(in alloc; "{types} {area}{excluded}")
+fn add_choice(text: &mut String, choice: &Choice) -> Result<(), AllocError> {
+    match &choice.types {
+        Some(types) => add_types(text, types)?,
+        None => text.push_str("all types")?,
+    }
+    match &choice.area {
+        Some(area) => add_area(text, area)?,
+        None => text.push_str(" anywhere")?,
+    }
+    text.push_str(if choice.exclude { " excluded" } else { "" })
 }
 
-fn is_shown(alloc: Global, choice: &Choice, wanted: &str) -> bool {
-    match shown(alloc, choice) {
+fn add_merge(text: &mut String, args: &MergeArgs) -> Result<(), AllocError> {
+    add_choice(text, &args.choice)?;
+    text.push_str(if args.in_turn { " in turn" } else { "" })?;
+    text.push_str(if args.least { " from the least" } else { "" })?;
+    for path in args.paths.items() {
+        text.push_str(" [")?;
+        text.push_str(path.as_str())?;
+        text.push(']')?;
+    }
+    Ok(())
+}
+
+fn add_asked(text: &mut String, asked: &Parsed) -> Result<(), AllocError> {
+    match asked {
+        Parsed::Filter(choice) => add_choice(text, choice),
+        Parsed::Merge(args) => add_merge(text, args),
+        Parsed::Cat => text.push_str("cat"),
+        _ => text.push_str("nothing"),
+    }
+}
+
+/// What the words ask for, as a text: the choice, and of a merge its flags and its paths, too.
+fn asked(alloc: Global, words: &str) -> Result<String, Fault> {
+    let mut text = String::new(alloc);
+    add_asked(&mut text, &parsed(alloc, words)?)?;
+    Ok(text)
+}
+
+/// Whether the words ask for this.
+pub(crate) fn asks(alloc: Global, words: &str, wanted: &str) -> bool {
+    match asked(alloc, words) {
         Ok(text) => text.as_str() == wanted,
         Err(_) => false,
     }
 }
 
-/// Whether the words ask for a filter of this choice.
-pub(crate) fn chooses(alloc: Global, words: &[&str], wanted: &str) -> bool {
-    match parsed(alloc, words) {
-        Ok(Parsed::Filter(choice)) => is_shown(alloc, &choice, wanted),
-        _ => false,
-    }
-}
-
-fn help_of(alloc: Global, words: &[&str]) -> Option<Line> {
+fn help_of(alloc: Global, words: &str) -> Option<Line> {
     match parsed(alloc, words) {
         Ok(Parsed::Help(text)) => Some(text),
         _ => None,
     }
 }
 
-fn usage_of(alloc: Global, words: &[&str]) -> Option<Line> {
+fn usage_of(alloc: Global, words: &str) -> Option<Line> {
     match parsed(alloc, words) {
         Ok(Parsed::Usage(text)) => Some(text),
         _ => None,
@@ -76,7 +98,7 @@ fn usage_of(alloc: Global, words: &[&str]) -> Option<Line> {
 }
 
 /// Whether the words are a wrong use, of which this is said.
-pub(crate) fn is_wrong_use(alloc: Global, words: &[&str], wanted: &str) -> bool {
+pub(crate) fn is_wrong_use(alloc: Global, words: &str, wanted: &str) -> bool {
     match usage_of(alloc, words) {
         Some(said) => said.items() == wanted.as_bytes(),
         None => false,
@@ -91,7 +113,7 @@ fn names(text: &[u8], named: &str) -> bool {
 }
 
 /// Whether the words are refused by `clap`, with a text that ends its line and names what is wrong.
-pub(crate) fn is_refused(alloc: Global, words: &[&str], named: &str) -> bool {
+pub(crate) fn is_refused(alloc: Global, words: &str, named: &str) -> bool {
     match usage_of(alloc, words) {
         Some(said) => names(said.items(), named),
         None => false,
@@ -110,7 +132,7 @@ fn has_parts(text: &[u8], parts: &[&str]) -> bool {
 }
 
 /// Whether the words ask for a help that has these parts.
-pub(crate) fn helps(alloc: Global, words: &[&str], parts: &[&str]) -> bool {
+pub(crate) fn helps(alloc: Global, words: &str, parts: &[&str]) -> bool {
     match help_of(alloc, words) {
         Some(said) => has_parts(said.items(), parts),
         None => false,
@@ -118,30 +140,25 @@ pub(crate) fn helps(alloc: Global, words: &[&str], parts: &[&str]) -> bool {
 }
 
 /// Whether the words ask for this text.
-pub(crate) fn says(alloc: Global, words: &[&str], wanted: &[u8]) -> bool {
+pub(crate) fn says(alloc: Global, words: &str, wanted: &[u8]) -> bool {
     match help_of(alloc, words) {
         Some(said) => said.items() == wanted,
         None => false,
     }
 }
 
-pub(crate) fn help_is_the_same(alloc: Global, words: &[&str], others: &[&str]) -> bool {
+pub(crate) fn help_is_the_same(alloc: Global, words: &str, others: &str) -> bool {
     match help_of(alloc, others) {
         Some(said) => says(alloc, words, said.items()),
         None => false,
     }
 }
 
-/// The word, and then ten thousand times the other one.
-pub(crate) fn many_words(
-    alloc: Global,
-    first: &'static str,
-    other: &'static str,
-) -> Result<Vec<&'static str>, AllocError> {
-    let mut words = Vec::new(alloc);
-    words.push(first)?;
-    for _ in 0..10_000 {
-        words.push(other)?;
+/// The text, and then ten thousand times the other one.
+pub(crate) fn many(alloc: Global, first: &str, other: &str) -> Result<String, AllocError> {
+    let mut text = String::from_str(alloc, first)?;
+    for _ in 0..10_000u32 {
+        text.push_str(other)?;
     }
-    Ok(words)
+    Ok(text)
 }

@@ -1,64 +1,14 @@
 //! The words of `merge`.
-use crate::answers::{is_refused, is_wrong_use, many_words, parsed, shown};
-use command_line::{MergeArgs, Parsed};
+use crate::answers::{Row, asks, is_refused, is_wrong_use, many};
 use std::alloc::{AllocError, Global};
 
-/// What a merge is asked as a text: the choice, the flags and the paths.
-fn merge_shown(alloc: Global, args: &MergeArgs) -> Result<String, AllocError> {
-    let mut text = shown(alloc, &args.choice)?;
-    text.push_str(if args.in_turn { " in turn" } else { "" })?;
-    text.push_str(if args.least { " from the least" } else { "" })?;
-    for path in args.paths.items() {
-        text.push_str(" [")?;
-        text.push_str(path.as_str())?;
-        text.push(']')?;
-    }
-    Ok(text)
-}
-
-fn merge_of(alloc: Global, words: &[&str]) -> Option<MergeArgs> {
-    match parsed(alloc, words) {
-        Ok(Parsed::Merge(args)) => Some(args),
-        _ => None,
-    }
-}
-
-fn merges(alloc: Global, words: &[&str], wanted: &str) -> Result<bool, AllocError> {
-    match merge_of(alloc, words) {
-        Some(args) => Ok(merge_shown(alloc, &args)?.as_str() == wanted),
-        None => Ok(false),
-    }
-}
-
-/// Words, and what is to be answered.
-type Row = (&'static [&'static str], &'static str);
-
 /// Tiles stay in their order.
-const MERGES: [Row; 4] = [
-    (&["merge", "a"], "all types anywhere [a]"),
+static MERGES: &[Row] = &[
+    ("merge|a", "all types anywhere [a]"),
+    ("merge|c|a|b|a", "all types anywhere [c] [a] [b] [a]"),
+    ("merge|--in-turn|a|b", "all types anywhere in turn [a] [b]"),
     (
-        &["merge", "c", "a", "b", "a"],
-        "all types anywhere [c] [a] [b] [a]",
-    ),
-    (
-        &["merge", "--in-turn", "a", "b"],
-        "all types anywhere in turn [a] [b]",
-    ),
-    (
-        &[
-            "merge",
-            "--cotype=A,B",
-            "a",
-            "--bbox=-5,0,10,10",
-            "-",
-            "--least",
-            "--exclude",
-            "merge",
-            "--in-turn",
-            "--",
-            "-b",
-            "--least",
-        ],
+        "merge|--cotype=A,B|a|--bbox=-5,0,10,10|-|--least|--exclude|merge|--in-turn|--|-b|--least",
         "<A><B> from -5 0 to 10 10 excluded in turn from the least [a] [-] [merge] [-b] [--least]",
     ),
 ];
@@ -66,16 +16,14 @@ const MERGES: [Row; 4] = [
 #[test]
 fn merge_takes_tiles_in_order(rt: HostRuntime) {
     for (words, wanted) in MERGES {
-        assert!(rt; merges(rt.alloc(), words, wanted) == Ok(true), "{words:?}");
+        assert!(rt; asks(rt.alloc(), words, wanted));
     }
 }
 
 fn many_tiles_are_taken(alloc: Global) -> Result<bool, AllocError> {
-    let words = many_words(alloc, "merge", "a.city.jsonl")?;
-    match merge_of(alloc, &words) {
-        Some(args) => Ok(args.paths.items().len() == 10_000),
-        None => Ok(false),
-    }
+    let words = many(alloc, "merge", "|a.city.jsonl")?;
+    let wanted = many(alloc, "all types anywhere", " [a.city.jsonl]")?;
+    Ok(asks(alloc, &words, &wanted))
 }
 
 #[test]
@@ -84,42 +32,36 @@ fn ten_thousand_tiles_are_taken(rt: HostRuntime) {
 }
 
 /// Bad values are named, types first.
-const WRONG: [Row; 4] = [
+static WRONG: &[Row] = &[
+    ("merge|--cotype=A,,B|a", "citymerge: bad --cotype\n"),
+    ("merge|a|--bbox=1,2,3|b", "citymerge: bad --bbox\n"),
+    ("merge|a|--bbox=5,0,1,1", "citymerge: bad --bbox\n"),
     (
-        &["merge", "--cotype=A,,B", "a"],
-        "citymerge: bad --cotype\n",
-    ),
-    (
-        &["merge", "a", "--bbox=1,2,3", "b"],
-        "citymerge: bad --bbox\n",
-    ),
-    (&["merge", "a", "--bbox=5,0,1,1"], "citymerge: bad --bbox\n"),
-    (
-        &["merge", "--bbox=1,2,3", "a", "b", "c", "--cotype="],
+        "merge|--bbox=1,2,3|a|b|c|--cotype=",
         "citymerge: bad --cotype\n",
     ),
 ];
 
 /// Words that are no use of `merge`, and what their refusal names.
-const REFUSED: [Row; 10] = [
-    (&["merge"], "<TILE>..."),
-    (&["merge", "--least", "--in-turn"], "<TILE>..."),
-    (&["merge", "--"], "<TILE>..."),
-    (&["merge", "--bbox=1,2,3"], "<TILE>..."),
-    (&["merge", "--cotype", "a"], "<TILE>..."),
-    (&["merge", "-a"], "'-a'"),
-    (&["merge", "a", "--inturn"], "'--inturn'"),
-    (&["merge", "a", "--least", "b", "--least"], "'--least'"),
-    (&["merge", "a", "--in-turn=yes"], "'--in-turn'"),
-    (&["--in-turn", "merge", "a"], "'--in-turn'"),
+static REFUSED: &[Row] = &[
+    ("merge", "<TILE>..."),
+    ("merge|--least|--in-turn", "<TILE>..."),
+    ("merge|--", "<TILE>..."),
+    ("merge|--bbox=1,2,3", "<TILE>..."),
+    ("merge|--cotype|a", "<TILE>..."),
+    ("merge|-a", "'-a'"),
+    ("merge|a|--inturn", "'--inturn'"),
+    ("merge|a|--least|b|--least", "'--least'"),
+    ("merge|a|--in-turn=yes", "'--in-turn'"),
+    ("--in-turn|merge|a", "'--in-turn'"),
 ];
 
 #[test]
 fn words_that_are_no_use_of_merge_are_refused(rt: HostRuntime) {
     for (words, wanted) in WRONG {
-        assert!(rt; is_wrong_use(rt.alloc(), words, wanted), "{words:?}");
+        assert!(rt; is_wrong_use(rt.alloc(), words, wanted));
     }
     for (words, named) in REFUSED {
-        assert!(rt; is_refused(rt.alloc(), words, named), "{words:?}");
+        assert!(rt; is_refused(rt.alloc(), words, named));
     }
 }

@@ -4,23 +4,27 @@
 #![tactic(auto)]
 
 mod bash;
+mod entries;
+mod filling;
 mod fish;
+mod output;
 mod page;
-mod text;
-mod types;
 mod zsh;
 
-use command_line::citymerge_command;
-use std::io;
+use entries::entries;
+use filling::add_sections;
+use output::Output;
+use std::io::{self, ErrorKind};
 
 fn main(rt: HostRuntime) -> io::Result<()> {
-    let command = citymerge_command(rt.alloc())?;
-    println!(&rt; "==> citymerge.1")?;
-    page::print(&rt, &command)?;
-    println!(&rt; "==> citymerge.bash")?;
-    bash::print(&rt, &command)?;
-    println!(&rt; "==> _citymerge")?;
-    zsh::print(&rt, &command)?;
-    println!(&rt; "==> citymerge.fish")?;
-    fish::print(&rt, &command)
+    let entries = entries(rt.alloc())?;
+    let mut out = Output::new(rt.alloc());
+    add_sections(&mut out, page::SECTIONS, &[], &entries);
+    add_sections(&mut out, bash::SECTIONS, &[], &entries);
+    add_sections(&mut out, zsh::SECTIONS, zsh::ESCAPES, &entries);
+    add_sections(&mut out, fish::SECTIONS, fish::ESCAPES, &entries);
+    match out.into_text() {
+        Some(text) => rt.print(&text),
+        None => Err(ErrorKind::Other.into()),
+    }
 }

@@ -1,120 +1,147 @@
-use crate::text::said_to;
-use byte_streams::{Fault, Line};
-use clap::Command;
-use std::io::{self, ErrorKind};
+use crate::filling::{NOTHING, Section};
+use crate::output::Output;
+use byte_streams::Fault;
+use city_json::Str;
+use command_line::{Parsed, Paths, parse_words};
+use std::alloc::Global;
 
-/// The day of the release, as the change log has it: a page does not change from build to build.
-static RELEASED: &str = "2026-11-24";
+/// The manual page, in roff. It bears the day of the release, as the change log has it: a page does
+/// not change from build to build.
+pub(crate) static SECTIONS: &[Section<'_>] = &[
+    Section {
+        program: "==> citymerge.1
+.TH CITYMERGE 1 \"2026-11-24\" \"~version~\" \"User Commands\"
+.SH NAME
+citymerge \\- ~help~
+.SH SYNOPSIS
+",
+        command: "~usage~",
+        ..NOTHING
+    },
+    Section {
+        program: ".SH DESCRIPTION\n~help of all~",
+        command: ".SH CITYMERGE ~command~\n~help of command~",
+        ..NOTHING
+    },
+    Section {
+        program: END,
+        ..NOTHING
+    },
+];
 
-static STATUS: &str = "Status:";
+const END: &str = ".SH EXIT STATUS
+~status~.SH DIAGNOSTICS
+What is wrong with a value of an option is told, and the status is 2:
+~bad type~~bad box~.PP
+A refusal is told with one of these texts, and the status is 1:
+.PP
+.nf
+~faults~.fi
+.PP
+FAULTS.md says of each when it comes and what to do about it.
+.SH FILES
+Below the folder that the program was installed in, as /usr or /usr/local:
+.TP
+share/doc/citymerge/GUIDE.md
+From the tiles of a publisher to one stream, and a part of it.
+.TP
+share/doc/citymerge/FAULTS.md
+All texts of refusals, with what to do about each.
+.SH SEE ALSO
+.BR citymerge\\-many (1),
+which merges any number of tiles.
+";
 
-static USAGE: &str = "Usage: ";
+/// What stands for characters that roff would take for something else.
+static ESCAPES: &[(char, &str)] = &[('\\', r"\e"), ('-', r"\-"), ('\'', r"\(aq"), ('`', r"\(ga")];
 
-/// Prints the manual page, in roff.
-pub(crate) fn print(rt: &HostRuntime, command: &Command<'_>) -> io::Result<()> {
-    let version = command.get_version().unwrap_or("");
-    println!(rt; ".TH CITYMERGE 1 \"{RELEASED}\" \"citymerge {version}\" \"User Commands\"")?;
-    println!(rt;
-        ".SH NAME\ncitymerge \\- {}",
-        command.get_about().unwrap_or("")
-    )?;
-    print_synopsis(rt, command)?;
-    println!(rt; ".SH DESCRIPTION")?;
-    let help = said_to(rt.alloc(), &["citymerge", "--help"])?;
-    print_lines(rt, text_of(&help)?, Part::Help)?;
-    for sub in command.get_subcommands() {
-        println!(rt; ".SH CITYMERGE {}", sub.get_name())?;
-        let said = said_to(rt.alloc(), &["citymerge", "help", sub.get_name()])?;
-        print_lines(rt, text_of(&said)?, Part::Help)?;
-    }
-    println!(rt; ".SH EXIT STATUS")?;
-    print_lines(rt, text_of(&help)?, Part::Status)?;
-    print_diagnostics(rt)?;
-    print_installed(rt)
-}
-
-/// Which lines of a help text are printed.
-#[derive(Clone, Copy, PartialEq)]
+/// Which part of a help text is wanted.
+#[derive(Clone, Copy)]
 enum Part {
-    /// Those before the statuses.
-    Help,
-    /// The statuses.
-    Status,
-    /// The usage, without the word before it.
     Usage,
+    /// All before the statuses.
+    Help,
+    Status,
 }
 
-fn print_synopsis(rt: &HostRuntime, command: &Command<'_>) -> io::Result<()> {
-    println!(rt; ".SH SYNOPSIS")?;
-    for sub in command.get_subcommands() {
-        let said = said_to(rt.alloc(), &["citymerge", "help", sub.get_name()])?;
-        print_lines(rt, text_of(&said)?, Part::Usage)?;
+/// Adds what stands for a place of the page, which for some is of a command, or the text itself.
+pub(crate) fn add_told(out: &mut Output, place: &str, command: &str) {
+    match place {
+        "version" => add_version(out),
+        "usage" => add_said(out, &["citymerge", "help", command], Part::Usage),
+        "help of command" => add_said(out, &["citymerge", "help", command], Part::Help),
+        "help of all" => add_said(out, &["citymerge", "--help"], Part::Help),
+        "status" => add_said(out, &["citymerge", "--help"], Part::Status),
+        "bad type" => add_said(out, &["citymerge", "filter", "--cotype="], Part::Help),
+        "bad box" => add_said(out, &["citymerge", "filter", "--bbox="], Part::Help),
+        "faults" => add_faults(out),
+        text => out.add(text),
     }
-    Ok(())
 }
 
-/// Prints the texts about options and all texts of faults.
-fn print_diagnostics(rt: &HostRuntime) -> io::Result<()> {
-    println!(rt; ".SH DIAGNOSTICS")?;
-    println!(rt; "What is wrong with a value of an option is told, and the status is 2:")?;
-    for option in ["--cotype=", "--bbox="] {
-        let said = said_to(rt.alloc(), &["citymerge", "filter", option])?;
-        print_lines(rt, text_of(&said)?, Part::Help)?;
+fn add_version(out: &mut Output) {
+    match said_to(out.alloc, &["citymerge", "--version"]) {
+        Some(said) => out.add(said.trim_end()),
+        None => out.fail(),
     }
-    println!(rt; ".PP\nA refusal is told with one of these texts, and the status is 1:")?;
-    println!(rt; ".PP\n.nf")?;
+}
+
+/// Adds a part of what the program says to these words, line for line.
+fn add_said(out: &mut Output, words: &[&str], part: Part) {
+    match said_to(out.alloc, words) {
+        Some(said) => add_block(out, part_of(&said, part)),
+        None => out.fail(),
+    }
+}
+
+fn add_block(out: &mut Output, text: &str) {
+    out.add(".PP\n.in 2n\n.nf\n");
+    for line in text.lines() {
+        add_line(out, line);
+    }
+    out.add(".fi\n.in\n");
+}
+
+/// Adds a line as it stands.
+fn add_line(out: &mut Output, line: &str) {
+    out.add("\\&");
+    out.add_escaped(line, ESCAPES);
+    out.add("\n");
+}
+
+fn add_faults(out: &mut Output) {
     for number in 1..=u8::MAX {
         if let Some(fault) = Fault::of(number) {
-            print_escaped(rt, fault.text())?;
+            add_line(out, fault.text());
         }
     }
-    println!(rt; ".fi\n.PP\nFAULTS.md says of each when it comes and what to do about it.")
 }
 
-/// Prints where the documents are that are installed with the page.
-fn print_installed(rt: &HostRuntime) -> io::Result<()> {
-    println!(rt; ".SH FILES")?;
-    println!(rt; "Below the folder that the program was installed in, as /usr or /usr/local:")?;
-    println!(rt;
-        ".TP\nshare/doc/citymerge/GUIDE.md\nFrom the tiles of a publisher to one stream, and a part of it."
-    )?;
-    println!(rt;
-        ".TP\nshare/doc/citymerge/FAULTS.md\nAll texts of refusals, with what to do about each."
-    )?;
-    println!(rt; ".SH SEE ALSO\n.BR citymerge\\-many (1),\nwhich merges any number of tiles.")
-}
-
-fn text_of(said: &Line) -> io::Result<&str> {
-    std::str::from_utf8(said.items()).map_err(|_| ErrorKind::InvalidData.into())
-}
-
-/// Prints a part of what the program says, line for line.
-fn print_lines(rt: &HostRuntime, text: &str, wanted: Part) -> io::Result<()> {
-    println!(rt; ".PP\n.in 2n\n.nf")?;
-    let mut part = Part::Help;
-    for line in text.lines() {
-        if line == STATUS {
-            part = Part::Status;
-        } else if part == wanted {
-            print_escaped(rt, line)?;
-        } else if wanted == Part::Usage && line.starts_with(USAGE) {
-            print_escaped(rt, &line[USAGE.len()..])?;
-        }
+/// What the program says to these words: help, or what is wrong with them.
+fn said_to(alloc: Global, words: &[&str]) -> Option<String> {
+    let words = words_of(alloc, words).ok()?;
+    match parse_words(alloc, &words) {
+        Parsed::Help(text) | Parsed::Usage(text) => String::from_utf8(text.into_vec()).ok(),
+        _ => None,
     }
-    println!(rt; ".fi\n.in")
 }
 
-/// Prints a line as it stands.
-fn print_escaped(rt: &HostRuntime, line: &str) -> io::Result<()> {
-    print!(rt; "\\&")?;
-    for c in line.chars() {
-        match c {
-            '\\' => print!(rt; "\\e")?,
-            '-' => print!(rt; "\\-")?,
-            '\'' => print!(rt; "\\(aq")?,
-            '`' => print!(rt; "\\(ga")?,
-            c => print!(rt; "{c}")?,
-        }
+fn words_of(alloc: Global, texts: &[&str]) -> Result<Paths, Fault> {
+    let mut words = Paths::new(alloc);
+    for text in texts {
+        words.push(Str::read(alloc, text)?)?;
     }
-    println!(rt; "")
+    Ok(words)
+}
+
+fn part_of(said: &str, part: Part) -> &str {
+    let (help, status) = said.split_once("Status:\n").unwrap_or((said, ""));
+    match part {
+        Part::Usage => help
+            .lines()
+            .find_map(|line| line.strip_prefix("Usage: "))
+            .unwrap_or(""),
+        Part::Help => help,
+        Part::Status => status,
+    }
 }
