@@ -33,7 +33,7 @@ import runs
 LONG = 60
 
 # The crates with such tests, and what the names of these begin with.
-CRATES = {"growth_tests": "", "citymerge": "growths::"}
+CRATES = {"growth_tests": "", "stream_growth_tests": "", "citymerge": "growths::"}
 
 # How a test says that a call answered want of memory, and where the sources name such calls.
 SAID = re.compile(rb"^wanted memory: (.*)$", re.MULTILINE)

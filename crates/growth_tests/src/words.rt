@@ -1,16 +1,15 @@
 //! What the words of a command line ask for.
 
-use crate::memory::{Call, wanted};
 use byte_streams::Fault;
+use city_feature::Choice;
 use city_json::Str;
 use command_line::{Parsed, Paths, parse_words};
+use growth_support::{Call, expect, refused};
 use std::alloc::Global;
 use std::io::Eprint;
-use std::process::Abort;
-use std::test::Fail;
 
 /// What words may ask for here, in short.
-#[derive(Clone, Copy, Debug, PartialEq, Eq)]
+#[derive(Clone, Copy)]
 enum Asked<'a> {
     /// A filter: of how many types, from which x, and whether these are left out.
     Filter(usize, Option<i64>, bool),
@@ -31,12 +30,16 @@ fn words_of(alloc: Global, words: &str) -> Result<Paths, Fault> {
     Ok(given)
 }
 
+fn is_filter(choice: &Choice, count: usize, from: Option<i64>, exclude: bool) -> bool {
+    let types = choice.types.as_ref().map_or(0, |types| types.items().len());
+    let least = choice.area.as_ref().map(|area| area.min_x);
+    types == count && least == from && choice.exclude == exclude
+}
+
 fn is_asked(parsed: &Parsed, asked: Asked<'_>) -> bool {
     match (parsed, asked) {
         (Parsed::Filter(choice), Asked::Filter(count, from, exclude)) => {
-            let types = choice.types.as_ref().map_or(0, |types| types.items().len());
-            let least = choice.area.as_ref().map(|area| area.min_x);
-            types == count && least == from && choice.exclude == exclude
+            is_filter(choice, count, from, exclude)
         }
         (Parsed::Merge(args), Asked::Merge(count)) => args.paths.items().len() == count,
         (Parsed::Cat, Asked::Cat) => true,
@@ -46,22 +49,17 @@ fn is_asked(parsed: &Parsed, asked: Asked<'_>) -> bool {
 }
 
 /// Words are answered as they are with ample memory, or there is not enough to tell.
-fn expect_words(
-    rt: &(impl Abort + AllocGlobal + Eprint),
+fn words_ask(
+    rt: &(impl AllocGlobal + Eprint),
     words: &str,
     asked: Asked<'_>,
-) -> Result<(), Fault> {
+) -> Result<bool, Fault> {
     let given = words_of(rt.alloc(), words)?;
-    match parse_words(rt.alloc(), &given) {
-        Parsed::Memory => {
-            wanted(rt, Call("parse_words"));
-            Err(Fault::Memory)
-        }
-        parsed => {
-            assert!(rt; is_asked(&parsed, asked), "{words}: {parsed:?}");
-            Ok(())
-        }
+    let parsed = parse_words(rt.alloc(), &given);
+    if matches!(parsed, Parsed::Memory) {
+        return refused(rt, Call("parse_words"), Fault::Memory);
     }
+    Ok(is_asked(&parsed, asked))
 }
 
 /// Words, and what they ask for.
@@ -89,9 +87,9 @@ const WORDS: [(&str, Asked<'static>); 8] = [
 ];
 
 #[test]
-fn words_are_answered(rt: HostRuntime) -> Result<(), Fail> {
+fn words_are_answered(rt: HostRuntime) -> Result<(), Fault> {
     for (words, asked) in WORDS.iter() {
-        with_memory!(expect_words(&rt, words, *asked));
+        expect!(rt; words_ask(&rt, words, *asked));
     }
     Ok(())
 }
