@@ -39,8 +39,8 @@ CRATES = {"growth_tests": "", "stream_growth_tests": "", "citymerge": "growths::
 SAID = re.compile(rb"^wanted memory: (.*)$", re.MULTILINE)
 NAMED = re.compile(r'\bCall\("([^"]+)"\)')
 
-# What a test says that ends in want of memory.
-OWN = re.compile(rb"^error: (Memory|AllocError)$", re.MULTILINE)
+# What a test says that ends in want of memory: as an error of its own kind, or of any.
+OWN = re.compile(rb"^(Error: Memory|error: (Memory|AllocError))$", re.MULTILINE)
 
 # The status of a test whose result is an error.
 FAILED = 101

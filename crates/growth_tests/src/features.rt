@@ -407,7 +407,11 @@ fn selects_one(choice: &Choice, wanted: &Feature, other: &Feature) -> bool {
 fn selects_road(alloc: Global, choice: &Choice, is_road: bool) -> Result<bool, Fault> {
     let road = feature_of(alloc, MOVED)?;
     let building = feature_of(alloc, A.as_bytes())?;
-    Ok(if is_road { selects_one(choice, &road, &building) } else { selects_one(choice, &building, &road) })
+    Ok(if is_road {
+        selects_one(choice, &road, &building)
+    } else {
+        selects_one(choice, &building, &road)
+    })
 }
 
 fn is_copied(

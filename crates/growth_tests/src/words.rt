@@ -20,10 +20,9 @@ enum Asked<'a> {
     Usage(&'a str),
 }
 
-/// The words after the program's name, as `parse_words` takes them.
+/// The words of the program, as `parse_words` takes them.
 fn words_of(alloc: Global, words: &str) -> Result<Paths, Fault> {
     let mut given = Paths::new(alloc);
-    given.push(Str::read(alloc, "citymerge")?)?;
     for word in words.split(' ') {
         given.push(Str::read(alloc, word)?)?;
     }
@@ -49,39 +48,46 @@ fn is_asked(parsed: &Parsed, asked: Asked<'_>) -> bool {
 }
 
 /// Words are answered as they are with ample memory, or there is not enough to tell.
+fn is_answered(
+    rt: &(impl AllocGlobal + Eprint),
+    parsed: &Parsed,
+    asked: Asked<'_>,
+) -> Result<bool, Fault> {
+    match parsed {
+        Parsed::Memory => refused(rt, Call("parse_words"), Fault::Memory),
+        parsed => Ok(is_asked(parsed, asked)),
+    }
+}
+
 fn words_ask(
     rt: &(impl AllocGlobal + Eprint),
     words: &str,
     asked: Asked<'_>,
 ) -> Result<bool, Fault> {
     let given = words_of(rt.alloc(), words)?;
-    let parsed = parse_words(rt.alloc(), &given);
-    if matches!(parsed, Parsed::Memory) {
-        return refused(rt, Call("parse_words"), Fault::Memory);
-    }
-    Ok(is_asked(&parsed, asked))
+    is_answered(rt, &parse_words(rt.alloc(), &given), asked)
 }
 
 /// Words, and what they ask for.
 const WORDS: [(&str, Asked<'static>); 8] = [
     (
-        "filter --exclude --bbox=-5,0,10,10 --cotype=Building,Bridge",
+        "citymerge filter --exclude --bbox=-5,0,10,10 --cotype=Building,Bridge",
         Asked::Filter(2, Some(-5), true),
     ),
-    ("filter", Asked::Filter(0, None, false)),
-    ("merge --in-turn a b", Asked::Merge(2)),
-    ("cat", Asked::Cat),
-    ("merge", Asked::Usage("error: ")),
+    ("citymerge filter", Asked::Filter(0, None, false)),
+    ("citymerge merge --in-turn a b", Asked::Merge(2)),
+    ("citymerge cat", Asked::Cat),
+    ("citymerge merge", Asked::Usage("error: ")),
     (
-        "filter --bbox=1,2,3",
+        "citymerge filter --bbox=1,2,3",
         Asked::Usage("citymerge: bad --bbox\n"),
     ),
     (
-        "filter --bbox=5,0,1,1",
+        "citymerge filter --bbox=5,0,1,1",
         Asked::Usage("citymerge: bad --bbox\n"),
     ),
     (
-        "filter --cotype=A,,B",
+        "citymerge filter --cotype=A,,B",
         Asked::Usage("citymerge: bad --cotype\n"),
     ),
 ];

@@ -91,17 +91,20 @@ fn is_selected(taken: &Feature, types: Option<Types>, within: &str, exclude: boo
     selects(&Choice::new(types, area(within), exclude), taken)
 }
 
+fn selects_all(taken: &Feature, roads: Option<Types>, buildings: Option<Types>) -> bool {
+    let is_road = is_selected(taken, roads, "", false);
+    let is_building = is_selected(taken, buildings, "1,2,5,5", false);
+    let is_outside = is_selected(taken, None, "1,2,5,5", true);
+    !is_road && is_building && !is_outside && is_selected(taken, None, "2,2,5,5", true)
+}
+
 fn feature_is_selected(alloc: Global) -> Result<bool, Fault> {
     let taken = feature_of(alloc, A)?;
     let roads = types(alloc, "Road,Bridge")?;
     let buildings = types(alloc, "Road,Building")?;
     let gone = take(alloc);
-    let is_road = is_selected(&taken, roads, "", false);
-    let is_building = is_selected(&taken, buildings, "1,2,5,5", false);
-    let is_outside = is_selected(&taken, None, "1,2,5,5", true);
-    let is_farther = is_selected(&taken, None, "2,2,5,5", true);
-    let are_selected = !is_road && is_building && !is_outside && is_farther;
-    Ok(give(alloc, gone) && are_selected)
+    let is_selected = selects_all(&taken, roads, buildings);
+    Ok(give(alloc, gone) && is_selected)
 }
 
 /// Whether a feature is moved there, and then no farther.

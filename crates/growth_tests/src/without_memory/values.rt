@@ -190,6 +190,10 @@ fn members_are_found(value: &Json) -> bool {
         && Json::Null.get("a").is_none()
 }
 
+fn are_compared(value: &Json, equal: &Json, other: &Json) -> bool {
+    same(value, equal) && !same(value, other) && members_are_found(value)
+}
+
 fn values_are_compared(alloc: Global) -> Result<bool, Fault> {
     let value = read(alloc, br#"{"a":[1.0,"x\ny"],"b":{},"":null}"#)?;
     let equal = read(
@@ -198,9 +202,8 @@ fn values_are_compared(alloc: Global) -> Result<bool, Fault> {
     )?;
     let other = read(alloc, br#"{"a":[1.00,"x\ny"],"b":{},"":null}"#)?;
     let gone = take(alloc);
-    let are_same = same(&value, &equal) && !same(&value, &other);
-    let are_found = members_are_found(&value);
-    Ok(give(alloc, gone) && are_same && are_found)
+    let are_compared = are_compared(&value, &equal, &other);
+    Ok(give(alloc, gone) && are_compared)
 }
 
 #[test]
