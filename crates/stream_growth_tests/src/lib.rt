@@ -6,6 +6,8 @@
 #[cfg(test)]
 mod handoff;
 #[cfg(test)]
+mod merges;
+#[cfg(test)]
 mod streams;
 #[cfg(test)]
 mod tiles;

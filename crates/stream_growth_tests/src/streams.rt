@@ -1,6 +1,6 @@
 //! Streams that are read, filtered and made of documents.
 
-use crate::tiles::{NONE, Tile, after_line, are_given_up, bytes_of, lines_of, tape_of};
+use crate::tiles::{Tile, after_line, alone, are_given_up, bytes_of, lines_of, tape_of};
 use byte_streams::{Bin, Fault, Line, LineFault, MergeFault, Tape};
 use city_feature::{Choice, types};
 use city_grid::Shift;
@@ -106,18 +106,19 @@ fn all_short_lines_come(rt: &(impl AllocGlobal + Eprint)) -> Result<bool, Fault>
     )
 }
 
-/// What a filter answers of a tile, and wrote: the header, and the texts of all features or of those before a line.
+/// What a filter answers of the first tile, and wrote: the header, and the texts of all features or of those before a
+/// line.
 fn is_answer(
     rt: &(impl AllocGlobal + Eprint),
     call: Call,
-    (answer, written): (Result<u64, MergeFault>, &[u8]),
-    tile: &Tile<'_>,
+    answer: Result<u64, MergeFault>,
+    written: &[u8],
+    tiles: &[Tile<'_>; 3],
     comes: Result<u64, MergeFault>,
 ) -> Result<bool, Fault> {
     let is_gone = is_gone(rt.alloc());
-    let tiles = [*tile, NONE, NONE];
     let counts = match after_line(written, HEADER) {
-        Some(left) => lines_of(left, &tiles),
+        Some(left) => lines_of(left, tiles),
         None => None,
     };
     if counts.is_none() && !written.is_empty() {
@@ -126,18 +127,18 @@ fn is_answer(
     match answer {
         Err(told) if told.fault == Fault::Memory => {
             wanted(rt, call);
-            let is_so = told.tile == 1 && are_given_up(told, counts, &tiles, is_gone);
+            let is_so = told.tile == 1 && are_given_up(told, counts, tiles, is_gone);
             if is_so { Err(Fault::Memory) } else { Ok(false) }
         }
-        _ => Ok(answer == comes && is_whole(counts, tile, comes)),
+        _ => Ok(answer == comes && is_whole(counts, tiles[0].texts.len(), comes)),
     }
 }
 
 /// Whether all lines of a tile were written, or none where it has no header.
-fn is_whole(counts: Option<[usize; 3]>, tile: &Tile<'_>, comes: Result<u64, MergeFault>) -> bool {
+fn is_whole(counts: Option<[usize; 3]>, count: usize, comes: Result<u64, MergeFault>) -> bool {
     match comes {
         Err(told) if told.fault == Fault::NoHeader => counts.is_none(),
-        _ => counts == Some([tile.texts.len(), 0, 0]),
+        _ => counts == Some([count, 0, 0]),
     }
 }
 
@@ -145,7 +146,7 @@ fn stream_is_filtered(
     rt: &(impl AllocGlobal + Eprint),
     input: &[u8],
     choice: &Choice,
-    tile: &Tile<'_>,
+    tiles: &[Tile<'_>; 3],
     comes: Result<u64, MergeFault>,
 ) -> Result<bool, Fault> {
     let mut output = Bin::new(rt.alloc(), 4096, 100, false)?;
@@ -154,8 +155,9 @@ fn stream_is_filtered(
     is_answer(
         rt,
         Call("filter_stream"),
-        (answer, output.bytes()),
-        tile,
+        answer,
+        output.bytes(),
+        tiles,
         comes,
     )
 }
@@ -164,7 +166,7 @@ fn tile_is_filtered(
     rt: &(impl AllocGlobal + Eprint),
     input: &[u8],
     choice: &Choice,
-    tile: &Tile<'_>,
+    tiles: &[Tile<'_>; 3],
     comes: Result<u64, MergeFault>,
 ) -> Result<bool, Fault> {
     let mut output = Bin::new(rt.alloc(), 4096, 100, false)?;
@@ -173,28 +175,25 @@ fn tile_is_filtered(
     is_answer(
         rt,
         Call("filter_tile"),
-        (answer, output.bytes()),
-        tile,
+        answer,
+        output.bytes(),
+        tiles,
         comes,
     )
 }
 
-/// A stream, what is written of it and what is answered.
+/// A stream, the line of its header, what is written of it and what is answered.
 fn is_filtered(
     rt: &(impl AllocGlobal + Eprint),
     input: &[u8],
-    (header, texts): (u64, &[(u64, &str)]),
+    header: u64,
+    texts: &[(u64, &str)],
     comes: Result<u64, MergeFault>,
 ) -> Result<bool, Fault> {
-    let tile = Tile {
-        input: &[],
-        header,
-        texts,
-    };
-    let every = every_feature();
+    let (every, tiles) = (every_feature(), alone(header, texts));
     Ok(
-        stream_is_filtered(rt, input, &every, &tile, comes)?
-            && tile_is_filtered(rt, input, &every, &tile, comes)?,
+        stream_is_filtered(rt, input, &every, &tiles, comes)?
+            && tile_is_filtered(rt, input, &every, &tiles, comes)?,
     )
 }
 
@@ -202,7 +201,8 @@ fn is_filtered(
 fn filter_is_refused(
     rt: &(impl AllocGlobal + Eprint),
     input: &[u8],
-    (header, texts): (u64, &[(u64, &str)]),
+    header: u64,
+    texts: &[(u64, &str)],
     line: u64,
     fault: Fault,
 ) -> Result<bool, Fault> {
@@ -211,14 +211,14 @@ fn filter_is_refused(
         line,
         fault,
     };
-    is_filtered(rt, input, (header, texts), Err(told))
+    is_filtered(rt, input, header, texts, Err(told))
 }
 
 /// Memory may be wanted at each part of such a stream, of which there is one, or three.
 fn no_header_is_found(rt: &(impl AllocGlobal + Eprint)) -> Result<bool, Fault> {
     Ok(
-        filter_is_refused(rt, b"", (1, &[]), 0, Fault::NoHeader)?
-            && filter_is_refused(rt, b"\n \t\r\n", (3, &[]), 0, Fault::NoHeader)?,
+        filter_is_refused(rt, b"", 1, &[], 0, Fault::NoHeader)?
+            && filter_is_refused(rt, b"\n \t\r\n", 3, &[], 0, Fault::NoHeader)?,
     )
 }
 
@@ -235,7 +235,7 @@ fn vertices_are_refused(
 ) -> Result<bool, Fault> {
     let text = feature_of(rt.alloc(), vertices)?;
     let input = bytes_of(rt.alloc(), &[HEADER, &text])?;
-    filter_is_refused(rt, &input, (1, &[]), 2, fault)
+    filter_is_refused(rt, &input, 1, &[], 2, fault)
 }
 
 /// Vertices, and why a feature that has them is refused.
@@ -260,7 +260,7 @@ fn zero_has_no_sign(rt: &(impl AllocGlobal + Eprint)) -> Result<bool, Fault> {
     let text = feature_of(rt.alloc(), "[[-0,0,0]]")?;
     let written = feature_of(rt.alloc(), "[[0,0,0]]")?;
     let input = bytes_of(rt.alloc(), &[HEADER, &text])?;
-    is_filtered(rt, &input, (1, &[(2, &written)]), Ok(1))
+    is_filtered(rt, &input, 1, &[(2, &written)], Ok(1))
 }
 
 fn blanks_are_passed_over(rt: &(impl AllocGlobal + Eprint)) -> Result<bool, Fault> {
@@ -268,33 +268,30 @@ fn blanks_are_passed_over(rt: &(impl AllocGlobal + Eprint)) -> Result<bool, Faul
     let is_refused = filter_is_refused(
         rt,
         BLANKS_CUT.as_bytes(),
-        (2, &texts[..1]),
+        2,
+        &texts[..1],
         5,
         Fault::Syntax,
     )?;
-    Ok(is_refused && is_filtered(rt, BLANKS.as_bytes(), (2, &texts), Ok(2))?)
+    Ok(is_refused && is_filtered(rt, BLANKS.as_bytes(), 2, &texts, Ok(2))?)
 }
 
 fn first_is_filtered(rt: &(impl AllocGlobal + Eprint)) -> Result<bool, Fault> {
-    is_filtered(rt, FIRST.as_bytes(), (1, &[(2, FIRST_FEATURE)]), Ok(1))
+    is_filtered(rt, FIRST.as_bytes(), 1, &[(2, FIRST_FEATURE)], Ok(1))
 }
 
 /// Features that are chosen, and one that is not.
 fn features_are_chosen(rt: &(impl AllocGlobal + Eprint)) -> Result<bool, Fault> {
     let input = bytes_of(rt.alloc(), &[POINTS, A1, B1])?;
     let choice = choice_of(rt.alloc(), false)?;
-    let tile = Tile {
-        input: &[],
-        header: 1,
-        texts: &[(1, X), (2, A1), (3, B1)],
-    };
-    stream_is_filtered(rt, &input, &choice, &tile, Ok(3))
+    let tiles = alone(1, &[(1, X), (2, A1), (3, B1)]);
+    stream_is_filtered(rt, &input, &choice, &tiles, Ok(3))
 }
 
 /// A document whose features all come of line 1.
 fn document_is_filtered(rt: &(impl AllocGlobal + Eprint)) -> Result<bool, Fault> {
     let input = bytes_of(rt.alloc(), &[POINTS, A1])?;
-    is_filtered(rt, &input, (1, &[(1, X), (1, Y), (2, A1)]), Ok(3))
+    is_filtered(rt, &input, 1, &[(1, X), (1, Y), (2, A1)], Ok(3))
 }
 
 /// Want of memory of this call at this line, or a wrong answer.

@@ -19,6 +19,16 @@ pub(crate) const NONE: Tile<'static> = Tile {
     texts: &[],
 };
 
+/// A tile beside no others, whose texts were read already.
+pub(crate) fn alone<'a>(header: u64, texts: &'a [(u64, &'a str)]) -> [Tile<'a>; 3] {
+    let tile = Tile {
+        input: &[],
+        header,
+        texts,
+    };
+    [tile, NONE, NONE]
+}
+
 /// These texts, each followed by a newline.
 pub(crate) fn bytes_of(alloc: Global, texts: &[&str]) -> Result<Vec<u8>, AllocError> {
     let mut stream = Vec::new(alloc);
