@@ -4,8 +4,8 @@ use crate::values::{is_after, is_printed};
 use byte_streams::{Fault, Line};
 use city_cut::{CutTexts, FeatureTexts, cut, cut_texts, quick_cut};
 use city_feature::{
-    Base, Choice, Feature, Header, area, feature, feature_line, header, join_headers, line,
-    selects, set_member, shifted, types,
+    Base, Choice, Feature, Header, HeaderFault, Joined, area, feature, feature_line, header,
+    join_headers, line, selects, set_member, shifted, types,
 };
 use city_grid::{Shift, Vertex, append_vertex, vertex_json, write_vertex};
 use city_json::{Json, read};
@@ -105,8 +105,15 @@ fn member_is_set(rt: &(impl AllocGlobal + Eprint)) -> Result<bool, Fault> {
     sets(rt, &mut value, given, br#"{"a":1,"b":[1.50]}"#)
 }
 
-/// Whether headers are joined to this one, and the last of them is moved by so much in x. They are refused for the second
-/// of them, or for want of memory, which is of no tile.
+/// Whether two headers are joined to this line, and the second of them is moved by so much in x.
+fn is_joined(joined: &Joined, line: &str, x: i64) -> bool {
+    match joined.shifts.items() {
+        [_, shift] => joined.line.items() == line.as_bytes() && Some(*shift) == Shift::new(x, 0, 0),
+        _ => false,
+    }
+}
+
+/// The same; they are refused for the second of them, or for want of memory, which is of no tile.
 fn are_joined(
     rt: &(impl AllocGlobal + Eprint),
     headers: &[Header],
@@ -117,14 +124,12 @@ fn are_joined(
     if headers.is_empty() || headers.len() > 2 {
         return Ok(false);
     }
-    match &join_headers(rt.alloc(), headers, base) {
-        Ok(joined) => {
-            let shift = joined.shifts.items().get(1).copied();
-            Ok(joined.line.items() == line.as_bytes() && shift == Shift::new(x, 0, 0))
+    match join_headers(rt.alloc(), headers, base) {
+        Ok(joined) => Ok(is_joined(&joined, line, x)),
+        Err(HeaderFault { tile: 0, fault }) if fault == Fault::Memory => {
+            refused(rt, Call("join_headers"), fault)
         }
-        Err(other) if (other.tile == 0) == (other.fault == Fault::Memory) && other.tile != 1 => {
-            refused(rt, Call("join_headers"), other.fault)
-        }
+        Err(HeaderFault { tile: 2, fault }) if fault != Fault::Memory => Err(fault),
         Err(_) => Ok(false),
     }
 }
@@ -399,19 +404,17 @@ fn feature_of(alloc: Global, text: &[u8]) -> Result<Feature, Fault> {
     feature(alloc, read(alloc, text)?)
 }
 
-fn selects_one(choice: &Choice, wanted: &Feature, other: &Feature) -> bool {
-    selects(choice, wanted) && !selects(choice, other)
+/// Whether a choice selects the feature of this text.
+fn is_selected(alloc: Global, choice: &Choice, text: &[u8]) -> Result<bool, Fault> {
+    Ok(selects(choice, &feature_of(alloc, text)?))
 }
 
 /// Whether a choice selects the road alone, or the building alone.
 fn selects_road(alloc: Global, choice: &Choice, is_road: bool) -> Result<bool, Fault> {
-    let road = feature_of(alloc, MOVED)?;
-    let building = feature_of(alloc, A.as_bytes())?;
-    Ok(if is_road {
-        selects_one(choice, &road, &building)
-    } else {
-        selects_one(choice, &building, &road)
-    })
+    Ok(
+        is_selected(alloc, choice, MOVED)? == is_road
+            && is_selected(alloc, choice, A.as_bytes())? != is_road,
+    )
 }
 
 fn is_copied(
@@ -498,8 +501,8 @@ fn document_is_cut_into_texts(rt: &(impl AllocGlobal + Eprint)) -> Result<bool, 
 }
 
 fn document_is_cut_at_once(rt: &(impl AllocGlobal + Eprint)) -> Result<bool, Fault> {
-    match &quick_cut(rt.alloc(), DOCUMENT.as_bytes()) {
-        Some(found) => are_cut_texts(rt.alloc(), found),
+    match quick_cut(rt.alloc(), DOCUMENT.as_bytes()) {
+        Some(found) => are_cut_texts(rt.alloc(), &found),
         None => refused(rt, Call("quick_cut"), Fault::Memory),
     }
 }

@@ -190,25 +190,31 @@ fn members_are_found(value: &Json) -> bool {
         && Json::Null.get("a").is_none()
 }
 
-fn are_compared(value: &Json, equal: &Json, other: &Json) -> bool {
-    same(value, equal) && !same(value, other) && members_are_found(value)
+const VALUE: &[u8] = br#"{"a":[1.0,"x\ny"],"b":{},"":null}"#;
+
+fn has_members(alloc: Global) -> Result<bool, Fault> {
+    let value = read(alloc, VALUE)?;
+    let gone = take(alloc);
+    let are_found = members_are_found(&value);
+    Ok(give(alloc, gone) && are_found)
 }
 
-fn values_are_compared(alloc: Global) -> Result<bool, Fault> {
-    let value = read(alloc, br#"{"a":[1.0,"x\ny"],"b":{},"":null}"#)?;
-    let equal = read(
-        alloc,
-        br#" {"\u0061": [1.0, "x\u000ay"], "b": { }, "": null} "#,
-    )?;
-    let other = read(alloc, br#"{"a":[1.00,"x\ny"],"b":{},"":null}"#)?;
+/// Whether a text is that of the value, or of another.
+fn is_compared(alloc: Global, text: &[u8], is_equal: bool) -> Result<bool, Fault> {
+    let value = read(alloc, VALUE)?;
+    let other = read(alloc, text)?;
     let gone = take(alloc);
-    let are_compared = are_compared(&value, &equal, &other);
-    Ok(give(alloc, gone) && are_compared)
+    let is_same = same(&value, &other);
+    Ok(give(alloc, gone) && is_same == is_equal)
 }
 
 #[test]
 fn members_are_found_and_values_compared(rt: HostRuntime) -> Result<(), Fault> {
-    assert!(rt; values_are_compared(rt.alloc())?);
+    let equal = br#" {"\u0061": [1.0, "x\u000ay"], "b": { }, "": null} "#;
+    let other = br#"{"a":[1.00,"x\ny"],"b":{},"":null}"#;
+    assert!(rt; has_members(rt.alloc())?);
+    assert!(rt; is_compared(rt.alloc(), equal, true)?);
+    assert!(rt; is_compared(rt.alloc(), other, false)?);
     Ok(())
 }
 
