@@ -33,14 +33,14 @@ import runs
 LONG = 60
 
 # The crates with such tests, and what the names of these begin with.
-CRATES = {"growth_tests": "", "citymerge": "growths::"}
+CRATES = {"growth_tests": "", "stream_growth_tests": "", "citymerge": "growths::"}
 
 # How a test says that a call answered want of memory, and where the sources name such calls.
 SAID = re.compile(rb"^wanted memory: (.*)$", re.MULTILINE)
 NAMED = re.compile(r'\bCall\("([^"]+)"\)')
 
-# What a test says that ends in want of memory.
-OWN = re.compile(rb"^error: (Memory|AllocError)$", re.MULTILINE)
+# What a test says that ends in want of memory: as an error of its own kind, or of any.
+OWN = re.compile(rb"^(Error: Memory|error: (Memory|AllocError))$", re.MULTILINE)
 
 # The status of a test whose result is an error.
 FAILED = 101

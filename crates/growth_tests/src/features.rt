@@ -1,160 +1,196 @@
 //! Vertices, headers, features, choices, and documents that are cut.
 
-use crate::memory::{Call, answered, wanted};
-use crate::texts::{
+use crate::values::{is_after, is_printed};
+use byte_streams::{Fault, Line};
+use city_cut::{CutTexts, FeatureTexts, cut, cut_texts, quick_cut};
+use city_feature::{
+    Base, Choice, Feature, Header, HeaderFault, Joined, area, feature, feature_line, header,
+    join_headers, line, selects, set_member, shifted, types,
+};
+use city_grid::{Shift, Vertex, append_vertex, vertex_json, write_vertex};
+use city_json::{Json, read};
+use growth_support::texts::{
     A, BUILDING, CHILDLESS, CLASHING, DOCUMENT, DUTCH, EXTENDED, EXTENDED_BOTH, EXTENDED_TWICE,
     FAR_HEADER, HEADER, OFF_GRID, ORPHANED, OTHER_DUTCH, SCALED, UNBOUNDED,
 };
-use byte_streams::{Fault, Line};
-use city_cut::{CutTexts, cut, cut_texts, quick_cut};
-use city_feature::{
-    Base, Choice, Header, HeaderFault, Joined, area, feature, feature_line, header, join_headers,
-    line, selects, set_member, shifted, types,
-};
-use city_grid::{Shift, Vertex, append_vertex, vertex_json, write_vertex};
-use city_json::{Json, print, read};
+use growth_support::{Call, expect, is_fault, refused, wanted};
 use std::alloc::Global;
 use std::io::Eprint;
-use std::process::Abort;
-use std::test::Fail;
-
-/// The compact text of a value.
-fn printed(alloc: Global, value: &Json) -> Result<Line, Fault> {
-    let mut line = Line::new(alloc);
-    print(value, &mut line)?;
-    Ok(line)
-}
 
 /// Vertices and their texts.
-fn vertices() -> [(Option<Vertex>, &'static str); 2] {
-    [
-        (Vertex::new(0, 0, 0), "[0,0,0]"),
-        (
-            Vertex::new(9_007_199_254_740_991, 0, -17),
-            "[9007199254740991,0,-17]",
-        ),
-    ]
+const VERTICES: [(i64, i64, i64, &str); 2] = [
+    (0, 0, 0, "[0,0,0]"),
+    (9_007_199_254_740_991, 0, -17, "[9007199254740991,0,-17]"),
+];
+
+fn is_built(rt: &(impl AllocGlobal + Eprint), vertex: &Vertex, text: &str) -> Result<bool, Fault> {
+    match vertex_json(rt.alloc(), vertex) {
+        Ok(built) => is_printed(rt.alloc(), &built, text.as_bytes()),
+        Err(fault) => refused(rt, Call("vertex_json"), fault),
+    }
 }
 
-fn expect_vertex(rt: &(impl Abort + AllocGlobal + Eprint)) -> Result<(), Fault> {
-    for (vertex, text) in vertices() {
-        let Some(vertex) = vertex else {
-            panic!(rt; "no vertex {text}");
-        };
-        let built = answered(rt, Call("vertex_json"), vertex_json(rt.alloc(), &vertex))?;
-        assert!(rt; printed(rt.alloc(), &built)?.items() == text.as_bytes());
-        let mut value = read(rt.alloc(), b"null")?;
-        let written = write_vertex(rt.alloc(), &vertex, &mut value);
-        answered(rt, Call("write_vertex"), written)?;
-        assert!(rt; printed(rt.alloc(), &value)?.items() == text.as_bytes());
+fn writes(
+    rt: &(impl AllocGlobal + Eprint),
+    vertex: &Vertex,
+    value: &mut Json,
+    text: &str,
+) -> Result<bool, Fault> {
+    match write_vertex(rt.alloc(), vertex, value) {
+        Ok(()) => is_printed(rt.alloc(), value, text.as_bytes()),
+        Err(fault) => refused(rt, Call("write_vertex"), fault),
     }
-    Ok(())
 }
 
 /// A line to which a vertex is appended is as before where memory is wanted.
-fn expect_appended(rt: &(impl Abort + AllocGlobal + Eprint)) -> Result<(), Fault> {
-    for (vertex, text) in vertices() {
-        let Some(vertex) = vertex else {
-            panic!(rt; "no vertex {text}");
-        };
-        let mut line = Line::new(rt.alloc());
-        line.append(b"[")?;
-        if append_vertex(b',', &vertex, &mut line).is_err() {
-            wanted(rt, Call("append_vertex"));
-            assert!(rt; line.items() == b"[".as_slice());
-            append_vertex(b',', &vertex, &mut line)?;
+fn appends(
+    rt: &(impl AllocGlobal + Eprint),
+    vertex: &Vertex,
+    line: &mut Line,
+    text: &str,
+) -> Result<bool, Fault> {
+    line.append(b"[")?;
+    if append_vertex(b',', vertex, line).is_err() {
+        wanted(rt, Call("append_vertex"));
+        if line.items() != b"[".as_slice() {
+            return Ok(false);
         }
-        assert!(rt; line.items().strip_prefix(b"[,") == Some(text.as_bytes()));
+        append_vertex(b',', vertex, line)?;
     }
-    Ok(())
+    Ok(is_after(b"[,", text.as_bytes(), line.items()))
 }
 
-fn expect_member(rt: &(impl Abort + AllocGlobal + Eprint)) -> Result<(), Fault> {
+fn is_written(
+    rt: &(impl AllocGlobal + Eprint),
+    vertex: &Vertex,
+    text: &str,
+) -> Result<bool, Fault> {
+    writes(rt, vertex, &mut Json::Null, text)
+}
+
+fn is_appended(
+    rt: &(impl AllocGlobal + Eprint),
+    vertex: &Vertex,
+    text: &str,
+) -> Result<bool, Fault> {
+    appends(rt, vertex, &mut Line::new(rt.alloc()), text)
+}
+
+fn vertices_are_written(rt: &(impl AllocGlobal + Eprint)) -> Result<bool, Fault> {
+    for (x, y, z, text) in VERTICES.iter() {
+        let vertex = Vertex::new(*x, *y, *z).ok_or(Fault::VertexRange)?;
+        let is_value = is_built(rt, &vertex, text)? && is_written(rt, &vertex, text)?;
+        if !(is_value && is_appended(rt, &vertex, text)?) {
+            return Ok(false);
+        }
+    }
+    Ok(true)
+}
+
+fn sets(
+    rt: &(impl AllocGlobal + Eprint),
+    value: &mut Json,
+    given: Json,
+    text: &[u8],
+) -> Result<bool, Fault> {
+    match set_member(rt.alloc(), value, "b", given) {
+        Ok(()) => is_printed(rt.alloc(), value, text),
+        Err(fault) => refused(rt, Call("set_member"), fault),
+    }
+}
+
+fn member_is_set(rt: &(impl AllocGlobal + Eprint)) -> Result<bool, Fault> {
     let mut value = read(rt.alloc(), br#"{"a":1}"#)?;
     let given = read(rt.alloc(), b"[1.50]")?;
-    let set = set_member(rt.alloc(), &mut value, "b", given);
-    answered(rt, Call("set_member"), set)?;
-    let wanted = br#"{"a":1,"b":[1.50]}"#;
-    assert!(rt; printed(rt.alloc(), &value)?.items() == wanted.as_slice());
-    Ok(())
+    sets(rt, &mut value, given, br#"{"a":1,"b":[1.50]}"#)
 }
 
-/// Two headers joined, or why they are not: for the second of them, or for want of memory, which is of no tile.
-fn join(
-    rt: &(impl Abort + AllocGlobal + Eprint),
-    first: &str,
-    second: &str,
-    base: Base,
-) -> Result<Joined, Fault> {
-    let alloc = rt.alloc();
-    let first = header(read(alloc, first.as_bytes())?)?;
-    let second = header(read(alloc, second.as_bytes())?)?;
-    let headers: Vec<Header> = vec![in alloc; first, second]?;
-    assert!(rt; !headers.is_empty() && headers.len() <= 2);
-    match join_headers(alloc, &headers, base) {
-        Ok(joined) => Ok(joined),
-        Err(HeaderFault { tile, fault }) => {
-            if tile == 0 {
-                assert!(rt; fault == Fault::Memory);
-                wanted(rt, Call("join_headers"));
-            } else {
-                assert!(rt; tile == 2);
-                assert!(rt; fault != Fault::Memory);
-            }
-            Err(fault)
-        }
+/// Whether two headers are joined to this line, and the second of them is moved by so much in x.
+fn is_joined(joined: &Joined, line: &str, x: i64) -> bool {
+    match joined.shifts.items() {
+        [_, shift] => joined.line.items() == line.as_bytes() && Some(*shift) == Shift::new(x, 0, 0),
+        _ => false,
     }
 }
 
-/// What two headers are joined to, and the shift of the second in x.
-fn expect_joined(
-    rt: &(impl Abort + AllocGlobal + Eprint),
-    first: &str,
-    second: &str,
+/// The same; they are refused for the second of them, or for want of memory, which is of no tile.
+fn are_joined(
+    rt: &(impl AllocGlobal + Eprint),
+    headers: &[Header],
     base: Base,
     line: &str,
     x: i64,
-) -> Result<(), Fault> {
-    let joined = join(rt, first, second, base)?;
-    assert!(rt; joined.line.items() == line.as_bytes());
-    let [_, shift] = joined.shifts.items() else {
-        panic!(rt; "{joined:?}");
-    };
-    assert!(rt; Some(*shift) == Shift::new(x, 0, 0));
-    Ok(())
-}
-
-fn expect_unjoined(
-    rt: &(impl Abort + AllocGlobal + Eprint),
-    first: &str,
-    second: &str,
-    wanted: Fault,
-) -> Result<(), Fault> {
-    match join(rt, first, second, Base::First) {
-        Ok(joined) => panic!(rt; "{joined:?}"),
-        Err(Fault::Memory) => Err(Fault::Memory),
-        Err(fault) => {
-            assert!(rt; fault == wanted);
-            Ok(())
+) -> Result<bool, Fault> {
+    if headers.is_empty() || headers.len() > 2 {
+        return Ok(false);
+    }
+    match join_headers(rt.alloc(), headers, base) {
+        Ok(joined) => Ok(is_joined(&joined, line, x)),
+        Err(HeaderFault { tile: 0, fault }) if fault == Fault::Memory => {
+            refused(rt, Call("join_headers"), fault)
         }
+        Err(HeaderFault { tile: 2, fault }) if fault != Fault::Memory => Err(fault),
+        Err(_) => Ok(false),
     }
 }
 
-fn expect_headers(rt: &(impl Abort + AllocGlobal + Eprint)) -> Result<(), Fault> {
-    expect_joined(rt, HEADER, FAR_HEADER, Base::First, HEADER, 1500)?;
-    expect_joined(rt, FAR_HEADER, FAR_HEADER, Base::Least, FAR_HEADER, 0)?;
-    expect_joined(rt, HEADER, SCALED, Base::First, HEADER, 0)?;
-    expect_joined(rt, SCALED, HEADER, Base::First, SCALED, 0)?;
-    expect_joined(rt, EXTENDED, EXTENDED_TWICE, Base::First, EXTENDED_BOTH, 0)?;
-    expect_joined(rt, TITLED, BELOW, Base::Least, TITLED_AND_BELOW, 1500)
+fn header_of(alloc: Global, text: &str) -> Result<Header, Fault> {
+    header(read(alloc, text.as_bytes())?)
 }
 
-fn expect_other_headers(rt: &(impl Abort + AllocGlobal + Eprint)) -> Result<(), Fault> {
-    expect_unjoined(rt, HEADER, OFF_GRID, Fault::OffGrid)?;
-    expect_unjoined(rt, DUTCH, OTHER_DUTCH, Fault::CrsDiffers)?;
-    expect_unjoined(rt, DUTCH, HEADER, Fault::CrsDiffers)?;
-    expect_unjoined(rt, HEADER, DUTCH, Fault::CrsDiffers)?;
-    expect_unjoined(rt, EXTENDED, CLASHING, Fault::ExtensionClash)
+fn headers_of(alloc: Global, first: &str, second: &str) -> Result<Vec<Header>, Fault> {
+    let (first, second) = (header_of(alloc, first)?, header_of(alloc, second)?);
+    Ok(vec![in alloc; first, second]?)
+}
+
+fn texts_are_joined(
+    rt: &(impl AllocGlobal + Eprint),
+    (first, second): (&str, &str),
+    base: Base,
+    line: &str,
+    x: i64,
+) -> Result<bool, Fault> {
+    let headers = headers_of(rt.alloc(), first, second)?;
+    are_joined(rt, &headers, base, line, x)
+}
+
+/// Two headers, whose least corner is the origin or whose first is the base, the header that they are joined to, and how
+/// far the second is moved in x.
+const JOINED: [(&str, &str, Base, &str, i64); 6] = [
+    (HEADER, FAR_HEADER, Base::First, HEADER, 1500),
+    (FAR_HEADER, FAR_HEADER, Base::Least, FAR_HEADER, 0),
+    (HEADER, SCALED, Base::First, HEADER, 0),
+    (SCALED, HEADER, Base::First, SCALED, 0),
+    (EXTENDED, EXTENDED_TWICE, Base::First, EXTENDED_BOTH, 0),
+    (TITLED, BELOW, Base::Least, TITLED_AND_BELOW, 1500),
+];
+
+fn headers_are_joined(rt: &(impl AllocGlobal + Eprint)) -> Result<bool, Fault> {
+    for (first, second, base, line, x) in JOINED.iter() {
+        if !texts_are_joined(rt, (first, second), *base, line, *x)? {
+            return Ok(false);
+        }
+    }
+    Ok(true)
+}
+
+/// Two headers that are not joined, and why.
+const UNJOINED: [(&str, &str, Fault); 5] = [
+    (HEADER, OFF_GRID, Fault::OffGrid),
+    (DUTCH, OTHER_DUTCH, Fault::CrsDiffers),
+    (DUTCH, HEADER, Fault::CrsDiffers),
+    (HEADER, DUTCH, Fault::CrsDiffers),
+    (EXTENDED, CLASHING, Fault::ExtensionClash),
+];
+
+fn headers_are_not_joined(rt: &(impl AllocGlobal + Eprint)) -> Result<bool, Fault> {
+    for (first, second, fault) in UNJOINED.iter() {
+        let answer = texts_are_joined(rt, (first, second), Base::First, "", 0);
+        if !is_fault(answer, *fault)? {
+            return Ok(false);
+        }
+    }
+    Ok(true)
 }
 
 const TITLED: &str =
@@ -173,103 +209,104 @@ const SPACED: &[u8] =
 const MOVED: &[u8] =
     br#"{"type":"CityJSONFeature","id":"a","CityObjects":{"a":{"type":"Road"}},"vertices":[[11,22,33],[6,15,24],[17,28,39],[10,20,30],[11,21,31]]}"#;
 
-fn shift() -> Result<Shift, Fault> {
-    Shift::new(10, 20, 30).ok_or(Fault::ShiftRange)
-}
-
-fn expect_feature(rt: &(impl Abort + AllocGlobal + Eprint)) -> Result<(), Fault> {
-    let alloc = rt.alloc();
-    let taken = answered(rt, Call("feature"), feature(alloc, read(alloc, SPACED)?))?;
-    assert!(rt; taken.vertices().len() == 5);
-    let moved = shifted(alloc, taken, shift()?)?;
-    let text = answered(rt, Call("line"), line(alloc, &moved))?;
-    assert!(rt; text.items() == MOVED);
-    Ok(())
-}
-
-/// What a feature's line comes to after so many steps in x, or why it is refused.
-fn expect_shifted(
-    rt: &(impl Abort + AllocGlobal + Eprint),
-    text: &str,
-    x: i64,
-    moves: Result<&str, Fault>,
-) -> Result<(), Fault> {
-    let alloc = rt.alloc();
-    let shift = Shift::new(x, 0, 0).ok_or(Fault::ShiftRange)?;
-    let value = read(alloc, text.as_bytes())?;
-    let answer = match answered(rt, Call("feature"), feature(alloc, value)) {
-        Ok(taken) => shifted(alloc, taken, shift),
-        Err(fault) => Err(fault),
-    };
-    match (answer, moves) {
-        (Ok(moved), Ok(text)) => {
-            assert!(rt; line(alloc, &moved)?.items() == text.as_bytes());
-            Ok(())
-        }
-        (Err(Fault::Memory), _) => Err(Fault::Memory),
-        (Err(fault), Err(other)) => {
-            assert!(rt; fault == other);
-            Ok(())
-        }
-        (Ok(_), Err(fault)) => panic!(rt; "no {fault:?} in {text}"),
-        (Err(fault), Ok(_)) => panic!(rt; "{fault:?} in {text}"),
+/// Whether this is the line of a feature.
+fn is_line(
+    rt: &(impl AllocGlobal + Eprint),
+    feature: &Feature,
+    text: &[u8],
+) -> Result<bool, Fault> {
+    match line(rt.alloc(), feature) {
+        Ok(line) => Ok(line.items() == text),
+        Err(fault) => refused(rt, Call("line"), fault),
     }
 }
 
-fn expect_features(rt: &(impl Abort + AllocGlobal + Eprint)) -> Result<(), Fault> {
-    for (text, x, moves) in [
-        (
-            r#"{"type":"CityJSONFeature","id":"b","CityObjects":{},"vertices":[[10,20,30]]}"#,
-            1500i64,
-            Ok(r#"{"type":"CityJSONFeature","id":"b","CityObjects":{},"vertices":[[1510,20,30]]}"#),
-        ),
-        (
-            r#"{"type":"CityJSONFeature","id":"b","CityObjects":{},"vertices":[[9007199254740991,0,0]]}"#,
-            1,
-            Err(Fault::VertexRange),
-        ),
-        (
-            r#"{"type":"CityJSONFeature","id":"b","CityObjects":{},"vertices":[[9007199254740991,0,0]]}"#,
-            -1,
-            Ok(
-                r#"{"type":"CityJSONFeature","id":"b","CityObjects":{},"vertices":[[9007199254740990,0,0]]}"#,
-            ),
-        ),
-        (
-            r#"{"type":"CityJSONFeature","id":"b","CityObjects":{},"vertices":[[-0,0,0]]}"#,
-            0,
-            Ok(r#"{"type":"CityJSONFeature","id":"b","CityObjects":{},"vertices":[[0,0,0]]}"#),
-        ),
-        (
-            r#"{"type":"CityJSONFeature","id":"b","CityObjects":{},"vertices":[[1.0,0,0]]}"#,
-            0,
-            Err(Fault::VertexNotInteger),
-        ),
-        (
-            r#"{"type":"CityJSONFeature","id":"b","CityObjects":{},"vertices":[[1e2,0,0]]}"#,
-            0,
-            Err(Fault::VertexNotInteger),
-        ),
-        (
-            r#"{"type":"CityJSONFeature","id":"b","CityObjects":{},"vertices":[[1,2]]}"#,
-            0,
-            Err(Fault::VertexShape),
-        ),
-        (
-            r#"{"type":"CityJSONFeature","id":"b","CityObjects":{},"vertices":[["1",2,3]]}"#,
-            0,
-            Err(Fault::VertexShape),
-        ),
-        (
-            r#"{"type":"CityJSONFeature","id":"b","CityObjects":{},"vertices":[[9007199254740992,0,0]]}"#,
-            0,
-            Err(Fault::VertexRange),
-        ),
-        (HEADER, 0, Err(Fault::NotAFeature)),
-    ] {
-        expect_shifted(rt, text, x, moves)?;
+/// Whether a feature's line comes to this after such a shift.
+fn is_moved(
+    rt: &(impl AllocGlobal + Eprint),
+    text: &[u8],
+    shift: Option<Shift>,
+    moved: &[u8],
+) -> Result<bool, Fault> {
+    let shift = shift.ok_or(Fault::ShiftRange)?;
+    match feature(rt.alloc(), read(rt.alloc(), text)?) {
+        Ok(taken) => is_line(rt, &shifted(rt.alloc(), taken, shift)?, moved),
+        Err(fault) => refused(rt, Call("feature"), fault),
     }
-    Ok(())
+}
+
+/// Features, how far they are moved in x, and what they come to.
+const FEATURES: [(&str, i64, &str); 3] = [
+    (
+        r#"{"type":"CityJSONFeature","id":"b","CityObjects":{},"vertices":[[10,20,30]]}"#,
+        1500,
+        r#"{"type":"CityJSONFeature","id":"b","CityObjects":{},"vertices":[[1510,20,30]]}"#,
+    ),
+    (
+        r#"{"type":"CityJSONFeature","id":"b","CityObjects":{},"vertices":[[9007199254740991,0,0]]}"#,
+        -1,
+        r#"{"type":"CityJSONFeature","id":"b","CityObjects":{},"vertices":[[9007199254740990,0,0]]}"#,
+    ),
+    (
+        r#"{"type":"CityJSONFeature","id":"b","CityObjects":{},"vertices":[[-0,0,0]]}"#,
+        0,
+        r#"{"type":"CityJSONFeature","id":"b","CityObjects":{},"vertices":[[0,0,0]]}"#,
+    ),
+];
+
+/// Others, how far they are moved in x, and why they are refused.
+const NO_FEATURES: [(&str, i64, Fault); 7] = [
+    (
+        r#"{"type":"CityJSONFeature","id":"b","CityObjects":{},"vertices":[[9007199254740991,0,0]]}"#,
+        1,
+        Fault::VertexRange,
+    ),
+    (
+        r#"{"type":"CityJSONFeature","id":"b","CityObjects":{},"vertices":[[1.0,0,0]]}"#,
+        0,
+        Fault::VertexNotInteger,
+    ),
+    (
+        r#"{"type":"CityJSONFeature","id":"b","CityObjects":{},"vertices":[[1e2,0,0]]}"#,
+        0,
+        Fault::VertexNotInteger,
+    ),
+    (
+        r#"{"type":"CityJSONFeature","id":"b","CityObjects":{},"vertices":[[1,2]]}"#,
+        0,
+        Fault::VertexShape,
+    ),
+    (
+        r#"{"type":"CityJSONFeature","id":"b","CityObjects":{},"vertices":[["1",2,3]]}"#,
+        0,
+        Fault::VertexShape,
+    ),
+    (
+        r#"{"type":"CityJSONFeature","id":"b","CityObjects":{},"vertices":[[9007199254740992,0,0]]}"#,
+        0,
+        Fault::VertexRange,
+    ),
+    (HEADER, 0, Fault::NotAFeature),
+];
+
+fn features_are_moved(rt: &(impl AllocGlobal + Eprint)) -> Result<bool, Fault> {
+    for (text, x, moved) in FEATURES.iter() {
+        let shift = Shift::new(*x, 0, 0);
+        if !is_moved(rt, text.as_bytes(), shift, moved.as_bytes())? {
+            return Ok(false);
+        }
+    }
+    is_moved(rt, SPACED, Shift::new(10, 20, 30), MOVED)
+}
+
+fn features_are_refused(rt: &(impl AllocGlobal + Eprint)) -> Result<bool, Fault> {
+    for (text, x, fault) in NO_FEATURES.iter() {
+        let answer = is_moved(rt, text.as_bytes(), Shift::new(*x, 0, 0), b"");
+        if !is_fault(answer, *fault)? {
+            return Ok(false);
+        }
+    }
+    Ok(true)
 }
 
 /// A choice of roads and bridges, by a copy of it.
@@ -281,186 +318,208 @@ fn choice_of(alloc: Global) -> Result<Choice, Fault> {
     Choice::new(names, area("0,0,20,30"), false).copy(alloc)
 }
 
-/// What is asked of a line stands after other bytes, which alone stand there where memory is wanted.
-fn expect_line(rt: &(impl Abort + AllocGlobal + Eprint), bytes: &[u8]) -> Result<(), Fault> {
-    let alloc = rt.alloc();
-    let choice = choice_of(alloc)?;
-    let mut text = Line::from_vec(b"front ".to_vec(alloc)?);
-    let first = feature_line(alloc, bytes, shift()?, &choice, &mut text);
-    let answer = match answered(rt, Call("feature_line"), first) {
-        Err(fault) => {
-            assert!(rt; fault == Fault::Memory);
-            assert!(rt; text.items() == b"front ".as_slice());
-            feature_line(alloc, bytes, shift()?, &choice, &mut text)?
-        }
-        Ok(answer) => answer,
-    };
-    assert!(rt; answer);
-    assert!(rt; text.items().strip_prefix(b"front ") == Some(MOVED));
-    Ok(())
+/// Whether a line is chosen, whose text is then appended to what stands there.
+fn is_taken(alloc: Global, bytes: &[u8], choice: &Choice, text: &mut Line) -> Result<bool, Fault> {
+    let shift = Shift::new(10, 20, 30).ok_or(Fault::ShiftRange)?;
+    feature_line(alloc, bytes, shift, choice, text)
+}
+
+/// The same; what stands there is as before where memory is wanted, or the line is at fault.
+fn is_chosen(
+    rt: &(impl AllocGlobal + Eprint),
+    bytes: &[u8],
+    choice: &Choice,
+    text: &mut Line,
+) -> Result<bool, Fault> {
+    let first = is_taken(rt.alloc(), bytes, choice, text);
+    if first.is_ok() {
+        return first;
+    }
+    if text.items() != b"front ".as_slice() {
+        return Ok(false);
+    }
+    if first == Err(Fault::Memory) {
+        wanted(rt, Call("feature_line"));
+        return is_taken(rt.alloc(), bytes, choice, text);
+    }
+    first
+}
+
+fn appends_line(
+    rt: &(impl AllocGlobal + Eprint),
+    bytes: &[u8],
+    choice: &Choice,
+    text: &mut Line,
+    moved: &[u8],
+) -> Result<bool, Fault> {
+    Ok(is_chosen(rt, bytes, choice, text)? && is_after(b"front ", moved, text.items()))
+}
+
+fn line_is_appended(
+    rt: &(impl AllocGlobal + Eprint),
+    bytes: &[u8],
+    moved: &[u8],
+) -> Result<bool, Fault> {
+    let choice = choice_of(rt.alloc())?;
+    let mut text = Line::from_vec(b"front ".to_vec(rt.alloc())?);
+    appends_line(rt, bytes, &choice, &mut text, moved)
 }
 
 /// Its last vertex is at fault, which only the reading of its value says.
 const FAULTY: &[u8] =
     br#"{ "type": "CityJSONFeature", "id": "a", "CityObjects": {"a": {"type": "Road"}}, "vertices": [[1, 2, 3], [-4, -5, -6], [7, 8, 9], [1.0, 0, 0]] }"#;
 
-fn expect_fault(rt: &(impl Abort + AllocGlobal + Eprint)) -> Result<(), Fault> {
-    let alloc = rt.alloc();
-    let choice = choice_of(alloc)?;
-    let mut text = Line::from_vec(b"front ".to_vec(alloc)?);
-    let answer = feature_line(alloc, FAULTY, shift()?, &choice, &mut text);
-    let answer = answered(rt, Call("feature_line"), answer);
-    assert!(rt; text.items() == b"front ".as_slice());
-    if answer == Err(Fault::Memory) {
-        return Err(Fault::Memory);
-    }
-    assert!(rt; answer == Err(Fault::VertexNotInteger));
-    Ok(())
+fn lines_are_chosen(rt: &(impl AllocGlobal + Eprint)) -> Result<bool, Fault> {
+    let is_refused = is_fault(line_is_appended(rt, FAULTY, b""), Fault::VertexNotInteger)?;
+    Ok(is_refused && line_is_appended(rt, SPACED, MOVED)?)
 }
 
-/// How many names stand between the commas, none where one is empty.
-fn expect_types(rt: &(impl Abort + AllocGlobal + Eprint)) -> Result<(), Fault> {
-    for (text, count) in [
-        ("Building", Some(1usize)),
-        ("Building,Bridge", Some(2)),
-        ("A type whose name is longer than a short text,B", Some(2)),
-        ("A,,B", None),
-    ] {
-        match answered(rt, Call("types"), types(rt.alloc(), text))? {
-            Some(names) => assert!(rt; Some(names.items().len()) == count, "{text}"),
-            None => assert!(rt; None == count, "{text}"),
-        }
+/// Whether so many names stand between the commas, none where one is empty.
+fn are_types(
+    rt: &(impl AllocGlobal + Eprint),
+    text: &str,
+    count: Option<usize>,
+) -> Result<bool, Fault> {
+    match types(rt.alloc(), text) {
+        Ok(Some(names)) => Ok(count == Some(names.items().len())),
+        Ok(None) => Ok(count.is_none()),
+        Err(fault) => refused(rt, Call("types"), fault),
     }
-    Ok(())
+}
+
+fn types_are_read(rt: &(impl AllocGlobal + Eprint)) -> Result<bool, Fault> {
+    Ok(
+        are_types(rt, "Building", Some(1))?
+            && are_types(rt, "Building,Bridge", Some(2))?
+            && are_types(
+                rt,
+                "A type whose name is longer than a short text,B",
+                Some(2),
+            )?
+            && are_types(rt, "A,,B", None)?,
+    )
+}
+
+fn feature_of(alloc: Global, text: &[u8]) -> Result<Feature, Fault> {
+    feature(alloc, read(alloc, text)?)
+}
+
+/// Whether a choice selects the feature of this text.
+fn is_selected(alloc: Global, choice: &Choice, text: &[u8]) -> Result<bool, Fault> {
+    Ok(selects(choice, &feature_of(alloc, text)?))
+}
+
+/// Whether a choice selects the road alone, or the building alone.
+fn selects_road(alloc: Global, choice: &Choice, is_road: bool) -> Result<bool, Fault> {
+    Ok(
+        is_selected(alloc, choice, MOVED)? == is_road
+            && is_selected(alloc, choice, A.as_bytes())? != is_road,
+    )
+}
+
+fn is_copied(
+    rt: &(impl AllocGlobal + Eprint),
+    choice: &Choice,
+    is_road: bool,
+) -> Result<bool, Fault> {
+    match choice.copy(rt.alloc()) {
+        Ok(copy) => selects_road(rt.alloc(), &copy, is_road),
+        Err(fault) => refused(rt, Call("Choice::copy"), fault),
+    }
 }
 
 /// A copy of a choice selects what the choice does.
-fn expect_choice(rt: &(impl Abort + AllocGlobal + Eprint)) -> Result<(), Fault> {
-    let alloc = rt.alloc();
-    let road = feature(alloc, read(alloc, MOVED)?)?;
-    let building = feature(alloc, read(alloc, A.as_bytes())?)?;
-    for exclude in [false, true] {
-        let names = types(alloc, "Road,A type whose name is longer than a short text")?;
-        let choice = Choice::new(names, area("10,10,20,20"), exclude);
-        let copy = answered(rt, Call("Choice::copy"), choice.copy(alloc))?;
-        drop(choice);
-        assert!(rt; selects(&copy, &road) == !exclude);
-        assert!(rt; selects(&copy, &building) == exclude);
-    }
-    Ok(())
+fn choice_is_copied(rt: &(impl AllocGlobal + Eprint), exclude: bool) -> Result<bool, Fault> {
+    let names = types(
+        rt.alloc(),
+        "Road,A type whose name is longer than a short text",
+    )?;
+    is_copied(
+        rt,
+        &Choice::new(names, area("10,10,20,20"), exclude),
+        !exclude,
+    )
 }
 
-fn expect_cut(rt: &(impl Abort + AllocGlobal + Eprint)) -> Result<(), Fault> {
-    let alloc = rt.alloc();
-    for (text, cuts) in [
-        (DOCUMENT, Ok(())),
-        (CHILDLESS, Err(Fault::ChildMissing)),
-        (ORPHANED, Err(Fault::Orphan)),
-        (UNBOUNDED, Err(Fault::BoundaryIndex)),
-    ] {
-        match answered(rt, Call("cut"), cut(alloc, read(alloc, text.as_bytes())?)) {
-            Ok(found) => {
-                assert!(rt; Ok(()) == cuts);
-                assert!(rt; printed(alloc, found.header.json())?.items() == HEADER.as_bytes());
-                let [building] = found.features.items() else {
-                    panic!(rt; "{found:?}");
-                };
-                assert!(rt; line(alloc, building)?.items() == BUILDING.as_bytes());
-            }
-            Err(Fault::Memory) => return Err(Fault::Memory),
-            Err(fault) => assert!(rt; Err(fault) == cuts),
-        }
-    }
-    Ok(())
+fn choices_are_copied(rt: &(impl AllocGlobal + Eprint)) -> Result<bool, Fault> {
+    Ok(choice_is_copied(rt, false)? && choice_is_copied(rt, true)?)
 }
 
-/// The document is cut into its header and the text of its building.
-fn expect_building(rt: &(impl Abort + AllocGlobal), found: &CutTexts) -> Result<(), Fault> {
-    let alloc = rt.alloc();
-    assert!(rt; printed(alloc, found.header.json())?.items() == HEADER.as_bytes());
-    if found.texts.len() != 1 {
-        panic!(rt; "{found:?}");
+/// Whether these are the header and the building of the document.
+fn are_cut(
+    rt: &(impl AllocGlobal + Eprint),
+    header: &Json,
+    features: &[Feature],
+) -> Result<bool, Fault> {
+    let [building] = features else {
+        return Ok(false);
+    };
+    Ok(
+        is_printed(rt.alloc(), header, HEADER.as_bytes())?
+            && is_line(rt, building, BUILDING.as_bytes())?,
+    )
+}
+
+fn is_cut(rt: &(impl AllocGlobal + Eprint), text: &str) -> Result<bool, Fault> {
+    match cut(rt.alloc(), read(rt.alloc(), text.as_bytes())?) {
+        Ok(found) => are_cut(rt, found.header.json(), found.features.items()),
+        Err(fault) => refused(rt, Call("cut"), fault),
+    }
+}
+
+fn documents_are_cut(rt: &(impl AllocGlobal + Eprint)) -> Result<bool, Fault> {
+    Ok(
+        is_cut(rt, DOCUMENT)?
+            && is_fault(is_cut(rt, CHILDLESS), Fault::ChildMissing)?
+            && is_fault(is_cut(rt, ORPHANED), Fault::Orphan)?
+            && is_fault(is_cut(rt, UNBOUNDED), Fault::BoundaryIndex)?,
+    )
+}
+
+/// Whether this is the only text, that of the building.
+fn is_building(alloc: Global, texts: &FeatureTexts) -> Result<bool, Fault> {
+    if texts.len() != 1 {
+        return Ok(false);
     }
     let mut text = Line::new(alloc);
-    found.texts.append_to(0, &mut text)?;
-    assert!(rt; text.items() == BUILDING.as_bytes());
-    Ok(())
+    texts.append_to(0, &mut text)?;
+    Ok(text.items() == BUILDING.as_bytes())
 }
 
-fn expect_cut_texts(rt: &(impl Abort + AllocGlobal + Eprint)) -> Result<(), Fault> {
-    let alloc = rt.alloc();
-    let document = read(alloc, DOCUMENT.as_bytes())?;
-    let found = answered(rt, Call("cut_texts"), cut_texts(alloc, document))?;
-    expect_building(rt, &found)
+fn are_cut_texts(alloc: Global, found: &CutTexts) -> Result<bool, Fault> {
+    Ok(
+        is_building(alloc, &found.texts)?
+            && is_printed(alloc, found.header.json(), HEADER.as_bytes())?,
+    )
 }
 
-fn expect_quick_cut(rt: &(impl Abort + AllocGlobal + Eprint)) -> Result<(), Fault> {
-    let Some(found) = quick_cut(rt.alloc(), DOCUMENT.as_bytes()) else {
-        wanted(rt, Call("quick_cut"));
-        return Err(Fault::Memory);
-    };
-    expect_building(rt, &found)
+fn document_is_cut_into_texts(rt: &(impl AllocGlobal + Eprint)) -> Result<bool, Fault> {
+    match cut_texts(rt.alloc(), read(rt.alloc(), DOCUMENT.as_bytes())?) {
+        Ok(found) => are_cut_texts(rt.alloc(), &found),
+        Err(fault) => refused(rt, Call("cut_texts"), fault),
+    }
 }
 
-/// What wants memory here.
-#[derive(Clone, Copy)]
-enum Part {
-    Vertex,
-    Appended,
-    Member,
-    Headers,
-    OtherHeaders,
-    Feature,
-    Features,
-    FeatureLine,
-    FaultyLine,
-    Types,
-    Copy,
-    Cut,
-    CutTexts,
-    QuickCut,
-}
-
-const PARTS: [Part; 14] = [
-    Part::Vertex,
-    Part::Appended,
-    Part::Member,
-    Part::Headers,
-    Part::OtherHeaders,
-    Part::Feature,
-    Part::Features,
-    Part::FeatureLine,
-    Part::FaultyLine,
-    Part::Types,
-    Part::Copy,
-    Part::Cut,
-    Part::CutTexts,
-    Part::QuickCut,
-];
-
-fn expect_part(rt: &(impl Abort + AllocGlobal + Eprint), part: Part) -> Result<(), Fault> {
-    match part {
-        Part::Vertex => expect_vertex(rt),
-        Part::Appended => expect_appended(rt),
-        Part::Member => expect_member(rt),
-        Part::Headers => expect_headers(rt),
-        Part::OtherHeaders => expect_other_headers(rt),
-        Part::Feature => expect_feature(rt),
-        Part::Features => expect_features(rt),
-        Part::FeatureLine => expect_line(rt, SPACED),
-        Part::FaultyLine => expect_fault(rt),
-        Part::Types => expect_types(rt),
-        Part::Copy => expect_choice(rt),
-        Part::Cut => expect_cut(rt),
-        Part::CutTexts => expect_cut_texts(rt),
-        Part::QuickCut => expect_quick_cut(rt),
+fn document_is_cut_at_once(rt: &(impl AllocGlobal + Eprint)) -> Result<bool, Fault> {
+    match quick_cut(rt.alloc(), DOCUMENT.as_bytes()) {
+        Some(found) => are_cut_texts(rt.alloc(), &found),
+        None => refused(rt, Call("quick_cut"), Fault::Memory),
     }
 }
 
 #[test]
-fn vertices_headers_features_and_documents(rt: HostRuntime) -> Result<(), Fail> {
-    for part in PARTS {
-        with_memory!(expect_part(&rt, part));
-    }
+fn vertices_headers_features_and_documents(rt: HostRuntime) -> Result<(), Fault> {
+    expect!(rt; vertices_are_written(&rt));
+    expect!(rt; member_is_set(&rt));
+    expect!(rt; headers_are_joined(&rt));
+    expect!(rt; headers_are_not_joined(&rt));
+    expect!(rt; features_are_moved(&rt));
+    expect!(rt; features_are_refused(&rt));
+    expect!(rt; lines_are_chosen(&rt));
+    expect!(rt; types_are_read(&rt));
+    expect!(rt; choices_are_copied(&rt));
+    expect!(rt; documents_are_cut(&rt));
+    expect!(rt; document_is_cut_into_texts(&rt));
+    expect!(rt; document_is_cut_at_once(&rt));
     Ok(())
 }

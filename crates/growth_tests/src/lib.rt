@@ -1,4 +1,5 @@
-//! Tests of the public calls where memory is refused. `tools/growths.sh` runs each of them once for each growth that it
+//! Tests of the public calls where memory is refused; those of `tile_handoff` and of the crates on it, or on
+//! `tile_stream`, stand in `stream_growth_tests`. `tools/growths.sh` runs each of them once for each growth that it
 //! makes, and refuses it that one; and again, and refuses it that one and all that come after, until the test says that a
 //! call answered want of memory. Each test ends well in each such run: what a call answers is right and whole, or it is
 //! want of memory, and then what the call was given is as its contract says. What wanted memory is run again, and is then
@@ -9,31 +10,8 @@
 //! as with ample memory. There is no code but these tests.
 #![tactic(auto)]
 
-/// What wanted memory, run again.
-#[cfg(test)]
-macro_rules! with_memory {
-    ($run:expr) => {
-        match $run {
-            Err(byte_streams::Fault::Memory) => $run?,
-            answer => answer?,
-        }
-    };
-}
-
 #[cfg(test)]
 mod features;
-#[cfg(test)]
-mod handoff;
-#[cfg(test)]
-mod memory;
-#[cfg(test)]
-mod merges;
-#[cfg(test)]
-mod streams;
-#[cfg(test)]
-mod texts;
-#[cfg(test)]
-mod tiles;
 #[cfg(test)]
 mod values;
 #[cfg(test)]

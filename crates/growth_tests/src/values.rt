@@ -1,100 +1,181 @@
 //! Bytes that are gathered, JSON values and texts.
 
-use crate::memory::{Call, answered, wanted};
 use byte_streams::{Bin, Fault, Line, Sequence, Stop, Tape, read_all, write_all};
-use city_json::{Json, NumText, Str, compact, compact_parts, print, read};
-use std::alloc::Global;
+use city_json::{Json, NumText, Part, Str, compact, compact_parts, print, read};
+use growth_support::{Call, expect, is_fault, refused, wanted};
+use std::alloc::{AllocError, Global};
 use std::io::Eprint;
-use std::process::Abort;
-use std::test::Fail;
 
 /// A line is as before where it cannot grow, and then grows all the same.
-fn expect_line(rt: &(impl Abort + AllocGlobal + Eprint)) -> Result<(), Fault> {
-    let mut line = Line::new(rt.alloc());
-    for text in ["1234567", "89012345", "67890123456789012345678901234567890"] {
-        let before = line.items().len();
-        if line.append(text.as_bytes()).is_err() {
-            wanted(rt, Call("Line::append"));
-            assert!(rt; line.items().len() == before);
-            line.append(text.as_bytes())?;
+fn appends(
+    rt: &(impl AllocGlobal + Eprint),
+    line: &mut Line,
+    text: &str,
+) -> Result<bool, AllocError> {
+    let before = line.items().len();
+    if line.append(text.as_bytes()).is_ok() {
+        return Ok(true);
+    }
+    wanted(rt, Call("Line::append"));
+    let is_as_before = line.items().len() == before;
+    line.append(text.as_bytes())?;
+    Ok(is_as_before)
+}
+
+fn appends_all(rt: &(impl AllocGlobal + Eprint), line: &mut Line) -> Result<bool, Fault> {
+    for text in ["1234567", "89012345", "67890123456789012345678901234567890"].iter() {
+        if !appends(rt, line, text)? {
+            return Ok(false);
         }
     }
-    let whole = b"12345678901234567890123456789012345678901234567890";
-    assert!(rt; line.items() == whole.as_slice());
-    Ok(())
+    Ok(line.items() == b"12345678901234567890123456789012345678901234567890".as_slice())
+}
+
+fn line_grows(rt: &(impl AllocGlobal + Eprint)) -> Result<bool, Fault> {
+    appends_all(rt, &mut Line::new(rt.alloc()))
 }
 
 /// A list is as before where it cannot grow, and then grows all the same.
-fn expect_sequence(rt: &(impl Abort + AllocGlobal + Eprint)) -> Result<(), Fault> {
-    let mut list: Sequence<u64> = Sequence::new(rt.alloc());
+fn pushes(
+    rt: &(impl AllocGlobal + Eprint),
+    list: &mut Sequence<u64>,
+    number: u64,
+) -> Result<bool, AllocError> {
+    let before = list.items().len();
+    if list.push(number).is_ok() {
+        return Ok(true);
+    }
+    wanted(rt, Call("Sequence::push"));
+    let is_as_before = list.items().len() == before;
+    list.push(number)?;
+    Ok(is_as_before)
+}
+
+fn pushes_all(rt: &(impl AllocGlobal + Eprint), list: &mut Sequence<u64>) -> Result<bool, Fault> {
     for number in 0..9u64 {
-        let before = list.items().len();
-        if list.push(number).is_err() {
-            wanted(rt, Call("Sequence::push"));
-            assert!(rt; list.items().len() == before);
-            list.push(number)?;
+        if !pushes(rt, list, number)? {
+            return Ok(false);
         }
     }
-    assert!(rt; list.items() == [0u64, 1, 2, 3, 4, 5, 6, 7, 8].as_slice());
-    Ok(())
+    Ok(list.items() == [0u64, 1, 2, 3, 4, 5, 6, 7, 8].as_slice())
+}
+
+fn list_grows(rt: &(impl AllocGlobal + Eprint)) -> Result<bool, Fault> {
+    pushes_all(rt, &mut Sequence::new(rt.alloc()))
+}
+
+/// Whether a reader gives these bytes, and no more.
+fn is_left(alloc: Global, source: &mut Tape, bytes: Option<&[u8]>) -> bool {
+    bytes == Some(read_all(alloc, source, 1_000_000).bytes.as_slice())
 }
 
 /// All that a reader gives, or its first bytes where memory ran out; what is left is still to be read then.
-fn expect_intake(rt: &(impl Abort + AllocGlobal + Eprint)) -> Result<(), Fault> {
-    let text = "0123456789".repeat(rt.alloc(), 20_000)?;
-    let given = Line::from_vec(text.as_bytes().to_vec(rt.alloc())?);
-    let mut source = Tape::new(given, 30_000, false);
-    let first = read_all(rt.alloc(), &mut source, 1_000_000);
-    let bytes = first.bytes.as_slice();
-    assert!(rt; text.as_bytes().starts_with(bytes));
-    if first.stop == Stop::Memory {
-        wanted(rt, Call("read_all"));
-        let second = read_all(rt.alloc(), &mut source, 1_000_000);
-        let left = text.as_bytes().get(bytes.len()..);
-        assert!(rt; Some(second.bytes.as_slice()) == left);
+fn gives_all(
+    rt: &(impl AllocGlobal + Eprint),
+    source: &mut Tape,
+    text: &[u8],
+) -> Result<bool, Fault> {
+    let first = read_all(rt.alloc(), source, 1_000_000);
+    if first.stop != Stop::Memory {
+        return Ok(first.stop == Stop::End && first.bytes.as_slice() == text);
+    }
+    wanted(rt, Call("read_all"));
+    if is_left(
+        rt.alloc(),
+        source,
+        text.strip_prefix(first.bytes.as_slice()),
+    ) {
         return Err(Fault::Memory);
     }
-    assert!(rt; first.stop == Stop::End);
-    assert!(rt; bytes == text.as_bytes());
-    Ok(())
+    Ok(false)
 }
 
-/// What a text is read as: its compact text, or why it is none.
-fn expect_read(
-    rt: &(impl Abort + AllocGlobal + Eprint),
-    text: &[u8],
-    compact: Result<&str, Fault>,
-) -> Result<(), Fault> {
-    match answered(rt, Call("read"), read(rt.alloc(), text)) {
-        Ok(value) => {
-            let mut line = Line::new(rt.alloc());
-            print(&value, &mut line)?;
-            assert!(rt; Ok(line.items()) == compact.map(str::as_bytes));
-            Ok(())
-        }
-        Err(Fault::Memory) => Err(Fault::Memory),
-        Err(fault) => {
-            assert!(rt; Err(fault) == compact);
-            Ok(())
-        }
+fn reader_gives_all(rt: &(impl AllocGlobal + Eprint)) -> Result<bool, Fault> {
+    let text = "0123456789".repeat(rt.alloc(), 20_000)?;
+    let given = Line::from_vec(text.as_bytes().to_vec(rt.alloc())?);
+    gives_all(rt, &mut Tape::new(given, 30_000, false), text.as_bytes())
+}
+
+/// Whether this is the compact text of a value.
+pub(crate) fn is_printed(alloc: Global, value: &Json, text: &[u8]) -> Result<bool, Fault> {
+    let mut line = Line::new(alloc);
+    print(value, &mut line)?;
+    Ok(line.items() == text)
+}
+
+/// Whether a text is read, and is this when it is compact.
+fn is_read(rt: &(impl AllocGlobal + Eprint), text: &[u8], compact: &[u8]) -> Result<bool, Fault> {
+    match read(rt.alloc(), text) {
+        Ok(value) => is_printed(rt.alloc(), &value, compact),
+        Err(fault) => refused(rt, Call("read"), fault),
     }
 }
 
-/// The first row has an escape for an e with an accent, for a slash and for a smiling face.
-fn expect_texts(rt: &(impl Abort + AllocGlobal + Eprint)) -> Result<(), Fault> {
-    expect_read(
-        rt,
-        br#"{"k":"caf\u00e9 \/ \ud83d\ude00","n":1.50e+3}"#,
-        Ok("{\"k\":\"caf\u{e9} / \u{1f600}\",\"n\":1.50e+3}"),
-    )?;
-    let nested = "[".repeat(rt.alloc(), 128)?;
-    let mut deepest = nested.clone()?;
-    deepest.push_str("]".repeat(rt.alloc(), 128)?.as_str())?;
-    expect_read(rt, deepest.as_bytes(), Ok(deepest.as_str()))?;
-    expect_read(rt, nested.as_bytes(), Err(Fault::Syntax))?;
-    expect_read(rt, br#""\ud800""#, Err(Fault::Syntax))?;
-    expect_read(rt, br#"{"a":1,"a":2"#, Err(Fault::Syntax))?;
-    expect_read(rt, br#"{"a":1,"\u0061":2}"#, Err(Fault::DuplicateName))
+/// Texts and their compact texts: the first has an escape for an e with an accent, for a slash and for a smiling face.
+const TEXTS: [(&str, &str); 4] = [
+    (
+        r#"{"k":"caf\u00e9 \/ \ud83d\ude00","n":1.50e+3}"#,
+        "{\"k\":\"caf\u{e9} / \u{1f600}\",\"n\":1.50e+3}",
+    ),
+    (
+        "[0,1,2,3,4,5,6,7,8,9,10,11,12,13,14,15,16,17,18,19,20,21,22,23,24,25,26,27,28,29,30,31,32]",
+        "[0,1,2,3,4,5,6,7,8,9,10,11,12,13,14,15,16,17,18,19,20,21,22,23,24,25,26,27,28,29,30,31,32]",
+    ),
+    (
+        r#"{"a":1,"b":2,"c":3,"d":4,"e":5,"f":6,"g":7,"h":8,"i":9,"j":0,"k":1,"l":2,"m":3,"n":4,"o":5,"p":6,"q":7}"#,
+        r#"{"a":1,"b":2,"c":3,"d":4,"e":5,"f":6,"g":7,"h":8,"i":9,"j":0,"k":1,"l":2,"m":3,"n":4,"o":5,"p":6,"q":7}"#,
+    ),
+    (
+        r#"[[[[[[[[[[[[[[[[[["\n"]]]]]]]]]]]]]]]]]]"#,
+        r#"[[[[[[[[[[[[[[[[[["\n"]]]]]]]]]]]]]]]]]]"#,
+    ),
+];
+
+fn texts_are_read(rt: &(impl AllocGlobal + Eprint)) -> Result<bool, Fault> {
+    for (text, compact) in TEXTS.iter() {
+        if !is_read(rt, text.as_bytes(), compact.as_bytes())? {
+            return Ok(false);
+        }
+    }
+    Ok(true)
+}
+
+/// Other texts, and why they are refused.
+const NO_TEXTS: [(&str, Fault); 3] = [
+    (r#""\ud800""#, Fault::Syntax),
+    (r#"{"a":1,"a":2"#, Fault::Syntax),
+    (r#"{"a":1,"\u0061":2}"#, Fault::DuplicateName),
+];
+
+fn no_texts_are_read(rt: &(impl AllocGlobal + Eprint)) -> Result<bool, Fault> {
+    for (text, fault) in NO_TEXTS.iter() {
+        if !is_fault(is_read(rt, text.as_bytes(), b""), *fault)? {
+            return Ok(false);
+        }
+    }
+    Ok(true)
+}
+
+/// So many brackets that open, and then so many that close.
+fn nested(alloc: Global, opened: usize, closed: usize) -> Result<String, AllocError> {
+    let mut text = "[".repeat(alloc, opened)?;
+    text.push_str(&"]".repeat(alloc, closed)?)?;
+    Ok(text)
+}
+
+fn deepest_is_read(rt: &(impl AllocGlobal + Eprint)) -> Result<bool, Fault> {
+    let text = nested(rt.alloc(), 128, 128)?;
+    is_read(rt, text.as_bytes(), text.as_bytes())
+}
+
+fn deepest_is_refused(rt: &(impl AllocGlobal + Eprint)) -> Result<bool, Fault> {
+    let text = nested(rt.alloc(), 128, 0)?;
+    is_fault(is_read(rt, text.as_bytes(), b""), Fault::Syntax)
+}
+
+/// Whether a text is this, after what stands in front of it.
+pub(crate) fn is_after(front: &[u8], text: &[u8], whole: &[u8]) -> bool {
+    whole.strip_prefix(front) == Some(text)
 }
 
 const TEXT: &[u8] =
@@ -104,149 +185,135 @@ const COMPACT: &[u8] =
     b"{\"type\":\"CityJSONFeature\",\"a\\n\":[1.50e+3,-0,null,true,{}],\"b\":{\"a\":[[0,1],[2]]}}";
 
 /// A value is printed after other bytes, which alone stand there where memory is wanted.
-fn expect_print(rt: &(impl Abort + AllocGlobal + Eprint)) -> Result<(), Fault> {
+fn prints(rt: &(impl AllocGlobal + Eprint), value: &Json, line: &mut Line) -> Result<bool, Fault> {
+    if let Err(fault) = print(value, line) {
+        wanted(rt, Call("print"));
+        if fault != Fault::Memory || line.items() != b"7 ".as_slice() {
+            return Ok(false);
+        }
+        print(value, line)?;
+    }
+    Ok(is_after(b"7 ", COMPACT, line.items()))
+}
+
+fn value_is_printed(rt: &(impl AllocGlobal + Eprint)) -> Result<bool, Fault> {
     let value = read(rt.alloc(), TEXT)?;
     let mut line = Line::from_vec(b"7 ".to_vec(rt.alloc())?);
-    if let Err(fault) = answered(rt, Call("print"), print(&value, &mut line)) {
-        assert!(rt; fault == Fault::Memory);
-        assert!(rt; line.items() == b"7 ".as_slice());
-        print(&value, &mut line)?;
-    }
-    assert!(rt; line.items().strip_prefix(b"7 ") == Some(COMPACT));
-    Ok(())
+    prints(rt, &value, &mut line)
 }
 
-/// Lists of growing length are read and printed.
-fn expect_lists(rt: &(impl Abort + AllocGlobal + Eprint)) -> Result<(), Fault> {
-    for text in [
-        "[0,1,2,3,4,5,6,7,8,9,10,11,12,13,14,15,16,17,18,19,20,21,22,23,24,25,26,27,28,29,30,31,32]",
-        "{\"a\":1,\"b\":2,\"c\":3,\"d\":4,\"e\":5,\"f\":6,\"g\":7,\"h\":8,\"i\":9,\"j\":0,\"k\":1,\"l\":2,\"m\":3,\"n\":4,\"o\":5,\"p\":6,\"q\":7}",
-        "[[[[[[[[[[[[[[[[[[\"\\n\"]]]]]]]]]]]]]]]]]]",
-    ] {
-        expect_read(rt, text.as_bytes(), Ok(text))?;
+fn is_copied(rt: &(impl AllocGlobal + Eprint), value: &Json) -> Result<bool, Fault> {
+    match value.copy(rt.alloc()) {
+        Ok(copy) => is_printed(rt.alloc(), &copy, COMPACT),
+        Err(fault) => refused(rt, Call("Json::copy"), fault),
     }
-    Ok(())
 }
 
-fn expect_copy(rt: &(impl Abort + AllocGlobal + Eprint)) -> Result<(), Fault> {
-    let value = read(rt.alloc(), TEXT)?;
-    let copy = answered(rt, Call("Json::copy"), value.copy(rt.alloc()))?;
-    drop(value);
-    let mut line = Line::new(rt.alloc());
-    print(&copy, &mut line)?;
-    assert!(rt; line.items() == COMPACT);
-    Ok(())
+fn value_is_copied(rt: &(impl AllocGlobal + Eprint)) -> Result<bool, Fault> {
+    is_copied(rt, &read(rt.alloc(), TEXT)?)
 }
 
-fn expect_numbers(rt: &(impl Abort + AllocGlobal + Eprint)) -> Result<(), Fault> {
-    for digits in [
-        "-1.50e+3",
-        "0.0010000000474974513",
-        "123456789012345678901234567890.123456789012345678901234567890",
-    ] {
-        let number = NumText::read(rt.alloc(), digits.as_bytes());
-        let number = answered(rt, Call("NumText::read"), number)?;
-        assert!(rt; number.as_bytes() == digits.as_bytes());
+fn is_number(rt: &(impl AllocGlobal + Eprint), text: &str) -> Result<bool, Fault> {
+    match NumText::read(rt.alloc(), text.as_bytes()) {
+        Ok(number) => Ok(number.as_bytes() == text.as_bytes()),
+        Err(fault) => refused(rt, Call("NumText::read"), fault),
     }
-    for other in ["1.", "+1", "1234567890123456789012345678901234567890e"] {
-        let refused = NumText::read(rt.alloc(), other.as_bytes());
-        assert!(rt; matches!(refused, Err(Fault::Syntax)), "{other}");
-    }
-    Ok(())
 }
 
-fn expect_names(rt: &(impl Abort + AllocGlobal + Eprint)) -> Result<(), Fault> {
-    for name in ["", "type", "https://www.opengis.net/def/crs/EPSG/0/7415"] {
-        let text = answered(rt, Call("Str::read"), Str::read(rt.alloc(), name))?;
-        assert!(rt; text.as_str() == name);
+const NUMBERS: [&str; 3] = [
+    "-1.50e+3",
+    "0.0010000000474974513",
+    "123456789012345678901234567890.123456789012345678901234567890",
+];
+
+const NO_NUMBERS: [&str; 3] = ["1.", "+1", "1234567890123456789012345678901234567890e"];
+
+fn numbers_are_read(rt: &(impl AllocGlobal + Eprint)) -> Result<bool, Fault> {
+    for text in NUMBERS.iter() {
+        if !is_number(rt, text)? {
+            return Ok(false);
+        }
     }
-    Ok(())
+    for text in NO_NUMBERS.iter() {
+        if !is_fault(is_number(rt, text), Fault::Syntax)? {
+            return Ok(false);
+        }
+    }
+    Ok(true)
+}
+
+fn is_name(rt: &(impl AllocGlobal + Eprint), name: &str) -> Result<bool, Fault> {
+    match Str::read(rt.alloc(), name) {
+        Ok(text) => Ok(text.as_str() == name),
+        Err(fault) => refused(rt, Call("Str::read"), fault),
+    }
+}
+
+fn names_are_read(rt: &(impl AllocGlobal + Eprint)) -> Result<bool, Fault> {
+    for name in ["", "type", "https://www.opengis.net/def/crs/EPSG/0/7415"].iter() {
+        if !is_name(rt, name)? {
+            return Ok(false);
+        }
+    }
+    Ok(true)
 }
 
 /// A writer takes its first bytes and then fails.
-fn expect_bin(rt: &(impl Abort + AllocGlobal + Eprint)) -> Result<(), Fault> {
-    let mut bin = answered(rt, Call("Bin::new"), Bin::new(rt.alloc(), 9, 4, false))?;
-    let all = write_all(&mut bin, b"all of it and more");
-    assert!(rt; all == Err(Fault::Write));
-    assert!(rt; bin.bytes() == b"all of it".as_slice());
-    Ok(())
+fn bin_is_filled(rt: &(impl AllocGlobal + Eprint)) -> Result<bool, Fault> {
+    match Bin::new(rt.alloc(), 9, 4, false) {
+        Ok(mut bin) => {
+            let all = write_all(&mut bin, b"all of it and more");
+            Ok(all == Err(Fault::Write) && bin.bytes() == b"all of it".as_slice())
+        }
+        Err(fault) => refused(rt, Call("Bin::new"), fault),
+    }
 }
 
 /// Of a text nothing is said where memory is wanted, and only there.
-fn expect_compact(rt: &(impl Abort + AllocGlobal + Eprint)) -> Result<(), Fault> {
-    let line = compact(rt.alloc(), TEXT, Line::new(rt.alloc())).ok_or(Fault::Memory);
-    let line = answered(rt, Call("compact"), line)?;
-    assert!(rt; line.items() == COMPACT);
-    Ok(())
+fn text_is_compact(rt: &(impl AllocGlobal + Eprint)) -> Result<bool, Fault> {
+    match compact(rt.alloc(), TEXT, Line::new(rt.alloc())) {
+        Some(line) => Ok(line.items() == COMPACT),
+        None => refused(rt, Call("compact"), Fault::Memory),
+    }
 }
 
-fn expect_parts(rt: &(impl Abort + AllocGlobal + Eprint)) -> Result<(), Fault> {
-    let found = compact_parts(rt.alloc(), TEXT, Line::new(rt.alloc())).ok_or(Fault::Memory);
-    let found = answered(rt, Call("compact_parts"), found)?;
-    assert!(rt; found.line.items() == COMPACT);
-    assert!(rt; found.parts.len() == 3);
+/// Whether these parts stand beside one another between the braces of a text of this length.
+fn are_parts(parts: &[Part], length: usize) -> bool {
     let mut at = 1;
-    for part in found.parts.iter() {
-        assert!(rt; part.at == at);
+    for part in parts.iter() {
+        if part.at != at {
+            return false;
+        }
         at = part.end.saturating_add(1);
     }
-    assert!(rt; at == COMPACT.len());
-    Ok(())
+    at == length
 }
 
-/// What wants memory here.
-#[derive(Clone, Copy)]
-enum Part {
-    Line,
-    List,
-    Intake,
-    Texts,
-    Print,
-    Lists,
-    Copy,
-    Numbers,
-    Names,
-    Bin,
-    Compact,
-    CompactParts,
-}
-
-const PARTS: [Part; 12] = [
-    Part::Line,
-    Part::List,
-    Part::Intake,
-    Part::Texts,
-    Part::Print,
-    Part::Lists,
-    Part::Copy,
-    Part::Numbers,
-    Part::Names,
-    Part::Bin,
-    Part::Compact,
-    Part::CompactParts,
-];
-
-fn expect_part(rt: &(impl Abort + AllocGlobal + Eprint), part: Part) -> Result<(), Fault> {
-    match part {
-        Part::Line => expect_line(rt),
-        Part::List => expect_sequence(rt),
-        Part::Intake => expect_intake(rt),
-        Part::Texts => expect_texts(rt),
-        Part::Print => expect_print(rt),
-        Part::Lists => expect_lists(rt),
-        Part::Copy => expect_copy(rt),
-        Part::Numbers => expect_numbers(rt),
-        Part::Names => expect_names(rt),
-        Part::Bin => expect_bin(rt),
-        Part::Compact => expect_compact(rt),
-        Part::CompactParts => expect_parts(rt),
+fn text_is_compact_with_parts(rt: &(impl AllocGlobal + Eprint)) -> Result<bool, Fault> {
+    match compact_parts(rt.alloc(), TEXT, Line::new(rt.alloc())) {
+        Some(found) => {
+            let is_so = found.line.items() == COMPACT && found.parts.len() == 3;
+            Ok(is_so && are_parts(&found.parts, COMPACT.len()))
+        }
+        None => refused(rt, Call("compact_parts"), Fault::Memory),
     }
 }
 
 #[test]
-fn bytes_values_and_texts(rt: HostRuntime) -> Result<(), Fail> {
-    for part in PARTS {
-        with_memory!(expect_part(&rt, part));
-    }
+fn bytes_values_and_texts(rt: HostRuntime) -> Result<(), Fault> {
+    expect!(rt; line_grows(&rt));
+    expect!(rt; list_grows(&rt));
+    expect!(rt; reader_gives_all(&rt));
+    expect!(rt; texts_are_read(&rt));
+    expect!(rt; no_texts_are_read(&rt));
+    expect!(rt; deepest_is_read(&rt));
+    expect!(rt; deepest_is_refused(&rt));
+    expect!(rt; value_is_printed(&rt));
+    expect!(rt; value_is_copied(&rt));
+    expect!(rt; numbers_are_read(&rt));
+    expect!(rt; names_are_read(&rt));
+    expect!(rt; bin_is_filled(&rt));
+    expect!(rt; text_is_compact(&rt));
+    expect!(rt; text_is_compact_with_parts(&rt));
     Ok(())
 }

@@ -2,6 +2,4 @@
 
 mod features;
 mod grids;
-mod handoff;
-mod streams;
 mod values;

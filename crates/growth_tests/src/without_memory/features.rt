@@ -1,28 +1,30 @@
 //! Headers, features and choices.
 
-use crate::memory::{give, take};
-use crate::texts::{A, DOCUMENT, HEADER};
 use byte_streams::Fault;
 use city_feature::{
-    Area, Choice, area, drop_member, feature, header, is_city_json, is_document, is_version_2,
-    selects, shifted, transform_of, types,
+    Choice, Feature, Types, area, drop_member, feature, header, is_city_json, is_document,
+    is_version_2, selects, shifted, transform_of, types,
 };
 use city_grid::Shift;
 use city_json::{Json, read, same};
-use std::test::Fail;
+use growth_support::texts::{A, DOCUMENT, HEADER};
+use growth_support::{give, take};
+use std::alloc::Global;
 
-#[test]
-fn a_header_is_taken(rt: HostRuntime) -> Result<(), Fail> {
-    let value = read(rt.alloc(), HEADER.as_bytes())?;
-    let copy = value.copy(rt.alloc())?;
-    let gone = take(rt.alloc());
-    assert!(rt; is_city_json(&value) && is_version_2(&value) && !is_document(&value));
+/// Whether a value is a header, and is taken as it stands.
+fn is_header(value: Json, copy: &Json) -> Result<bool, Fault> {
+    let is_one = is_city_json(&value) && is_version_2(&value) && !is_document(&value);
     let transform = transform_of(&value)?;
     let taken = header(value)?;
-    assert!(rt; same(taken.json(), &copy));
-    assert!(rt; *taken.transform() == transform);
-    give(&rt, gone);
-    Ok(())
+    Ok(is_one && same(taken.json(), copy) && *taken.transform() == transform)
+}
+
+fn header_is_taken(alloc: Global) -> Result<bool, Fault> {
+    let value = read(alloc, HEADER.as_bytes())?;
+    let copy = value.copy(alloc)?;
+    let gone = take(alloc);
+    let is_header = is_header(value, &copy)?;
+    Ok(give(alloc, gone) && is_header)
 }
 
 /// First lines, and why they are refused.
@@ -41,100 +43,150 @@ const REFUSED: [(&str, Fault); 6] = [
     (r#"{"type":"CityJSONFeature"}"#, Fault::NotCityJson),
 ];
 
+fn header_is_refused(alloc: Global, text: &str, fault: Fault) -> Result<bool, Fault> {
+    let value = read(alloc, text.as_bytes())?;
+    let gone = take(alloc);
+    let is_refused = match header(value) {
+        Ok(_) => false,
+        Err(other) => other == fault,
+    };
+    Ok(give(alloc, gone) && is_refused)
+}
+
+fn document_is_known(alloc: Global) -> Result<bool, Fault> {
+    let value = read(alloc, DOCUMENT.as_bytes())?;
+    let gone = take(alloc);
+    let is_document = is_document(&value);
+    Ok(give(alloc, gone) && is_document)
+}
+
 #[test]
-fn other_values_are_no_headers(rt: HostRuntime) -> Result<(), Fail> {
+fn first_lines_are_taken_or_refused(rt: HostRuntime) -> Result<(), Fault> {
+    assert!(rt; header_is_taken(rt.alloc())?);
+    assert!(rt; document_is_known(rt.alloc())?);
     for (text, fault) in REFUSED.iter() {
-        let value = read(rt.alloc(), text.as_bytes())?;
-        let gone = take(rt.alloc());
-        let answer = header(value);
-        assert!(rt; matches!(answer, Err(other) if other == *fault), "{text}");
-        give(&rt, gone);
+        assert!(rt; header_is_refused(rt.alloc(), text, *fault)?, "{text}");
     }
     Ok(())
 }
 
-#[test]
-fn a_document_is_known(rt: HostRuntime) -> Result<(), Fail> {
-    let value = read(rt.alloc(), DOCUMENT.as_bytes())?;
-    let gone = take(rt.alloc());
-    assert!(rt; is_document(&value));
-    give(&rt, gone);
-    Ok(())
+fn feature_of(alloc: Global, text: &str) -> Result<Feature, Fault> {
+    feature(alloc, read(alloc, text.as_bytes())?)
 }
 
-#[test]
-fn a_feature_is_selected(rt: HostRuntime) -> Result<(), Fail> {
-    let alloc = rt.alloc();
+fn is_lent(taken: &Feature, value: &Json) -> bool {
+    same(taken.json(), value) && taken.vertices().len() == 1
+}
+
+fn feature_is_lent(alloc: Global) -> Result<bool, Fault> {
+    let taken = feature_of(alloc, A)?;
     let value = read(alloc, A.as_bytes())?;
-    let copy = value.copy(alloc)?;
-    let taken = feature(alloc, value)?;
+    let gone = take(alloc);
+    let is_lent = is_lent(&taken, &value);
+    Ok(give(alloc, gone) && is_lent)
+}
+
+/// Whether a feature is selected by a choice of these types and of this area.
+fn is_selected(taken: &Feature, types: Option<Types>, within: &str, exclude: bool) -> bool {
+    selects(&Choice::new(types, area(within), exclude), taken)
+}
+
+fn selects_all(taken: &Feature, roads: Option<Types>, buildings: Option<Types>) -> bool {
+    let is_road = is_selected(taken, roads, "", false);
+    let is_building = is_selected(taken, buildings, "1,2,5,5", false);
+    let is_outside = is_selected(taken, None, "1,2,5,5", true);
+    !is_road && is_building && !is_outside && is_selected(taken, None, "2,2,5,5", true)
+}
+
+fn feature_is_selected(alloc: Global) -> Result<bool, Fault> {
+    let taken = feature_of(alloc, A)?;
     let roads = types(alloc, "Road,Bridge")?;
     let buildings = types(alloc, "Road,Building")?;
     let gone = take(alloc);
-    assert!(rt; same(taken.json(), &copy));
-    assert!(rt; taken.vertices().len() == 1);
-    assert!(rt; !selects(&Choice::new(roads, None, false), &taken));
-    assert!(rt; selects(&Choice::new(buildings, area("1,2,5,5"), false), &taken));
-    assert!(rt; !selects(&Choice::new(None, area("1,2,5,5"), true), &taken));
-    assert!(rt; selects(&Choice::new(None, area("2,2,5,5"), true), &taken));
-    give(&rt, gone);
-    Ok(())
+    let is_selected = selects_all(&taken, roads, buildings);
+    Ok(give(alloc, gone) && is_selected)
+}
+
+/// Whether a feature is moved there, and then no farther.
+fn is_moved(alloc: Global, taken: Feature, there: &Json) -> Result<bool, Fault> {
+    let far = Shift::new(-9_007_199_254_740_991, -9_007_199_254_740_991, 0);
+    let moved = shifted(alloc, taken, far.ok_or(Fault::ShiftRange)?)?;
+    let is_there = same(moved.json(), there);
+    let step = Shift::new(0, -1, 0).ok_or(Fault::ShiftRange)?;
+    match shifted(alloc, moved, step) {
+        Ok(_) => Ok(false),
+        Err(fault) => Ok(is_there && fault == Fault::VertexRange),
+    }
 }
 
 /// A moved number has room where the one before it stood.
-#[test]
-fn a_feature_is_moved(rt: HostRuntime) -> Result<(), Fail> {
-    let alloc = rt.alloc();
+fn feature_is_moved(alloc: Global) -> Result<bool, Fault> {
     let text =
-        br#"{"type":"CityJSONFeature","id":"b","CityObjects":{},"vertices":[[9007199254740991,-0,1]]}"#;
+        r#"{"type":"CityJSONFeature","id":"b","CityObjects":{},"vertices":[[9007199254740991,-0,1]]}"#;
     let there =
         br#"{"type":"CityJSONFeature","id":"b","CityObjects":{},"vertices":[[0,-9007199254740991,1]]}"#;
-    let taken = feature(alloc, read(alloc, text)?)?;
-    let wanted = read(alloc, there)?;
-    let far = Shift::new(-9_007_199_254_740_991, -9_007_199_254_740_991, 0);
+    let taken = feature_of(alloc, text)?;
+    let there = read(alloc, there)?;
     let gone = take(alloc);
-    let moved = shifted(alloc, taken, far.ok_or(Fault::ShiftRange)?)?;
-    assert!(rt; same(moved.json(), &wanted));
-    let out = shifted(alloc, moved, Shift::new(0, -1, 0).ok_or(Fault::ShiftRange)?);
-    assert!(rt; matches!(out, Err(Fault::VertexRange)));
-    give(&rt, gone);
+    let is_moved = is_moved(alloc, taken, &there)?;
+    Ok(give(alloc, gone) && is_moved)
+}
+
+#[test]
+fn features_are_lent_selected_and_moved(rt: HostRuntime) -> Result<(), Fault> {
+    assert!(rt; feature_is_lent(rt.alloc())?);
+    assert!(rt; feature_is_selected(rt.alloc())?);
+    assert!(rt; feature_is_moved(rt.alloc())?);
     Ok(())
 }
+
+fn is_area(text: &str, wanted: [i64; 4]) -> bool {
+    match area(text) {
+        Some(area) => [area.min_x, area.min_y, area.max_x, area.max_y] == wanted,
+        None => false,
+    }
+}
+
+/// Texts that name no area.
+const NO_AREAS: [&str; 6] = [
+    "1,2,3",
+    "5,0,1,1",
+    "0,0,0,9007199254740992",
+    "",
+    "1,2,3,4,",
+    "+1,2,3,4",
+];
 
 #[test]
 fn areas_are_read(rt: HostRuntime) {
     let gone = take(rt.alloc());
-    let wanted = Area {
-        min_x: -5,
-        min_y: 0,
-        max_x: 10,
-        max_y: 9_007_199_254_740_991,
-    };
-    assert!(rt; area("-5,0,10,9007199254740991") == Some(wanted));
-    for text in [
-        "1,2,3",
-        "5,0,1,1",
-        "0,0,0,9007199254740992",
-        "",
-        "1,2,3,4,",
-        "+1,2,3,4",
-    ] {
-        assert!(rt; area(text) == None, "{text}");
+    let wanted = [-5, 0, 10, 9_007_199_254_740_991];
+    assert!(rt; is_area("-5,0,10,9007199254740991", wanted));
+    for text in NO_AREAS.iter() {
+        assert!(rt; area(text).is_none(), "{text}");
     }
-    give(&rt, gone);
+    assert!(rt; give(rt.alloc(), gone));
+}
+
+/// Whether a member is dropped that is there, and nothing where there is none.
+fn are_dropped(value: &mut Json, left: &Json) -> bool {
+    drop_member(value, "b");
+    drop_member(value, "d");
+    let mut none = Json::Null;
+    drop_member(&mut none, "b");
+    same(value, left) && same(&none, &Json::Null)
+}
+
+fn member_is_dropped(alloc: Global) -> Result<bool, Fault> {
+    let mut value = read(alloc, br#"{"a":1,"b":[2],"c":3}"#)?;
+    let left = read(alloc, br#"{"a":1,"c":3}"#)?;
+    let gone = take(alloc);
+    let are_dropped = are_dropped(&mut value, &left);
+    Ok(give(alloc, gone) && are_dropped)
 }
 
 #[test]
-fn a_member_is_dropped(rt: HostRuntime) -> Result<(), Fail> {
-    let mut value = read(rt.alloc(), br#"{"a":1,"b":[2],"c":3}"#)?;
-    let left = read(rt.alloc(), br#"{"a":1,"c":3}"#)?;
-    let gone = take(rt.alloc());
-    drop_member(&mut value, "b");
-    drop_member(&mut value, "d");
-    assert!(rt; same(&value, &left));
-    let mut none = Json::Null;
-    drop_member(&mut none, "b");
-    assert!(rt; same(&none, &Json::Null));
-    give(&rt, gone);
+fn a_member_is_dropped(rt: HostRuntime) -> Result<(), Fault> {
+    assert!(rt; member_is_dropped(rt.alloc())?);
     Ok(())
 }

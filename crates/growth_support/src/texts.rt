@@ -47,38 +47,38 @@ macro_rules! document {
     };
 }
 
-pub(crate) const HEADER: &str = header!("0.001", "0", "");
+pub const HEADER: &str = header!("0.001", "0", "");
 
-pub(crate) const FAR_HEADER: &str = header!("0.001", "1.5", "");
+pub const FAR_HEADER: &str = header!("0.001", "1.5", "");
 
-pub(crate) const A1: &str = feature!("a1", "[[1,2,3]]");
+pub const A1: &str = feature!("a1", "[[1,2,3]]");
 
-pub(crate) const A2: &str = feature!("a2", "[[1,2,3]]");
+pub const A2: &str = feature!("a2", "[[1,2,3]]");
 
-pub(crate) const A3: &str = feature!("a3", "[[1,2,3]]");
+pub const A3: &str = feature!("a3", "[[1,2,3]]");
 
-pub(crate) const B1: &str = feature!("b1", "[[1,2,3]]");
+pub const B1: &str = feature!("b1", "[[1,2,3]]");
 
-pub(crate) const C1: &str = feature!("c1", "[[1,2,3]]");
+pub const C1: &str = feature!("c1", "[[1,2,3]]");
 
-pub(crate) const C2: &str = feature!("c2", "[[1,2,3]]");
+pub const C2: &str = feature!("c2", "[[1,2,3]]");
 
 /// A feature that is cut short.
-pub(crate) const CUT: &str = r#"{"type":"CityJSONFeature","id":"b2"#;
+pub const CUT: &str = r#"{"type":"CityJSONFeature","id":"b2"#;
 
-pub(crate) const A: &str = feature!("a", "[[1,2,3]]");
+pub const A: &str = feature!("a", "[[1,2,3]]");
 
-pub(crate) const B: &str = feature!("b", "[[10,20,30]]");
+pub const B: &str = feature!("b", "[[10,20,30]]");
 
 /// The second on the grid of the first header.
-pub(crate) const FAR_B: &str = feature!("b", "[[1510,20,30]]");
+pub const FAR_B: &str = feature!("b", "[[1510,20,30]]");
 
-pub(crate) const EMPTY_A: &str = feature!("a", "[]");
+pub const EMPTY_A: &str = feature!("a", "[]");
 
-pub(crate) const EMPTY_B: &str = feature!("b", "[]");
+pub const EMPTY_B: &str = feature!("b", "[]");
 
 /// Where a blank line, one of white space and carriage returns stand in a stream; it ends in a line cut short, or whole.
-pub(crate) const BLANKS_CUT: &str = concat!(
+pub const BLANKS_CUT: &str = concat!(
     "\n",
     r#"{"type":"CityJSON","version":"2.0","transform":{"scale":[0.001,0.001,0.001],"translate":[0,0,0]},"CityObjects":{},"vertices":[]}"#,
     "\r\n \t\r\n",
@@ -86,7 +86,7 @@ pub(crate) const BLANKS_CUT: &str = concat!(
     "\r\n{"
 );
 
-pub(crate) const BLANKS: &str = concat!(
+pub const BLANKS: &str = concat!(
     "\n",
     r#"{"type":"CityJSON","version":"2.0","transform":{"scale":[0.001,0.001,0.001],"translate":[0,0,0]},"CityObjects":{},"vertices":[]}"#,
     "\r\n \t\r\n",
@@ -96,70 +96,70 @@ pub(crate) const BLANKS: &str = concat!(
 );
 
 /// A stream as people write it, and how its feature is written.
-pub(crate) const FIRST: &str = concat!(
+pub const FIRST: &str = concat!(
     r#"{ "type": "CityJSON", "version": "2.0", "transform": {"scale": [0.001, 0.001, 0.001], "translate": [0, 0, 0]}, "CityObjects": {}, "vertices": [] }"#,
     "\n",
     r#"{"type":"CityJSONFeature", "id":"a", "CityObjects":{"a":{"type":"Building", "attributes":{"h":1.50e+3}}}, "vertices":[[1,2,3]]}"#,
     "\n"
 );
 
-pub(crate) const FIRST_FEATURE: &str =
+pub const FIRST_FEATURE: &str =
     r#"{"type":"CityJSONFeature","id":"a","CityObjects":{"a":{"type":"Building","attributes":{"h":1.50e+3}}},"vertices":[[1,2,3]]}"#;
 
-pub(crate) const DOCUMENT: &str = document!(r#"["p1","p2"]"#, "[3,1]");
+pub const DOCUMENT: &str = document!(r#"["p1","p2"]"#, "[3,1]");
 
-pub(crate) const CHILDLESS: &str = document!(r#"["p1","p3"]"#, "[3,1]");
+pub const CHILDLESS: &str = document!(r#"["p1","p3"]"#, "[3,1]");
 
-pub(crate) const ORPHANED: &str = document!(r#"["p1"]"#, "[3,1]");
+pub const ORPHANED: &str = document!(r#"["p1"]"#, "[3,1]");
 
-pub(crate) const UNBOUNDED: &str = document!(r#"["p1","p2"]"#, "[4,1]");
+pub const UNBOUNDED: &str = document!(r#"["p1","p2"]"#, "[4,1]");
 
 /// What the document is cut into.
-pub(crate) const BUILDING: &str =
+pub const BUILDING: &str =
     r#"{"type":"CityJSONFeature","id":"b","CityObjects":{"b":{"type":"Building","children":["p1","p2"]},"p1":{"type":"BuildingPart","parents":["b"],"geometry":[{"type":"MultiPoint","lod":"1","boundaries":[0,1]}]},"p2":{"type":"BuildingPart","parents":["b"],"geometry":[{"type":"MultiPoint","lod":"1","boundaries":[1,2]}]}},"vertices":[[3,3,3],[1,1,1],[0,0,0]]}"#;
 
 /// A document of two points, and what it is cut into.
-pub(crate) const POINTS: &str =
+pub const POINTS: &str =
     r#"{"type":"CityJSON","version":"2.0","transform":{"scale":[0.001,0.001,0.001],"translate":[0,0,0]},"CityObjects":{"x":{"type":"Building","geometry":[{"type":"MultiPoint","lod":"1","boundaries":[0]}]},"y":{"type":"Road","geometry":[{"type":"MultiPoint","lod":"1","boundaries":[1]}]}},"vertices":[[10,0,0],[20,0,0]]}"#;
 
-pub(crate) const X: &str =
+pub const X: &str =
     r#"{"type":"CityJSONFeature","id":"x","CityObjects":{"x":{"type":"Building","geometry":[{"type":"MultiPoint","lod":"1","boundaries":[0]}]}},"vertices":[[10,0,0]]}"#;
 
-pub(crate) const Y: &str =
+pub const Y: &str =
     r#"{"type":"CityJSONFeature","id":"y","CityObjects":{"y":{"type":"Road","geometry":[{"type":"MultiPoint","lod":"1","boundaries":[0]}]}},"vertices":[[20,0,0]]}"#;
 
 /// Headers that join, or do not: of scales that are written otherwise, reference systems and extensions.
-pub(crate) const SCALED: &str = header!("1e-3", "0", "");
+pub const SCALED: &str = header!("1e-3", "0", "");
 
-pub(crate) const OFF_GRID: &str = header!("0.001", "0.0005", "");
+pub const OFF_GRID: &str = header!("0.001", "0.0005", "");
 
-pub(crate) const DUTCH: &str = header!(
+pub const DUTCH: &str = header!(
     "0.001",
     "0",
     r#","metadata":{"referenceSystem":"https://www.opengis.net/def/crs/EPSG/0/7415"}"#
 );
 
-pub(crate) const OTHER_DUTCH: &str = header!(
+pub const OTHER_DUTCH: &str = header!(
     "0.001",
     "0",
     r#","metadata":{"referenceSystem":"https://www.opengis.net/def/crs/EPSG/0/28992"}"#
 );
 
-pub(crate) const EXTENDED: &str = header!("0.001", "0", r#","extensions":{"A":{"version":"1"}}"#);
+pub const EXTENDED: &str = header!("0.001", "0", r#","extensions":{"A":{"version":"1"}}"#);
 
-pub(crate) const EXTENDED_TWICE: &str = header!(
+pub const EXTENDED_TWICE: &str = header!(
     "0.001",
     "0",
     r#","extensions":{"B":{},"A":{"version":"1"}}"#
 );
 
-pub(crate) const EXTENDED_BOTH: &str = header!(
+pub const EXTENDED_BOTH: &str = header!(
     "0.001",
     "0",
     r#","extensions":{"A":{"version":"1"},"B":{}}"#
 );
 
-pub(crate) const CLASHING: &str = header!(
+pub const CLASHING: &str = header!(
     "0.001",
     "0",
     r#","extensions":{"B":{},"A":{"version":"2"}}"#

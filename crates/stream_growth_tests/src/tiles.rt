@@ -2,9 +2,8 @@
 
 use byte_streams::{Fault, Line, MergeFault, Tape};
 use std::alloc::{AllocError, Global};
-use std::process::Abort;
 
-/// The bytes of a tile, the line of its header (its last part, where it has none), and the texts of its features, each
+/// The texts of a tile, the line of its header (its last part, where it has none), and the texts of its features, each
 /// with the line that it comes of.
 #[derive(Clone, Copy)]
 pub(crate) struct Tile<'a> {
@@ -20,10 +19,20 @@ pub(crate) const NONE: Tile<'static> = Tile {
     texts: &[],
 };
 
-/// The bytes of a tile, each text followed by a newline.
-pub(crate) fn bytes_of(alloc: Global, tile: &Tile<'_>) -> Result<Vec<u8>, AllocError> {
+/// A tile beside no others, whose texts were read already.
+pub(crate) fn alone<'a>(header: u64, texts: &'a [(u64, &'a str)]) -> [Tile<'a>; 3] {
+    let tile = Tile {
+        input: &[],
+        header,
+        texts,
+    };
+    [tile, NONE, NONE]
+}
+
+/// These texts, each followed by a newline.
+pub(crate) fn bytes_of(alloc: Global, texts: &[&str]) -> Result<Vec<u8>, AllocError> {
     let mut stream = Vec::new(alloc);
-    for text in tile.input {
+    for text in texts.iter() {
         stream.extend_from_slice(text.as_bytes())?;
         stream.push(b'\n')?;
     }
@@ -31,9 +40,8 @@ pub(crate) fn bytes_of(alloc: Global, tile: &Tile<'_>) -> Result<Vec<u8>, AllocE
 }
 
 /// A reader of these bytes, fifty of them a read.
-pub(crate) fn tape_of(alloc: Global, text: &str) -> Result<Tape, AllocError> {
-    let bytes = Line::from_vec(text.as_bytes().to_vec(alloc)?);
-    Ok(Tape::new(bytes, 50, false))
+pub(crate) fn tape_of(alloc: Global, bytes: &[u8]) -> Result<Tape, AllocError> {
+    Ok(Tape::new(Line::from_vec(bytes.to_vec(alloc)?), 50, false))
 }
 
 /// What stands after a line.
@@ -84,9 +92,9 @@ pub(crate) fn are_turns(written: &[u8], tiles: &[Tile<'_>; 3], counts: [usize; 3
 }
 
 /// How many texts a tile gives before this line.
-pub(crate) fn before(tile: &Tile<'_>, line: u64) -> usize {
+fn before(tile: &Tile<'_>, line: u64) -> usize {
     let mut count = 0usize;
-    for (number, _) in tile.texts {
+    for (number, _) in tile.texts.iter() {
         if *number < line {
             count = count.saturating_add(1);
         }
@@ -94,42 +102,43 @@ pub(crate) fn before(tile: &Tile<'_>, line: u64) -> usize {
     count
 }
 
-/// A call gave up for want of memory, after so many lines of each tile had been written, none where the header was not.
-/// Once the header was, a tile is named: of it, those before the named line were written; of the tiles before it, all;
-/// and so of those after it, unless there was no memory any more. Nothing is written before all headers were read.
-pub(crate) fn expect_given_up(
-    rt: &impl Abort,
+/// Of the tile that is named, the lines before the named one were written; of the tiles before it, all; and so of those
+/// after it, unless there was no memory any more.
+fn is_given_up(
+    refused: MergeFault,
+    number: u32,
+    tile: &Tile<'_>,
+    count: usize,
+    is_gone: bool,
+) -> bool {
+    if number == refused.tile {
+        let gives_at_header = before(tile, tile.header.saturating_add(1)) > 0;
+        let is_after_header = refused.line > tile.header || gives_at_header;
+        return is_after_header && count == before(tile, refused.line);
+    }
+    count == tile.texts.len() || (number > refused.tile && is_gone)
+}
+
+/// Whether a call may give up so for want of memory, after so many lines of each tile had been written, none where the
+/// header was not. Once the header was, a tile is named. Nothing is written before all headers were read.
+pub(crate) fn are_given_up(
     refused: MergeFault,
     counts: Option<[usize; 3]>,
     tiles: &[Tile<'_>; 3],
     is_gone: bool,
-) {
-    assert!(rt; refused.fault == Fault::Memory);
-    assert!(rt; refused.tile <= 3, "{refused:?}");
-    assert!(rt; refused.tile > 0 || refused.line == 0, "{refused:?}");
-    assert!(rt; refused.tile > 0 || counts.is_none(), "{refused:?}");
+) -> bool {
+    let names_tile = 0 < refused.tile && refused.tile <= 3;
+    let names_none = refused.tile == 0 && refused.line == 0 && counts.is_none();
+    let mut is_so = refused.fault == Fault::Memory && (names_tile || names_none);
     let mut number = 0u32;
     for at in 0..3usize {
         number = number.saturating_add(1);
         let tile = &tiles[at];
-        let whole = tile.texts.len();
-        let Some(written) = counts else {
-            assert!(rt;
-                number != refused.tile || refused.line <= tile.header,
-                "{refused:?}"
-            );
-            continue;
-        };
-        let count = written[at];
-        if number == refused.tile {
-            let gives_at_header = before(tile, tile.header.saturating_add(1)) > 0;
-            assert!(rt;
-                refused.line > tile.header || gives_at_header,
-                "{refused:?}"
-            );
-            assert!(rt; count == before(tile, refused.line), "{refused:?}");
-        } else if number < refused.tile || !is_gone {
-            assert!(rt; count == whole, "tile {number} at {refused:?}");
-        }
+        is_so = is_so
+            && match counts {
+                Some(written) => is_given_up(refused, number, tile, written[at], is_gone),
+                None => number != refused.tile || refused.line <= tile.header,
+            };
     }
+    is_so
 }
