@@ -342,7 +342,7 @@ fn takes_held(
     }
 }
 
-/// Whether a feature's line is passed: its text if it is chosen, or else no text.
+/// Whether a feature's line is passed: its text if it is chosen, or else no text; or, after line 4, the end.
 fn passes(
     rt: &(impl AllocGlobal + Eprint),
     tile: &mut TileReader<Tape>,
@@ -356,7 +356,7 @@ fn passes(
             *spare = passed.text;
             Ok(passed.is_chosen == !text.is_empty() && spare.items() == text.as_bytes())
         }
-        Ok(None) => Ok(false),
+        Ok(None) => Ok(number > 4),
         Err(told) => is_refused(rt, Call("TileReader::pass"), told, number),
     }
 }
@@ -385,7 +385,8 @@ fn is_taken(
             && takes_held(rt, tile, buildings)?
             && passes(rt, tile, others, spare, (2, ""))?
             && passes(rt, tile, buildings, spare, (3, A2))?
-            && passes(rt, tile, others, spare, (4, ""))?,
+            && passes(rt, tile, others, spare, (4, ""))?
+            && passes(rt, tile, buildings, spare, (5, A1))?,
     )
 }
 
