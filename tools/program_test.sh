@@ -39,6 +39,7 @@ expect 'a path' "2||error: unexpected argument 'a.city.jsonl' found" "$(first_li
 expect 'a box of three numbers' '2||citymerge: bad --bbox' "$(answer filter --bbox=1,2,3)"
 expect 'a box from right to left' '2||citymerge: bad --bbox' "$(answer filter --bbox=5,0,1,1)"
 expect 'a type with no name' '2||citymerge: bad --cotype' "$(answer filter --cotype=A,,B)"
+expect 'an option 10,000 times' "2||error: the argument '--exclude' cannot be used multiple times" "$(first_lines filter $(yes -- --exclude | head -n 10000))"
 expect 'a word that is not UTF-8' '2||citymerge: a word is not UTF-8' "$(answer filter "$(printf '\377')")"
 expect 'the version' '0|citymerge 0.1.0|' "$(answer --version)"
 expect 'help' '0|Merges, filters and makes streams of CityJSON features (CityJSONSeq).|' "$(first_lines --help)"
@@ -114,6 +115,13 @@ expect 'by a box' "0|$(printf '%s\n%s' "$header" "$p")|" "$(answer filter --bbox
 expect 'by a box, excluded' "0|$(printf '%s\n%s' "$header" "$q")|" "$(answer filter --exclude --bbox=-5,0,10,10)"
 expect 'by both' "0|$header|" "$(answer filter --cotype=Building --bbox=11,11,12,12)"
 
+u=$(feature u Ä '')
+printf '%s\n%s\n%s\n' "$header" "$a" "$u" >"$room/in"
+expect 'by a type that is not ASCII' "0|$(printf '%s\n%s' "$header" "$u")|" "$(answer filter --cotype=Ä,B)"
+expect 'all but a type that is not ASCII' "0|$(printf '%s\n%s' "$header" "$a")|" "$(answer filter --exclude --cotype=Ä,B)"
+expect 'by a box, without vertices' "0|$header|" "$(answer filter --bbox=-5,0,10,10)"
+expect 'by a box, without vertices, excluded' "0|$(cat "$room/in")|" "$(answer filter --exclude --bbox=-5,0,10,10)"
+
 # the streams
 printf '' >"$room/in"
 expect 'no bytes' '1||citymerge: tile 1: the stream has no header line' "$(answer filter)"
@@ -121,6 +129,10 @@ printf '\n \t\r\n' >"$room/in"
 expect 'blank lines' '1||citymerge: tile 1: the stream has no header line' "$(answer filter)"
 printf '\n%s\r\n \t\r\n%s\r\n{' "$header" "$a" >"$room/in"
 expect 'a line cut short' "1|$(printf '%s\n%s' "$header" "$a")|citymerge: tile 1 line 5: the line is not a JSON text" "$(answer filter)"
+printf '\n%s\r\n \t\r\n%s\r\n%s' "$header" "$a" "$q" >"$room/in"
+expect 'blank lines among others' "0|$(printf '%s\n' "$header" "$a" "$q")|" "$(answer filter)"
+printf '\377\n1' >"$room/in"
+expect 'a first line that is not UTF-8' '1||citymerge: tile 1 line 1: the line is not UTF-8' "$(answer filter)"
 printf '%s\n"\377"\n' "$header" >"$room/in"
 expect 'not UTF-8' "1|$header|citymerge: tile 1 line 2: the line is not UTF-8" "$(answer filter)"
 printf '{"a":1,"\\u0061":2}' >"$room/in"
@@ -129,10 +141,22 @@ head -c 129 /dev/zero | tr '\0' '[' >"$room/in"
 expect 'nested too deeply' '1||citymerge: tile 1 line 1: the JSON text is nested too deeply' "$(answer filter)"
 printf '[1]\n' >"$room/in"
 expect 'no header' '1||citymerge: tile 1 line 1: the object is not a CityJSON object' "$(answer filter)"
-printf '%s\n%s\n' "$header" "$header" >"$room/in"
-expect 'a header among the features' "1|$header|citymerge: tile 1 line 2: the line is not a CityJSONFeature" "$(answer filter)"
-printf '%s\n%s\n' "$header" "$(feature a Building '[0.5,0,0]')" >"$room/in"
-expect 'half a step' "1|$header|citymerge: tile 1 line 2: a vertex number is not written as a whole number" "$(answer filter)"
+
+# a stream of the header, this line and a feature
+refused_line() {
+    printf '%s\n' "$header" "$1" "$a" >"$room/in"
+    expect "the line $1" "1|$header|citymerge: tile 1 line 2: $2" "$(answer filter)"
+}
+refused_line "$header" 'the line is not a CityJSONFeature'
+refused_line '[1,]' 'the line is not a JSON text'
+refused_line '{"a":1,"a":2}' 'a name is repeated in an object'
+refused_line "$(printf '[%.0s' $(seq 129))" 'the JSON text is nested too deeply'
+for vertex in 0.5,0,0 1.0,0,0 1e2,0,0; do
+    refused_line "$(feature a Building "[$vertex]")" 'a vertex number is not written as a whole number'
+done
+refused_line "$(feature a Building '[1,2]')" 'a vertex is not three numbers'
+refused_line "$(feature a Building '["1",2,3]')" 'a vertex is not three numbers'
+refused_line "$(feature a Building '[9007199254740992,0,0]')" 'a vertex number is out of range'
 
 # a large stream that is compact comes out as it went in
 stays() {
@@ -201,8 +225,10 @@ expect 'a closed pipe' '1|citymerge: the output could not be written' "$(cat "$r
 
 # the fault line cannot be written either
 printf '{' >"$room/in"
-timeout 60 "$program" filter <"$room/in" >"$room/out" 2>/dev/full
-expect 'nowhere to write the fault line' 1 "$?"
+for command in filter cat; do
+    timeout 60 "$program" $command <"$room/in" >"$room/out" 2>/dev/full
+    expect "nowhere to write the fault line of $command" '1|0' "$?|$(wc -c <"$room/out")"
+done
 
 for tile in west east; do
     timeout 60 "$program" filter <"examples/$tile.city.jsonl" >"$room/once" 2>"$room/errors"
@@ -253,14 +279,21 @@ tile a "$header" "$one"
 tile b "$(moved_to 1.5)" "$two"
 tile -b "$(moved_to 1.5)" "$two"
 tile - "$header" "$one" "$one"
+below=$(feature a Building '[0,2,3]')
+tile bare "$header"
+tile below "$(moved_to -0.001)" "$one"
 expect 'a merge in turn' "0|$(printf '%s\n%s\n%s' "$header" "$one" "$far")|" "$(merged --in-turn a b)"
 expect 'a merge in turn from the least' "0|$(printf '%s\n%s\n%s' "$header" "$far" "$one")|" "$(merged --in-turn --least b a)"
 for turns in '' --in-turn; do
     expect "a merge $turns" "0|$(printf '%s\n%s\n%s' "$header" "$one" "$far")|" "$(mixed $turns a b)"
     expect "a merge of a box $turns" "0|$(printf '%s\n%s' "$header" "$far")|" "$(merged a $turns b --bbox=1510,0,1510,100)"
+    expect "a tile below the first $turns" "0|$(printf '%s\n' "$header" "$below")|" "$(merged $turns bare below)"
+    expect "a tile below the first, from the least $turns" "0|$(printf '%s\n' "$(moved_to -0.001)" "$one")|" "$(merged $turns --least bare below)"
+    expect "the least of a tile of no features $turns" "0|$(printf '%s\n' "$header" "$far" "$far")|" "$(merged $turns --least b bare b)"
+    expect "a tile of no features $turns" "0|$header|" "$(merged $turns bare)"
+    expect "a box on the least grid $turns" "0|$(printf '%s\n%s' "$header" "$far")|" "$(merged $turns --least --bbox=1510,0,1510,100 b a)"
     expect "a merge from the least $turns" "0|$(printf '%s\n%s\n%s' "$header" "$one" "$far")|" "$(mixed $turns --least b a)"
 done
-expect 'a box on the least grid' "0|$(printf '%s\n%s' "$header" "$far")|" "$(merged --least --bbox=1510,0,1510,100 b a)"
 expect 'a merge of what is excluded' "0|$(printf '%s\n%s' "$header" "$one")|" "$(merged --exclude --bbox=1510,0,1510,100 a b)"
 expect 'a merge of a type' "0|$header|" "$(merged --cotype=Bridge a b)"
 expect 'one tile' "0|$(printf '%s\n%s' "$header" "$one")|" "$(merged a)"
@@ -274,6 +307,9 @@ for turns in '' --in-turn; do
     expect "a merge of all but a type $turns" "0|$(printf '%s\n' "$header" "$one" "$p")|" "$(mixed $turns --exclude --cotype=Bridge,Road a e)"
 done
 expect 'three tiles' "0|$(printf '%s\n' "$header" "$one" "$two" "$q" "$one" "$p" "$one")|" "$(merged --in-turn c d e)"
+tile mixed "$header" "$one" "$two" "$one" "$two"
+tile lower "$(moved_to -0.001)" "$one" "$one" "$one"
+expect 'three tiles that are moved' "0|$(printf '%s\n' "$header" "$one" "$far" "$below" "$two" "$below" "$one" "$below" "$two")|" "$(merged --in-turn mixed b lower)"
 expect 'three tiles with threads' "0|$(printf '%s\n' "$header" "$one" "$one" "$one" "$two" "$p" "$q")|" "$(mixed c d e)"
 expect 'each in its own order' "$(printf '%s\n' "$q" "$p")" "$(grep -e '"id":"[pq]"' "$room/out")"
 tile f "$header" "$two" '{"type":"CityJSONFeature","id":"b2'
@@ -281,6 +317,11 @@ expect 'a tile that is cut short' "1|$(printf '%s\n' "$header" "$one" "$two" "$o
 expect 'the same in the other order' "1|$(printf '%s\n' "$header" "$two" "$one" "$one")|citymerge: tile 1 line 3: the line is not a JSON text" "$(merged --in-turn f -)"
 expect 'a tile that is cut short, with threads' "1|$(printf '%s\n' "$header" "$one" "$one" "$two")|citymerge: tile 2 line 3: the line is not a JSON text" "$(mixed - f)"
 expect 'the same in the other order, with threads' "1|$(printf '%s\n' "$header" "$one" "$one" "$two")|citymerge: tile 1 line 3: the line is not a JSON text" "$(mixed f -)"
+tile g "$header" "$two" "$header"
+tile h "$header" "$one" '[]'
+for turns in '' --in-turn; do
+    expect "two tiles at fault $turns" "1|$(printf '%s\n' "$header" "$one" "$one" "$two")|citymerge: tile 2 line 3: the line is not a CityJSONFeature" "$(mixed $turns a g h)"
+done
 
 # the words of a merge
 expect 'no tile' '2||error: the following required arguments were not provided:' "$(first_lines merge)"
@@ -292,6 +333,7 @@ expect 'an option that looks like a tile' "2||error: unexpected argument '-b' fo
 # tiles that are not merged
 expect 'a file that is not there' '1||citymerge: tile 2: the tile could not be read' "$(merged a no-such-file no-such-file)"
 expect 'a name that is empty' '1||citymerge: tile 1: the tile could not be read' "$(merged '' a)"
+expect 'a name that is empty after others' '1||citymerge: tile 3: the tile could not be read' "$(merged a b '')"
 mkdir "$room/folder"
 expect 'a folder' '1||citymerge: tile 2 line 1: the tile could not be read' "$(merged a folder)"
 expect '65 files that are not there' '1||citymerge: there are more than 64 tiles' "$(merged $(seq 65))"
@@ -299,6 +341,9 @@ expect '64 tiles' "0|65" "$(merged $(yes a | head -n 64) >"$room/64"; printf '%s
 tile empty
 printf '' >"$room/empty"
 expect 'a tile of no bytes' '1||citymerge: tile 3: the stream has no header line' "$(merged a b empty)"
+tile blank "$(printf '\t')"
+tile broken '{'
+expect 'a tile of a blank line, before lines at fault' '1||citymerge: tile 3: the stream has no header line' "$(merged a f blank broken)"
 misfit() {
     tile misfit "$2"
     expect "$1" "1||citymerge: tile 2 line 1: $3" "$(merged a misfit)"
@@ -313,12 +358,16 @@ misfit 'a reference system' "$(header_with '"metadata":{"referenceSystem":"https
 tile fine "$(printf '%s' "$header" | sed 's/0\.001/0.000001/g')"
 tile far "$(moved_to 100000000000 | sed 's/0\.001/0.000001/g')"
 expect 'too far' '1||citymerge: tile 2 line 1: the shift is out of range' "$(merged fine far)"
-tile misfit "$(moved_to -0.0005)"
-expect 'off the least grid' '1||citymerge: tile 1 line 1: the translation is off the grid' "$(merged --least a misfit)"
+tile misfit '' "$(moved_to -0.0005)" "$one"
+for turns in '' --in-turn; do
+    expect "off the grid after a blank line $turns" '1||citymerge: tile 2 line 2: the translation is off the grid' "$(merged $turns a misfit)"
+    expect "off the least grid $turns" '1||citymerge: tile 1 line 1: the translation is off the grid' "$(merged $turns --least a misfit)"
+done
 tile extended "$(header_with '"extensions":{"A":{"version":"1"}}')"
 tile others "$(header_with '"extensions":{"B":{},"A":{"version":"1"}}')"
 tile clashing "$(header_with '"extensions":{"B":{},"A":{"version":"2"}}')"
 expect 'extensions' "0|$(header_with '"extensions":{"A":{"version":"1"},"B":{}}')|" "$(merged extended others)"
+expect 'extensions after a tile of none' "0|$(header_with '"extensions":{"A":{"version":"1"},"B":{}}')|" "$(merged bare extended others)"
 expect 'extensions that clash' '1||citymerge: tile 2 line 1: an extension differs between tiles' "$(merged extended clashing)"
 tile bounded "$(header_with '"metadata":{"geographicalExtent":[0,0,0,1,1,1],"title":"t"}')"
 expect 'the extent of a tile' "0|$(header_with '"metadata":{"title":"t"}')|" "$(merged bounded)"
@@ -456,6 +505,7 @@ expect 'an index that is a text' '1||citymerge: tile 1: a boundary index is wron
 expect 'children that are a text' '1||citymerge: tile 1: the object is not a CityJSON object' "$(changed '\["p1","p2"\]' '"p1"')"
 expect 'another version of a document' '1||citymerge: tile 1: the version is not 2.0' "$(changed '2\.0' '1.1')"
 expect 'a vertex of two numbers' '1||citymerge: tile 1: a vertex is not three numbers' "$(changed '2,2,2' '2,2')"
+expect 'a document cut short' '1||citymerge: tile 1: the line is not a JSON text' "$(changed ']]}' ']]')"
 expect 'a document twice' '1||citymerge: tile 1: the line is not a JSON text' "$(printf '%s\n%s\n' "$document" "$document" >"$room/in"; answer cat)"
 expect 'a stream for a document' '1||citymerge: tile 1: the line is not a JSON text' "$(printf '%s\n' "$stream" >"$room/in"; answer cat)"
 expect 'a feature for a document' '1||citymerge: tile 1: the object is not a CityJSON object' "$(printf '%s\n' "$cut" >"$room/in"; answer cat)"

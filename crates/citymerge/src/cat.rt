@@ -7,9 +7,6 @@ ghost use Rattle.tile_stream.specs.Filtered.{failures_after_write};
 ghost use Rattle.tile_stream.specs.Unread.{failed_reads_after};
 ghost use Rattle.byte_streams.specs.declared.places.MergeFault.{MergeFault};
 
-#[cfg(test)]
-mod tests;
-
 use crate::report::report_fault;
 use byte_streams::{Sink, Source};
 use document_stream::cat_source;

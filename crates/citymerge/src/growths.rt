@@ -8,14 +8,15 @@ use self::memory::{Call, give, take, wanted};
 use crate::cat::run_cat;
 use crate::output::buffered;
 use crate::report::{report_fault, show_help, show_usage};
-use crate::run::{run_filter, run_merge};
+use crate::run::run_filter;
+use crate::tests::{HEADER, merge, tape};
 use crate::tiles::{SystemFiles, open_tiles};
 use crate::words::parse_args;
-use byte_streams::{Bin, Fault, Line, MergeFault, Tape, write_all};
+use byte_streams::{Bin, Fault, Line, MergeFault, write_all};
 use city_feature::Choice;
 use city_json::Str;
-use command_line::{MergeArgs, Parsed, Paths};
-use std::alloc::{AllocError, Global};
+use command_line::{Parsed, Paths};
+use std::alloc::Global;
 use std::io::{self, Eprint, ErrorKind};
 use std::process::Abort;
 use std::sync::Wait;
@@ -32,9 +33,6 @@ macro_rules! with_memory {
         }
     };
 }
-
-const HEADER: &str =
-    r#"{"type":"CityJSON","version":"2.0","transform":{"scale":[0.001,0.001,0.001],"translate":[0,0,0]},"CityObjects":{},"vertices":[]}"#;
 
 /// Features, and one that is cut short.
 const A1: &str =
@@ -66,16 +64,6 @@ const CHILDLESS: &str =
 
 const BUILDING: &str =
     r#"{"type":"CityJSONFeature","id":"b","CityObjects":{"b":{"type":"Building","geometry":[{"type":"MultiPoint","lod":"1","boundaries":[0,1]}]}},"vertices":[[3,3,3],[1,1,1]]}"#;
-
-/// A reader of these texts, each followed by a newline.
-fn tape(alloc: Global, texts: &[&str]) -> Result<Tape, AllocError> {
-    let mut stream = Line::new(alloc);
-    for text in texts {
-        stream.append(text.as_bytes())?;
-        stream.append(b"\n")?;
-    }
-    Ok(Tape::new(stream, 50, false))
-}
 
 /// How many of these lines were written, the first ones and each of them whole; none where something else was.
 fn lines_in(written: &[u8], lines: &[&str]) -> Option<usize> {
@@ -129,7 +117,7 @@ fn expect_filter(
     said: &str,
 ) -> Result<(), Fault> {
     let alloc = rt.alloc();
-    let mut tile = TileReader::new(alloc, tape(alloc, input)?);
+    let mut tile = TileReader::new(alloc, tape(alloc, input, 50, false)?);
     let mut output = Bin::new(alloc, 4096, 100, false)?;
     let mut errors = Bin::new(alloc, 256, 100, false)?;
     let every = Choice::new(None, None, false);
@@ -161,7 +149,7 @@ fn expect_cat(
     said: &str,
 ) -> Result<(), Fault> {
     let alloc = rt.alloc();
-    let mut input = tape(alloc, &[document])?;
+    let mut input = tape(alloc, &[document], 50, false)?;
     let mut output = Bin::new(alloc, 4096, 100, false)?;
     let mut errors = Bin::new(alloc, 256, 100, false)?;
     let status = run_cat(alloc, &mut input, &mut output, &mut errors);
@@ -189,19 +177,11 @@ where
     H: Abort + AllocGlobal + Eprint + Threads + Wait + Copy + Send + 'static,
 {
     let alloc = rt.alloc();
-    let args = MergeArgs {
-        choice: Choice::new(None, None, false),
-        in_turn,
-        least: false,
-        paths: Paths::new(alloc),
-    };
-    let first = tape(alloc, &[HEADER, A1, A2])?;
-    let second = tape(alloc, &[HEADER, B1, CUT])?;
-    let readers = vec![in alloc; first, second]?;
-    assert!(rt; !readers.is_empty());
+    let first = tape(alloc, &[HEADER, A1, A2], 50, false)?;
+    let second = tape(alloc, &[HEADER, B1, CUT], 50, false)?;
     let mut output = Bin::new(alloc, 4096, 100, false)?;
     let mut errors = Bin::new(alloc, 256, 100, false)?;
-    let status = run_merge(rt, alloc, &args, readers, &mut output, &mut errors);
+    let status = merge(rt, in_turn, first, second, &mut output, &mut errors)?;
     let said = "citymerge: tile 2 line 3: the line is not a JSON text\n";
     let call = if in_turn {
         Call("run_merge, in turn")
@@ -211,14 +191,10 @@ where
     let begins = output.bytes().is_empty() || output.bytes().starts_with(HEADER.as_bytes());
     assert!(rt; begins);
     expect_status(rt, call, (status, errors.bytes()), said)?;
-    let lines = [HEADER, A1, B1, A2];
     if in_turn {
-        assert!(rt; lines_in(output.bytes(), &lines) == Some(4));
+        assert!(rt; lines_in(output.bytes(), &[HEADER, A1, B1, A2]) == Some(4));
     }
-    let mut length = 0usize;
-    for line in lines {
-        length = length.saturating_add(line.len()).saturating_add(1);
-    }
+    let length = HEADER.len() + A1.len() + B1.len() + A2.len() + 4;
     assert!(rt; output.bytes().len() == length);
     Ok(())
 }
@@ -254,7 +230,7 @@ fn expect_args(rt: &(impl Abort + AllocGlobal + Eprint)) -> Result<(), Fault> {
             wanted(rt, Call("parse_args"));
             Err(Fault::Memory)
         }
-        other => panic!(rt; "{other:?}"),
+        _ => panic!(rt; "other words"),
     }
 }
 
@@ -275,7 +251,7 @@ fn expect_wrong_words(rt: &(impl Abort + AllocGlobal + Eprint)) -> Result<(), Fa
             wanted(rt, Call("parse_args, words that are not UTF-8"));
             Err(Fault::Memory)
         }
-        other => panic!(rt; "{other:?}"),
+        _ => panic!(rt; "other words"),
     }
 }
 

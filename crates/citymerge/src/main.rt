@@ -9,6 +9,8 @@ mod growths;
 mod output;
 mod report;
 mod run;
+#[cfg(test)]
+mod tests;
 mod tiles;
 mod words;
 

@@ -51,68 +51,47 @@ fn show<W: Sink>(text: &[u8], to: &mut W)
 mod tests {
     use super::*;
     use byte_streams::{Bin, Fault};
+    use std::alloc::Global;
     use std::test::Fail;
 
-    #[test]
-    fn fault_lines_leave_out_what_is_zero(rt: HostRuntime) -> Result<(), Fail> {
-        for (tile, line, fault, said) in [
-            (
-                2u32,
-                3u64,
-                Fault::Syntax,
-                "citymerge: tile 2 line 3: the line is not a JSON text\n",
-            ),
-            (
-                64,
-                0,
-                Fault::NoThread,
-                "citymerge: tile 64: a thread could not be started\n",
-            ),
-            (
-                0,
-                0,
-                Fault::TooManyTiles,
-                "citymerge: there are more than 64 tiles\n",
-            ),
-            (
-                4_294_967_295,
-                18_446_744_073_709_551_615,
-                Fault::VertexNotInteger,
-                "citymerge: tile 4294967295 line 18446744073709551615: a vertex number is not written as a whole number\n",
-            ),
-        ] {
-            let fault = MergeFault { tile, line, fault };
-            let mut errors = Bin::new(rt.alloc(), 128, 128, false)?;
-            assert!(rt; report_fault(&fault, &mut errors) == 1);
-            assert!(rt; errors.bytes() == said.as_bytes());
-        }
-        Ok(())
+    /// Whether this is said of a fault where so many bytes are taken.
+    fn is_said(alloc: Global, fault: &MergeFault, room: usize, said: &str) -> Result<bool, Fault> {
+        let mut errors = Bin::new(alloc, room, 128, false)?;
+        Ok(report_fault(fault, &mut errors) == 1 && errors.bytes() == said.as_bytes())
     }
 
     #[test]
-    fn a_failed_fault_line_leaves_the_status(rt: HostRuntime) -> Result<(), Fail> {
-        let fault = MergeFault::of_line(1, Fault::Syntax);
-        let mut errors = Bin::new(rt.alloc(), 4, 4, true)?;
-        assert!(rt; report_fault(&fault, &mut errors) == 1);
-        assert!(rt; errors.bytes() == b"city".as_slice());
+    fn a_fault_line_may_be_long_or_cut_short(rt: HostRuntime) -> Result<(), Fail> {
+        let long = MergeFault {
+            tile: 4_294_967_295,
+            line: 18_446_744_073_709_551_615,
+            fault: Fault::VertexNotInteger,
+        };
+        let said =
+            "citymerge: tile 4294967295 line 18446744073709551615: a vertex number is not written as a whole number\n";
+        assert!(rt; is_said(rt.alloc(), &long, 128, said)?);
+        assert!(rt; is_said(rt.alloc(), &long, 4, "city")?);
         Ok(())
+    }
+
+    /// Whether a help text and one of wrong use are shown so where so many bytes are taken.
+    fn is_shown(alloc: Global, room: usize, flush_fails: bool, shown: &str) -> Result<bool, Fault> {
+        let text = Line::from_vec(b"help\n".to_vec(alloc)?);
+        let mut output = Bin::new(alloc, room, 9, flush_fails)?;
+        let mut errors = Bin::new(alloc, room, 9, flush_fails)?;
+        Ok(
+            show_help(&text, &mut output) == 0
+                && show_usage(&text, &mut errors) == 2
+                && output.bytes() == shown.as_bytes()
+                && errors.bytes() == shown.as_bytes(),
+        )
     }
 
     #[test]
     fn a_failed_text_leaves_the_status(rt: HostRuntime) -> Result<(), Fail> {
-        let text = Line::from_vec(b"help\n".to_vec(rt.alloc())?);
-        for (room, flush_fails, shown) in [
-            (9usize, false, "help\n"),
-            (9, true, "help\n"),
-            (3, false, "hel"),
-        ] {
-            let mut output = Bin::new(rt.alloc(), room, 9, flush_fails)?;
-            assert!(rt; show_help(&text, &mut output) == 0);
-            assert!(rt; output.bytes() == shown.as_bytes());
-            let mut errors = Bin::new(rt.alloc(), room, 9, false)?;
-            assert!(rt; show_usage(&text, &mut errors) == 2);
-            assert!(rt; errors.bytes() == shown.as_bytes());
-        }
+        assert!(rt; is_shown(rt.alloc(), 9, false, "help\n")?);
+        assert!(rt; is_shown(rt.alloc(), 9, true, "help\n")?);
+        assert!(rt; is_shown(rt.alloc(), 3, false, "hel")?);
         Ok(())
     }
 }

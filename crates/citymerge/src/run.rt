@@ -11,13 +11,6 @@ ghost use Rattle.tile_merge.specs.Merged.{MergedAll};
 ghost use Rattle.tile_stream.specs.Unread.{Leaves, has_failed};
 ghost use Rattle.byte_streams.specs.declared.places.MergeFault.{MergeFault};
 
-#[cfg(test)]
-mod joining_tests;
-#[cfg(test)]
-mod merging_tests;
-#[cfg(test)]
-mod tests;
-
 use crate::report::report_fault;
 use byte_streams::{MergeFault, Sink, Source};
 use city_feature::{Base, Choice};
