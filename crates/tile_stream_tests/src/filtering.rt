@@ -345,17 +345,21 @@ impl<'a> Source for CountedTape<'a> {
     }
 }
 
-/// Each read gives the header's line, a line that is no feature, or a part of the others.
-fn reads_two_lines(alloc: Global) -> Result<bool, Fault> {
+/// A stream of which each read gives the header's line, a line that is no feature, or a part of the others.
+fn faulty_stream(alloc: Global) -> Result<String, AllocError> {
     let wrong = " ".repeat(alloc, 127)?;
-    let input = format!(in alloc; "{HEADER}\n{wrong}1\n{FEATURE_A}\n{FEATURE_A}\n")?;
+    format!(in alloc; "{HEADER}\n{wrong}1\n{FEATURE_A}\n{FEATURE_A}\n")
+}
+
+fn reads_two_lines(alloc: Global) -> Result<bool, Fault> {
+    let input = faulty_stream(alloc)?;
+    let mut output = Bin::new(alloc, 4096, 4096, false)?;
     let reads = AtomicU64::new(0);
     let reader = CountedTape {
         tape: Tape::new(Line::from_vec(input.into_bytes()), 129, true),
         reads: &reads,
     };
     let mut tile = TileReader::new(alloc, reader);
-    let mut output = Bin::new(alloc, 4096, 4096, false)?;
     let found = filter_tile(alloc, &mut tile, &every_feature(), &mut output);
     Ok(
         is_told(alloc, found, "tile 1 line 2: NotAFeature")
