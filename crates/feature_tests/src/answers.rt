@@ -44,25 +44,24 @@ fn front(alloc: Global) -> Result<Line, AllocError> {
     Ok(Line::from_vec(FRONT.to_vec(alloc)?))
 }
 
-/// Whether the line is answered with this text, which is empty where its feature is not chosen, or with this fault, and
+/// Whether the line is answered with this fault, or with this text, which is empty where its feature is not chosen, and
 /// what stands in the text stays.
 pub(crate) fn is_answered(
     alloc: Global,
     bytes: &[u8],
-    shift: Shift,
-    choice: &Choice,
-    wanted: Result<&[u8], Fault>,
+    (shift, choice): (Shift, &Choice),
+    added: &[u8],
+    fault: Option<Fault>,
 ) -> bool {
     let Ok(mut text) = front(alloc) else {
         return false;
     };
     let answer = feature_line(alloc, bytes, shift, choice, &mut text);
-    match wanted {
-        Ok(added) => {
-            answer == Ok(!added.is_empty()) && text.items().strip_prefix(FRONT) == Some(added)
-        }
-        Err(fault) => answer == Err(fault) && text.items() == FRONT,
-    }
+    let is_told = match answer {
+        Ok(is_chosen) => fault.is_none() && is_chosen != added.is_empty(),
+        Err(found) => fault == Some(found),
+    };
+    is_told && text.items().strip_prefix(FRONT) == Some(added)
 }
 
 fn moved_feature(alloc: Global, bytes: &[u8], shift: Shift) -> Result<Feature, Fault> {
@@ -120,10 +119,11 @@ pub(crate) fn gives(
     match answer_of_value(alloc, bytes, shift, choice) {
         Ok(text) => {
             is_meant(text.items(), wanted)
-                && is_answered(alloc, bytes, shift, choice, Ok(text.items()))
+                && is_answered(alloc, bytes, (shift, choice), text.items(), None)
         }
         Err(fault) => {
-            is_named(alloc, fault, wanted) && is_answered(alloc, bytes, shift, choice, Err(fault))
+            is_named(alloc, fault, wanted)
+                && is_answered(alloc, bytes, (shift, choice), b"", Some(fault))
         }
     }
 }

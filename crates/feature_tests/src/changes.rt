@@ -2,7 +2,8 @@ use crate::texts::split;
 use byte_streams::{Fault, Line};
 use city_feature::{drop_member, set_member};
 use city_json::{Json, print, read};
-use std::alloc::Global;
+use std::alloc::{AllocGlobal, Global};
+use std::process::Abort;
 
 /// A value, and what it is after a member `a` is dropped: the first of that name.
 const DROPPED: &str = r#"{"a":1} => {}
@@ -42,12 +43,14 @@ fn is_changed(alloc: Global, row: &str, is_set: bool) -> Result<bool, Fault> {
     Ok(is_done && is_spelled(alloc, &value, wanted))
 }
 
+fn expect(rt: &(impl Abort + AllocGlobal), table: &str, is_set: bool) {
+    for row in table.lines() {
+        assert!(rt; is_changed(rt.alloc(), row, is_set) == Ok(true), "{row}");
+    }
+}
+
 #[test]
 fn a_member_is_dropped_or_set(rt: HostRuntime) {
-    for row in DROPPED.lines() {
-        assert!(rt; is_changed(rt.alloc(), row, false) == Ok(true), "{row}");
-    }
-    for row in SET.lines() {
-        assert!(rt; is_changed(rt.alloc(), row, true) == Ok(true), "{row}");
-    }
+    expect(&rt, DROPPED, false);
+    expect(&rt, SET, true);
 }

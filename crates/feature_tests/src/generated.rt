@@ -94,8 +94,8 @@ fn drawn_choice(alloc: Global, draws: &mut Draws, names: &str) -> Result<Choice,
 /// Whether the line is answered as its value is.
 fn has_one_answer(alloc: Global, line: &[u8], shift: Shift, choice: &Choice) -> bool {
     match answer_of_value(alloc, line, shift, choice) {
-        Ok(text) => is_answered(alloc, line, shift, choice, Ok(text.items())),
-        Err(fault) => is_answered(alloc, line, shift, choice, Err(fault)),
+        Ok(text) => is_answered(alloc, line, (shift, choice), text.items(), None),
+        Err(fault) => is_answered(alloc, line, (shift, choice), b"", Some(fault)),
     }
 }
 

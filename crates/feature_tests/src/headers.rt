@@ -175,12 +175,14 @@ fn is_document_of(alloc: Global, text: &str) -> Result<bool, Fault> {
     Ok(is_document(&read(alloc, text.as_bytes())?))
 }
 
+fn expect_documents(rt: &(impl Abort + AllocGlobal), table: &str, wanted: bool) {
+    for text in table.lines() {
+        assert!(rt; is_document_of(rt.alloc(), text) == Ok(wanted), "{text}");
+    }
+}
+
 #[test]
 fn documents_hold_city_objects_or_vertices(rt: HostRuntime) {
-    for text in DOCUMENTS.lines() {
-        assert!(rt; is_document_of(rt.alloc(), text) == Ok(true), "{text}");
-    }
-    for text in OTHERS.lines() {
-        assert!(rt; is_document_of(rt.alloc(), text) == Ok(false), "{text}");
-    }
+    expect_documents(&rt, DOCUMENTS, true);
+    expect_documents(&rt, OTHERS, false);
 }

@@ -193,7 +193,7 @@ fn a_moved_line_has_room_for_more(rt: HostRuntime) {
 fn is_refused(alloc: Global, bytes: &[u8], fault: Fault) -> bool {
     let choice = Choice::new(None, None, false);
     match Shift::new(10, 20, 30) {
-        Some(shift) => is_answered(alloc, bytes, shift, &choice, Err(fault)),
+        Some(shift) => is_answered(alloc, bytes, (shift, &choice), b"", Some(fault)),
         None => false,
     }
 }
