@@ -49,10 +49,14 @@ fn is_area(text: &str, wanted: &[i64; 4]) -> bool {
 }
 
 #[test]
-fn areas_are_read_or_refused(rt: HostRuntime) {
+fn areas_are_read(rt: HostRuntime) {
     for (text, wanted) in AREAS.iter() {
         assert!(rt; is_area(text, wanted), "{text}");
     }
+}
+
+#[test]
+fn texts_that_name_no_area_are_refused(rt: HostRuntime) {
     for text in NO_AREAS.lines() {
         assert!(rt; area(text).is_none(), "{text}");
     }
@@ -124,6 +128,10 @@ fn types_are_the_names_between_commas(rt: HostRuntime) {
         assert!(rt; row.is_empty() || answer == Ok(true), "{row}");
     }
     assert!(rt; thousand_are_named(rt.alloc()) == Ok(true));
+}
+
+#[test]
+fn no_name_is_empty(rt: HostRuntime) {
     for text in NO_TYPES.lines() {
         assert!(rt; names_no_types(rt.alloc(), text), "{text}");
     }

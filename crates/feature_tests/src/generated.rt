@@ -67,11 +67,12 @@ fn expanded(
     let mut expanded = String::new(alloc);
     let mut is_name = false;
     for piece in text.split('$') {
-        if is_name {
-            expanded.push_str(draws.pick(words_of(piece, is_common)))?;
+        let word = if is_name {
+            draws.pick(words_of(piece, is_common))
         } else {
-            expanded.push_str(piece)?;
-        }
+            piece
+        };
+        expanded.push_str(word)?;
         is_name = !is_name;
     }
     Ok(expanded)
@@ -133,18 +134,23 @@ fn common_lines_have_one_answer(rt: HostRuntime) {
     }
 }
 
-#[test]
-fn lines_of_any_kind_have_one_answer(rt: HostRuntime) {
+/// How many of six hundred drawn lines are answered with no value built; none where one is not answered as its value is.
+fn quick_count(alloc: Global) -> Option<u64> {
     let mut draws = Draws { state: 2 };
     let mut count = 0u64;
-    for number in 0..600 {
-        let is_common = draws.pick("common|common|common|").is_empty();
+    for _ in 0..600 {
+        let is_common = !draws.pick("common|common|common|").is_empty();
         let names = draws.pick("|Building|Road,Bridge|Road");
-        let answer = drawn_is_told(rt.alloc(), &mut draws, names, !is_common);
-        assert!(rt; matches!(answer, Ok((true, _))), "line {number}");
-        if answer == Ok((true, true)) {
-            count = count.saturating_add(1);
+        match drawn_is_told(alloc, &mut draws, names, is_common) {
+            Ok((true, is_quick)) => count = count.saturating_add(is_quick as u64),
+            _ => return None,
         }
     }
+    Some(count)
+}
+
+#[test]
+fn lines_of_any_kind_have_one_answer(rt: HostRuntime) {
+    let count = quick_count(rt.alloc()).unwrap_or(0);
     assert!(rt; count > 50 && count < 500, "{count}");
 }

@@ -178,16 +178,19 @@ fn lines_are_answered_as_their_values_are(rt: HostRuntime) {
     expect(&rt, ZERO, FAR_ZEROS, false);
 }
 
+fn expect_room(rt: &(impl Abort + AllocGlobal), table: &str) {
+    for row in table.lines() {
+        assert!(rt;
+            row.is_empty() || has_room(rt.alloc(), ZERO, row) == Ok(true),
+            "{row}"
+        );
+    }
+}
+
 #[test]
 fn a_moved_line_has_room_for_more(rt: HostRuntime) {
-    for table in [ZEROS, ZEROS_IN_AREA] {
-        for row in table.lines() {
-            assert!(rt;
-                row.is_empty() || has_room(rt.alloc(), ZERO, row) == Ok(true),
-                "{row}"
-            );
-        }
-    }
+    expect_room(&rt, ZEROS);
+    expect_room(&rt, ZEROS_IN_AREA);
 }
 
 fn is_refused(alloc: Global, bytes: &[u8], fault: Fault) -> bool {

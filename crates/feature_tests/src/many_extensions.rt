@@ -100,10 +100,15 @@ const CHANGES: [(u32, u32); 32] = [
     (300, 299),
 ];
 
+/// The extensions, of which this one has another text.
+fn with_change(alloc: Global, names: &str, changed: u32) -> Result<String, AllocError> {
+    let name = format!(in alloc; "\"{changed}\":")?;
+    names.replace(alloc, &name, &format!(in alloc; "{name}1.0,\"x\":")?)
+}
+
 fn change_is_found(alloc: Global, count: u32, changed: u32) -> Result<bool, AllocError> {
     let names = repeated(alloc, "NAMES", "NAMES", NUMBERED, mixed(count))?;
-    let name = format!(in alloc; "\"{changed}\":")?;
-    let other = names.replace(alloc, &name, &format!(in alloc; "{name}1.0,\"x\":")?)?;
+    let other = with_change(alloc, &names, changed)?;
     let row = format!(in alloc; "{names} | {names} | {other} | {other} => tile 3: ExtensionClash")?;
     Ok(join(alloc, &row))
 }

@@ -38,11 +38,15 @@ fn join(alloc: Global, form: &str, tiles: &str, base: Base) -> Result<Joined, He
     }
 }
 
+fn is_step(found: Shift, text: &str) -> bool {
+    text == ".." || shift_of(text) == Some(found)
+}
+
 /// Whether they are these shifts. Two dots stand for any that follow, or for all.
 fn have_steps(shifts: &[Shift], wanted: &str) -> bool {
     let mut agree = wanted.ends_with("..") || shifts.len() == wanted.split(' ').count();
     for (found, text) in shifts.iter().zip(wanted.split(' ')) {
-        agree = agree && (text == ".." || shift_of(text) == Some(*found));
+        agree = agree && is_step(*found, text);
     }
     agree
 }
