@@ -1,7 +1,7 @@
 #!/bin/sh
 # All that has to hold. The documents come first, then the gate: every proof from nothing, the edits that must fail, the
-# tests; beside it what must not compile. The program that the gate built is then tried at its edges, installed, given
-# many tiles and the documents' commands, and beside that held against its model and packed. Ends in the gate's own last
+# tests; beside it what must not compile. The program that the gate built is then tried at its edges; beside that it is
+# installed, packed, given many tiles and the documents' commands, and held against its model. Ends in the gate's own last
 # line.
 set -u
 cd "$(dirname "$0")/.."
@@ -44,13 +44,13 @@ python3 tools/torture/torture.py --short build/citymerge >build/torture.log 2>&1
 torturing=$!
 tools/growths.sh --built >build/growths.log 2>&1 &
 growing=$!
-tools/dist_test.sh >build/dist_test.log 2>&1 &
+{ tools/install_test.sh && tools/dist_test.sh; } >build/packing.log 2>&1 &
 packing=$!
+{ python3 tools/many_tiles_test.py build/citymerge && python3 tools/commands_test.py build/citymerge; } >build/commands.log 2>&1 &
+commanding=$!
 tools/program_test.sh build/citymerge || exit 1
-tools/install_test.sh || exit 1
-python3 tools/many_tiles_test.py build/citymerge || exit 1
-python3 tools/commands_test.py build/citymerge || exit 1
+ended_well "$packing" packing.log || exit 1
+ended_well "$commanding" commands.log || exit 1
 ended_well "$torturing" torture.log || exit 1
 ended_well "$growing" growths.log || exit 1
-ended_well "$packing" dist_test.log || exit 1
 tail -n 1 "$log"
