@@ -1,11 +1,10 @@
 use crate::devices::LineReader;
-use crate::merging::{PLAIN, expect_count, expect_turns};
-use crate::texts::A1;
+use crate::merging::{PLAIN, merges_in_turn};
 use byte_streams::Device;
+use std::alloc::{AllocError, Global};
 use std::io::{self, ErrorKind, Write};
 use std::sync::atomic::AtomicU64;
 use std::sync::atomic::Ordering::SeqCst;
-use std::test::Fail;
 
 /// It fails where at a write the tile has given more features than lines were written, by more than
 /// two. The first read of the tile gives its header.
@@ -34,12 +33,12 @@ impl<'a> Write for Follower<'a> {
     }
 }
 
-#[test]
-fn a_tile_is_not_read_ahead_of_what_is_held(rt: HostRuntime) -> Result<(), Fail> {
+/// How often a tile of a hundred features is read.
+fn reads(alloc: Global) -> Result<Option<u64>, AllocError> {
     let reads = AtomicU64::new(0);
-    let mut tiles = Vec::new(rt.alloc());
+    let mut tiles = Vec::new(alloc);
     tiles.push(Device::new(LineReader {
-        feature: A1,
+        feature: "A1",
         lines: 101,
         reads: &reads,
         failing: None,
@@ -48,7 +47,11 @@ fn a_tile_is_not_read_ahead_of_what_is_held(rt: HostRuntime) -> Result<(), Fail>
         reads: &reads,
         lines: 0,
     });
-    expect_turns(&rt, tiles, (&PLAIN, 1), &mut output, "[100]")?;
-    expect_count(&rt, &reads, 102);
-    Ok(())
+    let is_told = merges_in_turn(alloc, tiles, (&PLAIN, 1), &mut output, "[100]");
+    Ok(is_told.then_some(reads.load(SeqCst)))
+}
+
+#[test]
+fn a_tile_is_not_read_ahead_of_what_is_held(rt: HostRuntime) {
+    assert!(rt; reads(rt.alloc()) == Ok(Some(102)));
 }

@@ -2,89 +2,95 @@
 
 use crate::interleaving::expect_both_ways;
 use crate::merging::{
-    Asked, PLAIN, choice_of, expect_bytes, expect_table, expect_text, split_at_arrow, stream_of,
-    texts_of, told_fault,
+    Asked, PLAIN, choice_of, expect_table, split_at_arrow, stream_of, told_fault,
 };
-use crate::texts::{A1, BUILDING, DOCUMENT, HEADER, POINTS, X, Y, Z};
 use byte_streams::{Bin, Fault, Line, MergeFault, Tape};
-use city_feature::Base;
-use std::alloc::{AllocError, Global};
+use city_feature::{Base, Choice};
+use std::alloc::{AllocError, AllocGlobal, Global};
 use std::process::Abort;
-use std::test::Fail;
 use tile_stream::filter_stream;
 
 /// The features of one of these types.
 pub(crate) fn of_types(types: &'static str) -> Asked {
-    Asked {
-        types: Some(types),
-        area: None,
-        exclude: false,
-        base: Base::First,
-    }
+    Asked { types, ..PLAIN }
 }
 
 const IN_AREA: Asked = Asked {
-    types: None,
-    area: Some("1520,0,1520,0"),
+    types: "",
+    area: "1520,0,1520,0",
     exclude: false,
     base: Base::First,
 };
 
 const LEAST: Asked = Asked {
-    types: None,
-    area: None,
+    types: "",
+    area: "",
     exclude: false,
     base: Base::Least,
 };
 
-fn told(alloc: Global, answer: &Result<u64, MergeFault>) -> Result<String, AllocError> {
+fn told(alloc: Global, answer: Result<u64, MergeFault>) -> Result<String, AllocError> {
     match answer {
         Ok(count) => format!(in alloc; "{count}"),
-        Err(refused) => told_fault(alloc, refused),
+        Err(refused) => told_fault(alloc, &refused),
     }
 }
 
-/// Filters with ample memory, at few and at many bytes a read and a write; after the last text the reader fails, if it
-/// is to.
-fn expect_filter(
-    rt: &(impl Abort + AllocGlobal),
+fn is_told(alloc: Global, answer: Result<u64, MergeFault>, wanted: &str) -> bool {
+    match told(alloc, answer) {
+        Ok(text) => text.as_str() == wanted,
+        Err(_) => false,
+    }
+}
+
+/// Whether a tile, of which the reader fails at its end where it is to, is filtered so at so many bytes a read and a write.
+fn filters_at(
+    alloc: Global,
+    choice: &Choice,
+    (input, fails, step): (&[u8], bool, usize),
+    (written, answer): (&[u8], &str),
+) -> Result<bool, Fault> {
+    let tape = Tape::new(Line::from_vec(input.to_vec(alloc)?), step.max(1), fails);
+    let mut output = Bin::new(alloc, 16_384, step, false)?;
+    let filtered = filter_stream(alloc, tape, choice, &mut output);
+    Ok(output.bytes() == written && is_told(alloc, filtered, answer))
+}
+
+/// The same at few and at many bytes a read and a write.
+fn filters(
+    alloc: Global,
     asked: &Asked,
-    (texts, fails): (&[&str], bool),
-    written: &[&str],
-    answer: &str,
-) -> Result<(), Fault> {
-    let alloc = rt.alloc();
+    input: (&[u8], bool),
+    wanted: (&[u8], &str),
+) -> Result<bool, Fault> {
     let choice = choice_of(alloc, asked)?;
-    let written = stream_of(alloc, written)?;
+    let mut agree = true;
     for step in [1usize, 7, 100_000] {
-        let input = Line::from_vec(stream_of(alloc, texts)?);
-        let tape = Tape::new(input, step.max(1), fails);
-        let mut output = Bin::new(alloc, 16_384, step, false)?;
-        let filtered = filter_stream(alloc, tape, &choice, &mut output);
-        expect_text(rt, &told(alloc, &filtered)?, answer);
-        expect_bytes(rt, output.bytes(), &written, step);
+        agree = agree && filters_at(alloc, &choice, (input.0, input.1, step), wanted) == Ok(true);
     }
-    Ok(())
+    Ok(agree)
 }
 
-/// Filters what the lines of a table tell: the texts of a tile, those that are written, and the answer.
-fn expect_filters(
-    rt: &(impl Abort + AllocGlobal),
-    asked: &Asked,
-    table: &str,
-) -> Result<(), Fault> {
+/// Whether the line of a table holds: the texts of a tile, those that are written, and the answer.
+fn is_filtered(alloc: Global, asked: &Asked, line: &str, fails: bool) -> Result<bool, Fault> {
+    let (names, wanted) = split_at_arrow(line);
+    let (written, answer) = split_at_arrow(wanted);
+    let input = stream_of(alloc, names)?;
+    let written = stream_of(alloc, written)?;
+    filters(
+        alloc,
+        asked,
+        (input.as_bytes(), fails),
+        (written.as_bytes(), answer),
+    )
+}
+
+/// Filters what the lines of a table tell.
+fn expect_filters(rt: &(impl Abort + AllocGlobal), asked: &Asked, table: &str, fails: bool) {
     for line in table.lines() {
-        if line.trim().is_empty() {
-            continue;
-        }
-        let (texts, wanted) = split_at_arrow(rt, line);
-        let (written, answer) = split_at_arrow(rt, wanted);
-        let texts = texts_of(rt, texts)?;
-        let written = texts_of(rt, written)?;
-        let given = (texts.as_slice(), false);
-        expect_filter(rt, asked, given, written.as_slice(), answer)?;
+        let answer = is_filtered(rt.alloc(), asked, line, fails);
+        assert!(rt; line.is_empty() || answer == Ok(true), "{line}");
     }
-    Ok(())
 }
 
 /// The features of a document stand before the lines after it; it may have none, or no vertices.
@@ -125,30 +131,58 @@ EMPTY TAB FAULTY_DOCUMENT =>  => tile 1 line 3: VertexShape
 ";
 
 #[test]
-fn documents_are_filtered(rt: HostRuntime) -> Result<(), Fail> {
-    for table in [FILTERED, FAULTY_LINES, FAULTY] {
-        expect_filters(&rt, &PLAIN, table)?;
-    }
-    expect_filters(&rt, &of_types("Road"), "POINTS A1 Y => HEADER Y Y => 2")?;
-    expect_filters(&rt, &of_types("Bridge"), "POINTS A1 => HEADER => 0")?;
-    let answer = "tile 1 line 2: Read";
-    expect_filter(&rt, &PLAIN, (&[POINTS], true), &[HEADER, X, Y, Z], answer)?;
-    Ok(())
+fn documents_are_filtered(rt: HostRuntime) {
+    expect_filters(&rt, &PLAIN, FILTERED, false);
+    expect_filters(&rt, &PLAIN, FAULTY_LINES, false);
+    expect_filters(&rt, &PLAIN, FAULTY, false);
+    expect_filters(
+        &rt,
+        &of_types("Road"),
+        "POINTS A1 Y => HEADER Y Y => 2",
+        false,
+    );
+    expect_filters(&rt, &of_types("Bridge"), "POINTS A1 => HEADER => 0", false);
+    expect_filters(
+        &rt,
+        &PLAIN,
+        "POINTS => HEADER X Y Z => tile 1 line 2: Read",
+        true,
+    );
 }
 
+/// Whether a document of which a text is spelled in another way is filtered so.
+fn spelled_is_filtered(
+    alloc: Global,
+    (old, new): (&str, &str),
+    written: &str,
+    answer: &str,
+) -> Result<bool, Fault> {
+    let stream = stream_of(alloc, "DOCUMENT A1")?;
+    let input = stream.replace(alloc, old, new)?;
+    let written = stream_of(alloc, written)?;
+    filters(
+        alloc,
+        &PLAIN,
+        (input.as_bytes(), false),
+        (written.as_bytes(), answer),
+    )
+}
+
+/// What is spelled otherwise, and how.
+const SPELLED: [(&str, &str); 3] = [
+    (",", " ,\t"),
+    ("\"Building\"", "\"\\u0042uilding\""),
+    ("\"vertices\":[[0", "\"vertices\" : [[-0"),
+];
+
 #[test]
-fn a_document_may_be_spelled_in_any_way(rt: HostRuntime) -> Result<(), Fail> {
-    let spaced = DOCUMENT.replace(rt.alloc(), ",", " ,\t")?;
-    let escaped = spaced.replace(rt.alloc(), "\"Building\"", "\"\\u0042uilding\"")?;
-    let signed = escaped.replace(rt.alloc(), "\"vertices\":[[0", "\"vertices\" : [[-0")?;
-    for document in [spaced.as_str(), escaped.as_str(), signed.as_str()] {
-        let texts: &[&str] = &[document, A1];
-        expect_filter(&rt, &PLAIN, (texts, false), &[HEADER, BUILDING, A1], "2")?;
+fn a_document_may_be_spelled_in_any_way(rt: HostRuntime) {
+    for spelling in SPELLED.iter() {
+        let answer = spelled_is_filtered(rt.alloc(), *spelling, "HEADER BUILDING A1", "2");
+        assert!(rt; answer == Ok(true), "{}", spelling.0);
     }
-    let old = DOCUMENT.replace(rt.alloc(), "2.0", "1.1")?;
-    let answer = "tile 1 line 1: Version";
-    expect_filter(&rt, &PLAIN, (&[old.as_str()], false), &[], answer)?;
-    Ok(())
+    let answer = spelled_is_filtered(rt.alloc(), ("2.0", "1.1"), "", "tile 1 line 1: Version");
+    assert!(rt; answer == Ok(true));
 }
 
 /// Documents take turns with other lines. They are put on the grid of the first tile, and may have no features.
@@ -163,25 +197,25 @@ VERTEX_ALONE_HEADER A1 | VERTEX_ALONE_HEADER B1 => NO_VERTEX_HEADER A1 B1 => [1,
 /// A document gives all of its features or none, and what is faulty after it leaves its features written.
 const REFUSED: &str = "
 HEADER A1 | LAST_DOCUMENT => HEADER A1 => tile 2 line 1: VertexRange => A1 |
-HEADER A1 | EMPTY SPACE LAST_POINTS B1 BRACE | HEADER C1 => HEADER A1 C1 => tile 2 line 3: VertexRange => A1 |  | C1
+HEADER A1 | EMPTY SPACE LAST_POINTS B1 { | HEADER C1 => HEADER A1 C1 => tile 2 line 3: VertexRange => A1 |  | C1
 HEADER A1 B1 | POINTS C1 CUT => HEADER A1 X B1 Y Z C1 => tile 2 line 3: Syntax => A1 B1 | X Y Z C1
 ";
 
 /// The second of three features of a document leaves the range, which tells, too, where it is not chosen.
 const REFUSED_BUILDINGS: &str = "
-HEADER A1 | EMPTY SPACE LAST_POINTS B1 BRACE | HEADER C1 => HEADER A1 C1 => tile 2 line 3: VertexRange => A1 |  | C1
+HEADER A1 | EMPTY SPACE LAST_POINTS B1 { | HEADER C1 => HEADER A1 C1 => tile 2 line 3: VertexRange => A1 |  | C1
 ";
 
 /// A faulty document leaves nothing merged.
 const FAULTY_MERGES: &str = "
-POINTS A1 | EMPTY CHILDLESS_DOCUMENT B1 | HEADER BRACE =>  => tile 2 line 2: ChildMissing =>  |  |
-POINTS A1 | EMPTY ORPHANED_DOCUMENT B1 | HEADER BRACE =>  => tile 2 line 2: Orphan =>  |  |
-POINTS A1 | EMPTY UNBOUNDED_DOCUMENT B1 | HEADER BRACE =>  => tile 2 line 2: BoundaryIndex =>  |  |
-POINTS A1 | EMPTY FLAT_DOCUMENT B1 | HEADER BRACE =>  => tile 2 line 2: VertexShape =>  |  |
-POINTS A1 | EMPTY HALF_DOCUMENT B1 | HEADER BRACE =>  => tile 2 line 2: VertexNotInteger =>  |  |
-POINTS A1 | EMPTY WIDE_DOCUMENT B1 | HEADER BRACE =>  => tile 2 line 2: VertexRange =>  |  |
-POINTS A1 | EMPTY SHAPELESS_DOCUMENT B1 | HEADER BRACE =>  => tile 2 line 2: NotCityJson =>  |  |
-POINTS A1 | EMPTY FAULTY_DOCUMENT B1 | HEADER BRACE =>  => tile 2 line 2: VertexShape =>  |  |
+POINTS A1 | EMPTY CHILDLESS_DOCUMENT B1 | HEADER { =>  => tile 2 line 2: ChildMissing =>  |  |
+POINTS A1 | EMPTY ORPHANED_DOCUMENT B1 | HEADER { =>  => tile 2 line 2: Orphan =>  |  |
+POINTS A1 | EMPTY UNBOUNDED_DOCUMENT B1 | HEADER { =>  => tile 2 line 2: BoundaryIndex =>  |  |
+POINTS A1 | EMPTY FLAT_DOCUMENT B1 | HEADER { =>  => tile 2 line 2: VertexShape =>  |  |
+POINTS A1 | EMPTY HALF_DOCUMENT B1 | HEADER { =>  => tile 2 line 2: VertexNotInteger =>  |  |
+POINTS A1 | EMPTY WIDE_DOCUMENT B1 | HEADER { =>  => tile 2 line 2: VertexRange =>  |  |
+POINTS A1 | EMPTY SHAPELESS_DOCUMENT B1 | HEADER { =>  => tile 2 line 2: NotCityJson =>  |  |
+POINTS A1 | EMPTY FAULTY_DOCUMENT B1 | HEADER { =>  => tile 2 line 2: VertexShape =>  |  |
 ";
 
 /// Features are chosen as they are moved.
@@ -195,13 +229,13 @@ DOCUMENT | POINTS | DOCUMENT A1 => HEADER Y => [0, 1, 0] =>  | Y |
 ";
 
 #[test]
-fn documents_are_merged(rt: HostRuntime) -> Result<(), Fail> {
+fn documents_are_merged(rt: HostRuntime) {
     for table in [MERGED, REFUSED, FAULTY_MERGES] {
-        expect_both_ways(&rt, &PLAIN, table)?;
+        expect_both_ways(&rt, &PLAIN, table);
     }
-    expect_both_ways(&rt, &of_types("Building"), REFUSED_BUILDINGS)?;
-    expect_both_ways(&rt, &IN_AREA, CHOSEN)?;
-    expect_both_ways(&rt, &of_types("Road"), ROADS)
+    expect_both_ways(&rt, &of_types("Building"), REFUSED_BUILDINGS);
+    expect_both_ways(&rt, &IN_AREA, CHOSEN);
+    expect_both_ways(&rt, &of_types("Road"), ROADS);
 }
 
 /// The header of a document is that of its cut, and is joined as others are. Of a vertex that no boundary names it
@@ -220,9 +254,9 @@ DOCUMENT | CHILDLESS_DOCUMENT | OLD_HEADER =>  => tile 2 line 1: ChildMissing
 ";
 
 #[test]
-fn headers_of_documents_are_joined(rt: HostRuntime) -> Result<(), Fail> {
-    expect_table(&rt, &PLAIN, HEADERS)?;
-    expect_table(&rt, &PLAIN, UNFIT)?;
+fn headers_of_documents_are_joined(rt: HostRuntime) {
+    expect_table(&rt, &PLAIN, HEADERS);
+    expect_table(&rt, &PLAIN, UNFIT);
     let least = "FAR_DOCUMENT | HEADER A => HEADER FAR_BUILDING A => [1, 1]";
-    expect_table(&rt, &LEAST, least)
+    expect_table(&rt, &LEAST, least);
 }

@@ -2,191 +2,213 @@
 //! what is written of each tile. No two tiles share a text.
 
 use crate::merging::{
-    Asked, choice_of, expect_merge, expect_told, readers_of, slices_of, split_at_arrow, stream_of,
-    texts_of, tiles_of,
+    Asked, Way, choice_of, holds, is_told, readers_of, split_at_arrow, stream_of, with_room,
 };
 use byte_streams::{Bin, Fault, Sink, Source};
-use std::alloc::{AllocError, Global};
+use std::alloc::{AllocError, AllocGlobal, Global};
 use std::process::Abort;
 use std::sync::Wait;
-use std::test::Fail;
 use std::thread::Threads;
 use tile_handoff::MAX_CAPACITY;
 use tile_merge::merge;
 
-/// Whether the lines that are texts of the tile are these texts in their order.
-fn is_picked(lines: &[u8], texts: &[&str]) -> bool {
-    let mut left = texts;
+fn has_line(stream: &[u8], line: &[u8]) -> bool {
+    for other in stream.split(|byte| *byte == b'\n') {
+        if other == line {
+            return true;
+        }
+    }
+    false
+}
+
+/// What follows this line at the start of a stream.
+fn after_line<'a>(stream: &'a [u8], line: &[u8]) -> Option<&'a [u8]> {
+    stream.strip_prefix(line)?.strip_prefix(b"\n")
+}
+
+/// Whether the lines that are of the stream are the stream.
+fn is_picked(lines: &[u8], stream: &[u8]) -> bool {
+    let mut left = stream;
     for line in lines.split(|byte| *byte == b'\n') {
-        if !texts.iter().any(|text| text.as_bytes() == line) {
+        if line.is_empty() || !has_line(stream, line) {
             continue;
         }
-        let [next, others @ ..] = left else {
-            return false;
-        };
-        if next.as_bytes() != line {
-            return false;
+        match after_line(left, line) {
+            Some(others) => left = others,
+            None => return false,
         }
-        left = others;
     }
     left.is_empty()
 }
 
 /// Whether the header was written, after it the lines of each tile in their order, and nothing else.
-fn is_mixed(
+pub(crate) fn is_mixed(
     alloc: Global,
     written: &[u8],
-    header: &[&str],
-    tiles: &[&[&str]],
+    header: &str,
+    tiles: &str,
 ) -> Result<bool, AllocError> {
     let header = stream_of(alloc, header)?;
-    let Some(lines) = written.strip_prefix(header.as_slice()) else {
+    let Some(lines) = written.strip_prefix(header.as_bytes()) else {
         return Ok(false);
     };
     let mut length = 0usize;
-    for texts in tiles {
-        if !is_picked(lines, texts) {
-            return Ok(false);
-        }
-        length = length.saturating_add(stream_of(alloc, texts)?.len());
+    let mut agree = true;
+    for names in tiles.split('|') {
+        let stream = stream_of(alloc, names)?;
+        agree = agree && is_picked(lines, stream.as_bytes());
+        length = length.saturating_add(stream.len());
     }
-    Ok(lines.len() == length)
+    Ok(agree && lines.len() == length)
 }
 
-/// The texts of a tile but for those that stand among the lines, each after those before it.
-fn left_after<'a, 'b>(lines: &[u8], texts: &'a [&'b str]) -> &'a [&'b str] {
-    let mut left = texts;
+/// The stream of a tile but for the lines that stand among these, each after those before it.
+fn left_after<'a>(lines: &[u8], stream: &'a [u8]) -> &'a [u8] {
+    let mut left = stream;
     for line in lines.split(|byte| *byte == b'\n') {
-        let [next, others @ ..] = left else {
-            return left;
-        };
-        if next.as_bytes() == line {
+        if let Some(others) = after_line(left, line) {
             left = others;
         }
     }
     left
 }
 
-/// Whether what was written is a front of such a stream: whole lines of the tiles, and then a front of the next one
-/// of a tile.
-pub(crate) fn is_mixed_front(
-    alloc: Global,
-    written: &[u8],
-    header: &str,
-    tiles: &[&[&str]],
-) -> Result<bool, AllocError> {
-    let header = stream_of(alloc, &[header])?;
-    let Some(lines) = written.strip_prefix(header.as_slice()) else {
-        return Ok(header.as_slice().starts_with(written));
-    };
+/// Whole lines at the start of these, and what follows them.
+fn split_lines(lines: &[u8]) -> (&[u8], &[u8]) {
     let mut begun = lines;
     for piece in lines.split(|byte| *byte == b'\n') {
         begun = piece;
     }
-    let (whole, _) = lines.split_at(lines.len().saturating_sub(begun.len()));
+    lines.split_at(lines.len().saturating_sub(begun.len()))
+}
+
+/// Whether these are whole lines of the tiles, and then a front of the next one of a tile.
+fn are_begun(alloc: Global, lines: &[u8], tiles: &str) -> Result<bool, AllocError> {
+    let (whole, begun) = split_lines(lines);
     let mut length = 0usize;
     let mut is_next = begun.is_empty();
-    for texts in tiles {
-        let left = left_after(whole, texts);
-        let taken = texts.len().saturating_sub(left.len());
-        length = length.saturating_add(stream_of(alloc, &texts[..taken.min(texts.len())])?.len());
-        if let [next, ..] = left {
-            is_next = is_next || next.as_bytes().starts_with(begun);
-        }
+    for names in tiles.split('|') {
+        let stream = stream_of(alloc, names)?;
+        let left = left_after(whole, stream.as_bytes());
+        length = length.saturating_add(stream.len().saturating_sub(left.len()));
+        is_next = is_next || left.starts_with(begun);
     }
     Ok(is_next && whole.len() == length)
 }
 
-/// Merges these readers, of which there is one at least, with a thread for each, and wants this answer.
-pub(crate) fn expect_threads<H, R, W>(
+/// Whether what was written is a front of such a stream.
+pub(crate) fn is_mixed_front(
+    alloc: Global,
+    written: &[u8],
+    tiles: &str,
+) -> Result<bool, AllocError> {
+    let header = stream_of(alloc, "HEADER")?;
+    match written.strip_prefix(header.as_bytes()) {
+        Some(lines) => are_begun(alloc, lines, tiles),
+        None => Ok(header.as_bytes().starts_with(written)),
+    }
+}
+
+/// Whether these readers, merged with a thread for each, are answered so.
+pub(crate) fn merges_with_threads<H, R, W>(
     rt: &H,
     readers: Vec<R>,
     (asked, capacity): (&Asked, u32),
     output: &mut W,
     answer: &str,
-) -> Result<(), Fault>
+) -> bool
 where
     H: Abort + AllocGlobal + Threads + Wait + Copy + Send + 'static,
     R: Source + Send + Drop + 'static,
     W: Sink,
 {
     let alloc = rt.alloc();
-    let choice = choice_of(alloc, asked)?;
-    assert!(rt; !readers.is_empty());
-    assert!(rt; 0 < capacity && capacity <= MAX_CAPACITY);
-    let merged = merge(rt, alloc, readers, &choice, asked.base, capacity, output);
-    expect_told(rt, &merged, answer)?;
-    Ok(())
-}
-
-/// The header was written, after it the lines of each tile in their order, and nothing else.
-pub(crate) fn expect_lines(
-    rt: &(impl Abort + AllocGlobal),
-    written: &[u8],
-    header: &[&str],
-    tiles: &[&[&str]],
-) -> Result<(), AllocError> {
-    let is_right = is_mixed(rt.alloc(), written, header, tiles)?;
-    assert!(rt; is_right, "{} bytes", written.len());
-    Ok(())
-}
-
-/// Merges with ample memory and threads, with few and with many texts held and bytes a read and a write.
-pub(crate) fn expect_mixed<H>(
-    rt: &H,
-    asked: &Asked,
-    tiles: &[&[&str]],
-    (header, lines): (&[&str], &[&[&str]]),
-    answer: &str,
-) -> Result<(), Fault>
-where
-    H: Abort + AllocGlobal + Threads + Wait + Copy + Send + 'static,
-{
-    let alloc = rt.alloc();
-    for (capacity, step, is_ended) in [(1u32, 7usize, true), (2, 100_000, false), (64, 500, true)] {
-        let readers = readers_of(alloc, tiles, step, is_ended)?;
-        let mut output = Bin::new(alloc, 65_536, step, false)?;
-        expect_threads(rt, readers, (asked, capacity), &mut output, answer)?;
-        expect_lines(rt, output.bytes(), header, lines)?;
+    if readers.is_empty() || capacity == 0 || capacity > MAX_CAPACITY {
+        return false;
     }
-    Ok(())
+    match choice_of(alloc, asked) {
+        Ok(choice) => {
+            let merged = merge(rt, alloc, readers, &choice, asked.base, capacity, output);
+            is_told(alloc, &merged, answer)
+        }
+        Err(_) => false,
+    }
 }
 
-/// Merges in turn, and then with threads.
-fn expect_both<H>(rt: &H, asked: &Asked, line: &str) -> Result<(), Fault>
+/// What is written of tiles that are merged with threads, where they are answered so.
+pub(crate) fn written_with_threads<H>(
+    rt: &H,
+    (asked, way): (&Asked, &Way),
+    tiles: &str,
+    answer: &str,
+) -> Result<Option<Bin>, Fault>
 where
     H: Abort + AllocGlobal + Threads + Wait + Copy + Send + 'static,
 {
     let alloc = rt.alloc();
-    let (tiles, wanted) = split_at_arrow(rt, line);
-    let (written, wanted) = split_at_arrow(rt, wanted);
-    let (answer, lines) = split_at_arrow(rt, wanted);
-    let tiles = tiles_of(rt, tiles)?;
-    let tiles = slices_of(alloc, tiles.as_slice())?;
-    let written = texts_of(rt, written)?;
-    let lines = tiles_of(rt, lines)?;
-    let lines = slices_of(alloc, lines.as_slice())?;
-    let header = &written[..written.len().min(1)];
-    expect_merge(
-        rt,
-        asked,
-        tiles.as_slice(),
-        written.as_slice(),
-        answer.trim(),
-    )?;
-    let mixed = (header, lines.as_slice());
-    expect_mixed(rt, asked, tiles.as_slice(), mixed, answer.trim())
+    let readers = readers_of(alloc, tiles, way.read, way.is_ended)?;
+    let mut output = Bin::new(alloc, way.room, way.write, way.flush_fails)?;
+    if merges_with_threads(rt, readers, (asked, way.capacity), &mut output, answer) {
+        Ok(Some(output))
+    } else {
+        Ok(None)
+    }
+}
+
+/// Whether of these tiles the header and these lines of each are written, and they are answered so.
+pub(crate) fn mixes<H>(
+    rt: &H,
+    (asked, way): (&Asked, &Way),
+    tiles: &str,
+    (header, lines): (&str, &str),
+    answer: &str,
+) -> bool
+where
+    H: Abort + AllocGlobal + Threads + Wait + Copy + Send + 'static,
+{
+    match written_with_threads(rt, (asked, way), tiles, answer) {
+        Ok(Some(output)) => is_mixed(rt.alloc(), output.bytes(), header, lines) == Ok(true),
+        _ => false,
+    }
+}
+
+/// The first name.
+fn first_of(names: &str) -> &str {
+    match names.split_once(' ') {
+        Some((first, _)) => first,
+        None => names,
+    }
+}
+
+/// Whether the line of a table holds with threads, with few and with many texts held and bytes a read and a write.
+fn holds_with_threads<H>(rt: &H, asked: &Asked, line: &str) -> bool
+where
+    H: Abort + AllocGlobal + Threads + Wait + Copy + Send + 'static,
+{
+    let (tiles, wanted) = split_at_arrow(line);
+    let (written, wanted) = split_at_arrow(wanted);
+    let (answer, lines) = split_at_arrow(wanted);
+    let mut agree = true;
+    for way in [
+        with_room(1, 7, true),
+        with_room(2, 100_000, false),
+        with_room(64, 500, true),
+    ] {
+        agree = agree && mixes(rt, (asked, &way), tiles, (first_of(written), lines), answer);
+    }
+    agree
 }
 
 /// Merges what the lines of a table tell, in turn and with threads.
-pub(crate) fn expect_both_ways<H>(rt: &H, asked: &Asked, table: &str) -> Result<(), Fail>
+pub(crate) fn expect_both_ways<H>(rt: &H, asked: &Asked, table: &str)
 where
     H: Abort + AllocGlobal + Threads + Wait + Copy + Send + 'static,
 {
     for line in table.lines() {
-        if !line.trim().is_empty() {
-            expect_both(rt, asked, line)?;
-        }
+        let answer = holds(rt.alloc(), asked, line);
+        assert!(rt;
+            line.is_empty() || answer == Ok(true) && holds_with_threads(rt, asked, line),
+            "{line}"
+        );
     }
-    Ok(())
 }

@@ -2,20 +2,19 @@
 
 use crate::merging::{Asked, expect_table};
 use city_feature::Base;
-use std::test::Fail;
 
 /// All features, on the grid with the least translation.
 const LEAST: Asked = Asked {
-    types: None,
-    area: None,
+    types: "",
+    area: "",
     exclude: false,
     base: Base::Least,
 };
 
 /// Those of an area.
 const LEAST_IN_AREA: Asked = Asked {
-    types: None,
-    area: Some("1510,0,1510,100"),
+    types: "",
+    area: "1510,0,1510,100",
     exclude: false,
     base: Base::Least,
 };
@@ -43,9 +42,9 @@ FAR_HEADER B | HEADER A => HEADER FAR_B => [1, 0]
 ";
 
 #[test]
-fn tiles_are_put_on_the_least_translation(rt: HostRuntime) -> Result<(), Fail> {
+fn tiles_are_put_on_the_least_translation(rt: HostRuntime) {
     for table in [MOVED, SPELLED, OFF_GRID] {
-        expect_table(&rt, &LEAST, table)?;
+        expect_table(&rt, &LEAST, table);
     }
-    expect_table(&rt, &LEAST_IN_AREA, CHOSEN)
+    expect_table(&rt, &LEAST_IN_AREA, CHOSEN);
 }
