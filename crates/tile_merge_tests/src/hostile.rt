@@ -4,7 +4,7 @@ use crate::devices::NOT_WRITTEN;
 use crate::interleaving::{
     is_mixed, is_mixed_front, merges_with_threads, mixes, written_with_threads,
 };
-use crate::merging::{PLAIN, Way, merges_in_turn, stream_of, way, writes_in_turn};
+use crate::merging::{PLAIN, Way, merges_in_turn, stream_of, with_room, writes_in_turn};
 use byte_streams::{Bin, Fault, Line, Tape};
 use std::alloc::{AllocError, AllocGlobal, Global};
 use std::process::Abort;
@@ -239,7 +239,7 @@ fn a_writer_beside_threads_may_take_a_byte_at_a_time(rt: HostRuntime) {
     for capacity in [1u32, 64] {
         let way = Way {
             write: 1,
-            ..way(capacity, 50, true)
+            ..with_room(capacity, 50, true)
         };
         assert!(rt;
             mixes(

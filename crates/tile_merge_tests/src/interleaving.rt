@@ -2,7 +2,7 @@
 //! what is written of each tile. No two tiles share a text.
 
 use crate::merging::{
-    Asked, Way, choice_of, holds, is_told, readers_of, split_at_arrow, stream_of, way,
+    Asked, Way, choice_of, holds, is_told, readers_of, split_at_arrow, stream_of, with_room,
 };
 use byte_streams::{Bin, Fault, Sink, Source};
 use std::alloc::{AllocError, AllocGlobal, Global};
@@ -189,7 +189,11 @@ where
     let (written, wanted) = split_at_arrow(wanted);
     let (answer, lines) = split_at_arrow(wanted);
     let mut agree = true;
-    for way in [way(1, 7, true), way(2, 100_000, false), way(64, 500, true)] {
+    for way in [
+        with_room(1, 7, true),
+        with_room(2, 100_000, false),
+        with_room(64, 500, true),
+    ] {
         agree = agree && mixes(rt, (asked, &way), tiles, (first_of(written), lines), answer);
     }
     agree

@@ -2,7 +2,7 @@
 
 use crate::devices::NOT_WRITTEN;
 use crate::interleaving::written_with_threads;
-use crate::merging::{PLAIN, Way, stream_of, way, writes_in_turn};
+use crate::merging::{PLAIN, Way, stream_of, with_room, writes_in_turn};
 use crate::texts::text;
 use byte_streams::Fault;
 use std::alloc::{AllocError, AllocGlobal, Global};
@@ -74,7 +74,7 @@ fn large_take_turns(alloc: Global) -> Result<bool, AllocError> {
     let bytes = written.as_bytes();
     let mut agree = true;
     for capacity in [1u32, 3, 64, 1024] {
-        let way = way(capacity, 10_000, true);
+        let way = with_room(capacity, 10_000, true);
         agree = agree
             && writes_in_turn(alloc, (&PLAIN, &way), &tiles, bytes, "[201, 201]") == Ok(true);
     }
@@ -98,8 +98,8 @@ where
     let tiles = two_tiles(rt.alloc())?;
     let length = turns_of(rt.alloc())?.len();
     Ok(
-        has_length(rt, &way(1, 500, true), &tiles, "[201, 201]", length)
-            && has_length(rt, &way(64, 500, true), &tiles, "[201, 201]", length),
+        has_length(rt, &with_room(1, 500, true), &tiles, "[201, 201]", length)
+            && has_length(rt, &with_room(64, 500, true), &tiles, "[201, 201]", length),
     )
 }
 
@@ -114,7 +114,7 @@ fn front_is_written(alloc: Global, room: usize) -> Result<bool, Fault> {
     let way = Way {
         room,
         write: 4096,
-        ..way(1, 500, true)
+        ..with_room(1, 500, true)
     };
     let bytes = stream.as_bytes();
     let front = &bytes[..room.min(bytes.len())];
@@ -150,7 +150,7 @@ where
     let way = Way {
         room: 200,
         write: 200,
-        ..way(capacity, 500, true)
+        ..with_room(capacity, 500, true)
     };
     Ok(has_length(rt, &way, &tiles, NOT_WRITTEN, 200))
 }

@@ -2,7 +2,7 @@
 
 use crate::devices::LineReader;
 use crate::interleaving::written_with_threads;
-use crate::merging::{PLAIN, Way, merges_in_turn, stream_of, way, writes_in_turn};
+use crate::merging::{PLAIN, Way, merges_in_turn, stream_of, with_room, writes_in_turn};
 use byte_streams::{Bin, Device, Fault, MergeFault};
 use std::alloc::{AllocError, AllocGlobal, Global};
 use std::process::Abort;
@@ -32,7 +32,7 @@ fn counts_of(alloc: Global) -> Result<String, AllocError> {
 
 fn many_take_turns(alloc: Global, capacity: u32) -> Result<bool, Fault> {
     let (tiles, written, answer) = (tiles_of(alloc, 64)?, written_of(alloc)?, counts_of(alloc)?);
-    let way = way(capacity, 10_000, true);
+    let way = with_room(capacity, 10_000, true);
     writes_in_turn(alloc, (&PLAIN, &way), &tiles, written.as_bytes(), &answer)
 }
 
@@ -43,7 +43,12 @@ where
 {
     let alloc = rt.alloc();
     let (tiles, answer) = (tiles_of(alloc, 64)?, counts_of(alloc)?);
-    let output = written_with_threads(rt, (&PLAIN, &way(capacity, 50, true)), &tiles, &answer)?;
+    let output = written_with_threads(
+        rt,
+        (&PLAIN, &with_room(capacity, 50, true)),
+        &tiles,
+        &answer,
+    )?;
     match output {
         Some(output) => Ok(output.bytes() == written_of(alloc)?.as_bytes()),
         None => Ok(false),
@@ -112,7 +117,7 @@ fn turns_of(alloc: Global) -> Result<String, AllocError> {
 
 fn long_take_turns(alloc: Global, capacity: u32) -> Result<bool, Fault> {
     let (tiles, written) = (long_tiles(alloc)?, turns_of(alloc)?);
-    let way = way(capacity, 10_000, true);
+    let way = with_room(capacity, 10_000, true);
     let way = Way {
         room: written.len(),
         ..way

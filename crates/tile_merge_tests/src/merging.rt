@@ -121,7 +121,7 @@ pub(crate) struct Way {
 }
 
 /// With ample room.
-pub(crate) const fn way(capacity: u32, step: usize, is_ended: bool) -> Way {
+pub(crate) const fn with_room(capacity: u32, step: usize, is_ended: bool) -> Way {
     Way {
         capacity,
         read: step,
@@ -157,7 +157,11 @@ pub(crate) fn merges(
     answer: &str,
 ) -> bool {
     let mut agree = true;
-    for way in [way(1, 1, true), way(2, 7, false), way(64, 100_000, true)] {
+    for way in [
+        with_room(1, 1, true),
+        with_room(2, 7, false),
+        with_room(64, 100_000, true),
+    ] {
         agree = agree && writes_in_turn(alloc, (asked, &way), tiles, written, answer) == Ok(true);
     }
     agree

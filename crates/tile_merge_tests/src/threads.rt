@@ -3,7 +3,7 @@
 use crate::devices::NOT_WRITTEN;
 use crate::documents::of_types;
 use crate::interleaving::{expect_both_ways, merges_with_threads, written_with_threads};
-use crate::merging::{Asked, PLAIN, Way, merges_in_turn, stream_of, way};
+use crate::merging::{Asked, PLAIN, Way, merges_in_turn, stream_of, with_room};
 use crate::texts::text;
 use byte_streams::{Bin, Device, Fault, Sink};
 use std::alloc::{AllocError, AllocGlobal, Global};
@@ -44,7 +44,7 @@ where
     let way = Way {
         room: 200,
         write: 7,
-        ..way(capacity, 50, true)
+        ..with_room(capacity, 50, true)
     };
     match written_with_threads(
         rt,
@@ -76,7 +76,7 @@ where
     let way = Way {
         room: 200,
         write: 200,
-        ..way(1, 50, true)
+        ..with_room(1, 50, true)
     };
     match written_with_threads(rt, (&PLAIN, &way), &tiles, NOT_WRITTEN)? {
         Some(output) => Ok(Some(output.bytes().len())),
@@ -248,7 +248,7 @@ fn tiles_after_one_with_no_header_are_not_read(rt: HostRuntime) {
 }
 
 /// Two tiles, of which neither gives its feature before the other's thread has come as far.
-fn gated(alloc: Global) -> Result<Vec<Device<Gated>>, AllocError> {
+fn gates(alloc: Global) -> Result<Vec<Device<Gated>>, AllocError> {
     let (one, two) = (shared(alloc)?, shared(alloc)?);
     let mut readers = Vec::new(alloc);
     readers.push(waiting(1, &one, (2, &two, 2))?)?;
@@ -260,7 +260,7 @@ fn gates_open<H>(rt: &H, capacity: u32) -> Result<bool, Fault>
 where
     H: Abort + AllocGlobal + Threads + Wait + Copy + Send + 'static,
 {
-    let readers = gated(rt.alloc())?;
+    let readers = gates(rt.alloc())?;
     let mut output = Bin::new(rt.alloc(), 4096, 4096, false)?;
     Ok(merges_with_threads(rt, readers, (&PLAIN, capacity), &mut output, "[1, 1]"))
 }
