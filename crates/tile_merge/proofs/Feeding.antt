@@ -1,5 +1,5 @@
 -- A text, or the end, that was read ahead.
-use Rattle.std.proofs.Common.{◌≡◌, ◌≤◌, ◌<◌, ◌+◌, ◌++◌, ℕ, Bool, true, false, List, [], ◌∷◌, Option, Some, None, length, map, drop, get_or, if◌then◌else◌, refl, sym, ap, subst, ◌∙◌, arith, append_assoc, length-append}
+use Rattle.std.proofs.Common.{◌≡◌, ◌≤◌, ◌<◌, ◌+◌, ◌++◌, ℕ, Bool, true, false, List, [], ◌∷◌, Option, Some, None, length, map, drop, get_or, take, if◌then◌else◌, refl, sym, ap, subst, ◌∙◌, inr, arith, append-nil, append_assoc, length-append}
 use Rattle.std.proofs.lemmas.List.{drop_all, drop_more, get_or-set_same}
 use Rattle.std.specs.Io.KnownBytes.{Appends, Keeps}
 use Rattle.city_feature.specs.Feature.{FeatureValue}
@@ -15,8 +15,9 @@ use Rattle.tile_merge.specs.Giving.{Giving}
 use Rattle.tile_merge.specs.declared.merging.ends.TileEnd.{TileEnd}
 use Rattle.tile_merge.specs.EndNotes.{end_of, ended_so}
 use Rattle.tile_merge.specs.Opened.{OpenState}
-use Rattle.tile_merge.specs.Rounds.{IsFeedOf}
+use Rattle.tile_merge.specs.Rounds.{IsFeedOf, WroteTurn, WroteTurnFront}
 use Rattle.tile_merge.specs.Feeds.{FeedState, Course, behind, course_of, text_before, most_ahead, ThenComes, NotesCome, MayTake, TakesNone, TakesTurn, SomeCourse}
+use Rattle.tile_stream.specs.Stream.{with_newline}
 use Rattle.tile_stream.specs.Texts.{Outcome}
 use Rattle.tile_stream.specs.Unread.{Unread, most_left}
 use Rattle.tile_merge.proofs.FaultNumbers.{end_tells}
@@ -122,9 +123,12 @@ pub first_left : (texts : List (List ℕ)) (at : ℕ) → at < length texts → 
     → (behind (drop at texts) queue).left ≡ LineNote (get_or texts at []) ∷ (behind (drop (at + 1) texts) queue).left
 first_left texts at within queue = ap (λ ts. map line_note ts ++ queue.left) (drop_more texts at [] within)
 
-pub none_left : (texts : List (List ℕ)) (at : ℕ) → length texts ≤ at → (queue : Queue)
-    → behind (drop at texts) queue ≡ queue
-none_left texts at beyond queue = ap (λ ts. behind ts queue) (drop_all at texts beyond)
+pub note_left : (texts : List (List ℕ)) (at : ℕ) → length texts ≤ at → (queue next : Queue) (text : List ℕ)
+    → queue.left ≡ LineNote text ∷ next.left
+    → (behind (drop at texts) queue).left ≡ LineNote text ∷ (behind (drop at texts) next).left
+note_left texts at beyond queue next text is =
+    subst (λ (ts : List (List ℕ)). (behind ts queue).left ≡ LineNote text ∷ (behind ts next).left)
+    (sym (drop_all at texts beyond)) is
 
 -- a feed that was just made: the texts of the first line were taken
 module _ {R : Type 0} (gives : Giving R) (IsWanted : FeatureValue → Type 0) (tile : OpenState R) (shift : Triple)
@@ -173,19 +177,8 @@ module _ {R : Type 0} (gives : Giving R) (IsWanted : FeatureValue → Type 0) (t
         λ any. (course_of [] last, (refl, refl, is_end)),
       ))
 
--- a turn after lines were read ahead
-pub turn_later : {R : Type 0} (gives : Giving R) (IsWanted : FeatureValue → Type 0) (before mid after : FeedState R)
-    (text : List ℕ) → TakesNone (MayTake gives IsWanted before) (MayTake gives IsWanted mid)
-    → most_ahead mid ≤ most_ahead before → TakesTurn gives IsWanted mid after (Some text)
-    → TakesTurn gives IsWanted before after (Some text)
-turn_later gives IsWanted before mid after text none fewer turn = (
-  λ course come. none (text_before text course) (turn.0 course come),
-  turn.1,
-  omega (arith, turn.2, fewer),
-)
-
 -- bytes that follow those that were passed on
-pub passed_on : (old mid new : Option (List ℕ)) (bytes : List ℕ) → Keeps old mid → Appends mid new bytes
+passed_on : (old mid new : Option (List ℕ)) (bytes : List ℕ) → Keeps old mid → Appends mid new bytes
     → Appends old new bytes
 passed_on None mid new bytes kept appends = tt
 passed_on (Some xs) None new bytes kept appends = absurd kept
@@ -343,7 +336,7 @@ line_first Then text others left is was =
       (course_of first.0 was.0.ended, first.2),
     )
 
-pub line_turn : {R : Type 0} (gives : Giving R) (IsWanted : FeatureValue → Type 0)
+line_turn : {R : Type 0} (gives : Giving R) (IsWanted : FeatureValue → Type 0)
     (before : FeedState R) (queue : Queue) (text : List ℕ)
     → before.notes.left ≡ LineNote text ∷ queue.left → queue.closed ≡ before.notes.closed
     → SomeCourse (MayTake gives IsWanted before)
@@ -359,3 +352,27 @@ line_turn gives IsWanted before queue text is same was =
       (first.1.0, subst (Comes first.1.0) (sym same) first.1.1),
       omega (arith, ap length is, open_part),
     )
+
+-- a turn that gives the text which stands first, once lines were read ahead and what was written was passed on
+module _ {R : Type 0} (gives : Giving R) (IsWanted : FeatureValue → Type 0) (before mid : FeedState R) (next : Queue)
+    (text : List ℕ) (none : TakesNone (MayTake gives IsWanted before) (MayTake gives IsWanted mid))
+    (fewer : most_ahead mid ≤ most_ahead before) (some : SomeCourse (MayTake gives IsWanted mid))
+    (first : mid.notes.left ≡ LineNote text ∷ next.left) (same : next.closed ≡ mid.notes.closed)
+    (old passed new : Option (List ℕ)) (kept : Keeps old passed) where
+  turn : TakesTurn gives IsWanted before (record mid { notes = next }) (Some text)
+  turn =
+      let one = line_turn gives IsWanted mid next text first same some in
+      (λ course come. none (text_before text course) (one.0 course come), one.1, omega (arith, one.2, fewer))
+
+  pub wrote_turn : Appends passed new (with_newline text)
+      → WroteTurn gives IsWanted before (record mid { notes = next }) true old new
+  wrote_turn appends = (
+    Some text,
+    turn,
+    refl,
+    subst (Appends old new) (sym (append-nil (with_newline text))) (passed_on old passed new _ kept appends),
+  )
+
+  pub wrote_front : (count : ℕ) × Appends passed new (take count (with_newline text))
+      → WroteTurnFront gives IsWanted before old new
+  wrote_front part = inr (text, record mid { notes = next }, part.0, turn, passed_on old passed new _ kept part.1)
