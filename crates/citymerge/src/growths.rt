@@ -1,284 +1,206 @@
 //! The program's calls where memory is refused, as the tests of `growth_tests` are run by `tools/growths.sh`: the runs are
 //! right, or want memory and say so; what tells a fault takes none.
-ghost use Rattle.std.specs.Prelude.{◌<◌, length};
 
 mod memory;
 
 use self::memory::{Call, give, take, wanted};
-use crate::cat::run_cat;
 use crate::output::buffered;
 use crate::report::{report_fault, show_help, show_usage};
-use crate::run::run_filter;
-use crate::tests::{HEADER, merge, tape};
+use crate::tests::texts::{
+    A1_A2, A1_B1_A2, B1_CUT, BLANKS, BUILDING, CHILDLESS, COMPACT, DOCUMENT, HEADER, SPACED,
+};
+use crate::tests::{Command, Given, run};
 use crate::tiles::{SystemFiles, open_tiles};
 use crate::words::parse_args;
 use byte_streams::{Bin, Fault, Line, MergeFault, write_all};
 use city_feature::Choice;
 use city_json::Str;
 use command_line::{Parsed, Paths};
-use std::alloc::Global;
+use std::alloc::{AllocError, Global};
 use std::io::{self, Eprint, ErrorKind};
 use std::process::Abort;
 use std::sync::Wait;
-use std::test::Fail;
 use std::thread::Threads;
-use tile_stream::TileReader;
 
-/// What wanted memory, run again.
-macro_rules! with_memory {
-    ($run:expr) => {
-        match $run {
-            Err(Fault::Memory) => Ok($run?),
-            answer => Ok(answer?),
-        }
+/// Whether a run is right, and run again is, too, where it wanted memory.
+macro_rules! expect {
+    ($rt:expr; $run:expr) => {
+        let answer = match $run {
+            Err(Fault::Memory) => $run,
+            answer => answer,
+        };
+        assert!($rt; answer?);
     };
 }
 
-/// Features, and one that is cut short.
-const A1: &str =
-    r#"{"type":"CityJSONFeature","id":"a1","CityObjects":{"a1":{"type":"Building"}},"vertices":[[1,2,3]]}"#;
-
-const A2: &str =
-    r#"{"type":"CityJSONFeature","id":"a2","CityObjects":{"a2":{"type":"Building"}},"vertices":[[1,2,3]]}"#;
-
-const B1: &str =
-    r#"{"type":"CityJSONFeature","id":"b1","CityObjects":{"b1":{"type":"Building"}},"vertices":[[1,2,3]]}"#;
-
-const CUT: &str = r#"{"type":"CityJSONFeature","id":"b2"#;
-
-/// A stream as people write it, and how its feature is written.
-const FIRST: [&str; 2] = [
-    r#"{ "type": "CityJSON", "version": "2.0", "transform": {"scale": [0.001, 0.001, 0.001], "translate": [0, 0, 0]}, "CityObjects": {}, "vertices": [] }"#,
-    r#"{"type":"CityJSONFeature", "id":"a", "CityObjects":{"a":{"type":"Building", "attributes":{"h":1.50e+3}}}, "vertices":[[1,2,3]]}"#,
-];
-
-const FIRST_FEATURE: &str =
-    r#"{"type":"CityJSONFeature","id":"a","CityObjects":{"a":{"type":"Building","attributes":{"h":1.50e+3}}},"vertices":[[1,2,3]]}"#;
-
-/// A document of a building, one that names a child which is missing, and what the first is cut into.
-const DOCUMENT: &str =
-    r#"{"type":"CityJSON","version":"2.0","transform":{"scale":[0.001,0.001,0.001],"translate":[0,0,0]},"CityObjects":{"b":{"type":"Building","geometry":[{"type":"MultiPoint","lod":"1","boundaries":[3,1]}]}},"vertices":[[0,0,0],[1,1,1],[2,2,2],[3,3,3]]}"#;
-
-const CHILDLESS: &str =
-    r#"{"type":"CityJSON","version":"2.0","transform":{"scale":[0.001,0.001,0.001],"translate":[0,0,0]},"CityObjects":{"b":{"type":"Building","children":["p"]}},"vertices":[]}"#;
-
-const BUILDING: &str =
-    r#"{"type":"CityJSONFeature","id":"b","CityObjects":{"b":{"type":"Building","geometry":[{"type":"MultiPoint","lod":"1","boundaries":[0,1]}]}},"vertices":[[3,3,3],[1,1,1]]}"#;
-
-/// How many of these lines were written, the first ones and each of them whole; none where something else was.
-fn lines_in(written: &[u8], lines: &[&str]) -> Option<usize> {
-    let mut left = written;
-    let mut count = 0usize;
-    for line in lines {
-        if left.is_empty() {
-            return Some(count);
-        }
-        let Some(after) = left.strip_prefix(line.as_bytes()) else {
-            return None;
-        };
-        let Some(after) = after.strip_prefix(b"\n") else {
-            return None;
-        };
-        left = after;
-        count = count.saturating_add(1);
+fn call_of(command: Command) -> Call {
+    match command {
+        Command::Cat => Call("run_cat"),
+        Command::Filter => Call("run_filter"),
+        Command::InTurn => Call("run_merge, in turn"),
+        Command::Threads => Call("run_merge, with threads"),
     }
-    if left.is_empty() { Some(count) } else { None }
 }
 
 /// A run is done and silent, or refused with this line; or it wants memory, and says so.
-fn expect_status(
-    rt: &(impl Abort + AllocGlobal + Eprint),
-    call: Call,
-    (status, errors): (u8, &[u8]),
+fn is_told(
+    rt: &(impl AllocGlobal + Eprint),
+    command: Command,
+    status: u8,
+    errors: &[u8],
     said: &str,
-) -> Result<(), Fault> {
-    let wants = [
-        b": there is not enough memory\n".as_slice(),
-        b": a thread could not be started\n",
-    ];
-    for text in wants {
-        if errors.ends_with(text) {
-            wanted(rt, call);
-            assert!(rt; status == 1);
-            assert!(rt; errors.starts_with(b"citymerge: "));
-            return Err(Fault::Memory);
-        }
+) -> Result<bool, Fault> {
+    let is_wanted = errors.ends_with(b": there is not enough memory\n")
+        || errors.ends_with(b": a thread could not be started\n");
+    if is_wanted && status == 1 && errors.starts_with(b"citymerge: ") {
+        return wanted(rt, call_of(command));
     }
-    assert!(rt; errors == said.as_bytes());
-    assert!(rt; (status == 0) == said.is_empty());
-    Ok(())
+    Ok(errors == said.as_bytes() && (status == 0) == said.is_empty())
 }
 
-/// A filter of a stream: what is written, or some first lines of it where memory is wanted.
-fn expect_filter(
-    rt: &(impl Abort + AllocGlobal + Eprint),
-    input: &[&str],
-    lines: &[&str],
+/// Whether this is the stream, of which with threads only the header and the length are known.
+fn is_whole(command: Command, written: &[u8], stream: &[u8]) -> bool {
+    match command {
+        Command::Threads => {
+            written.starts_with(HEADER.as_bytes()) && written.len() == stream.len()
+        }
+        _ => written == stream,
+    }
+}
+
+/// Whether this may be all where memory is wanted: of a document nothing, of one tile some first lines, of several the
+/// header and others.
+fn is_begun(command: Command, written: &[u8], stream: &[u8]) -> bool {
+    if written.is_empty() {
+        return true;
+    }
+    match command {
+        Command::Cat => false,
+        Command::Filter => written.ends_with(b"\n") && stream.starts_with(written),
+        Command::InTurn | Command::Threads => written.starts_with(HEADER.as_bytes()),
+    }
+}
+
+/// What a run writes and says is right, or it wants memory.
+fn comes<H>(
+    rt: &H,
+    given: &Given<'_>,
+    output: &mut Bin,
+    errors: &mut Bin,
+    stream: &str,
     said: &str,
-) -> Result<(), Fault> {
-    let alloc = rt.alloc();
-    let mut tile = TileReader::new(alloc, tape(alloc, input, 50, false)?);
-    let mut output = Bin::new(alloc, 4096, 100, false)?;
-    let mut errors = Bin::new(alloc, 256, 100, false)?;
-    let every = Choice::new(None, None, false);
-    let status = run_filter(alloc, &mut tile, &every, &mut output, &mut errors);
-    let written = lines_in(output.bytes(), lines);
-    assert!(rt; written.is_some());
-    expect_status(rt, Call("run_filter"), (status, errors.bytes()), said)?;
-    assert!(rt; written == Some(lines.len()));
-    Ok(())
-}
-
-#[test]
-fn a_stream_is_filtered(rt: HostRuntime) -> Result<(), Fail> {
-    let lines = [HEADER, FIRST_FEATURE];
-    with_memory!(expect_filter(&rt, &FIRST, &lines, ""))
-}
-
-#[test]
-fn a_stream_of_blank_lines_is_refused(rt: HostRuntime) -> Result<(), Fail> {
-    let said = "citymerge: tile 1: the stream has no header line\n";
-    with_memory!(expect_filter(&rt, &["", " \t\r"], &[], said))
-}
-
-/// A document: what it becomes, or nothing where memory is wanted or it is refused.
-fn expect_cat(
-    rt: &(impl Abort + AllocGlobal + Eprint),
-    document: &str,
-    lines: &[&str],
-    said: &str,
-) -> Result<(), Fault> {
-    let alloc = rt.alloc();
-    let mut input = tape(alloc, &[document], 50, false)?;
-    let mut output = Bin::new(alloc, 4096, 100, false)?;
-    let mut errors = Bin::new(alloc, 256, 100, false)?;
-    let status = run_cat(alloc, &mut input, &mut output, &mut errors);
-    let written = lines_in(output.bytes(), lines);
-    assert!(rt; status == 0 || written == Some(0));
-    expect_status(rt, Call("run_cat"), (status, errors.bytes()), said)?;
-    assert!(rt; written == Some(lines.len()));
-    Ok(())
-}
-
-#[test]
-fn a_document_becomes_a_stream(rt: HostRuntime) -> Result<(), Fail> {
-    with_memory!(expect_cat(&rt, DOCUMENT, &[HEADER, BUILDING], ""))
-}
-
-#[test]
-fn a_document_is_refused(rt: HostRuntime) -> Result<(), Fail> {
-    let said = "citymerge: tile 1: a child is missing\n";
-    with_memory!(expect_cat(&rt, CHILDLESS, &[], said))
-}
-
-/// Two tiles, of which the second ends in a line cut short: in turn the stream is known, with threads its length.
-fn expect_merge<H>(rt: &H, in_turn: bool) -> Result<(), Fault>
+) -> Result<bool, Fault>
 where
     H: Abort + AllocGlobal + Eprint + Threads + Wait + Copy + Send + 'static,
 {
-    let alloc = rt.alloc();
-    let first = tape(alloc, &[HEADER, A1, A2], 50, false)?;
-    let second = tape(alloc, &[HEADER, B1, CUT], 50, false)?;
-    let mut output = Bin::new(alloc, 4096, 100, false)?;
-    let mut errors = Bin::new(alloc, 256, 100, false)?;
-    let status = merge(rt, in_turn, first, second, &mut output, &mut errors)?;
-    let said = "citymerge: tile 2 line 3: the line is not a JSON text\n";
-    let call = if in_turn {
-        Call("run_merge, in turn")
-    } else {
-        Call("run_merge, with threads")
-    };
-    let begins = output.bytes().is_empty() || output.bytes().starts_with(HEADER.as_bytes());
-    assert!(rt; begins);
-    expect_status(rt, call, (status, errors.bytes()), said)?;
-    if in_turn {
-        assert!(rt; lines_in(output.bytes(), &[HEADER, A1, B1, A2]) == Some(4));
+    let command = given.command;
+    let status = run(rt, given, output, errors)?;
+    match is_told(rt, command, status, errors.bytes(), said) {
+        Ok(is_told) => Ok(is_told && is_whole(command, output.bytes(), stream.as_bytes())),
+        Err(_) if !is_begun(command, output.bytes(), stream.as_bytes()) => Ok(false),
+        wanted => wanted,
     }
-    let length = HEADER.len() + A1.len() + B1.len() + A2.len() + 4;
-    assert!(rt; output.bytes().len() == length);
+}
+
+fn is_right<H>(rt: &H, given: &Given<'_>, stream: &str, said: &str) -> Result<bool, Fault>
+where
+    H: Abort + AllocGlobal + Eprint + Threads + Wait + Copy + Send + 'static,
+{
+    let mut output = Bin::new(rt.alloc(), 4096, 100, false)?;
+    let mut errors = Bin::new(rt.alloc(), 256, 100, false)?;
+    comes(rt, given, &mut output, &mut errors, stream, said)
+}
+
+const NO_HEADER: &str = "citymerge: tile 1: the stream has no header line\n";
+
+const NO_CHILD: &str = "citymerge: tile 1: a child is missing\n";
+
+const CUT_SHORT: &str = "citymerge: tile 2 line 3: the line is not a JSON text\n";
+
+/// Runs, the tiles that they read, and what they write and say.
+const RUNS: [(Command, &str, &str, &str, &str); 6] = [
+    (Command::Filter, "", SPACED, COMPACT, ""),
+    (Command::Filter, "", BLANKS, "", NO_HEADER),
+    (Command::Cat, "", DOCUMENT, BUILDING, ""),
+    (Command::Cat, "", CHILDLESS, "", NO_CHILD),
+    (Command::InTurn, A1_A2, B1_CUT, A1_B1_A2, CUT_SHORT),
+    (Command::Threads, A1_A2, B1_CUT, A1_B1_A2, CUT_SHORT),
+];
+
+#[test]
+fn runs_are_right(rt: HostRuntime) -> Result<(), Fault> {
+    for (command, first, last, stream, said) in RUNS.iter() {
+        let given = Given {
+            command: *command,
+            first: *first,
+            last: *last,
+            step: 50,
+            fails: false,
+        };
+        expect!(rt; is_right(&rt, &given, stream, said));
+    }
     Ok(())
 }
 
-#[test]
-fn tiles_are_merged_in_turn(rt: HostRuntime) -> Result<(), Fail> {
-    with_memory!(expect_merge(&rt, true))
+const WORDS: [&str; 3] = [
+    "citymerge",
+    "filter",
+    "--cotype=Building,A longer name of a type",
+];
+
+fn words_of(alloc: Global) -> Result<Vec<String>, AllocError> {
+    let mut words = Vec::new(alloc);
+    for word in WORDS.iter() {
+        words.push(String::from_str(alloc, word)?)?;
+    }
+    Ok(words)
 }
 
-#[test]
-fn tiles_are_merged_by_threads(rt: HostRuntime) -> Result<(), Fail> {
-    with_memory!(expect_merge(&rt, false))
+fn has_two_types(choice: &Choice) -> bool {
+    match &choice.types {
+        Some(types) => types.items().len() == 2,
+        None => false,
+    }
 }
 
 /// The words of the program, or that there is no memory for them.
-fn expect_args(rt: &(impl Abort + AllocGlobal + Eprint)) -> Result<(), Fault> {
-    let alloc = rt.alloc();
-    let mut words = Vec::new(alloc);
-    for word in [
-        "citymerge",
-        "filter",
-        "--cotype=Building,A longer name of a type",
-    ] {
-        words.push(String::from_str(alloc, word)?)?;
-    }
-    match parse_args(alloc, Ok(words.into_iter())) {
-        Parsed::Filter(choice) => {
-            let count = choice.types.as_ref().map_or(0, |types| types.items().len());
-            assert!(rt; count == 2);
-            Ok(())
-        }
-        Parsed::Memory => {
-            wanted(rt, Call("parse_args"));
-            Err(Fault::Memory)
-        }
-        _ => panic!(rt; "other words"),
+fn asks_for_two_types(rt: &(impl AllocGlobal + Eprint), parsed: &Parsed) -> Result<bool, Fault> {
+    match parsed {
+        Parsed::Filter(choice) => Ok(has_two_types(choice)),
+        Parsed::Memory => wanted(rt, Call("parse_args")),
+        _ => Ok(false),
     }
 }
 
-#[test]
-fn the_words_are_gathered(rt: HostRuntime) -> Result<(), Fail> {
-    with_memory!(expect_args(&rt))
+fn words_are_gathered(rt: &(impl AllocGlobal + Eprint)) -> Result<bool, Fault> {
+    let words = words_of(rt.alloc())?;
+    asks_for_two_types(rt, &parse_args(rt.alloc(), Ok(words.into_iter())))
 }
 
-fn expect_wrong_words(rt: &(impl Abort + AllocGlobal + Eprint)) -> Result<(), Fault> {
-    let refused = io::Error::from(ErrorKind::InvalidData);
-    match parse_args(rt.alloc(), Err(refused)) {
+fn is_usage(rt: &(impl AllocGlobal + Eprint), parsed: &Parsed) -> Result<bool, Fault> {
+    match parsed {
         Parsed::Usage(text) => {
-            let said = b"citymerge: a word is not UTF-8\n";
-            assert!(rt; text.items() == said.as_slice());
-            Ok(())
+            Ok(text.items() == b"citymerge: a word is not UTF-8\n".as_slice())
         }
-        Parsed::Memory => {
-            wanted(rt, Call("parse_args, words that are not UTF-8"));
-            Err(Fault::Memory)
-        }
-        _ => panic!(rt; "other words"),
+        Parsed::Memory => wanted(rt, Call("parse_args, words that are not UTF-8")),
+        _ => Ok(false),
     }
 }
 
-#[test]
-fn words_that_cannot_be_had_are_wrong_use(rt: HostRuntime) -> Result<(), Fail> {
-    with_memory!(expect_wrong_words(&rt))
+fn words_that_cannot_be_had_are_wrong_use(rt: &(impl AllocGlobal + Eprint)) -> Result<bool, Fault> {
+    let refused = io::Error::from(ErrorKind::InvalidData);
+    is_usage(rt, &parse_args(rt.alloc(), Err(refused)))
 }
 
-fn expect_output(rt: &(impl Abort + AllocGlobal + Eprint)) -> Result<(), Fault> {
+fn output_has_its_room(rt: &(impl AllocGlobal + Eprint)) -> Result<bool, Fault> {
     match buffered(rt.alloc(), Vec::new(rt.alloc())) {
-        Ok(mut output) => {
-            assert!(rt; write_all(&mut output, b"all of it") == Ok(()));
-            Ok(())
-        }
-        Err(fault) => {
-            wanted(rt, Call("buffered"));
-            Err(fault)
-        }
+        Ok(mut output) => Ok(write_all(&mut output, b"all of it") == Ok(())),
+        Err(fault) if fault == Fault::Memory => wanted(rt, Call("buffered")),
+        Err(_) => Ok(false),
     }
 }
 
-#[test]
-fn an_output_has_its_room(rt: HostRuntime) -> Result<(), Fail> {
-    with_memory!(expect_output(&rt))
-}
-
-fn paths_of(alloc: Global, names: &[&str]) -> Result<Paths, Fault> {
+pub(crate) fn paths_of(alloc: Global, names: &[&str]) -> Result<Paths, Fault> {
     let mut paths = Paths::new(alloc);
     for name in names {
         paths.push(Str::read(alloc, name)?)?;
@@ -286,65 +208,70 @@ fn paths_of(alloc: Global, names: &[&str]) -> Result<Paths, Fault> {
     Ok(paths)
 }
 
-fn expect_tiles(
-    rt: &(impl Abort + AllocGlobal + Eprint),
+fn are_opened(
+    rt: &(impl AllocGlobal + Eprint),
     files: &SystemFiles,
-) -> Result<(), Fault> {
-    let paths = paths_of(rt.alloc(), &["/dev/null", "/dev/null"])?;
-    match open_tiles(rt.alloc(), files, &paths) {
-        Ok(readers) => {
-            assert!(rt; readers.len() == 2);
-            Ok(())
+    paths: &Paths,
+) -> Result<bool, Fault> {
+    match open_tiles(rt.alloc(), files, paths) {
+        Ok(readers) => Ok(readers.len() == 2),
+        Err(told) if told == MergeFault::of_no_line(Fault::Memory) => {
+            wanted(rt, Call("open_tiles"))
         }
-        Err(refused) => {
-            assert!(rt; refused == MergeFault::of_no_line(Fault::Memory));
-            wanted(rt, Call("open_tiles"));
-            Err(refused.fault)
-        }
+        Err(_) => Ok(false),
     }
 }
 
-#[test]
-fn tiles_are_opened(rt: HostRuntime) -> Result<(), Fail> {
-    let files = SystemFiles::new(rt);
-    with_memory!(expect_tiles(&rt, &files))
+fn tiles_are_opened(rt: HostRuntime) -> Result<bool, Fault> {
+    let paths = paths_of(rt.alloc(), &["/dev/null", "/dev/null"])?;
+    are_opened(&rt, &SystemFiles::new(rt), &paths)
 }
 
 #[test]
-fn what_is_said_takes_no_memory(rt: HostRuntime) -> Result<(), Fail> {
-    let alloc = rt.alloc();
-    let text = Line::from_vec(b"help\n".to_vec(alloc)?);
-    let mut errors = Bin::new(alloc, 256, 7, false)?;
+fn words_outputs_and_tiles(rt: HostRuntime) -> Result<(), Fault> {
+    expect!(rt; words_are_gathered(&rt));
+    expect!(rt; words_that_cannot_be_had_are_wrong_use(&rt));
+    expect!(rt; output_has_its_room(&rt));
+    expect!(rt; tiles_are_opened(rt));
+    Ok(())
+}
+
+fn is_said(text: &Line, errors: &mut Bin) -> bool {
     let fault = MergeFault {
         tile: 2,
         line: 3,
         fault: Fault::Memory,
     };
-    let gone = take(alloc);
-    assert!(rt; report_fault(&fault, &mut errors) == 1);
-    assert!(rt; show_help(&text, &mut errors) == 0);
-    assert!(rt; show_usage(&text, &mut errors) == 2);
     let said = b"citymerge: tile 2 line 3: there is not enough memory\nhelp\nhelp\n";
-    assert!(rt; errors.bytes() == said.as_slice());
-    give(&rt, gone);
-    Ok(())
+    report_fault(&fault, errors) == 1
+        && show_help(text, errors) == 0
+        && show_usage(text, errors) == 2
+        && errors.bytes() == said.as_slice()
 }
 
 #[test]
-fn too_many_tiles_take_no_memory(rt: HostRuntime) -> Result<(), Fail> {
-    let mut names = Vec::new(rt.alloc());
-    for _ in 0..65u32 {
-        names.push("/dev/null")?;
+fn what_is_said_takes_no_memory(rt: HostRuntime) -> Result<(), Fault> {
+    let text = Line::from_vec(b"help\n".to_vec(rt.alloc())?);
+    let mut errors = Bin::new(rt.alloc(), 256, 7, false)?;
+    let gone = take(rt.alloc());
+    let is_said = is_said(&text, &mut errors);
+    assert!(rt; give(rt.alloc(), gone) && is_said);
+    Ok(())
+}
+
+fn are_too_many(alloc: Global, files: &SystemFiles, paths: &Paths) -> bool {
+    match open_tiles(alloc, files, paths) {
+        Ok(_) => false,
+        Err(told) => told == MergeFault::of_no_line(Fault::TooManyTiles),
     }
-    let paths = paths_of(rt.alloc(), &names)?;
+}
+
+#[test]
+fn too_many_tiles_take_no_memory(rt: HostRuntime) -> Result<(), Fault> {
+    let paths = paths_of(rt.alloc(), &["/dev/null"; 65])?;
     let files = SystemFiles::new(rt);
     let gone = take(rt.alloc());
-    let many = MergeFault::of_no_line(Fault::TooManyTiles);
-    let refused = match open_tiles(rt.alloc(), &files, &paths) {
-        Ok(_) => None,
-        Err(refused) => Some(refused),
-    };
-    assert!(rt; refused == Some(many));
-    give(&rt, gone);
+    let are_refused = are_too_many(rt.alloc(), &files, &paths);
+    assert!(rt; give(rt.alloc(), gone) && are_refused);
     Ok(())
 }

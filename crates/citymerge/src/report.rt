@@ -52,7 +52,6 @@ mod tests {
     use super::*;
     use byte_streams::{Bin, Fault};
     use std::alloc::Global;
-    use std::test::Fail;
 
     /// Whether this is said of a fault where so many bytes are taken.
     fn is_said(alloc: Global, fault: &MergeFault, room: usize, said: &str) -> Result<bool, Fault> {
@@ -61,7 +60,7 @@ mod tests {
     }
 
     #[test]
-    fn a_fault_line_may_be_long_or_cut_short(rt: HostRuntime) -> Result<(), Fail> {
+    fn a_fault_line_may_be_long_or_cut_short(rt: HostRuntime) -> Result<(), Fault> {
         let long = MergeFault {
             tile: 4_294_967_295,
             line: 18_446_744_073_709_551_615,
@@ -74,24 +73,38 @@ mod tests {
         Ok(())
     }
 
-    /// Whether a help text and one of wrong use are shown so where so many bytes are taken.
-    fn is_shown(alloc: Global, room: usize, flush_fails: bool, shown: &str) -> Result<bool, Fault> {
-        let text = Line::from_vec(b"help\n".to_vec(alloc)?);
+    /// Whether a text of help, or of wrong use, is shown so where so many bytes are taken.
+    fn is_shown(
+        alloc: Global,
+        text: &Line,
+        is_help: bool,
+        room: usize,
+        flush_fails: bool,
+        shown: &str,
+    ) -> Result<bool, Fault> {
         let mut output = Bin::new(alloc, room, 9, flush_fails)?;
-        let mut errors = Bin::new(alloc, room, 9, flush_fails)?;
+        let is_right = if is_help {
+            show_help(text, &mut output) == 0
+        } else {
+            show_usage(text, &mut output) == 2
+        };
+        Ok(is_right && output.bytes() == shown.as_bytes())
+    }
+
+    /// Whether all goes right where all is taken, where a flush fails, and where a text is cut short.
+    fn are_shown(alloc: Global, text: &Line, is_help: bool) -> Result<bool, Fault> {
         Ok(
-            show_help(&text, &mut output) == 0
-                && show_usage(&text, &mut errors) == 2
-                && output.bytes() == shown.as_bytes()
-                && errors.bytes() == shown.as_bytes(),
+            is_shown(alloc, text, is_help, 9, false, "help\n")?
+                && is_shown(alloc, text, is_help, 9, true, "help\n")?
+                && is_shown(alloc, text, is_help, 3, false, "hel")?,
         )
     }
 
     #[test]
-    fn a_failed_text_leaves_the_status(rt: HostRuntime) -> Result<(), Fail> {
-        assert!(rt; is_shown(rt.alloc(), 9, false, "help\n")?);
-        assert!(rt; is_shown(rt.alloc(), 9, true, "help\n")?);
-        assert!(rt; is_shown(rt.alloc(), 3, false, "hel")?);
+    fn a_failed_text_leaves_the_status(rt: HostRuntime) -> Result<(), Fault> {
+        let text = Line::from_vec(b"help\n".to_vec(rt.alloc())?);
+        assert!(rt; are_shown(rt.alloc(), &text, true) == Ok(true));
+        assert!(rt; are_shown(rt.alloc(), &text, false) == Ok(true));
         Ok(())
     }
 }

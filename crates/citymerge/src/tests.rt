@@ -1,230 +1,230 @@
 //! The runs of the program where a reader or a writer fails in ways that a shell cannot make. All
 //! others are in `tools/program_test.sh`.
 
+pub(crate) mod texts;
+
+use self::texts::{A, A_AND_ELSE, A_B, A_B_DOCUMENT, B, B_A, HEADER};
 use crate::cat::run_cat;
 use crate::output::buffered;
 use crate::run::{run_filter, run_merge};
 use byte_streams::{Bin, Fault, Line, Sink, Tape, write_all};
 use city_feature::Choice;
 use command_line::{MergeArgs, Paths};
-use std::alloc::{AllocError, Global};
+use std::alloc::Global;
 use std::io::{self, ErrorKind, Write};
 use std::process::Abort;
 use std::sync::Wait;
 use std::sync::atomic::AtomicU64;
 use std::sync::atomic::Ordering::SeqCst;
-use std::test::Fail;
 use std::thread::Threads;
 use tile_stream::TileReader;
 
-pub(crate) const HEADER: &str =
-    r#"{"type":"CityJSON","version":"2.0","transform":{"scale":[0.001,0.001,0.001],"translate":[0,0,0]},"CityObjects":{},"vertices":[]}"#;
-
-const A: &str =
-    r#"{"type":"CityJSONFeature","id":"a","CityObjects":{"a":{"type":"Building"}},"vertices":[]}"#;
-
-const B: &str =
-    r#"{"type":"CityJSONFeature","id":"b","CityObjects":{"b":{"type":"Building"}},"vertices":[]}"#;
-
-const DOCUMENT: &str =
-    r#"{"type":"CityJSON","version":"2.0","transform":{"scale":[0.001,0.001,0.001],"translate":[0,0,0]},"CityObjects":{"a":{"type":"Building"},"b":{"type":"Building"}},"vertices":[]}"#;
-
 const NOT_WRITTEN: &str = "citymerge: the output could not be written\n";
 
-#[derive(Clone, Copy, PartialEq)]
-enum Command {
+#[derive(Clone, Copy)]
+pub(crate) enum Command {
     Cat,
     Filter,
     InTurn,
     Threads,
 }
 
-/// What a run reads: a last line, so many bytes a read, and a failure at the end if there is one.
+/// What a run reads, so many bytes a read: a merge two tiles, each other command the last alone, which
+/// may fail at its end.
 #[derive(Clone, Copy)]
-struct Given<'a> {
-    last: &'a str,
-    step: usize,
-    fails: bool,
+pub(crate) struct Given<'a> {
+    pub(crate) command: Command,
+    pub(crate) first: &'a str,
+    pub(crate) last: &'a str,
+    pub(crate) step: usize,
+    pub(crate) fails: bool,
 }
 
-/// These texts, each followed by a newline.
-fn text_of(alloc: Global, lines: &[&str]) -> Result<Line, AllocError> {
-    let mut text = Line::new(alloc);
-    for line in lines {
-        text.append(line.as_bytes())?;
-        text.append(b"\n")?;
+/// The features A and B, or the document of both.
+fn both(command: Command, step: usize, fails: bool) -> Given<'static> {
+    let last = match command {
+        Command::Cat => A_B_DOCUMENT,
+        Command::Filter => A_B,
+        Command::InTurn | Command::Threads => B,
+    };
+    Given {
+        command,
+        first: A,
+        last,
+        step,
+        fails,
     }
-    Ok(text)
 }
 
-/// A reader of these texts, each followed by a newline.
-pub(crate) fn tape(
+fn tape(alloc: Global, text: &str, step: usize, fails: bool) -> Result<Tape, Fault> {
+    let bytes = text.as_bytes().to_vec(alloc)?;
+    Ok(Tape::new(Line::from_vec(bytes), step.max(1), fails))
+}
+
+fn last_of(alloc: Global, given: &Given<'_>) -> Result<Tape, Fault> {
+    tape(alloc, given.last, given.step, given.fails)
+}
+
+fn cat<W: Sink>(
     alloc: Global,
-    lines: &[&str],
-    step: usize,
-    fails: bool,
-) -> Result<Tape, AllocError> {
-    Ok(Tape::new(text_of(alloc, lines)?, step.max(1), fails))
-}
-
-/// Runs a command on the header, A and the last line, of which a merge reads the last line in a tile
-/// of its own, and `cat` a document in the place of all.
-fn run<H, W: Sink>(
-    rt: &H,
-    command: Command,
-    given: Given<'_>,
+    given: &Given<'_>,
     output: &mut W,
     errors: &mut Bin,
-) -> Result<u8, AllocError>
-where
-    H: Abort + AllocGlobal + Threads + Wait + Copy + Send + 'static,
-{
-    let alloc = rt.alloc();
-    let Given { last, step, fails } = given;
-    match command {
-        Command::Cat => {
-            let mut input = tape(alloc, &[DOCUMENT], step, fails)?;
-            Ok(run_cat(alloc, &mut input, output, errors))
-        }
-        Command::Filter => {
-            let input = tape(alloc, &[HEADER, A, last], step, fails)?;
-            let mut tile = TileReader::new(alloc, input);
-            let every = Choice::new(None, None, false);
-            Ok(run_filter(alloc, &mut tile, &every, output, errors))
-        }
-        Command::InTurn | Command::Threads => {
-            let first = tape(alloc, &[HEADER, A], step, false)?;
-            let second = tape(alloc, &[HEADER, last], step, fails)?;
-            merge(
-                rt,
-                command == Command::InTurn,
-                first,
-                second,
-                output,
-                errors,
-            )
-        }
-    }
+) -> Result<u8, Fault> {
+    let mut input = last_of(alloc, given)?;
+    Ok(run_cat(alloc, &mut input, output, errors))
 }
 
-pub(crate) fn merge<H, W: Sink>(
+fn filter<W: Sink>(
+    alloc: Global,
+    given: &Given<'_>,
+    output: &mut W,
+    errors: &mut Bin,
+) -> Result<u8, Fault> {
+    let mut tile = TileReader::new(alloc, last_of(alloc, given)?);
+    let every = Choice::new(None, None, false);
+    Ok(run_filter(alloc, &mut tile, &every, output, errors))
+}
+
+fn readers_of(alloc: Global, given: &Given<'_>) -> Result<Vec<Tape>, Fault> {
+    let first = tape(alloc, given.first, given.step, false)?;
+    let last = last_of(alloc, given)?;
+    Ok(vec![in alloc; first, last]?)
+}
+
+fn merge<H, W: Sink>(
     rt: &H,
     in_turn: bool,
-    first: Tape,
-    second: Tape,
+    given: &Given<'_>,
     output: &mut W,
     errors: &mut Bin,
-) -> Result<u8, AllocError>
+) -> Result<u8, Fault>
 where
     H: Abort + AllocGlobal + Threads + Wait + Copy + Send + 'static,
 {
-    let alloc = rt.alloc();
+    let readers = readers_of(rt.alloc(), given)?;
+    assert!(rt; !readers.is_empty());
     let args = MergeArgs {
         choice: Choice::new(None, None, false),
         in_turn,
         least: false,
-        paths: Paths::new(alloc),
+        paths: Paths::new(rt.alloc()),
     };
-    let readers = vec![in alloc; first, second]?;
-    assert!(rt; !readers.is_empty());
-    Ok(run_merge(rt, alloc, &args, readers, output, errors))
+    Ok(run_merge(rt, rt.alloc(), &args, readers, output, errors))
 }
 
-/// Whether a run whose reader fails at its end writes these lines, or the others, and says this.
+/// Runs the command, and answers its status.
+pub(crate) fn run<H, W: Sink>(
+    rt: &H,
+    given: &Given<'_>,
+    output: &mut W,
+    errors: &mut Bin,
+) -> Result<u8, Fault>
+where
+    H: Abort + AllocGlobal + Threads + Wait + Copy + Send + 'static,
+{
+    match given.command {
+        Command::Cat => cat(rt.alloc(), given, output, errors),
+        Command::Filter => filter(rt.alloc(), given, output, errors),
+        Command::InTurn => merge(rt, true, given, output, errors),
+        Command::Threads => merge(rt, false, given, output, errors),
+    }
+}
+
+/// Whether a run whose reader fails at its end, after so many bytes a read, writes this stream, or the
+/// other, and says this.
 fn is_unread<H>(
     rt: &H,
-    (command, step): (Command, usize),
-    lines: &[&str],
-    others: &[&str],
+    command: Command,
+    step: usize,
+    stream: &str,
+    other: &str,
     said: &str,
 ) -> Result<bool, Fault>
 where
     H: Abort + AllocGlobal + Threads + Wait + Copy + Send + 'static,
 {
-    let alloc = rt.alloc();
-    let given = Given {
-        last: B,
-        step,
-        fails: true,
-    };
-    let mut output = Bin::new(alloc, 4096, step, false)?;
-    let mut errors = Bin::new(alloc, 256, step, false)?;
-    let status = run(rt, command, given, &mut output, &mut errors)?;
-    let is_written = output.bytes() == text_of(alloc, lines)?.items()
-        || output.bytes() == text_of(alloc, others)?.items();
-    Ok(status == 1 && is_written && errors.bytes() == said.as_bytes())
+    let mut output = Bin::new(rt.alloc(), 4096, step, false)?;
+    let mut errors = Bin::new(rt.alloc(), 256, step, false)?;
+    let given = both(command, step, true);
+    let is_refused = run(rt, &given, &mut output, &mut errors) == Ok(1);
+    let is_said = errors.bytes() == said.as_bytes();
+    let is_written = output.bytes() == stream.as_bytes() || output.bytes() == other.as_bytes();
+    Ok(is_refused && is_said && is_written)
 }
 
-#[test]
-fn a_failed_read_is_told_after_all_that_is_before_it(rt: HostRuntime) -> Result<(), Fail> {
-    let all = [HEADER, A, B].as_slice();
-    let mixed = [HEADER, B, A].as_slice();
-    let of_filter = "citymerge: tile 1 line 4: the tile could not be read\n";
-    let of_merge = "citymerge: tile 2 line 3: the tile could not be read\n";
-    let of_cat = "citymerge: tile 1: the tile could not be read\n";
-    for step in [1usize, 7, 100_000] {
-        assert!(rt; is_unread(&rt, (Command::Filter, step), all, all, of_filter)?);
-        assert!(rt; is_unread(&rt, (Command::InTurn, step), all, all, of_merge)?);
-        assert!(rt; is_unread(&rt, (Command::Threads, step), all, mixed, of_merge)?);
-        assert!(rt; is_unread(&rt, (Command::Cat, step), &[], &[], of_cat)?);
-    }
-    Ok(())
-}
-
-/// How much room an output has, how much it takes at a time, and whether it cannot be flushed.
-#[derive(Clone, Copy)]
-struct Room {
-    room: usize,
-    step: usize,
-    flush_fails: bool,
-}
-
-/// Whether a run says that it cannot write, and the output takes so many bytes of what it is to be.
-fn is_unwritten<H>(rt: &H, command: Command, room: Room, taken: usize) -> Result<bool, Fault>
+/// The same of each command.
+fn are_unread<H>(rt: &H, step: usize) -> Result<bool, Fault>
 where
     H: Abort + AllocGlobal + Threads + Wait + Copy + Send + 'static,
 {
-    let given = Given {
-        last: B,
-        step: 50,
-        fails: false,
-    };
-    let mut output = Bin::new(rt.alloc(), room.room, room.step, room.flush_fails)?;
-    let mut errors = Bin::new(rt.alloc(), 64, 64, false)?;
-    let status = run(rt, command, given, &mut output, &mut errors)?;
-    let whole = text_of(rt.alloc(), &[HEADER, A, B])?;
+    let of_filter = "citymerge: tile 1 line 4: the tile could not be read\n";
+    let of_merge = "citymerge: tile 2 line 3: the tile could not be read\n";
+    let of_cat = "citymerge: tile 1: the tile could not be read\n";
     Ok(
-        status == 1
-            && output.bytes().len() == taken
-            && whole.items().starts_with(output.bytes())
-            && errors.bytes() == NOT_WRITTEN.as_bytes(),
+        is_unread(rt, Command::Filter, step, A_B, A_B, of_filter)?
+            && is_unread(rt, Command::InTurn, step, A_B, A_B, of_merge)?
+            && is_unread(rt, Command::Threads, step, A_B, B_A, of_merge)?
+            && is_unread(rt, Command::Cat, step, "", "", of_cat)?,
     )
 }
 
 #[test]
-fn a_failed_write_is_told_of_no_tile(rt: HostRuntime) -> Result<(), Fail> {
-    let header = HEADER.len() + 1;
-    let whole = header + A.len() + 1 + B.len() + 1;
-    for (command, flushed) in [
-        (Command::Filter, header),
-        (Command::InTurn, header),
-        (Command::Cat, whole),
-    ] {
-        for (room, step, flush_fails, taken) in [
-            (0usize, 9usize, false, 0usize),
-            (100, 7, false, 100),
-            (200, 4096, false, 200),
-            (4096, 0, false, 0),
-            (4096, 4096, true, flushed),
-        ] {
-            let room = Room {
-                room,
-                step,
-                flush_fails,
-            };
-            assert!(rt; is_unwritten(&rt, command, room, taken)?);
+fn a_failed_read_is_told_after_all_that_is_before_it(rt: HostRuntime) -> Result<(), Fault> {
+    for step in [1usize, 7, 100_000].iter() {
+        assert!(rt; are_unread(&rt, *step)?);
+    }
+    Ok(())
+}
+
+/// Whether a run says that it cannot write where so many bytes have room, are taken at a time, and are
+/// taken of what is to be written.
+fn is_unwritten<H>(
+    rt: &H,
+    command: Command,
+    room: usize,
+    step: usize,
+    flush_fails: bool,
+    taken: usize,
+) -> Result<bool, Fault>
+where
+    H: Abort + AllocGlobal + Threads + Wait + Copy + Send + 'static,
+{
+    let mut output = Bin::new(rt.alloc(), room, step, flush_fails)?;
+    let mut errors = Bin::new(rt.alloc(), 64, 64, false)?;
+    let given = both(command, 50, false);
+    let is_refused = run(rt, &given, &mut output, &mut errors) == Ok(1);
+    let is_said = errors.bytes() == NOT_WRITTEN.as_bytes();
+    let are_taken = output.bytes().len() == taken && A_B.as_bytes().starts_with(output.bytes());
+    Ok(is_refused && is_said && are_taken)
+}
+
+/// How much room an output has, how much it takes at a time, and how much it takes.
+const ROOMS: [(usize, usize, usize); 4] = [
+    (0, 9, 0),
+    (100, 7, 100),
+    (200, 4096, 200),
+    (4096, 0, 0),
+];
+
+/// The same in each of these rooms, and in one that takes so many bytes before a flush, which fails.
+fn are_unwritten<H>(rt: &H, command: Command, flushed: usize) -> Result<bool, Fault>
+where
+    H: Abort + AllocGlobal + Threads + Wait + Copy + Send + 'static,
+{
+    for (room, step, taken) in ROOMS.iter() {
+        if !is_unwritten(rt, command, *room, *step, false, *taken)? {
+            return Ok(false);
         }
     }
+    is_unwritten(rt, command, 4096, 4096, true, flushed)
+}
+
+#[test]
+fn a_failed_write_is_told_of_no_tile(rt: HostRuntime) -> Result<(), Fault> {
+    assert!(rt; are_unwritten(&rt, Command::Filter, HEADER.len())?);
+    assert!(rt; are_unwritten(&rt, Command::InTurn, HEADER.len())?);
+    assert!(rt; are_unwritten(&rt, Command::Cat, A_B.len())?);
     Ok(())
 }
 
@@ -250,8 +250,20 @@ impl<'a> Write for CountedWriter<'a> {
     }
 }
 
+/// Whether short texts are gathered until they are flushed, and a long one is passed on.
+fn gathers<W: Sink>(output: &mut W, writes: &AtomicU64, flushes: &AtomicU64) -> bool {
+    let are_taken = write_all(output, b"[1]\n") == Ok(())
+        && write_all(output, b"[2]\n") == Ok(())
+        && write_all(output, b"[3]\n") == Ok(());
+    let are_gathered = are_taken && writes.load(SeqCst) == 0;
+    let is_flushed = output.flush() == Ok(()) && flushes.load(SeqCst) == 1;
+    let are_passed_on = is_flushed && writes.load(SeqCst) == 1;
+    let is_taken = write_all(output, &[b'a'; 100_000]) == Ok(());
+    are_gathered && are_passed_on && is_taken && writes.load(SeqCst) == 2
+}
+
 #[test]
-fn short_writes_are_gathered(rt: HostRuntime) -> Result<(), Fail> {
+fn short_writes_are_gathered(rt: HostRuntime) -> Result<(), Fault> {
     let writes = AtomicU64::new(0);
     let flushes = AtomicU64::new(0);
     let writer = CountedWriter {
@@ -260,26 +272,19 @@ fn short_writes_are_gathered(rt: HostRuntime) -> Result<(), Fail> {
         flushes: &flushes,
     };
     let mut output = buffered(rt.alloc(), writer)?;
-    for _ in 0..3u8 {
-        assert!(rt; write_all(&mut output, b"[1]\n") == Ok(()));
-    }
-    assert!(rt; writes.load(SeqCst) == 0);
-    assert!(rt; output.flush() == Ok(()));
-    assert!(rt; writes.load(SeqCst) == 1);
-    assert!(rt; flushes.load(SeqCst) == 1);
-    assert!(rt; write_all(&mut output, &[b'a'; 100_000]) == Ok(()));
-    assert!(rt; writes.load(SeqCst) == 2);
+    assert!(rt; gathers(&mut output, &writes, &flushes));
     Ok(())
 }
 
-/// Whether a run behind a buffer, of whose writes so many fail, answers this status and says this;
-/// and how often it is flushed.
+/// Whether a run behind a buffer, of whose writes so many fail, answers this status, says this, and is
+/// flushed unless a write failed.
 fn is_ended<H>(
     rt: &H,
-    (command, last): (Command, &str),
+    given: &Given<'_>,
     failing: u64,
-    (status, said): (u8, &str),
-) -> Result<(bool, u64), Fault>
+    status: u8,
+    said: &str,
+) -> Result<bool, Fault>
 where
     H: Abort + AllocGlobal + Threads + Wait + Copy + Send + 'static,
 {
@@ -290,32 +295,27 @@ where
         writes: &writes,
         flushes: &flushes,
     };
-    let mut output = buffered(rt.alloc(), writer)?;
     let mut errors = Bin::new(rt.alloc(), 128, 128, false)?;
-    let given = Given {
-        last,
-        step: 4096,
-        fails: false,
-    };
-    let answer = run(rt, command, given, &mut output, &mut errors)?;
-    let is_right = answer == status && errors.bytes() == said.as_bytes();
-    Ok((is_right && writes.load(SeqCst) > 0, flushes.load(SeqCst)))
+    let mut output = buffered(rt.alloc(), writer)?;
+    let is_right = run(rt, given, &mut output, &mut errors) == Ok(status);
+    let is_said = errors.bytes() == said.as_bytes();
+    let is_written = writes.load(SeqCst) > 0;
+    let is_flushed = flushes.load(SeqCst) > 0;
+    Ok(is_right && is_said && is_written && is_flushed == (failing == 0))
 }
 
 #[test]
-fn what_is_gathered_is_passed_on_at_the_end(rt: HostRuntime) -> Result<(), Fail> {
+fn what_is_gathered_is_passed_on_at_the_end(rt: HostRuntime) -> Result<(), Fault> {
     let no_feature = "citymerge: tile 1 line 3: the line is not a CityJSONFeature\n";
-    for (last, failing, status, said) in [
-        (B, 0, 0u8, ""),
-        ("{}", 0, 1, no_feature),
-        ("{}", u64::MAX, 1, NOT_WRITTEN),
-        (B, u64::MAX, 1, NOT_WRITTEN),
-    ] {
-        let ended = is_ended(&rt, (Command::Filter, last), failing, (status, said))?;
-        assert!(rt; ended.0);
-        assert!(rt; (ended.1 > 0) == (failing == 0));
-    }
-    let ended = is_ended(&rt, (Command::Cat, B), 1, (1, NOT_WRITTEN))?;
-    assert!(rt; ended.0);
+    let whole = both(Command::Filter, 4096, false);
+    let ends_otherwise = Given {
+        last: A_AND_ELSE,
+        ..whole
+    };
+    assert!(rt; is_ended(&rt, &whole, 0, 0, "")?);
+    assert!(rt; is_ended(&rt, &ends_otherwise, 0, 1, no_feature)?);
+    assert!(rt; is_ended(&rt, &ends_otherwise, u64::MAX, 1, NOT_WRITTEN)?);
+    assert!(rt; is_ended(&rt, &whole, u64::MAX, 1, NOT_WRITTEN)?);
+    assert!(rt; is_ended(&rt, &both(Command::Cat, 4096, false), 1, 1, NOT_WRITTEN)?);
     Ok(())
 }

@@ -1,8 +1,8 @@
 //! What a test says to the shim of `tools/growths.sh`, by growths that it never grants, and to the script.
 
+use byte_streams::Fault;
 use std::alloc::{AllocError, Global};
 use std::io::Eprint;
-use std::process::Abort;
 
 /// How many bytes a growth has that says: from here on each growth is to be refused.
 const TAKE: usize = 7_777_777;
@@ -30,15 +30,17 @@ pub(super) fn take(alloc: Global) -> bool {
     is_refused(alloc, TAKE)
 }
 
-/// Gives the memory back, which up to here was gone, if it is said that it was.
-pub(super) fn give(rt: &(impl Abort + AllocGlobal), was_gone: bool) {
-    assert!(rt; is_gone(rt.alloc()) == was_gone);
-    is_refused(rt.alloc(), GIVE);
+/// Gives the memory back; whether it was gone up to here, if it is said that it was, or else was there.
+pub(super) fn give(alloc: Global, was_gone: bool) -> bool {
+    let is_gone = is_gone(alloc);
+    is_refused(alloc, GIVE);
+    is_gone == was_gone
 }
 
-/// Says that this call answered want of memory, and gives the memory back.
-pub(super) fn wanted(rt: &(impl AllocGlobal + Eprint), call: Call) {
+/// Says that this call answered want of memory, gives the memory back, and answers the same.
+pub(super) fn wanted(rt: &(impl AllocGlobal + Eprint), call: Call) -> Result<bool, Fault> {
     let Call(name) = call;
     let _ = rt.eprintln(format_args!("wanted memory: {name}"));
     is_refused(rt.alloc(), GIVE);
+    Err(Fault::Memory)
 }
