@@ -1,23 +1,23 @@
 //! Readers and writers that fail.
-use crate::texts::{
-    DOCUMENT, FEATURE, HEADER, NOT_WRITTEN, expect_answer, expect_bytes, expect_cat, expect_count,
-    refused, stream_of,
-};
+use crate::texts::{DOCUMENT, HEADER, Way, gives, gives_anyhow, is_told, spelled};
 use byte_streams::{Bin, Device, Fault, Line, Source, Tape};
 use document_stream::{cat_document, cat_source};
+use std::alloc::{AllocError, Global};
 use std::io::{self, ErrorKind, Read, Write};
 use std::sync::atomic::AtomicU64;
 use std::sync::atomic::Ordering::SeqCst;
-use std::test::Fail;
+
+/// Whether nothing is written where the read after so many bytes fails.
+fn read_fails(alloc: Global, taken: usize) -> bool {
+    let input = DOCUMENT.as_bytes();
+    gives_anyhow(alloc, &input[..taken.min(input.len())], true, b"", "Read")
+}
 
 #[test]
-fn a_read_that_fails_leaves_nothing_written(rt: HostRuntime) -> Result<(), Fail> {
-    let answer = refused(Fault::Read);
-    for taken in [0, 1, 200, DOCUMENT.len() - 1, DOCUMENT.len()] {
-        let input = &DOCUMENT.as_bytes()[..taken];
-        expect_cat(&rt, (input, true), answer, &[])?;
+fn a_read_that_fails_leaves_nothing_written(rt: HostRuntime) {
+    for taken in [0usize, 1, 200, DOCUMENT.len() - 1, DOCUMENT.len()] {
+        assert!(rt; read_fails(rt.alloc(), taken));
     }
-    Ok(())
 }
 
 /// It gives the document in pieces and counts its reads where the test sees it; the read after so many
@@ -41,76 +41,121 @@ impl<'a> Read for CountedReader<'a> {
     }
 }
 
+/// Whether the document is read so often, and is written where no read failed.
+fn is_read(alloc: Global, failing: u64, reads: u64, answer: &str) -> Result<bool, Fault> {
+    let counted = AtomicU64::new(0);
+    let mut output = Bin::new(alloc, 1024, 1024, false)?;
+    let mut source = Device::new(CountedReader {
+        left: DOCUMENT.as_bytes(),
+        reads: &counted,
+        failing,
+    });
+    let found = cat_source(alloc, &mut source, &mut output);
+    Ok(
+        is_told(alloc, found, answer)
+            && counted.load(SeqCst) == reads
+            && output.bytes().is_empty() == found.is_err(),
+    )
+}
+
 #[test]
-fn nothing_is_read_after_a_failed_read(rt: HostRuntime) -> Result<(), Fail> {
+fn nothing_is_read_after_a_failed_read(rt: HostRuntime) {
     // 423 bytes are three reads, and the end is a fourth one.
-    for (failing, answer, reads) in [
-        (0u64, refused(Fault::Read), 1u64),
-        (1, refused(Fault::Read), 2),
-        (3, refused(Fault::Read), 4),
-        (4, Ok(1), 4),
-    ] {
-        let counted = AtomicU64::new(0);
-        let mut source = Device::new(CountedReader {
-            left: DOCUMENT.as_bytes(),
-            reads: &counted,
-            failing,
-        });
-        let mut output = Bin::new(rt.alloc(), 1024, 1024, false)?;
-        let found = cat_source(rt.alloc(), &mut source, &mut output);
-        expect_answer(&rt, found, answer, 0);
-        expect_count(&rt, &counted, reads);
-        assert!(rt; output.bytes().is_empty() == answer.is_err());
-    }
-    Ok(())
+    assert!(rt; is_read(rt.alloc(), 0, 1, "Read") == Ok(true));
+    assert!(rt; is_read(rt.alloc(), 1, 2, "Read") == Ok(true));
+    assert!(rt; is_read(rt.alloc(), 3, 4, "Read") == Ok(true));
+    assert!(rt; is_read(rt.alloc(), 4, 4, "1") == Ok(true));
 }
 
-#[test]
-fn what_is_left_of_a_refused_source_is_not_taken(rt: HostRuntime) -> Result<(), Fail> {
-    let text = Line::from_vec(b"[1]".to_vec(rt.alloc())?);
-    let mut tape = Tape::new(text, 2, true);
-    let mut output = Bin::new(rt.alloc(), 64, 64, false)?;
+/// Whether the source fails three times, and once more where it is read, and nothing is written.
+fn stays_refused(alloc: Global, source: &mut Tape, output: &mut Bin) -> bool {
+    let mut agree = true;
     for _ in 0..3u8 {
-        let found = cat_source(rt.alloc(), &mut tape, &mut output);
-        expect_answer(&rt, found, refused(Fault::Read), 0);
+        agree = agree && is_told(alloc, cat_source(alloc, source, output), "Read");
     }
-    let mut byte = [0u8];
-    assert!(rt; tape.read(&mut byte) == Err(Fault::Read));
-    assert!(rt; output.bytes().is_empty());
-    Ok(())
+    agree && source.read(&mut [0u8]) == Err(Fault::Read) && output.bytes().is_empty()
+}
+
+fn is_source_left(alloc: Global) -> Result<bool, Fault> {
+    let mut tape = Tape::new(Line::from_vec(b"[1]".to_vec(alloc)?), 2, true);
+    let mut output = Bin::new(alloc, 64, 64, false)?;
+    Ok(stays_refused(alloc, &mut tape, &mut output))
 }
 
 #[test]
-fn a_failed_write_leaves_a_front_of_the_stream(rt: HostRuntime) -> Result<(), Fail> {
-    let whole = stream_of(rt.alloc(), &[HEADER, FEATURE])?;
-    for room in 0..whole.len() {
-        for step in [1usize, 100, 4096] {
-            let text = Line::from_vec(DOCUMENT.as_bytes().to_vec(rt.alloc())?);
-            let mut output = Bin::new(rt.alloc(), room, step, false)?;
-            let found = cat_document(rt.alloc(), Tape::new(text, 100, false), &mut output);
-            expect_answer(&rt, found, Err(NOT_WRITTEN), room);
-            expect_bytes(&rt, output.bytes(), &whole[..room], room);
-        }
+fn what_is_left_of_a_refused_source_is_not_taken(rt: HostRuntime) {
+    assert!(rt; is_source_left(rt.alloc()) == Ok(true));
+}
+
+/// Whether the front of the stream is written that the writer has room for.
+fn write_fails(alloc: Global, stream: &[u8], room: usize, write: usize) -> bool {
+    let way = Way {
+        read: 100,
+        fails: false,
+        room,
+        write,
+        flush_fails: false,
+    };
+    let written = &stream[..room.min(stream.len())];
+    gives(alloc, DOCUMENT.as_bytes(), &way, written, "Write") == Ok(true)
+}
+
+fn writes_fail(alloc: Global, stream: &[u8], write: usize) -> bool {
+    let mut agree = true;
+    for room in 0..stream.len() {
+        agree = agree && write_fails(alloc, stream, room, write);
     }
-    Ok(())
+    agree
+}
+
+/// Whether a write may fail at each byte, where a write takes one, some or all.
+fn fails_anywhere(alloc: Global) -> Result<bool, AllocError> {
+    let stream = spelled(alloc, "HEADER;FEATURE;")?;
+    let bytes = stream.as_bytes();
+    Ok(
+        writes_fail(alloc, bytes, 1)
+            && writes_fail(alloc, bytes, 100)
+            && writes_fail(alloc, bytes, 4096),
+    )
 }
 
 #[test]
-fn a_write_of_no_bytes_and_a_failed_flush_are_failures(rt: HostRuntime) -> Result<(), Fail> {
-    let whole = stream_of(rt.alloc(), &[HEADER, FEATURE])?;
-    for (document, step, flush_fails, taken) in [
-        (DOCUMENT, 0usize, false, 0usize),
-        (DOCUMENT, 4096, true, whole.len()),
-        (HEADER, 4096, true, HEADER.len() + 1),
-        (HEADER, 0, true, 0),
-    ] {
-        let text = Line::from_vec(document.as_bytes().to_vec(rt.alloc())?);
-        let mut output = Bin::new(rt.alloc(), 4096, step, flush_fails)?;
-        let found = cat_document(rt.alloc(), Tape::new(text, 100, false), &mut output);
-        expect_answer(&rt, found, Err(NOT_WRITTEN), step);
-        expect_bytes(&rt, output.bytes(), &whole[..taken.min(whole.len())], step);
-    }
-    Ok(())
+fn a_failed_write_leaves_a_front_of_the_stream(rt: HostRuntime) {
+    assert!(rt; fails_anywhere(rt.alloc()) == Ok(true));
+}
+
+/// Whether these lines are written by so many bytes a write, and then a write or the flush fails.
+fn fails_after(
+    alloc: Global,
+    document: &str,
+    write: usize,
+    flush_fails: bool,
+    lines: &str,
+) -> Result<bool, Fault> {
+    let way = Way {
+        read: 100,
+        fails: false,
+        room: 4096,
+        write,
+        flush_fails,
+    };
+    let written = spelled(alloc, lines)?;
+    gives(
+        alloc,
+        document.as_bytes(),
+        &way,
+        written.as_bytes(),
+        "Write",
+    )
+}
+
+#[test]
+fn a_write_of_no_bytes_and_a_failed_flush_are_failures(rt: HostRuntime) {
+    let alloc = rt.alloc();
+    assert!(rt; fails_after(alloc, DOCUMENT, 0, false, "") == Ok(true));
+    assert!(rt; fails_after(alloc, DOCUMENT, 4096, true, "HEADER;FEATURE;") == Ok(true));
+    assert!(rt; fails_after(alloc, HEADER, 4096, true, "HEADER;") == Ok(true));
+    assert!(rt; fails_after(alloc, HEADER, 0, true, "") == Ok(true));
 }
 
 /// It counts its calls where the test sees it; the write after so many others fails.
@@ -135,40 +180,42 @@ impl<'a> Write for CountedWriter<'a> {
     }
 }
 
+const ROADS: &str =
+    r#""CityObjects":{"a":{"type":"Road"},"b":{"type":"Road"},"c":{"type":"Road"}}"#;
+
+/// Whether three roads are so many writes and flushes.
+fn is_written(
+    alloc: Global,
+    failing: Option<u64>,
+    written: u64,
+    flushed: u64,
+    answer: &str,
+) -> Result<bool, Fault> {
+    let document = HEADER.replace(alloc, "\"CityObjects\":{}", ROADS)?;
+    let tape = Tape::new(Line::from_vec(document.into_bytes()), 4096, false);
+    let writes = AtomicU64::new(0);
+    let flushes = AtomicU64::new(0);
+    let mut output = Device::new(CountedWriter {
+        writes: &writes,
+        flushes: &flushes,
+        failing,
+    });
+    let found = cat_document(alloc, tape, &mut output);
+    Ok(
+        is_told(alloc, found, answer)
+            && writes.load(SeqCst) == written
+            && flushes.load(SeqCst) == flushed,
+    )
+}
+
 #[test]
-fn each_text_is_written_and_none_follows_a_failure(rt: HostRuntime) -> Result<(), Fail> {
-    let objects = r#""a":{"type":"Road"},"b":{"type":"Road"},"c":{"type":"Road"}"#;
-    let three = HEADER.replace(
-        rt.alloc(),
-        "\"CityObjects\":{}",
-        "\"CityObjects\":{OBJECTS}",
-    )?;
-    let three = three.replace(rt.alloc(), "OBJECTS", objects)?;
-    for (failing, answer, written, flushed) in [
-        // Of each feature its own part, the common part and the newline.
-        (None, Ok(3), 11u64, 1u64),
-        (Some(0u64), Err(NOT_WRITTEN), 1, 0),
-        (Some(1), Err(NOT_WRITTEN), 2, 0),
-        (Some(2), Err(NOT_WRITTEN), 3, 0),
-        (Some(6), Err(NOT_WRITTEN), 7, 0),
-        (Some(10), Err(NOT_WRITTEN), 11, 0),
-    ] {
-        let writes = AtomicU64::new(0);
-        let flushes = AtomicU64::new(0);
-        let mut output = Device::new(CountedWriter {
-            writes: &writes,
-            flushes: &flushes,
-            failing,
-        });
-        let tape = Tape::new(
-            Line::from_vec(three.as_bytes().to_vec(rt.alloc())?),
-            4096,
-            false,
-        );
-        let found = cat_document(rt.alloc(), tape, &mut output);
-        expect_answer(&rt, found, answer, 0);
-        expect_count(&rt, &writes, written);
-        expect_count(&rt, &flushes, flushed);
-    }
-    Ok(())
+fn each_text_is_written_and_none_follows_a_failure(rt: HostRuntime) {
+    let alloc = rt.alloc();
+    // Of each feature its own part, the common part and the newline.
+    assert!(rt; is_written(alloc, None, 11, 1, "3") == Ok(true));
+    assert!(rt; is_written(alloc, Some(0), 1, 0, "Write") == Ok(true));
+    assert!(rt; is_written(alloc, Some(1), 2, 0, "Write") == Ok(true));
+    assert!(rt; is_written(alloc, Some(2), 3, 0, "Write") == Ok(true));
+    assert!(rt; is_written(alloc, Some(6), 7, 0, "Write") == Ok(true));
+    assert!(rt; is_written(alloc, Some(10), 11, 0, "Write") == Ok(true));
 }

@@ -1,79 +1,67 @@
 //! Documents that are refused, of which nothing is written.
-use crate::texts::{DOCUMENT, expect_cat, refused};
-use byte_streams::Fault;
-use std::test::Fail;
+use crate::texts::{DOCUMENT, expect, gives_anyhow};
+use std::alloc::{AllocError, Global};
+
+/// What stands in the place of the document: blank inputs, and what is no text.
+const BLANK: &str = "DOCUMENT =>  =>  => NoHeader
+DOCUMENT =>  ; =>  => NoHeader
+DOCUMENT => ; =>  => NoHeader
+DOCUMENT => ; \t\r; =>  => NoHeader
+DOCUMENT => x =>  => Syntax
+DOCUMENT => \0 =>  => Syntax";
+
+/// An input is one text.
+const WHOLE: &str = r#"DOCUMENT => DOCUMENT;DOCUMENT =>  => Syntax
+DOCUMENT => [] =>  => NotCityJson
+DOCUMENT => {"type":1,"type":2} =>  => DuplicateName"#;
+
+/// Changes of the document.
+const CHANGED: &str = r#""CityJSON" => "CityJSONFeature" =>  => NotCityJson
+["p1","p2"] => "p1" =>  => NotCityJson
+2.0 => 1.1 =>  => Version
+"scale" => "scales" =>  => NoTransform
+[0.001, => [1e-25, =>  => Decimal
+[0.001, => [0, =>  => ScaleNotPositive
+[2,2,2] => [2,2] =>  => VertexShape
+[2,2,2] => [2,2.0,2] =>  => VertexNotInteger
+[2,2,2] => [2,9007199254740992,2] =>  => VertexRange
+["p1","p2"] => ["p1","p3"] =>  => ChildMissing
+["p1","p2"] => ["p1"] =>  => Orphan
+"Building", => "Building","parents":["p1"], =>  => Orphan
+[3,1] => [4,1] =>  => BoundaryIndex
+[3,1] => ["3",1] =>  => BoundaryIndex
+[3,1] => [-0,1] =>  => BoundaryIndex
+[3,3,3]]} => [3,3,3]] =>  => Syntax
+"p1": => "\u0062": =>  => DuplicateName"#;
 
 #[test]
-fn blank_inputs_are_no_document(rt: HostRuntime) -> Result<(), Fail> {
-    for input in ["", " \n", "\n", "\n \t\r\n"] {
-        let answer = refused(Fault::NoHeader);
-        expect_cat(&rt, (input.as_bytes(), false), answer, &[])?;
-    }
-    Ok(())
+fn documents_are_refused_by_their_first_fault(rt: HostRuntime) {
+    expect(&rt, "DOCUMENT", BLANK);
+    expect(&rt, "DOCUMENT", WHOLE);
+    expect(&rt, DOCUMENT, CHANGED);
+}
+
+/// Whether this is the fault of so many open arrays and these bytes.
+fn is_deep_refused(
+    alloc: Global,
+    count: usize,
+    last: &[u8],
+    fails: bool,
+    fault: &str,
+) -> Result<bool, AllocError> {
+    let mut input = "[".repeat(alloc, count)?.into_bytes();
+    input.extend_from_slice(last)?;
+    Ok(gives_anyhow(alloc, &input, fails, b"", fault))
 }
 
 #[test]
-fn an_input_is_one_text(rt: HostRuntime) -> Result<(), Fail> {
-    let open = "[".repeat(rt.alloc(), 129)?;
-    let two = format!(in rt.alloc(); "{DOCUMENT}\n{DOCUMENT}")?;
-    let cut_short = &DOCUMENT[..DOCUMENT.len() - 1];
-    let repeated = DOCUMENT.replace(rt.alloc(), "\"p1\":", "\"\\u0062\":")?;
-    for (input, fault) in [
-        (b"\xff".as_slice(), Fault::NotUtf8),
-        (b"{\"a\":\"\xff\"}", Fault::NotUtf8),
-        (open.as_bytes(), Fault::TooDeep),
-        (two.as_bytes(), Fault::Syntax),
-        (cut_short.as_bytes(), Fault::Syntax),
-        (b"x", Fault::Syntax),
-        (b"\x00", Fault::Syntax),
-        (repeated.as_bytes(), Fault::DuplicateName),
-    ] {
-        expect_cat(&rt, (input, false), refused(fault), &[])?;
-    }
-    Ok(())
-}
-
-/// What is put in place of what in the document, and why it is refused then.
-const REPLACED: [(&str, &str, Fault); 15] = [
-    ("\"CityJSON\"", "\"CityJSONFeature\"", Fault::NotCityJson),
-    (r#"["p1","p2"]"#, "\"p1\"", Fault::NotCityJson),
-    ("2.0", "1.1", Fault::Version),
-    ("\"scale\"", "\"scales\"", Fault::NoTransform),
-    ("[0.001,", "[1e-25,", Fault::Decimal),
-    ("[0.001,", "[0,", Fault::ScaleNotPositive),
-    ("[2,2,2]", "[2,2]", Fault::VertexShape),
-    ("[2,2,2]", "[2,2.0,2]", Fault::VertexNotInteger),
-    ("[2,2,2]", "[2,9007199254740992,2]", Fault::VertexRange),
-    (r#"["p1","p2"]"#, r#"["p1","p3"]"#, Fault::ChildMissing),
-    (r#"["p1","p2"]"#, r#"["p1"]"#, Fault::Orphan),
-    (
-        "\"Building\",",
-        r#""Building","parents":["p1"],"#,
-        Fault::Orphan,
-    ),
-    ("[3,1]", "[4,1]", Fault::BoundaryIndex),
-    ("[3,1]", "[\"3\",1]", Fault::BoundaryIndex),
-    ("[3,1]", "[-0,1]", Fault::BoundaryIndex),
-];
-
-#[test]
-fn documents_are_refused_by_their_first_fault(rt: HostRuntime) -> Result<(), Fail> {
-    for (old, new, fault) in REPLACED.iter() {
-        let document = DOCUMENT.replace(rt.alloc(), old, new)?;
-        expect_cat(&rt, (document.as_bytes(), false), refused(*fault), &[])?;
-    }
-    expect_cat(&rt, (b"[]", false), refused(Fault::NotCityJson), &[])
-}
-
-#[test]
-fn the_fault_that_stands_first_is_answered(rt: HostRuntime) -> Result<(), Fail> {
-    let deep = "[".repeat(rt.alloc(), 200)?;
-    let mut bytes = deep.into_bytes();
-    expect_cat(&rt, (&bytes, false), refused(Fault::TooDeep), &[])?;
-    bytes.push(0xff)?;
-    expect_cat(&rt, (&bytes, false), refused(Fault::NotUtf8), &[])?;
-    expect_cat(&rt, (&bytes, true), refused(Fault::Read), &[])?;
-    expect_cat(&rt, (b"\n", true), refused(Fault::Read), &[])?;
-    let twice = b"{\"type\":1,\"type\":2}";
-    expect_cat(&rt, (twice, false), refused(Fault::DuplicateName), &[])
+fn the_fault_that_stands_first_is_answered(rt: HostRuntime) {
+    let alloc = rt.alloc();
+    assert!(rt; gives_anyhow(alloc, b"\xff", false, b"", "NotUtf8"));
+    assert!(rt; gives_anyhow(alloc, b"{\"a\":\"\xff\"}", false, b"", "NotUtf8"));
+    assert!(rt; gives_anyhow(alloc, b"\n", true, b"", "Read"));
+    assert!(rt; is_deep_refused(alloc, 129, b"", false, "TooDeep") == Ok(true));
+    assert!(rt; is_deep_refused(alloc, 200, b"", false, "TooDeep") == Ok(true));
+    assert!(rt; is_deep_refused(alloc, 200, b"\xff", false, "NotUtf8") == Ok(true));
+    assert!(rt; is_deep_refused(alloc, 200, b"\xff", true, "Read") == Ok(true));
 }

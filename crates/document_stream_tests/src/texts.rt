@@ -1,12 +1,8 @@
-//! A document, what comes of it, and what is to be answered.
-
+//! A document, what comes of it, and tables of such, a row on each line.
 use byte_streams::{Bin, Fault, Line, MergeFault, Tape};
 use document_stream::cat_document;
 use std::alloc::{AllocError, AllocGlobal, Global};
 use std::process::Abort;
-use std::sync::atomic::AtomicU64;
-use std::sync::atomic::Ordering::SeqCst;
-use std::test::Fail;
 
 pub(crate) const HEADER: &str =
     r#"{"type":"CityJSON","version":"2.0","transform":{"scale":[0.001,0.001,0.001],"translate":[0,0,0]},"CityObjects":{},"vertices":[]}"#;
@@ -17,73 +13,105 @@ pub(crate) const DOCUMENT: &str =
 pub(crate) const FEATURE: &str =
     r#"{"type":"CityJSONFeature","id":"b","CityObjects":{"b":{"type":"Building","children":["p1","p2"]},"p1":{"type":"BuildingPart","parents":["b"],"geometry":[{"type":"MultiPoint","lod":"1","boundaries":[0,1]}]},"p2":{"type":"BuildingPart","parents":["b"],"geometry":[{"type":"MultiPoint","lod":"1","boundaries":[1,2]}]}},"vertices":[[3,3,3],[1,1,1],[0,0,0]]}"#;
 
-pub(crate) const NOT_WRITTEN: MergeFault = MergeFault {
-    tile: 0,
-    line: 0,
-    fault: Fault::Write,
-};
-
-/// The answer to a document that is refused.
-pub(crate) fn refused(fault: Fault) -> Result<u64, MergeFault> {
-    Err(MergeFault {
-        tile: 1,
-        line: 0,
-        fault,
-    })
+/// The text, in which the texts above stand for their names, and newlines for `;`.
+pub(crate) fn spelled(alloc: Global, text: &str) -> Result<String, AllocError> {
+    text.replace(alloc, "HEADER", HEADER)?
+        .replace(alloc, "FEATURE", FEATURE)?
+        .replace(alloc, "DOCUMENT", DOCUMENT)?
+        .replace(alloc, ";", "\n")
 }
 
-/// These texts, each followed by a newline.
-pub(crate) fn stream_of(alloc: Global, texts: &[&str]) -> Result<Vec<u8>, AllocError> {
-    let mut stream = Vec::new(alloc);
-    for text in texts {
-        stream.extend_from_slice(text.as_bytes())?;
-        stream.push(b'\n')?;
+fn is_named(alloc: Global, fault: Fault, name: &str) -> bool {
+    match format!(in alloc; "{fault:?}") {
+        Ok(text) => text.as_str() == name,
+        Err(_) => false,
     }
-    Ok(stream)
 }
 
-/// Wants this answer of a call, at this step or room.
-pub(crate) fn expect_answer(
-    rt: &impl Abort,
-    found: Result<u64, MergeFault>,
-    wanted: Result<u64, MergeFault>,
-    at: usize,
-) {
-    assert!(rt; found == wanted, "{found:?} at {at}");
+/// Whether this was answered: a count of features, or the fault of this name, of tile 1 and line 0; a failed write is that
+/// of no tile.
+pub(crate) fn is_told(alloc: Global, answer: Result<u64, MergeFault>, wanted: &str) -> bool {
+    match answer {
+        Ok(count) => wanted.parse::<u64>().ok() == Some(count),
+        Err(MergeFault { tile, line, fault }) => {
+            let of_tile = if fault == Fault::Write { 0u32 } else { 1 };
+            tile == of_tile && line == 0 && is_named(alloc, fault, wanted)
+        }
+    }
 }
 
-pub(crate) fn expect_bytes(rt: &impl Abort, found: &[u8], wanted: &[u8], at: usize) {
-    assert!(rt; found == wanted, "{} bytes at {at}", found.len());
+/// How a document is read and written: bytes a read, whether the reader fails after the last, bytes that the writer takes
+/// in all and at a time, and whether its flush fails.
+#[derive(Clone, Copy)]
+pub(crate) struct Way {
+    pub(crate) read: usize,
+    pub(crate) fails: bool,
+    pub(crate) room: usize,
+    pub(crate) write: usize,
+    pub(crate) flush_fails: bool,
 }
 
-pub(crate) fn expect_count(rt: &impl Abort, count: &AtomicU64, wanted: u64) {
-    let found = count.load(SeqCst);
-    assert!(rt; found == wanted, "{found} in place of {wanted}");
+/// Whether these bytes are written of the input, and this is answered.
+pub(crate) fn gives(
+    alloc: Global,
+    input: &[u8],
+    way: &Way,
+    written: &[u8],
+    answer: &str,
+) -> Result<bool, Fault> {
+    let tape = Tape::new(
+        Line::from_vec(input.to_vec(alloc)?),
+        way.read.max(1),
+        way.fails,
+    );
+    let mut output = Bin::new(alloc, way.room, way.write, way.flush_fails)?;
+    let found = cat_document(alloc, tape, &mut output);
+    Ok(output.bytes() == written && is_told(alloc, found, answer))
 }
 
-/// Reads the document with ample memory, at few and at many bytes a read and a write, and compares all
-/// that is answered and written.
-pub(crate) fn expect_cat(
-    rt: &(impl Abort + AllocGlobal),
-    (input, fails): (&[u8], bool),
-    answer: Result<u64, MergeFault>,
-    written: &[&str],
-) -> Result<(), Fail> {
-    let written = stream_of(rt.alloc(), written)?;
+/// The same with ample memory, at few and at many bytes a read and a write.
+pub(crate) fn gives_anyhow(
+    alloc: Global,
+    input: &[u8],
+    fails: bool,
+    written: &[u8],
+    answer: &str,
+) -> bool {
+    let mut agree = true;
     for step in [1usize, 7, 100_000] {
-        let tape = Tape::new(
-            Line::from_vec(input.to_vec(rt.alloc())?),
-            step.max(1),
+        let way = Way {
+            read: step,
             fails,
-        );
-        let mut output = Bin::new(rt.alloc(), 8192, step, false)?;
-        expect_answer(
-            rt,
-            cat_document(rt.alloc(), tape, &mut output),
-            answer,
-            step,
-        );
-        expect_bytes(rt, output.bytes(), &written, step);
+            room: 8192,
+            write: step,
+            flush_fails: false,
+        };
+        agree = agree && gives(alloc, input, &way, written, answer) == Ok(true);
     }
-    Ok(())
+    agree
+}
+
+/// What stands before the first arrow of a row, and after it.
+fn split(row: &str) -> (&str, &str) {
+    match row.split_once(" => ") {
+        Some(parts) => parts,
+        None => (row, ""),
+    }
+}
+
+/// Whether the row holds: what is put in place of what in the text; what is written then; and the answer.
+fn holds(alloc: Global, text: &str, row: &str) -> Result<bool, AllocError> {
+    let (old, change) = split(row);
+    let (new, outcome) = split(change);
+    let (lines, answer) = split(outcome);
+    let input = spelled(alloc, &text.replace(alloc, old, new)?)?;
+    let written = spelled(alloc, lines)?;
+    Ok(gives_anyhow(alloc, input.as_bytes(), false, written.as_bytes(), answer))
+}
+
+/// The rows of a table hold.
+pub(crate) fn expect(rt: &(impl Abort + AllocGlobal), text: &str, table: &str) {
+    for row in table.lines() {
+        assert!(rt; holds(rt.alloc(), text, row) == Ok(true), "{row}");
+    }
 }
