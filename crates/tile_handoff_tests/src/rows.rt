@@ -5,8 +5,8 @@ ghost use Rattle.tile_handoff.specs.History.{event_tile};
 use byte_streams::{Fault, Line};
 use std::alloc::{AllocError, Global};
 use tile_handoff::{
-    End, Event, Events, Kind, MAX_CAPACITY, MAX_TILES, Mark, Marks, NoClose, NoPut, Queues,
-    Replies, Reply, Row, Run, Took, order_and_close, run,
+    End, Event, Events, Kind, MAX_CAPACITY, MAX_TILES, Mark, Marks, Replies, Reply, Run,
+    order_and_close, run,
 };
 
 const END: End = End {
@@ -63,74 +63,32 @@ fn is_shown(reply: &Reply, text: &str) -> bool {
     }
 }
 
-// How many of the first steps have their reply.
-fn count_shown(replies: &[Reply], steps: &[Step<'_>]) -> usize {
-    let mut count = 0usize;
+fn are_shown(replies: &[Reply], steps: &[Step<'_>]) -> bool {
     for (reply, (_, _, text)) in replies.iter().zip(steps) {
         if !is_shown(reply, text) {
-            return count;
+            return false;
         }
-        count = count.saturating_add(1);
     }
-    count
+    replies.len() == steps.len()
 }
 
-// How many replies there are, how many of the first of them are as they are to be, and whether
-// these marks are left.
-type Told = (usize, usize, bool);
-
-fn told(answer: &Run, steps: &[Step<'_>], marks: &[Mark]) -> Told {
-    let replies = answer.replies.items();
-    let is_left = answer.row.marks().items() == marks;
-    (replies.len(), count_shown(replies, steps), is_left)
+fn is_told(answer: &Run, steps: &[Step<'_>], marks: &[Mark]) -> bool {
+    are_shown(answer.replies.items(), steps) && answer.row.marks().items() == marks
 }
 
-fn asked(
+// Whether the steps have their replies, and leave these marks.
+fn are_answered(
     alloc: Global,
     tiles: u32,
     capacity: u32,
     steps: &[Step<'_>],
     marks: &[Mark],
-) -> Result<Told, Fault>
+) -> Result<bool, Fault>
     requires tiles { (0 < tiles) × (tiles ≤ MAX_TILES) }
     requires capacity { (0 < capacity) × (capacity ≤ MAX_CAPACITY) }
 {
     let answer = run(alloc, tiles, capacity, events_of(alloc, tiles, steps)?)?;
-    Ok(told(&answer, steps, marks))
-}
-
-fn of_one_tile() -> [Step<'static>; 10] {
-    [
-        (0, "x", "Accepted"),
-        (0, "y", "Accepted"),
-        (0, "z", "Full"),
-        (0, "take", "Line x"),
-        (0, "close", "Accepted"),
-        (0, "w", "Closed"),
-        (0, "take", "Line y"),
-        (0, "take", "End 2"),
-        (0, "take", "Drained"),
-        (0, "close", "Closed"),
-    ]
-}
-
-fn marks_of_one_tile() -> [Mark; 6] {
-    [
-        mark(0, Kind::Put, 0),
-        mark(0, Kind::Put, 1),
-        mark(0, Kind::Take, 0),
-        mark(0, Kind::Close, 2),
-        mark(0, Kind::Take, 1),
-        mark(0, Kind::Take, 2),
-    ]
-}
-
-#[test]
-fn a_tile_is_put_taken_and_closed(rt: HostRuntime) -> Result<(), Fault> {
-    let (count, shown, is_left) = asked(rt.alloc(), 1, 2, &of_one_tile(), &marks_of_one_tile())?;
-    assert!(rt; shown == 10, "step {shown}");
-    assert!(rt; count == 10 && is_left);
-    Ok(())
+    Ok(is_told(&answer, steps, marks))
 }
 
 fn of_two_tiles() -> [Step<'static>; 10] {
@@ -161,104 +119,13 @@ fn marks_of_two_tiles() -> [Mark; 6] {
 
 #[test]
 fn two_tiles_share_a_row(rt: HostRuntime) -> Result<(), Fault> {
-    let (count, shown, is_left) = asked(rt.alloc(), 2, 1, &of_two_tiles(), &marks_of_two_tiles())?;
-    assert!(rt; shown == 10, "step {shown}");
-    assert!(rt; count == 10 && is_left);
+    assert!(rt; are_answered(rt.alloc(), 2, 1, &of_two_tiles(), &marks_of_two_tiles())?);
     Ok(())
 }
 
 #[test]
-fn no_events_leave_nothing(rt: HostRuntime) {
-    assert!(rt; asked(rt.alloc(), 64, 1024, &[], &[]) == Ok((0, 0, true)));
-}
-
-fn of_one_place() -> [Step<'static>; 3] {
-    [
-        (0, "take", "Empty"),
-        (0, "x", "Accepted"),
-        (0, "close", "Full"),
-    ]
-}
-
-#[test]
-fn an_end_note_takes_a_place(rt: HostRuntime) -> Result<(), Fault> {
-    let (count, shown, _) = asked(rt.alloc(), 1, 1, &of_one_place(), &[])?;
-    assert!(rt; shown == 3, "step {shown}");
-    assert!(rt; count == 3);
-    Ok(())
-}
-
-fn is_line(took: Took, text: &str) -> bool {
-    match took {
-        Took::Line(line) => line.items() == text.as_bytes(),
-        _ => false,
-    }
-}
-
-fn is_end(took: Took) -> bool {
-    match took {
-        Took::End(end) => end == END,
-        _ => false,
-    }
-}
-
-fn is_drained(took: Took) -> bool {
-    matches!(took, Took::Drained)
-}
-
-fn is_done(answer: Result<(), NoPut>) -> bool {
-    answer.is_ok()
-}
-
-fn is_full(answer: Result<(), NoPut>, text: &str) -> bool {
-    match answer {
-        Err(NoPut::Full(back)) => back.items() == text.as_bytes(),
-        _ => false,
-    }
-}
-
-fn was_taken(answer: Result<Took, Fault>, text: &str) -> bool {
-    match answer {
-        Ok(took) => is_line(took, text),
-        Err(_) => false,
-    }
-}
-
-// Whether each call of a row answers as it is to.
-fn row_answers(alloc: Global) -> Result<[bool; 4], Fault> {
-    let x = line(alloc, "x")?;
-    let mut row = Row::new(alloc, 1, 1)?;
-    let put = is_done(row.put(0, x));
-    let full = row.close(0, END) == Err(NoClose::Full);
-    let taken = was_taken(row.take(0), "x");
-    Ok([put, full, taken, row.close(0, END) == Ok(())])
-}
-
-#[test]
-fn a_row_is_asked_by_calls(rt: HostRuntime) -> Result<(), Fault> {
-    for (call, is_so) in row_answers(rt.alloc())?.iter().enumerate() {
-        assert!(rt; *is_so, "call {call}");
-    }
-    Ok(())
-}
-
-// Whether each call of queues answers as it is to.
-fn queues_answer(alloc: Global) -> Result<[bool; 6], Fault> {
-    let (x, y) = (line(alloc, "x")?, line(alloc, "y")?);
-    let mut queues = Queues::new(alloc, 2, 1)?;
-    let put = is_done(queues.put(1, x));
-    let full = is_full(queues.put(1, y), "y");
-    let taken = is_line(queues.take(1), "x");
-    let closed = queues.close(1, END) == Ok(());
-    let ended = is_end(queues.take(1));
-    Ok([put, full, taken, closed, ended, is_drained(queues.take(1))])
-}
-
-#[test]
-fn queues_are_filled_and_drained(rt: HostRuntime) -> Result<(), Fault> {
-    for (call, is_so) in queues_answer(rt.alloc())?.iter().enumerate() {
-        assert!(rt; *is_so, "call {call}");
-    }
+fn no_events_leave_nothing(rt: HostRuntime) -> Result<(), Fault> {
+    assert!(rt; are_answered(rt.alloc(), 64, 1024, &[], &[])?);
     Ok(())
 }
 
@@ -362,8 +229,7 @@ fn largest_row_answers(alloc: Global) -> Result<(usize, usize, u32), Fault> {
 #[test]
 fn the_largest_row_is_filled_and_drained(rt: HostRuntime) -> Result<(), Fault> {
     let (count, marks, replied) = largest_row_answers(rt.alloc())?;
-    let (round, t) = (replied / MAX_TILES, replied % MAX_TILES);
-    assert!(rt; replied == ROUNDS * MAX_TILES, "round {round}, tile {t}");
+    assert!(rt; replied == ROUNDS * MAX_TILES);
     assert!(rt; count == (ROUNDS * MAX_TILES) as usize);
     assert!(rt; marks == (2 * (MAX_CAPACITY + 1) * MAX_TILES) as usize);
     Ok(())
