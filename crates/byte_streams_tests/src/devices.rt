@@ -147,8 +147,8 @@ fn answers_after(times: usize) -> Answers {
 
 #[test]
 fn a_device_makes_an_interrupted_call_again(rt: HostRuntime) {
-    for times in [1, 3, 1000] {
-        assert!(rt; answers_after(times) == ALL_SUCCEED, "{times}");
+    for times in [1, 3, 1000].iter() {
+        assert!(rt; answers_after(*times) == ALL_SUCCEED);
     }
 }
 

@@ -12,11 +12,11 @@ fn is_shown(alloc: Global, fault: Fault, text: &str) -> Result<bool, AllocError>
 #[test]
 fn a_fault_has_a_number_and_a_text(rt: HostRuntime) {
     for number in 1..=32u8 {
-        assert!(rt; number_of(number) == Some(number), "{number}");
+        assert!(rt; number_of(number) == Some(number));
     }
-    for number in [0, 33, 255] {
-        assert!(rt; Fault::of(number).is_none(), "{number}");
-    }
+    assert!(rt; Fault::of(0).is_none());
+    assert!(rt; Fault::of(33).is_none());
+    assert!(rt; Fault::of(255).is_none());
     assert!(rt; Fault::of(24) == Some(Fault::Read));
     assert!(rt; is_shown(rt.alloc(), Fault::Read, "the tile could not be read") == Ok(true));
 }

@@ -20,110 +20,121 @@ fn is_read_so(tape: &mut Tape, to: &mut [u8; 4], wanted: &Read<'_>) -> bool {
     }
 }
 
-/// How many of the first reads go so, each after those before it.
-fn count_reads(tape: &mut Tape, reads: &[Read<'_>]) -> usize {
+/// Whether the reads go so, each after those before it.
+fn are_read_so(tape: &mut Tape, reads: &[Read<'_>]) -> bool {
     let mut to = [b'.'; 4];
-    let mut count = 0usize;
     for wanted in reads {
         if !is_read_so(tape, &mut to, wanted) {
-            return count;
+            return false;
         }
-        count = count.saturating_add(1);
     }
-    count
+    true
 }
+
+const READS: [Read<'static>; 5] = [
+    (4, Ok(2), b"ab.."),
+    (0, Ok(0), b"ab.."),
+    (4, Ok(1), b"cb.."),
+    (4, Ok(0), b"cb.."),
+    (4, Ok(0), b"cb.."),
+];
 
 #[test]
 fn a_tape_gives_its_bytes_by_steps_and_ends(rt: HostRuntime) -> Result<(), AllocError> {
-    let reads = [
-        (4, Ok(2), b"ab..".as_slice()),
-        (0, Ok(0), b"ab..".as_slice()),
-        (4, Ok(1), b"cb..".as_slice()),
-        (4, Ok(0), b"cb..".as_slice()),
-        (4, Ok(0), b"cb..".as_slice()),
-    ];
-    let count = count_reads(&mut tape_of(rt.alloc(), b"abc", 2, false)?, &reads);
-    assert!(rt; count == reads.len(), "read {count}");
+    let mut tape = tape_of(rt.alloc(), b"abc", 2, false)?;
+    assert!(rt; are_read_so(&mut tape, &READS));
     Ok(())
 }
 
+const FAILED_READS: [Read<'static>; 3] = [
+    (4, Ok(3), b"abc."),
+    (4, Err(Fault::Read), b"abc."),
+    (4, Err(Fault::Read), b"abc."),
+];
+
 #[test]
 fn a_failing_tape_fails_after_its_last_byte(rt: HostRuntime) -> Result<(), AllocError> {
-    let reads = [
-        (4, Ok(3), b"abc.".as_slice()),
-        (4, Err(Fault::Read), b"abc.".as_slice()),
-        (4, Err(Fault::Read), b"abc.".as_slice()),
-    ];
-    let count = count_reads(&mut tape_of(rt.alloc(), b"abc", 8, true)?, &reads);
-    assert!(rt; count == reads.len(), "read {count}");
+    let mut tape = tape_of(rt.alloc(), b"abc", 8, true)?;
+    assert!(rt; are_read_so(&mut tape, &FAILED_READS));
     Ok(())
 }
 
 /// Bytes, and what a write of them answers.
 type Write<'a> = (&'a [u8], Result<usize, Fault>);
 
-/// How many of the first writes are answered so.
-fn count_writes(bin: &mut Bin, writes: &[Write<'_>]) -> usize {
-    let mut count = 0usize;
+/// Whether the writes are answered so.
+fn are_written_so(bin: &mut Bin, writes: &[Write<'_>]) -> bool {
     for (bytes, answer) in writes {
         if bin.write(bytes) != *answer {
-            return count;
+            return false;
         }
-        count = count.saturating_add(1);
     }
-    count
+    true
 }
 
-/// The same, what a flush answers after them, and whether the bin has these bytes then.
-fn filled(bin: Bin, writes: &[Write<'_>], bytes: &[u8]) -> (usize, Result<(), Fault>, bool) {
-    let mut bin = bin;
-    let count = count_writes(&mut bin, writes);
-    (count, bin.flush(), bin.bytes() == bytes)
+/// The same, and whether a flush after them answers this, and the bin has these bytes then.
+fn is_filled(
+    bin: &mut Bin,
+    writes: &[Write<'_>],
+    flushed: Result<(), Fault>,
+    bytes: &[u8],
+) -> bool {
+    are_written_so(bin, writes) && bin.flush() == flushed && bin.bytes() == bytes
 }
+
+const WRITES: [Write<'static>; 4] = [
+    (b"abcdef", Ok(3)),
+    (b"def", Ok(2)),
+    (b"f", Err(Fault::Write)),
+    (b"", Ok(0)),
+];
 
 #[test]
 fn a_bin_takes_what_it_has_room_for(rt: HostRuntime) -> Result<(), Fault> {
-    let writes = [
-        (b"abcdef".as_slice(), Ok(3)),
-        (b"def".as_slice(), Ok(2)),
-        (b"f".as_slice(), Err(Fault::Write)),
-        (b"".as_slice(), Ok(0)),
-    ];
-    let bin = Bin::new(rt.alloc(), 5, 3, false)?;
-    let (count, flushed, holds) = filled(bin, &writes, b"abcde");
-    assert!(rt; count == writes.len(), "write {count}");
-    assert!(rt; flushed.is_ok() && holds);
+    let mut bin = Bin::new(rt.alloc(), 5, 3, false)?;
+    assert!(rt; is_filled(&mut bin, &WRITES, Ok(()), b"abcde"));
     Ok(())
 }
 
 #[test]
 fn a_bin_may_take_nothing_and_fail_to_flush(rt: HostRuntime) -> Result<(), Fault> {
-    let bin = Bin::new(rt.alloc(), 5, 0, true)?;
-    let answer = filled(bin, &[(b"abc".as_slice(), Ok(0))], b"");
-    assert!(rt; answer == (1, Err(Fault::Write), true));
+    let mut bin = Bin::new(rt.alloc(), 5, 0, true)?;
+    assert!(rt; is_filled(&mut bin, &[(b"abc", Ok(0))], Err(Fault::Write), b""));
     Ok(())
 }
 
-fn stops_so(tape: &mut Tape, alloc: Global, limit: u64, bytes: &[u8], stop: Stop) -> bool {
-    let intake = read_all(alloc, tape, limit);
+/// Whether a reading of `abcde`, of at most so many bytes, takes these and stops so.
+fn stops_so(alloc: Global, tape: Tape, limit: u64, bytes: &[u8], stop: Stop) -> bool {
+    let mut tape = tape;
+    let intake = read_all(alloc, &mut tape, limit);
     intake.bytes.as_slice() == bytes && intake.stop == stop
+}
+
+fn is_ended(alloc: Global, step: usize, limit: u64) -> Result<bool, AllocError>
+    requires { 1 ≤ step }
+{
+    let tape = tape_of(alloc, b"abcde", step, false)?;
+    Ok(stops_so(alloc, tape, limit, b"abcde", Stop::End))
+}
+
+fn is_failed(alloc: Global, limit: u64, stop: Stop) -> Result<bool, AllocError> {
+    let tape = tape_of(alloc, b"abcde", 2, true)?;
+    Ok(stops_so(alloc, tape, limit, b"abcde", stop))
+}
+
+fn is_limited(alloc: Global, limit: u64, bytes: &[u8]) -> Result<bool, AllocError> {
+    let tape = tape_of(alloc, b"abcde", 9, false)?;
+    Ok(stops_so(alloc, tape, limit, bytes, Stop::Limit))
 }
 
 #[test]
 fn a_reading_says_why_it_stopped(rt: HostRuntime) -> Result<(), AllocError> {
-    let alloc = rt.alloc();
-    for (step, fails, limit, bytes, stop) in [
-        (2, false, 5, b"abcde".as_slice(), Stop::End),
-        (9, false, 9, b"abcde".as_slice(), Stop::End),
-        (2, true, 5, b"abcde".as_slice(), Stop::Failure),
-        (2, true, 4, b"abcde".as_slice(), Stop::Limit),
-        (9, false, 2, b"abc".as_slice(), Stop::Limit),
-        (9, false, 0, b"a".as_slice(), Stop::Limit),
-    ] {
-        let mut tape = tape_of(alloc, b"abcde", step, fails)?;
-        let is_so = stops_so(&mut tape, alloc, limit, bytes, stop);
-        assert!(rt; is_so, "step {step}, limit {limit}");
-    }
+    assert!(rt; is_ended(rt.alloc(), 2, 5)?);
+    assert!(rt; is_ended(rt.alloc(), 9, 9)?);
+    assert!(rt; is_failed(rt.alloc(), 5, Stop::Failure)?);
+    assert!(rt; is_failed(rt.alloc(), 4, Stop::Limit)?);
+    assert!(rt; is_limited(rt.alloc(), 2, b"abc")?);
+    assert!(rt; is_limited(rt.alloc(), 0, b"a")?);
     Ok(())
 }
 
@@ -140,21 +151,22 @@ fn a_long_source_is_read_in_pieces(rt: HostRuntime) {
 }
 
 /// Whether this is answered where `abcde` is written into such a bin, and the bin has these bytes then.
-fn is_written(bin: Bin, answer: Result<(), Fault>, taken: &[u8]) -> bool {
-    let mut bin = bin;
-    write_all(&mut bin, b"abcde") == answer && bin.bytes() == taken
+fn is_written(
+    alloc: Global,
+    room: usize,
+    step: usize,
+    answer: Result<(), Fault>,
+    taken: &[u8],
+) -> Result<bool, Fault> {
+    let mut bin = Bin::new(alloc, room, step, false)?;
+    Ok(write_all(&mut bin, b"abcde") == answer && bin.bytes() == taken)
 }
 
 #[test]
 fn all_is_written_or_a_front_of_it(rt: HostRuntime) -> Result<(), Fault> {
-    for (room, step, answer, taken) in [
-        (9, 9, Ok(()), b"abcde".as_slice()),
-        (5, 2, Ok(()), b"abcde".as_slice()),
-        (4, 3, Err(Fault::Write), b"abcd".as_slice()),
-        (9, 0, Err(Fault::Write), b"".as_slice()),
-    ] {
-        let bin = Bin::new(rt.alloc(), room, step, false)?;
-        assert!(rt; is_written(bin, answer, taken), "room {room}, step {step}");
-    }
+    assert!(rt; is_written(rt.alloc(), 9, 9, Ok(()), b"abcde")?);
+    assert!(rt; is_written(rt.alloc(), 5, 2, Ok(()), b"abcde")?);
+    assert!(rt; is_written(rt.alloc(), 4, 3, Err(Fault::Write), b"abcd")?);
+    assert!(rt; is_written(rt.alloc(), 9, 0, Err(Fault::Write), b"")?);
     Ok(())
 }

@@ -1,3 +1,4 @@
+use crate::expect;
 use byte_streams::Fault;
 use city_grid::decimal;
 use city_json::NumText;
@@ -51,14 +52,14 @@ const OTHERS: [&str; 10] = [
 #[test]
 fn decimals_are_exact(rt: HostRuntime) {
     for (text, wanted) in DECIMALS.iter() {
-        assert!(rt; units(rt.alloc(), text) == Ok(*wanted), "{text}");
+        expect(&rt, units(rt.alloc(), text) == Ok(*wanted), text);
     }
 }
 
 #[test]
 fn other_numbers_are_refused(rt: HostRuntime) {
     for text in OTHERS.iter() {
-        assert!(rt; units(rt.alloc(), text) == Err(Fault::Decimal), "{text}");
+        expect(&rt, units(rt.alloc(), text) == Err(Fault::Decimal), text);
     }
 }
 

@@ -12,3 +12,12 @@ mod texts;
 mod transforms;
 #[cfg(test)]
 mod vertices;
+
+#[cfg(test)]
+use std::process::Abort;
+
+/// Ends the test where something does not hold of this text.
+#[cfg(test)]
+fn expect(rt: &impl Abort, holds: bool, text: &str) {
+    assert!(rt; holds, "{text}");
+}

@@ -1,3 +1,4 @@
+use crate::expect;
 use crate::transforms::transform_of;
 use byte_streams::Fault;
 use city_grid::{Shift, shift_of};
@@ -84,10 +85,6 @@ fn is_shifted(alloc: Global, row: &Shifted) -> Result<bool, Fault> {
 #[test]
 fn shifts_are_whole_steps(rt: HostRuntime) {
     for row in SHIFTED.iter() {
-        assert!(rt;
-            is_shifted(rt.alloc(), row) == Ok(true),
-            "{}",
-            row.translate
-        );
+        expect(&rt, is_shifted(rt.alloc(), row) == Ok(true), row.translate);
     }
 }

@@ -1,7 +1,9 @@
 //! Vertices in compact texts: what is read of them, and what is looked at, at each length of their numbers.
+use crate::expect;
 use byte_streams::{Fault, Line};
 use city_grid::{Vertex, append_vertex, spelled_vertex_at, vertex_at, vertex_end};
-use std::alloc::{AllocError, Global};
+use std::alloc::{AllocError, AllocGlobal, Global};
+use std::process::Abort;
 
 /// Integers of 1 to 16 digits, the first and the last of each length.
 const INTEGERS: [i64; 33] = [
@@ -205,25 +207,21 @@ fn number_is_passed_over(alloc: Global, place: &str, number: &str) -> Result<boo
 #[test]
 fn what_is_no_vertex_is_passed_over(rt: HostRuntime) {
     for front in FRONTS.iter() {
-        assert!(rt; is_passed_over(rt.alloc(), front) == Ok(true), "{front}");
+        expect(&rt, is_passed_over(rt.alloc(), front) == Ok(true), front);
     }
 }
 
-/// The first of the numbers that is not passed over there.
-fn first_other(alloc: Global, place: &str) -> Option<&'static str> {
+fn expect_others(rt: &(impl Abort + AllocGlobal), place: &str) {
     for number in NUMBERS.iter() {
-        if number_is_passed_over(alloc, place, number) != Ok(true) {
-            return Some(number);
-        }
+        let is_passed_over = number_is_passed_over(rt.alloc(), place, number);
+        expect(rt, is_passed_over == Ok(true), number);
     }
-    None
 }
 
 #[test]
 fn other_numbers_are_passed_over(rt: HostRuntime) {
     for place in PLACES.iter() {
-        let other = first_other(rt.alloc(), place);
-        assert!(rt; other.is_none(), "{place} {}", other.unwrap_or(""));
+        expect_others(&rt, place);
     }
 }
 
@@ -254,9 +252,7 @@ fn is_spelled(alloc: Global, spelling: &str, numbers: [i64; 3]) -> Result<bool, 
 #[test]
 fn a_zero_may_have_a_minus_sign(rt: HostRuntime) {
     for (spelling, numbers) in ZEROS.iter() {
-        assert!(rt;
-            is_spelled(rt.alloc(), spelling, *numbers) == Ok(true),
-            "{spelling}"
-        );
+        let is_spelled = is_spelled(rt.alloc(), spelling, *numbers);
+        expect(&rt, is_spelled == Ok(true), spelling);
     }
 }

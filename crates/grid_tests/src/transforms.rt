@@ -1,3 +1,4 @@
+use crate::expect;
 use byte_streams::Fault;
 use city_grid::{Transform, least_of, transform};
 use city_json::read;
@@ -87,9 +88,10 @@ const REFUSED: [(&str, Fault); 12] = [
 #[test]
 fn transforms_are_refused(rt: HostRuntime) {
     for (text, fault) in REFUSED.iter() {
-        assert!(rt;
+        expect(
+            &rt,
             transform_in(rt.alloc(), text).err() == Some(*fault),
-            "{text}"
+            text,
         );
     }
 }
@@ -128,9 +130,7 @@ fn is_least(alloc: Global, one: &str, other: &str, wanted: &str) -> Result<bool,
 #[test]
 fn the_lesser_translation_is_taken_on_each_axis(rt: HostRuntime) {
     for (one, other, wanted) in LESSER.iter() {
-        assert!(rt;
-            is_least(rt.alloc(), one, other, wanted) == Ok(true),
-            "{wanted}"
-        );
+        let is_least = is_least(rt.alloc(), one, other, wanted);
+        expect(&rt, is_least == Ok(true), wanted);
     }
 }

@@ -1,3 +1,4 @@
+use crate::expect;
 use byte_streams::{Fault, Line};
 use city_grid::{Shift, Vertex, moved, three_numbers, vertex, vertex_json, write_vertex};
 use city_json::{Json, print, read};
@@ -38,7 +39,7 @@ fn has_no_numbers(alloc: Global, text: &str) -> bool {
 fn three_numbers_are_as_written(rt: HostRuntime) {
     assert!(rt; has_numbers(rt.alloc(), "[1.50, -0, 2e+3]", &NUMBERS));
     for text in NO_NUMBERS.iter() {
-        assert!(rt; has_no_numbers(rt.alloc(), text), "{text}");
+        expect(&rt, has_no_numbers(rt.alloc(), text), text);
     }
 }
 
@@ -83,14 +84,14 @@ fn long_integer(alloc: Global) -> Result<Vertex, Fault> {
 #[test]
 fn vertices_are_read(rt: HostRuntime) {
     for (text, wanted) in VERTICES.iter() {
-        assert!(rt; is_vertex(vertex_in(rt.alloc(), text), wanted), "{text}");
+        expect(&rt, is_vertex(vertex_in(rt.alloc(), text), wanted), text);
     }
 }
 
 #[test]
 fn other_values_are_refused(rt: HostRuntime) {
     for (text, fault) in NO_VERTICES.iter() {
-        assert!(rt; vertex_in(rt.alloc(), text) == Err(*fault), "{text}");
+        expect(&rt, vertex_in(rt.alloc(), text) == Err(*fault), text);
     }
 }
 
@@ -123,7 +124,7 @@ fn far_moved(steps: &[i64; 3]) -> Result<Vertex, Fault> {
 #[test]
 fn vertices_are_moved(rt: HostRuntime) {
     for (steps, wanted) in MOVED.iter() {
-        assert!(rt; is_vertex(far_moved(steps), wanted), "{steps:?}");
+        assert!(rt; is_vertex(far_moved(steps), wanted));
     }
     assert!(rt; far_moved(&[1, 0, 0]) == Err(Fault::VertexRange));
 }
@@ -164,6 +165,6 @@ fn a_vertex_is_written_as_a_value(rt: HostRuntime) {
 #[test]
 fn a_vertex_takes_the_place_of_any_value(rt: HostRuntime) {
     for text in BEFORE.iter() {
-        assert!(rt; is_replaced(rt.alloc(), text) == Ok(true), "{text}");
+        expect(&rt, is_replaced(rt.alloc(), text) == Ok(true), text);
     }
 }

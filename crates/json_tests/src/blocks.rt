@@ -1,6 +1,7 @@
 //! Of the one pass where it takes many bytes at once: at each place of a block it says what the reader says.
-use crate::texts::{has_one_answer, is_answered, text_of};
-use std::alloc::Global;
+use crate::texts::{expect_at, has_one_answer, is_answered, text_of};
+use std::alloc::{AllocGlobal, Global};
+use std::process::Abort;
 
 /// What stands so many times in an array.
 const ITEMS: [&[u8]; 3] = [b"10,", b"[0,120],", b"[[7],[]],[3],"];
@@ -20,25 +21,25 @@ fn array_is_taken(alloc: Global, count: usize, item: &'static [u8], end: &'stati
     )
 }
 
-/// How many of the first ends are taken.
-fn ends_taken(alloc: Global, count: usize, item: &'static [u8]) -> usize {
-    let mut taken = 0usize;
+fn arrays_are_taken(alloc: Global, count: usize, item: &'static [u8]) -> bool {
     for end in ENDS.iter() {
         if !array_is_taken(alloc, count, item, end) {
-            return taken;
+            return false;
         }
-        taken = taken.saturating_add(1);
     }
-    taken
+    true
+}
+
+fn expect_arrays(rt: &(impl Abort + AllocGlobal), item: &'static [u8]) {
+    for count in 0..48 {
+        expect_at(rt, arrays_are_taken(rt.alloc(), count, item), count, item);
+    }
 }
 
 #[test]
 fn arrays_of_any_length_are_taken(rt: HostRuntime) {
-    for count in 0..48 {
-        for item in ITEMS.iter() {
-            let end = ends_taken(rt.alloc(), count, item);
-            assert!(rt; end == ENDS.len(), "{count} {item:?}, end {end}");
-        }
+    for item in ITEMS.iter() {
+        expect_arrays(&rt, item);
     }
 }
 
@@ -81,23 +82,20 @@ fn edited_has_one_answer(alloc: Global, at: usize, bytes: &'static [u8], count: 
     }
 }
 
-/// How many of the first edits have one answer.
-fn edits_answered(alloc: Global, at: usize) -> usize {
-    let mut answered = 0usize;
+fn all_edited_have_one_answer(alloc: Global, at: usize) -> bool {
     for (bytes, count) in EDITS.iter() {
         if !edited_has_one_answer(alloc, at, bytes, *count) {
-            return answered;
+            return false;
         }
-        answered = answered.saturating_add(1);
     }
-    answered
+    true
 }
 
 #[test]
 fn a_byte_is_wrong_at_the_same_places(rt: HostRuntime) {
     for at in 0..TEXT.len() {
-        let edit = edits_answered(rt.alloc(), at);
-        assert!(rt; edit == EDITS.len(), "{at}, edit {edit}");
+        let holds = all_edited_have_one_answer(rt.alloc(), at);
+        expect_at(&rt, holds, at, TEXT);
     }
 }
 
@@ -218,17 +216,18 @@ fn repeated_has_one_answer(alloc: Global, row: &Repeated, count: usize) -> bool 
     }
 }
 
+fn expect_repeated(rt: &(impl Abort + AllocGlobal), row: &Repeated) {
+    for count in 0..200 {
+        let holds = repeated_has_one_answer(rt.alloc(), row, count);
+        expect_at(rt, holds, count, row.back);
+    }
+}
+
 /// Arrays nest up to the limit. Texts between white space are copied in two ways, by their length and by what stands
 /// after them.
 #[test]
 fn pieces_may_stand_there_any_number_of_times(rt: HostRuntime) {
     for row in REPEATED.iter() {
-        for count in 0..200 {
-            assert!(rt;
-                repeated_has_one_answer(rt.alloc(), row, count),
-                "{:?} {count}",
-                row.back
-            );
-        }
+        expect_repeated(&rt, row);
     }
 }

@@ -1,5 +1,5 @@
 //! Of the one pass: that it answers for the texts that users have, as the reader and the printer do.
-use crate::texts::{Pieces, is_answered, is_compacted, text_of};
+use crate::texts::{Pieces, expect, expect_of_pieces, is_answered, is_compacted, text_of};
 use byte_streams::Line;
 use city_json::compact_parts;
 use std::alloc::Global;
@@ -124,14 +124,14 @@ const SPACED: Pieces<'static> = &[
 #[test]
 fn texts_are_taken_in_all_their_spellings(rt: HostRuntime) {
     for (text, compact) in COMPACTED.iter() {
-        assert!(rt; is_compacted(rt.alloc(), text, compact), "{text:?}");
+        expect(&rt, is_compacted(rt.alloc(), text, compact), text);
     }
 }
 
 #[test]
 fn long_texts_are_taken(rt: HostRuntime) {
     for text in KEPT.iter() {
-        assert!(rt; is_answered(rt.alloc(), text, None), "{text:?}");
+        expect_of_pieces(&rt, is_answered(rt.alloc(), text, None), text);
     }
 }
 
@@ -228,6 +228,6 @@ fn is_parted(alloc: Global, row: &Parted) -> bool {
 #[test]
 fn only_an_object_is_told_by_its_parts(rt: HostRuntime) {
     for row in PARTED.iter() {
-        assert!(rt; is_parted(rt.alloc(), row), "{:?}", row.text);
+        expect(&rt, is_parted(rt.alloc(), row), row.text);
     }
 }

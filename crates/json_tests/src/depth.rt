@@ -1,6 +1,6 @@
 //! Which texts are too deep. This is looked for before the text is read, so that it says nothing of what
 //! else is wrong with it.
-use crate::texts::{Pieces, is_answered, text_of};
+use crate::texts::{Pieces, expect_of_pieces, is_answered, text_of};
 use byte_streams::Fault;
 use city_json::read;
 use std::alloc::Global;
@@ -78,10 +78,8 @@ const SHALLOW: [Pieces<'static>; 22] = [
 #[test]
 fn nesting_is_deep_past_the_limit(rt: HostRuntime) {
     for text in DEEP.iter() {
-        assert!(rt;
-            is_answered(rt.alloc(), text, Some(Fault::TooDeep)),
-            "{text:?}"
-        );
+        let is_refused = is_answered(rt.alloc(), text, Some(Fault::TooDeep));
+        expect_of_pieces(&rt, is_refused, text);
     }
 }
 
@@ -95,6 +93,6 @@ fn is_shallow(alloc: Global, pieces: Pieces<'_>) -> bool {
 #[test]
 fn nesting_up_to_the_limit_is_not_deep(rt: HostRuntime) {
     for text in SHALLOW.iter() {
-        assert!(rt; is_shallow(rt.alloc(), text), "{text:?}");
+        expect_of_pieces(&rt, is_shallow(rt.alloc(), text), text);
     }
 }

@@ -1,8 +1,9 @@
 //! That no object has a repeated name: which texts are refused for it, and that it takes no long time.
-use crate::texts::{Pieces, is_answered, is_compacted, is_refused};
+use crate::texts::{Pieces, expect_at, expect_of_pieces, is_answered, is_compacted, is_refused};
 use byte_streams::Fault;
 use city_json::read;
-use std::alloc::{AllocError, Global};
+use std::alloc::{AllocError, AllocGlobal, Global};
+use std::process::Abort;
 
 const DISTINCT: [Pieces<'static>; 6] = [
     &[(b"{\"a\":1,\"b\":1}", 1)],
@@ -27,17 +28,15 @@ const REPEATED: [Pieces<'static>; 8] = [
 #[test]
 fn a_repeated_name_is_found_wherever_it_stands(rt: HostRuntime) {
     for text in REPEATED.iter() {
-        assert!(rt;
-            is_answered(rt.alloc(), text, Some(Fault::DuplicateName)),
-            "{text:?}"
-        );
+        let is_refused = is_answered(rt.alloc(), text, Some(Fault::DuplicateName));
+        expect_of_pieces(&rt, is_refused, text);
     }
 }
 
 #[test]
 fn distinct_names_are_taken(rt: HostRuntime) {
     for text in DISTINCT.iter() {
-        assert!(rt; is_answered(rt.alloc(), text, None), "{text:?}");
+        expect_of_pieces(&rt, is_answered(rt.alloc(), text, None), text);
     }
 }
 
@@ -160,16 +159,17 @@ fn are_told_apart(alloc: Global, row: &Objects, count: usize) -> bool {
         && is_repeated(alloc, row.names, count, row.repeated)
 }
 
+fn expect_told_apart(rt: &(impl Abort + AllocGlobal), row: &Objects) {
+    for count in row.counts {
+        let holds = are_told_apart(rt.alloc(), row, *count);
+        expect_at(rt, holds, *count, row.repeated.as_bytes());
+    }
+}
+
 #[test]
 fn names_are_told_apart_in_objects_of_any_size(rt: HostRuntime) {
     for row in OBJECTS.iter() {
-        for count in row.counts {
-            assert!(rt;
-                are_told_apart(rt.alloc(), row, *count),
-                "{count} and {}",
-                row.repeated
-            );
-        }
+        expect_told_apart(&rt, row);
     }
 }
 

@@ -1,4 +1,5 @@
 //! Which texts are numbers, how they are kept, and their parts.
+use crate::texts::expect;
 use byte_streams::Fault;
 use city_json::{Json, NumText};
 use std::alloc::Global;
@@ -49,7 +50,7 @@ fn long_number_is_kept(alloc: Global) -> bool {
 #[test]
 fn numbers_are_kept_as_written(rt: HostRuntime) {
     for text in NUMBERS.iter() {
-        assert!(rt; is_kept(rt.alloc(), text), "{text:?}");
+        expect(&rt, is_kept(rt.alloc(), text), text);
     }
 }
 
@@ -70,7 +71,7 @@ fn is_no_number(alloc: Global, text: &[u8]) -> bool {
 #[test]
 fn other_texts_are_no_numbers(rt: HostRuntime) {
     for text in NO_NUMBERS.iter() {
-        assert!(rt; is_no_number(rt.alloc(), text), "{text:?}");
+        expect(&rt, is_no_number(rt.alloc(), text), text);
     }
 }
 
@@ -142,7 +143,7 @@ fn has_parts(alloc: Global, row: &Parted) -> bool {
 #[test]
 fn numbers_have_their_parts(rt: HostRuntime) {
     for row in PARTED.iter() {
-        assert!(rt; has_parts(rt.alloc(), row), "{:?}", row.text);
+        expect(&rt, has_parts(rt.alloc(), row), row.text);
     }
 }
 

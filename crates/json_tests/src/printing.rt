@@ -1,3 +1,4 @@
+use crate::texts::expect;
 use byte_streams::{Fault, Line};
 use city_json::{Json, Str, print, read};
 use std::alloc::Global;
@@ -36,7 +37,7 @@ fn is_printed(alloc: Global, content: &str, written: &[u8]) -> bool {
 #[test]
 fn texts_are_written_in_one_spelling(rt: HostRuntime) {
     for (content, written) in WRITTEN.iter() {
-        assert!(rt; is_printed(rt.alloc(), content, written), "{content:?}");
+        expect(&rt, is_printed(rt.alloc(), content, written), written);
     }
 }
 

@@ -1,5 +1,5 @@
 //! Texts that are refused, of which the one pass says nothing.
-use crate::texts::is_refused;
+use crate::texts::{expect, is_refused};
 use byte_streams::Fault;
 
 const NO_JSON: [&[u8]; 81] = [
@@ -103,23 +103,21 @@ const DUPLICATE_NAMES: [&[u8]; 3] = [
 #[test]
 fn what_is_no_json_text_is_refused(rt: HostRuntime) {
     for text in NO_JSON.iter() {
-        assert!(rt; is_refused(rt.alloc(), text, Fault::Syntax), "{text:?}");
+        expect(&rt, is_refused(rt.alloc(), text, Fault::Syntax), text);
     }
 }
 
 #[test]
 fn what_is_no_text_is_refused(rt: HostRuntime) {
     for text in NOT_UTF8.iter() {
-        assert!(rt; is_refused(rt.alloc(), text, Fault::NotUtf8), "{text:?}");
+        expect(&rt, is_refused(rt.alloc(), text, Fault::NotUtf8), text);
     }
 }
 
 #[test]
 fn a_name_that_stands_twice_is_refused(rt: HostRuntime) {
     for text in DUPLICATE_NAMES.iter() {
-        assert!(rt;
-            is_refused(rt.alloc(), text, Fault::DuplicateName),
-            "{text:?}"
-        );
+        let is_refused = is_refused(rt.alloc(), text, Fault::DuplicateName);
+        expect(&rt, is_refused, text);
     }
 }

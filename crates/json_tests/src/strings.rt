@@ -1,5 +1,5 @@
 //! The texts that strings spell.
-use crate::texts::{Pieces, text_of};
+use crate::texts::{Pieces, expect, expect_at, text_of};
 use city_json::{Json, read};
 use std::alloc::Global;
 
@@ -44,7 +44,7 @@ fn spells(alloc: Global, spelling: &[u8], content: &[u8]) -> bool {
 #[test]
 fn escapes_are_decoded(rt: HostRuntime) {
     for (spelling, content) in DECODED.iter() {
-        assert!(rt; spells(rt.alloc(), spelling, content), "{spelling:?}");
+        expect(&rt, spells(rt.alloc(), spelling, content), spelling);
     }
 }
 
@@ -64,7 +64,7 @@ fn run_is_read(alloc: Global, length: usize) -> bool {
 
 #[test]
 fn long_runs_are_read(rt: HostRuntime) {
-    for length in [15, 16, 17, 31, 32, 33, 64, 1000] {
-        assert!(rt; run_is_read(rt.alloc(), length), "{length}");
+    for length in [15, 16, 17, 31, 32, 33, 64, 1000].iter() {
+        expect_at(&rt, run_is_read(rt.alloc(), *length), *length, b"");
     }
 }

@@ -2,9 +2,25 @@
 use byte_streams::{Fault, Line};
 use city_json::{compact, print, read};
 use std::alloc::{AllocError, Global};
+use std::process::Abort;
 
 /// A text by its pieces, each with how often it stands there.
 pub(crate) type Pieces<'a> = &'a [(&'static [u8], usize)];
+
+/// Ends the test where something does not hold of this text.
+pub(crate) fn expect(rt: &impl Abort, holds: bool, text: &[u8]) {
+    assert!(rt; holds, "{text:?}");
+}
+
+/// The same of a text by its pieces.
+pub(crate) fn expect_of_pieces(rt: &impl Abort, holds: bool, text: Pieces<'_>) {
+    assert!(rt; holds, "{text:?}");
+}
+
+/// The same of a text and a number.
+pub(crate) fn expect_at(rt: &impl Abort, holds: bool, number: usize, text: &[u8]) {
+    assert!(rt; holds, "{number} {text:?}");
+}
 
 fn put(text: &mut Vec<u8>, piece: &[u8], times: usize) -> Result<(), AllocError> {
     for _ in 0..times {

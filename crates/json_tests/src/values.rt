@@ -1,3 +1,4 @@
+use crate::texts::expect;
 use byte_streams::Fault;
 use city_json::{Json, Str, read, same};
 use std::alloc::Global;
@@ -58,7 +59,7 @@ fn has_member(alloc: Global, row: &Member) -> bool {
 #[test]
 fn a_member_is_found_by_its_name(rt: HostRuntime) {
     for row in MEMBERS.iter() {
-        assert!(rt; has_member(rt.alloc(), row), "{}", row.name);
+        expect(&rt, has_member(rt.alloc(), row), row.name.as_bytes());
     }
 }
 
@@ -91,10 +92,8 @@ fn a_copy_alone_is_the_same(rt: HostRuntime) {
 #[test]
 fn other_values_are_not_the_same(rt: HostRuntime) {
     for (one, other) in UNEQUAL.iter() {
-        assert!(rt;
-            same_of(rt.alloc(), one, other) == Ok(false),
-            "{one:?} {other:?}"
-        );
+        let is_same = same_of(rt.alloc(), one, other);
+        expect(&rt, is_same == Ok(false), other);
     }
 }
 
