@@ -12,7 +12,7 @@ use Rattle.city_json.specs.Compacting.{shown, TakenItems}
 use Rattle.std.proofs.lemmas.Nat.{shr-shr}
 use Rattle.std.specs.Int.Count.{count_trailing_zeros, ones}
 use Rattle.std.proofs.lemmas.Simd.{trailing_mask_l, ones-mask_l}
-use Rattle.std.proofs.lemmas.List.{take-map}
+use Rattle.std.proofs.lemmas.List.{drop-map, take-map}
 use Rattle.std.specs.List.{prefix_len}
 use Rattle.std.proofs.lemmas.List.Sums.{sum_by-cons}
 use Rattle.city_json.proofs.BlockLemmas.{mask_l-take}
@@ -93,6 +93,11 @@ mask_l-drop (suc n) (m ∷ ms) =
     ∙ sym (shr-shr (cond m 1 0 + 2 * mask_l ms) 1 n) ∙ ap (λ x. x / 2 ^ n) (half_mask m (mask_l ms)))
     ∙ mask_l-drop n ms ∙ ap (λ k. mask_l (drop k (m ∷ ms))) (sym next)
 
+pub marks_behind : (f : ℕ → Bool) (n : ℕ) (bs : List ℕ) (mask : ℕ) → mask ≡ mask_l (map f bs)
+    → mask / 2 ^ n / 2 ≡ mask_l (map f (drop (n + 1) bs))
+marks_behind f n bs mask is = ap (λ x. x / 2 ^ n / 2) is ∙ mask_l-drop n (map f bs)
+    ∙ ap mask_l (drop-map f (n + 1) bs)
+
 -- one round: the place of the first closing bracket, and what is left behind it
 pub round_goes : (d up_bits down_bits place : ℕ) (rest : List ℕ) → 0 < d → 0 < down_bits → length rest ≤ 64
     → up_bits ≡ mask_l (map is_open rest) → down_bits ≡ mask_l (map is_close rest)
@@ -109,19 +114,12 @@ round_goes d up_bits down_bits place rest some closing short is_up is_down first
     ∙ ones-mask_l is_open (take place rest) in (
       drop (place + 1) rest,
       omega (arith, length-drop (place + 1) rest, short),
-      ap (λ x. x / 2 ^ place / 2) is_up ∙ mask_l-drop place (map is_open rest)
-          ∙ ap mask_l (drop-map is_open (place + 1) rest),
-      ap (λ x. x / 2 ^ place / 2) is_down ∙ mask_l-drop place (map is_close rest)
-          ∙ ap mask_l (drop-map is_close (place + 1) rest),
+      marks_behind is_open place rest up_bits is_up,
+      marks_behind is_close place rest down_bits is_down,
       λ given. stays_first d place rest some at_place within
           (subst (λ x. StaysOpen (d + x - 1) (drop (place + 1) rest)) count given),
     )
   where
-    drop-map : (f : ℕ → Bool) (n : ℕ) (bs : List ℕ) → drop n (map f bs) ≡ map f (drop n bs)
-    drop-map f zero bs = refl
-    drop-map f (suc n) [] = refl
-    drop-map f (suc n) (b ∷ bs) = drop-map f n bs
-
     below_end : (bs : List ℕ) → 0 < mask_l (map is_close bs) → place ≡ prefix_len (λ b. not (is_close b)) bs
         → place < length bs
     below_end bs some is = omega (arith, is, prefix_below bs some)
@@ -149,6 +147,13 @@ count-ups (c ∷ cs) = sum_by-cons (λ x. cond (is_open x) 1 0) c cs ∙ ap (λ 
 pub count-downs : (bs : List ℕ) → count_by is_close bs ≡ downs bs
 count-downs [] = refl
 count-downs (c ∷ cs) = sum_by-cons (λ x. cond (is_close x) 1 0) c cs ∙ ap (λ n. down c + n) (count-downs cs)
+
+-- as many as a mask has bits
+pub opens_of : (bs : List ℕ) (opens : ℕ) → opens ≡ mask_l (map is_open bs) → ones opens ≡ ups bs
+opens_of bs opens is = ap ones is ∙ ones-mask_l is_open bs ∙ count-ups bs
+
+pub closes_of : (bs : List ℕ) (closes : ℕ) → closes ≡ mask_l (map is_close bs) → ones closes ≡ downs bs
+closes_of bs closes is = ap ones is ∙ ones-mask_l is_close bs ∙ count-downs bs
 
 pub stays_positive : (d : ℕ) (bs : List ℕ) → StaysOpen d bs → downs bs < d + ups bs
 stays_positive d [] deep = omega (arith, deep)
@@ -186,10 +191,10 @@ module _ (text : List ℕ) (at : ℕ) (within : at + 64 ≤ length text) where
   module _ (d opens closes : ℕ) (is_up : opens ≡ mask_l (map is_open (chunk at 64 text)))
       (is_down : closes ≡ mask_l (map is_close (chunk at 64 text))) (deep : StaysOpen d (chunk at 64 text)) where
     opens_are : ones opens ≡ ups (chunk at 64 text)
-    opens_are = ap ones is_up ∙ ones-mask_l is_open (chunk at 64 text) ∙ count-ups (chunk at 64 text)
+    opens_are = opens_of (chunk at 64 text) opens is_up
 
     closes_are : ones closes ≡ downs (chunk at 64 text)
-    closes_are = ap ones is_down ∙ ones-mask_l is_close (chunk at 64 text) ∙ count-downs (chunk at 64 text)
+    closes_are = closes_of (chunk at 64 text) closes is_down
 
     pub block_open : 0 < d + ones opens - ones closes
     block_open = omega (arith, opens_are, closes_are, stays_positive d (chunk at 64 text) deep)

@@ -108,7 +108,7 @@ struct Repeated {
     back: &'static [u8],
 }
 
-const REPEATED: [Repeated; 13] = [
+const REPEATED: [Repeated; 16] = [
     Repeated {
         front: b"{\"n\":[",
         piece: b"[",
@@ -171,6 +171,27 @@ const REPEATED: [Repeated; 13] = [
         middle: b"[],1,[2]",
         closing: b"]",
         back: b",1]}",
+    },
+    Repeated {
+        front: b"{\"n\":[",
+        piece: b"[[3],",
+        middle: b"4",
+        closing: b"],[[5]]",
+        back: b"]}",
+    },
+    Repeated {
+        front: b"{\"n\":[",
+        piece: b"[[3],",
+        middle: b"4",
+        closing: b"],[[5]]",
+        back: b"]]}",
+    },
+    Repeated {
+        front: b"{\"n\":[",
+        piece: b"[",
+        middle: b"1234567890123456",
+        closing: b"]",
+        back: b"],[[10,11,12,13,14,15,16,17,18,19,20,21,22,23,24,25,26,27,28,29]]}",
     },
     Repeated {
         front: b"[\"",
@@ -223,8 +244,8 @@ fn expect_repeated(rt: &(impl Abort + AllocGlobal), row: &Repeated) {
     }
 }
 
-/// Arrays nest up to the limit. Texts between white space are copied in two ways, by their length and by what stands
-/// after them.
+/// Arrays nest up to the limit, and where all were closed none goes on, wherever in a block the brackets stand. Texts
+/// between white space are copied in two ways, by their length and by what stands after them.
 #[test]
 fn pieces_may_stand_there_any_number_of_times(rt: HostRuntime) {
     for row in REPEATED.iter() {

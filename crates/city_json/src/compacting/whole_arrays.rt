@@ -20,7 +20,7 @@ struct Brackets {
 
 /// A bit for each digit.
 #[inline(always)]
-fn digit_marks(block: u8x64) -> u64
+pub(super) fn digit_marks(block: u8x64) -> u64
     ensures { result ≡ mask_l (map is_ascii_digit block) }
 {
     (block.simd_ge(u8x64::splat(b'0')) & block.simd_le(u8x64::splat(b'9'))).to_bitmask()
@@ -51,7 +51,7 @@ fn leads_item(byte: u8) -> bool
 
 /// Each bit one place up, after a first one.
 #[inline(always)]
-fn lag(mask: u64, first: bool) -> u64
+pub(super) fn lag(mask: u64, first: bool) -> u64
     ensures { (marks : List Bool) → length marks ≡ 64 → mask ≡ mask_l marks
         → result ≡ mask_l (lag first marks) }
 {
@@ -98,10 +98,10 @@ fn brackets_of(block: u8x64, before: u8, zeroed: bool) -> Option<Brackets>
     })
 }
 
-/// Whether nesting stays above 0 throughout the block.
-#[inline(always)]
-fn stays_open(depth: usize, opens: u64, closes: u64) -> bool
-    requires { depth ≤ 1000 }
+/// Whether nesting stays above 0 throughout a block, from one closing bracket to the next.
+#[inline(never)]
+fn stays_open_slowly(depth: usize, opens: u64, closes: u64) -> bool
+    requires { depth ≤ 2000 }
     ensures { IsTrue result → (bytes : List ℕ) → length bytes ≤ 64
         → opens ≡ mask_l (map (λ b. b == open_bracket) bytes)
         → closes ≡ mask_l (map (λ b. b == close_bracket) bytes) → StaysOpen depth bytes }
@@ -125,6 +125,52 @@ fn stays_open(depth: usize, opens: u64, closes: u64) -> bool
         down = (down >> place) >> 1;
     }
     false
+}
+
+/// How many arrays are open after a block, where nesting stays above 0 throughout it. Where fewer close than were open
+/// it does, in whatever order the brackets stand.
+#[inline(always)]
+fn open_after(depth: usize, opens: u64, closes: u64) -> Option<usize>
+    requires { depth ≤ 2000 }
+    ensures few { IfSome result (λ left. left ≤ depth + 64) }
+    ensures some { IfSome result (λ left. 0 < left) }
+    ensures stays_open { IfSome result (λ left. (bytes : List ℕ) → length bytes ≤ 64
+        → opens ≡ mask_l (map (λ b. b == open_bracket) bytes)
+        → closes ≡ mask_l (map (λ b. b == close_bracket) bytes)
+        → StaysOpen depth bytes × (left ≡ depth + ups bytes - downs bytes)) }
+{
+    let opened = opens.count_ones() as usize;
+    let closed = closes.count_ones() as usize;
+    if closed < depth {
+        return Some(depth + opened - closed);
+    }
+    if closed >= depth + opened || !stays_open_slowly(depth, opens, closes) {
+        return None;
+    }
+    Some(depth + opened - closed)
+}
+
+/// Whether nesting stays above 0 throughout the block: 16 bytes at a time, in which there are mostly fewer closing
+/// brackets than arrays that are open.
+#[inline(always)]
+fn stays_open(depth: usize, opens: u64, closes: u64) -> bool
+    requires { depth ≤ 1000 }
+    ensures { IsTrue result → (bytes : List ℕ) → length bytes ≤ 64
+        → opens ≡ mask_l (map (λ b. b == open_bracket) bytes)
+        → closes ≡ mask_l (map (λ b. b == close_bracket) bytes) → StaysOpen depth bytes }
+{
+    let mut left = depth;
+    let mut up = opens;
+    let mut down = closes;
+    'rounds: for round in 0..4usize {
+        let Some(next) = open_after(left, up % (1u64 << 16), down % (1u64 << 16)) else {
+            return false;
+        };
+        left = next;
+        up >>= 16;
+        down >>= 16;
+    }
+    true
 }
 
 /// How many arrays are open at a place, how deep its items may still nest, and whether a zero that begins a number
