@@ -6,3 +6,4 @@ pub mod TextVertices
 pub mod QuickTypes
 pub mod QuickMoves
 pub mod FirstTypes
+pub mod TriplesAreVertices

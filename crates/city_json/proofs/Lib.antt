@@ -17,6 +17,7 @@ pub mod MemberEnds
 pub mod MemberPlaces
 pub mod NamesApart
 pub mod NumberLaws
+pub mod OpenParts
 pub mod ParityLemmas
 pub mod PartsOfNumbers
 pub mod PassEscapes
@@ -41,6 +42,9 @@ pub mod Starts
 pub mod StringEnds
 pub mod StringSteps
 pub mod Texts
+pub mod TripleMarks
+pub mod Triples
+pub mod TriplesTaken
 pub mod WholeArrays
 pub mod WholeBytes
 pub mod WholeMasks

@@ -1,5 +1,5 @@
 -- Where objects end in a compact text.
-use Rattle.std.proofs.Common.{◌≡◌, ◌≢◌, ◌++◌, ◌∙◌, ◌≤◌, ◌<◌, ◌+◌, ◌-◌, ℕ, List, ◌∷◌, length, drop, get_or, inl, inr, refl, ap, sym, arith, append_assoc, length-append, length-drop}
+use Rattle.std.proofs.Common.{◌≡◌, ◌≢◌, ◌++◌, ◌∙◌, ◌≤◌, ◌<◌, ◌+◌, ℕ, List, ◌∷◌, length, drop, get_or, inl, inr, refl, ap, sym, arith, append_assoc, length-append, length-drop}
 use Rattle.std.specs.List.{flat_map}
 use Rattle.city_json.specs.Bytes.{quotation_mark, comma, colon, close_brace}
 use Rattle.city_json.specs.Compact.{written, quoted, compact, compact_members, compact_more_members}

@@ -9,7 +9,6 @@ use Rattle.std.specs.List.{flat_map, prefix_len}
 use Rattle.city_json.specs.Bytes.{quotation_mark, backslash, backspace, form_feed, newline, carriage_return, tab, space, small_b, small_f, small_n, small_r, small_t, small_u, digit_zero}
 use Rattle.city_json.specs.Compact.{written}
 use Rattle.city_json.specs.ReadString.{is_plain}
-use Rattle.city_json.specs.Tree.{string}
 use Rattle.city_json.proofs.PassScalars.{rest_is}
 use Rattle.city_json.proofs.Places.{drop_one}
 

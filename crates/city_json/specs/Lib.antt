@@ -23,5 +23,7 @@ pub mod Refusals
 pub mod ShortBytes
 pub mod Strings
 pub mod Tree
+pub mod Triples
+pub mod TriplesFound
 pub mod Whole
 pub mod Writable

@@ -10,7 +10,7 @@ ghost use Rattle.city_json.specs.Fits.{Fits};
 ghost use Rattle.city_json.specs.Grammar.{Spells};
 ghost use Rattle.city_json.specs.Tree.{Tree};
 
-mod digits;
+pub(crate) mod digits;
 mod draft;
 mod ends;
 mod flat;
@@ -21,6 +21,7 @@ mod parts;
 mod runs;
 mod scalars;
 mod strings;
+mod triples;
 mod values;
 mod whole_arrays;
 
@@ -29,7 +30,7 @@ use byte_streams::limits::MAX_DEPTH;
 use draft::{begun, copy_to, skip_white};
 pub use ends::{string_end, value_end};
 pub use members::members_of_compact;
-pub use parts::{Compacted, Part, compact_parts};
+pub use parts::{Compacted, CompactedFeature, Part, Span, compact_feature, compact_parts};
 use std::alloc::Global;
 use values::value;
 

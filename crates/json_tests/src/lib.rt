@@ -21,4 +21,6 @@ mod strings;
 #[cfg(test)]
 mod texts;
 #[cfg(test)]
+mod triples;
+#[cfg(test)]
 mod values;

@@ -21,7 +21,7 @@ use crate::features::moving::moved_all;
 use crate::features::texts::{SpelledVertices, append_vertices, vertices_of};
 use byte_streams::Line;
 use city_grid::{Shift, Vertex, byte_is};
-use city_json::{Compacted, Part, compact_parts};
+use city_json::{Compacted, Part, compact_feature};
 use kept::{has_vertices, put_kept};
 use std::alloc::Global;
 use std::mem::swap;
@@ -270,10 +270,11 @@ pub fn quick_line(
     ensures none { IfNone result (text.new ≡ text.old) }
 {
     let spare = spare_of(alloc, text);
-    let found = compact_parts(alloc, bytes, spare)?;
+    let feature = compact_feature(alloc, bytes, spare)?;
+    let (found, triples) = (feature.found, feature.triples);
     if is_still(shift) {
         if choice.area.is_none() {
-            if has_vertices(found.line.items(), &found.parts) {
+            if has_vertices(bytes, triples, found.line.items(), &found.parts) {
                 return put_kept(alloc, found, choice, text);
             }
         }

@@ -1,16 +1,18 @@
 //! The compact text of an object, and where its members lie in it.
 ghost use Rattle.std.specs.Prelude.{◌≡◌, ◌++◌, ◌<◌, ◌≤◌, ◌∷◌, [], length, drop, IfSome, OnSome, IsUtf8};
 ghost use Rattle.city_json.specs.Compact.{compact};
-ghost use Rattle.city_json.specs.Compacting.{shown, TakenPart, TakenParts};
+ghost use Rattle.city_json.specs.Compacting.{shown, Taken, TakenPart, TakenParts};
 ghost use Rattle.city_json.specs.Depth.{IsDeep};
 ghost use Rattle.city_json.specs.Fits.{Fits};
 ghost use Rattle.city_json.specs.Grammar.{Spells};
 ghost use Rattle.city_json.specs.Parts.{AreParts};
+ghost use Rattle.city_json.specs.Triples.{HasTriples};
 ghost use Rattle.city_json.specs.Tree.{MemberTrees, object};
 ghost use Rattle.city_json.specs.declared.compacting.parts.Part.{Part};
 
 use super::draft::{Draft, begun, copy_to, skip, skip_white, written_len};
 use super::strings::name_and_colon;
+use super::triples::triples_end;
 use super::values::member_value;
 use byte_streams::Line;
 use byte_streams::limits::MAX_DEPTH;
@@ -35,6 +37,23 @@ pub struct Compacted {
     pub parts: Vec<Part>,
 }
 
+/// Where something stands in a text, in bytes from its beginning: from `from` on up to `end`. Nothing, where that is not
+/// after `from`.
+#[derive(Clone, Copy, Debug, PartialEq, Eq)]
+pub struct Span {
+    pub from: usize,
+    pub end: usize,
+}
+
+/// The compact text of an object, and where in the text that was read the value stands of one of its members that is an
+/// array of arrays of three whole numbers each, in its compact text, as the vertices of a feature are (CityJSON 2.0,
+/// CityJSONFeature).
+#[derive(Debug, Drop)]
+pub struct CompactedFeature {
+    pub found: Compacted,
+    pub triples: Span,
+}
+
 /// The compact text of the object that the text spells, and where its members lie in it, in their order. What `line`
 /// held is dropped; it is taken for its memory.
 ///
@@ -44,25 +63,47 @@ pub fn compact_parts(alloc: Global, text: &[u8], line: Line) -> Option<Compacted
         × Spells text.now (object members) × Fits (object members) × (¬ IsDeep text.now)
         × (found.line ≡ compact (object members)) × AreParts 1 found.parts.items members) }
 {
+    let CompactedFeature { found, triples: _ } = compact_feature(alloc, text, line)?;
+    Some(found)
+}
+
+/// The same, and where in the text triples of whole numbers stand, if any were found.
+///
+/// `None`: undecided; [`crate::read`] decides.
+pub fn compact_feature(alloc: Global, text: &[u8], line: Line) -> Option<CompactedFeature>
+    ensures object { IfSome result (λ feature. (members : MemberTrees)
+        × Spells text.now (object members) × Fits (object members) × (¬ IsDeep text.now)
+        × (feature.found.line ≡ compact (object members)) × AreParts 1 feature.found.parts.items members) }
+    ensures triples { IfSome result (λ feature. HasTriples text.now feature.triples) }
+{
     if !simdutf8::is_utf8(text) {
         return None;
     }
     let mut draft = begun(alloc, line);
     let mut parts = Vec::with_capacity(alloc, COMMON_PARTS).ok()?;
+    let mut triples = Span { from: 0, end: 0 };
     let at = skip_white(text, 0, &mut draft)?;
     if at == text.len() || text[at] != b'{' {
         return None;
     }
-    let end = members(text, at + 1, MAX_DEPTH - 1, &mut draft, &mut parts)?;
+    let end = members(
+        text,
+        at + 1,
+        MAX_DEPTH - 1,
+        &mut draft,
+        &mut parts,
+        &mut triples,
+    )?;
     let last = skip_white(text, end, &mut draft)?;
     if last < text.len() {
         return None;
     }
     copy_to(text, last, last, &mut draft)?;
-    Some(Compacted {
+    let found = Compacted {
         line: draft.line,
         parts,
-    })
+    };
+    Some(CompactedFeature { found, triples })
 }
 
 /// The members after the first brace, and the closing one: where it ends.
@@ -72,12 +113,14 @@ fn members<'a>(
     levels: usize,
     draft: &mut Draft<'a>,
     parts: &mut Vec<Part>,
+    triples: &mut Span,
 ) -> Option<usize>
     requires utf8 { IsUtf8 text.now }
     requires copied { draft.old.from ≤ at }
     requires within { at ≤ length text.now }
     requires none { draft.old.names ≡ [] }
     requires no_parts { parts.old.items ≡ [] }
+    requires triples { HasTriples text.now triples.old }
     ensures onward { IfSome result (λ end. at < end) }
     ensures within { IfSome result (λ end. end ≤ length text.now) }
     ensures copied { IfSome result (λ end. draft.new.from ≤ end) }
@@ -85,6 +128,7 @@ fn members<'a>(
         (shown draft.old.line text.now draft.old.from at)
         (shown draft.new.line text.now draft.new.from end)
         parts.new.items) }
+    ensures triples { OnSome result (HasTriples text.now triples.new) }
 {
     let mut i = skip(text, at, draft);
     if i == text.len() {
@@ -94,7 +138,7 @@ fn members<'a>(
         return Some(i + 1);
     }
     'members: loop {
-        let end = member(text, i, levels, draft, parts)?;
+        let end = member(text, i, levels, draft, parts, triples)?;
         let place = skip(text, end, draft);
         if place == text.len() {
             return None;
@@ -122,10 +166,12 @@ fn member<'a>(
     levels: usize,
     draft: &mut Draft<'a>,
     parts: &mut Vec<Part>,
+    triples: &mut Span,
 ) -> Option<usize>
     requires utf8 { IsUtf8 text.now }
     requires copied { draft.old.from ≤ at }
     requires within { at ≤ length text.now }
+    requires triples { HasTriples text.now triples.old }
     ensures onward { IfSome result (λ end. at < end) }
     ensures within { IfSome result (λ end. end ≤ length text.now) }
     ensures copied { IfSome result (λ end. draft.new.from ≤ end) }
@@ -133,14 +179,47 @@ fn member<'a>(
         (shown draft.old.line text.now draft.old.from at)
         (shown draft.new.line text.now draft.new.from end)
         draft.old.names draft.new.names parts.old.items parts.new.items) }
+    ensures triples { OnSome result (HasTriples text.now triples.new) }
 {
     let named = written_len(text, at, draft)?;
     let start = name_and_colon(text, at, draft)?;
     let valued = written_len(text, start, draft)?;
-    let end = member_value(text, start, levels, draft)?;
+    let end = top_value(text, start, levels, draft, triples)?;
     let ended = written_len(text, end, draft)?;
     list_part(named, valued, ended, parts)?;
     Some(end)
+}
+
+/// The value of a member of the whole object that begins at `at`: where it ends. Where it is triples, that is noted.
+#[inline(always)]
+fn top_value<'a>(
+    text: &'a [u8],
+    at: usize,
+    levels: usize,
+    draft: &mut Draft<'a>,
+    triples: &mut Span,
+) -> Option<usize>
+    requires utf8 { IsUtf8 text.now }
+    requires copied { draft.old.from ≤ at }
+    requires within { at ≤ length text.now }
+    requires triples { HasTriples text.now triples.old }
+    ensures onward { IfSome result (λ end. at < end) }
+    ensures within { IfSome result (λ end. end ≤ length text.now) }
+    ensures copied { IfSome result (λ end. draft.new.from ≤ end) }
+    ensures names { OnSome result (draft.new.names ≡ draft.old.names) }
+    ensures taken { IfSome result (λ end. Taken levels (drop at text.now) (drop end text.now)
+        (shown draft.old.line text.now draft.old.from at)
+        (shown draft.new.line text.now draft.new.from end)) }
+    ensures triples { OnSome result (HasTriples text.now triples.new) }
+{
+    if levels > 1 {
+        let end = triples_end(text, at);
+        if at < end {
+            *triples = Span { from: at, end };
+            return Some(end);
+        }
+    }
+    member_value(text, at, levels, draft)
 }
 
 /// Puts a part after the parts.

@@ -4,17 +4,18 @@ ghost use Rattle.city_json.specs.Compact.{compact};
 ghost use Rattle.city_feature.specs.Choice.{HasType, IsChosen};
 ghost use Rattle.city_feature.specs.Feature.{FeatureValue};
 ghost use Rattle.city_feature.specs.FeatureLine.{GivesFeature, SpellsMoved};
-ghost use Rattle.city_feature.specs.Quick.{IsAsWritten, IsCompacted, no_steps};
+ghost use Rattle.city_json.specs.Triples.{HasTriples};
+ghost use Rattle.city_feature.specs.Quick.{IsAsWritten, IsCompacted, IsVerticesText, no_steps};
 
 use super::types::has_given_type;
-use super::{between, has_other_members, part_named, put_after};
+use super::{between, has_other_members, is_between, part_named, put_after};
 use crate::choices::Choice;
 use crate::choices::selecting::selects_of;
 use crate::choices::types::Types;
 use crate::features::texts::is_vertices_text;
 use byte_streams::Line;
 use city_grid::Vertex;
-use city_json::{Compacted, Part};
+use city_json::{Compacted, Part, Span};
 use std::alloc::Global;
 
 /// A line in its compact text, and whether the feature has one of the types that are asked for.
@@ -25,7 +26,8 @@ struct KeptLine {
 }
 
 /// Whether the line is a feature whose vertices stand as they would be written.
-pub(super) fn has_vertices(line: &[u8], parts: &[Part]) -> bool
+pub(super) fn has_vertices(bytes: &[u8], triples: Span, line: &[u8], parts: &[Part]) -> bool
+    requires triples { HasTriples bytes.now triples }
     ensures { IsTrue result → IsAsWritten line.now parts.now }
 {
     if !has_other_members(line, parts) {
@@ -37,6 +39,18 @@ pub(super) fn has_vertices(line: &[u8], parts: &[Part]) -> bool
     let Some(text) = between(line, part.value, part.end) else {
         return false;
     };
+    are_vertices(bytes, triples, text)
+}
+
+/// Whether the text is what would be written for its vertices, which most often are the triples that were found in what
+/// was read; `false`: undecided.
+fn are_vertices(bytes: &[u8], triples: Span, text: &[u8]) -> bool
+    requires triples { HasTriples bytes.now triples }
+    ensures { IsTrue result → IsVerticesText text.now }
+{
+    if triples.from < triples.end && is_between(bytes, triples.from, triples.end, text) {
+        return true;
+    }
     is_vertices_text(text)
 }
 

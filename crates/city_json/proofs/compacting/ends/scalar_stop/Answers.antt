@@ -1,4 +1,4 @@
-use Rattle.std.proofs.Common.{◌∙◌, ap, arith}
+use Rattle.std.proofs.Common.{◌∙◌, ap}
 use Rattle.std.specs.List.{prefix_len}
 use Rattle.city_json.specs.CompactEnds.{goes_on}
 use Rattle.city_json.proofs.PassScalars.{rest_is}

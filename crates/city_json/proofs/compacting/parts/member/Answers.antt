@@ -10,12 +10,12 @@ returns-clause-taken c =
     let text = c.args.text.now in
     let before : List ℕ = shown c.args.draft.now.line text c.args.draft.now.from c.args.at in
     let mid : List ℕ = shown c.name_and_colon.new.draft.line text c.name_and_colon.new.draft.from c.in_ok-start.start in
-    let after : List ℕ = shown c.member_value.new.draft.line text c.member_value.new.draft.from c.in_ok-end.end in
+    let after : List ℕ = shown c.top_value.new.draft.line text c.top_value.new.draft.from c.in_ok-end.end in
     let taken : TakenMember c.args.levels (drop c.args.at text)
-    (drop c.in_ok-end.end text) before after c.args.draft.now.names c.member_value.new.draft.names =
+    (drop c.in_ok-end.end text) before after c.args.draft.now.names c.top_value.new.draft.names =
     member_taken c.args.levels (drop c.args.at text) (drop c.in_ok-start.start text)
     (drop c.in_ok-end.end text) before mid after c.args.draft.now.names c.name_and_colon.new.draft.names
-    c.member_value.new.draft.names
+    c.top_value.new.draft.names
     c.in_ok-start.ensures.taken c.in_ok-end.ensures.taken c.in_ok-end.ensures.names in
     let part = c.in_ok-list_part.ensures in
     record {

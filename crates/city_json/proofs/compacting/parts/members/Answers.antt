@@ -26,6 +26,7 @@ members-init c =
       onward = c.skip-i.ensures.onward inside;
       within = before_end;
       copied = c.skip-i.ensures.copied inside;
+      triples = c.requires.triples;
       goes_on = λ rest after listed parts from.
           parts_start c.args.levels (drop c.args.at text)
           (drop c.skip-i.result text) rest _ _ after c.skip-i.new.draft.names listed c.args.parts.now.items parts
@@ -53,6 +54,7 @@ members-preserved c =
       onward = omega (arith, onward, further, so_far, behind);
       within = before_end₂;
       copied = c.skip-i-in-members.ensures.copied inside₂;
+      triples = c.in_ok-end.ensures.triples;
       goes_on = λ rest after listed parts from.
           subst (λ l. PartsWhole c.args.levels (drop c.args.at text) rest
           (shown c.args.draft.now.line text c.args.draft.now.from c.args.at) after l

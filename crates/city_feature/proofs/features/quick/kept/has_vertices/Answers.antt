@@ -9,7 +9,7 @@ pub returns : goal.returns
 returns c = λ yes.
     let line = c.args.line.now in
     let part = c.in-Some.part in
-    let (ps, text_is, range) = c.is_vertices_text.ensures yes in
+    let (ps, text_is, range) = c.are_vertices.ensures yes in
     let lies = sym c.in-Some-between.ensures.some ∙ text_is in (
       part,
       ps,

@@ -2,10 +2,10 @@ use Rattle.std.proofs.Common.{◌≡◌, ◌<◌, ◌≤◌, ◌∙◌, length, 
 use Rattle.city_json.specs.Bytes.{open_brace}
 use Rattle.city_json.proofs.PassParts.{whole_parts}
 use Rattle.city_json.proofs.Places.{drop_one, nothing_shown, shown_one}
-use Rattle.city_json.proofs.compacting.parts.compact_parts.Goals as goal
+use Rattle.city_json.proofs.compacting.parts.compact_feature.Goals as goal
 
-pub returns : goal.returns
-returns c =
+pub returns-clause-object : goal.returns-clause-object
+returns-clause-object c =
     let text = c.args.text.now in
     let before_end : c.in_ok-at.at ≤ length text = c.in_ok-at.ensures.within in
     let inside : c.in_ok-at.at < length text = omega (arith, c.if-at-text.false) in
