@@ -8,7 +8,7 @@ use std::simd::prelude::*;
 
 /// The end of the digits from `at` on.
 #[inline(always)]
-pub(super) fn digits_end(text: &[u8], at: usize) -> usize
+pub(crate) fn digits_end(text: &[u8], at: usize) -> usize
     requires { at ≤ length text.now }
     ensures onward { at ≤ result }
     ensures within { result ≤ length text.now }

@@ -16,7 +16,7 @@ fn may_end(text: &[u8], at: usize) -> bool {
     at < text.len() && matches!(text[at], b',' | b']' | b'}')
 }
 
-/// A member's value that begins at `at`, most often a whole number: where it ends.
+/// A member's value that begins at `at`, most often a string or a whole number: where it ends.
 #[cycle(value)]
 #[inline(always)]
 pub(super) fn member_value<'a>(
@@ -36,6 +36,9 @@ pub(super) fn member_value<'a>(
         (shown draft.old.line text.now draft.old.from at)
         (shown draft.new.line text.now draft.new.from end)) }
 {
+    if at < text.len() && text[at] == b'"' {
+        return text_value(text, at, levels, draft);
+    }
     let end = integer_end(text, at);
     if at < end && may_end(text, end) {
         return Some(end);

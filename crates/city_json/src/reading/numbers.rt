@@ -4,6 +4,8 @@ ghost use Rattle.std.specs.Option.{option_map};
 ghost use Rattle.city_json.specs.Number.{IsNumber};
 ghost use Rattle.city_json.specs.NumberAt.{number_at, past_number, past_minus, past_whole, past_fraction, past_exponent, past_sign, past_some_digits, past_digits};
 
+use crate::compacting::digits::digits_end;
+
 /// The number at the front of the bytes, and what follows it.
 #[tactic(auto, using(crate::proofs::NumberLaws::rest_is_short))]
 #[inline]
@@ -96,9 +98,5 @@ fn past_some_digits(bytes: &[u8]) -> Option<&[u8]>
 pub(crate) fn past_digits(bytes: &[u8]) -> &[u8]
     ensures { result.now ≡ past_digits bytes.now }
 {
-    let mut rest = bytes;
-    while let [b'0'..=b'9', tail @ ..] = rest {
-        rest = tail;
-    }
-    rest
+    &bytes[digits_end(bytes, 0)..]
 }
