@@ -1,11 +1,11 @@
 //! Of triples of whole numbers, as vertices are: which are noted, and that a text has one answer with and without them.
-use crate::texts::{Pieces, expect, expect_at, text_of};
+use crate::texts::{Pieces, expect, expect_at, has_one_answer, text_of};
 use byte_streams::Line;
 use city_json::{compact, compact_feature};
 use std::alloc::Global;
 
 /// A text, and what is noted of it.
-const NOTED: [(&[u8], &[u8]); 21] = [
+const NOTED: [(&[u8], &[u8]); 22] = [
     (b"{\"vertices\":[[1,2,3]]}", b"[[1,2,3]]"),
     (
         b"{\"vertices\":[[0,-1,-20],[7,0,10]]}",
@@ -15,6 +15,7 @@ const NOTED: [(&[u8], &[u8]); 21] = [
         b"{\"a\":[[1,2]],\"v\":[[4,5,6],[7,8,9]],\"b\":[[[1,2,3]]]}",
         b"[[4,5,6],[7,8,9]]",
     ),
+    (b"{\"v\":[[1,2,3]],\"x\":[[4,5,6]]}", b"[[4,5,6]]"),
     (
         b"{\"v\":[[999999999999999,-999999999999999,0]]}",
         b"[[999999999999999,-999999999999999,0]]",
@@ -43,10 +44,7 @@ const NOTED: [(&[u8], &[u8]); 21] = [
 
 fn notes(alloc: Global, text: &[u8], wanted: &[u8]) -> bool {
     match compact_feature(alloc, text, Line::new(alloc)) {
-        Some(feature) => {
-            let noted = text.get(feature.triples.from..feature.triples.end);
-            noted == Some(wanted) && feature.found.line.items().len() <= text.len()
-        }
+        Some(feature) => text.get(feature.triples.from..feature.triples.end) == Some(wanted),
         None => false,
     }
 }
@@ -55,6 +53,7 @@ fn notes(alloc: Global, text: &[u8], wanted: &[u8]) -> bool {
 fn triples_of_few_digits_are_noted(rt: HostRuntime) {
     for (text, wanted) in NOTED.iter() {
         expect(&rt, notes(rt.alloc(), text, wanted), text);
+        expect(&rt, has_same_answer(rt.alloc(), text), text);
     }
 }
 
@@ -101,8 +100,12 @@ const PIECES: [&[u8]; 12] = [
     b",1,2,3],[",
 ];
 
-/// Whether the pass has the same answer of an object with and without its parts.
+/// Whether the pass has the reader's answer, and the same of an object with and without its parts.
 fn has_same_answer(alloc: Global, text: &[u8]) -> bool {
+    has_one_answer(alloc, text) && has_same_line(alloc, text)
+}
+
+fn has_same_line(alloc: Global, text: &[u8]) -> bool {
     let line = compact(alloc, text, Line::new(alloc));
     match compact_feature(alloc, text, Line::new(alloc)) {
         Some(feature) => line.is_some_and(|line| line.items() == feature.found.line.items()),
@@ -132,6 +135,11 @@ fn all_changed_have_same_answer(alloc: Global, at: usize) -> bool {
 
 #[test]
 fn a_byte_changed_in_triples_has_one_answer(rt: HostRuntime) {
+    expect(
+        &rt,
+        compact_feature(rt.alloc(), TEXT, Line::new(rt.alloc())).is_some(),
+        TEXT,
+    );
     for at in 0..TEXT.len() {
         let holds = all_changed_have_same_answer(rt.alloc(), at);
         expect_at(&rt, holds, at, TEXT);
