@@ -1,4 +1,4 @@
--- Arrays of three whole numbers each, as the vertices of a feature are (CityJSON 2.0, Transform Object), in their
+-- Arrays of three whole numbers each, as the vertices of a feature are (CityJSON 2.0, CityJSONFeature), in their
 -- compact text.
 use Rattle.std.specs.Prelude.{◌≡◌, ◌≢◌, ◌⊎◌, ◌++◌, ◌<◌, ◌≤◌, ℕ, List, [], ◌∷◌, length, get_or, slice_range}
 use Rattle.city_json.specs.Bytes.{digit_zero, minus}

@@ -37,17 +37,17 @@ pub struct Compacted {
     pub parts: Vec<Part>,
 }
 
-/// Where something stands in a text, in bytes from its beginning: from `from` on up to `end`. Nothing, where that is not
-/// after `from`.
+/// Where something stands in a text, in bytes from its beginning: from `from` on up to `end`. Nothing, where `end` is
+/// not after `from`.
 #[derive(Clone, Copy, Debug, PartialEq, Eq)]
 pub struct Span {
     pub from: usize,
     pub end: usize,
 }
 
-/// The compact text of an object, and where in the text that was read the value stands of one of its members that is an
-/// array of arrays of three whole numbers each, in its compact text, as the vertices of a feature are (CityJSON 2.0,
-/// CityJSONFeature).
+/// The compact text of an object, and where in the text that was read the compact text stands of an array of arrays of
+/// three whole numbers each, as the vertices of a feature are (CityJSON 2.0, CityJSONFeature). Whose value it is is not
+/// promised, nor that one is noted where there is one; who uses it compares the bytes.
 #[derive(Debug, Drop)]
 pub struct CompactedFeature {
     pub found: Compacted,

@@ -1,5 +1,5 @@
-//! Arrays of three whole numbers each, as the vertices of a feature are (CityJSON 2.0, Transform Object), in their compact
-//! text, 64 bytes at a time.
+//! Arrays of three whole numbers each, as the vertices of a feature are (CityJSON 2.0, CityJSONFeature), in their
+//! compact text, 64 bytes at a time.
 ghost use Rattle.std.specs.Prelude.{◌≡◌, ◌<◌, ◌≤◌, ◌+◌, ◌-◌, ◌++◌, false, true, ℕ, List, length, drop, map, take, slice_range, get_or, IfSome, IsTrue};
 ghost use Rattle.std.specs.Simd.Lanes.{mask_l};
 ghost use Rattle.city_json.specs.Triples.{IsShortNumeral, IsTriplesText};
@@ -22,8 +22,8 @@ struct Mark {
     others: u64,
 }
 
-/// How many bytes at the front of a block are triples, each with the comma after it, or after the last of all the bracket
-/// that closes the array around them.
+/// How many bytes at the front of a block are triples, each with the comma after it, or after the last of all the
+/// bracket that closes the array around them.
 #[derive(Clone, Copy, Drop)]
 struct Front {
     len: usize,
