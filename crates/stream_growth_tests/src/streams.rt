@@ -366,10 +366,11 @@ fn choice_of(alloc: Global, exclude: bool) -> Result<Choice, Fault> {
     Ok(Choice::new(types(alloc, "Building")?, None, exclude))
 }
 
-/// A tile whose first line holds a building and a road, and buildings after it.
-fn tile_of(alloc: Global) -> Result<TileReader<Tape>, AllocError> {
+/// A tile whose first line holds a building and a road, and buildings after it, so many bytes a read.
+fn tile_of(alloc: Global, step: usize) -> Result<TileReader<Tape>, AllocError> {
     let input = bytes_of(alloc, &[POINTS, A1, A2, B1])?;
-    Ok(TileReader::new(alloc, tape_of(alloc, &input)?))
+    let tape = Tape::new(Line::from_vec(input), step.max(1), false);
+    Ok(TileReader::new(alloc, tape))
 }
 
 /// What the first line holds is taken, and each line after it is passed, chosen or not.
@@ -393,7 +394,9 @@ fn is_taken(
 fn tile_is_taken(rt: &(impl AllocGlobal + Eprint)) -> Result<bool, Fault> {
     let buildings = choice_of(rt.alloc(), false)?;
     let others = choice_of(rt.alloc(), true)?;
-    is_taken(rt, &mut tile_of(rt.alloc())?, &buildings, &others)
+    let in_parts = &mut tile_of(rt.alloc(), 50)?;
+    let whole = &mut tile_of(rt.alloc(), 4096)?;
+    Ok(is_taken(rt, in_parts, &buildings, &others)? && is_taken(rt, whole, &buildings, &others)?)
 }
 
 /// A document, and what it becomes; a refused one leaves nothing written.

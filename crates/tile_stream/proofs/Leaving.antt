@@ -135,6 +135,17 @@ module _ {R : Type 0} (gives : R → List ℕ → Bool → Type 0) (limits : Lim
   by_refusal Read is = (is.0, is.1, is.2, sym (is.3 number))
   by_refusal other is = absurd is
 
+  pub by_whole : (line : List ℕ) (after : Ahead R) (next : ℕ) → next ≡ start + length line + 1 → HasNoNewline line
+      → IsFineLine limits start line
+      → ((bytes : List ℕ) (fails : Bool) → MayCome gives after bytes fails
+      → MayCome gives before (line ++ newline ∷ bytes) fails)
+      → is_blank line ≡ false
+      → (left : TileLines) → Leaves gives (unread after (number + 1) next) left
+      → Leaves gives (unread before number start) (line_before (part_of number start line) left)
+  by_whole line after next place none fine follows full left leaves =
+      subst (Leaves gives (unread before number start)) (part_full number start line left full)
+      (by_ended line after next place none fine follows left leaves)
+
 -- a line that was refused before is refused again
 pub by_kept : (fault : Fault) (line : ℕ) → IsRefused fault line (λ left. left ≡ only_fault line fault)
 by_kept Memory line = (only_fault line Memory, refl, omega arith)

@@ -12,3 +12,4 @@ pub mod Texts
 pub mod Tile
 pub mod TileState
 pub mod Unread
+pub mod Whole

@@ -1,8 +1,9 @@
-ghost use Rattle.std.specs.Prelude.{◌≡◌, ◌≤◌, ◌<◌, ◌+◌, ◌↔◌, false, Some, None, IfOk, IfErr, IfSome, IfNone};
+ghost use Rattle.std.specs.Prelude.{◌≡◌, ◌≤◌, ◌<◌, ◌+◌, ◌↔◌, false, length, take, Some, None, IfOk, IfErr, IfSome, IfNone};
 ghost use Rattle.byte_streams.specs.Limits.{max_tile_bytes};
 ghost use Rattle.tile_stream.specs.Ahead.{MayCome};
 ghost use Rattle.tile_stream.specs.Tile.{TileLines, only_fault, limits_of, stream_limits};
 ghost use Rattle.tile_stream.specs.Unread.{Leaves, IsOfTile, GivesPart, GivesLine, MayBeOver, StandsAt, IsRefused, IsLineFault, IsAgain, BeginsFrom, EndsFrom, is_refused, most_left, has_failed, failed_reads_between};
+ghost use Rattle.tile_stream.specs.Whole.{IsWhole};
 
 mod part;
 mod read_ahead;
@@ -13,8 +14,9 @@ use crate::limits::{Limits, STREAM_LIMITS};
 use crate::lines::part::NextPart;
 use crate::lines::read_ahead::ReadAhead;
 use crate::lines::state::State;
-use crate::lines::taking::{is_blank, take_part};
+use crate::lines::taking::{fault_between, is_blank, take_part};
 use byte_streams::{Fault, Line, LineFault, Source};
+use memchr::memchr;
 use std::alloc::Global;
 use std::marker::Model;
 
@@ -144,6 +146,55 @@ impl<R: Source> Lines<R> {
     /// Whether the newline of the next line was read already.
     pub fn holds_line(&self) -> bool {
         self.ahead.holds_newline()
+    }
+
+    /// How long the next line is, where the newline that ends it was read already, it is not blank and within the
+    /// limits. `None`: [`Lines::next`] tells what comes.
+    pub(crate) fn whole_len(&self) -> Option<usize>
+        ensures { IfSome result (λ count. IsWhole self.now count) }
+    {
+        let State::Open = self.state else {
+            return None;
+        };
+        if !self.ahead.holds_newline() {
+            return None;
+        }
+        let held = self.ahead.held();
+        let count = memchr(b'\n', held)?;
+        let end = self.start + count as u64;
+        if fault_between(self.limits, end + 1, self.start, end).is_some() {
+            return None;
+        }
+        if is_blank(&held[..count]) {
+            return None;
+        }
+        Some(count)
+    }
+
+    /// The first bytes that were read and not taken yet, this many.
+    pub(crate) fn front(&self, count: usize) -> &[u8]
+        requires { count ≤ length self.now.ahead.held }
+        ensures { result.now ≡ take count self.now.ahead.held }
+    {
+        &self.ahead.held()[..count]
+    }
+
+    /// Leaves the line that stands whole in front, of this length: its number.
+    pub(crate) fn leave_line(&mut self, count: usize) -> u64
+        requires { IsWhole self.old count }
+        ensures line { GivesLine (Leaves R.gives self.old) (Leaves R.gives self.new) result
+            (take count self.old.ahead.held) }
+        ensures number { result ≡ self.old.number }
+        ensures later { result < self.new.number }
+        ensures fewer { most_left self.new < most_left self.old }
+        ensures is_open { self.new.ended ≡ None }
+        ensures failures { R.failures self.new.ahead.reader ≡ R.failures self.old.ahead.reader }
+    {
+        let number = self.number;
+        self.ahead.skip(count + 1);
+        self.start += count as u64 + 1;
+        self.number += 1;
+        number
     }
 
     /// The next part, blank or not; a last one that is blank is left out.

@@ -62,7 +62,7 @@ pub fn take_part<R: Source>(
 }
 
 /// Why a line from `start` to `end` is refused, in a tile of `size` bytes in which no read failed.
-fn fault_between(limits: Limits, size: u64, start: u64, end: u64) -> Option<Fault>
+pub fn fault_between(limits: Limits, size: u64, start: u64, end: u64) -> Option<Fault>
     requires order { start ≤ end }
     requires start { start ≤ limits.tile }
     requires tile { limits.tile ≤ max_tile_bytes }

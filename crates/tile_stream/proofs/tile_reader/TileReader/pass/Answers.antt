@@ -14,45 +14,45 @@ returns-in-Ok-None-clause-some g c =
     lines_come g.R.Source.gives (IsChosen c.args.choice.now) c.args.shift g.met.R.Source.gives_something c.next.new.self
     c.next.ensures.ended
 
-pub returns-in-Err-clause-refused : goal.returns-in-Err-clause-refused
-returns-in-Err-clause-refused g c =
+pub returns-in-Err-next-clause-refused : goal.returns-in-Err-next-clause-refused
+returns-in-Err-next-clause-refused g c =
     rw (← c.self.view_is) (fault_comes g.R.Source.gives (IsChosen c.args.choice.now) c.args.shift c.self.inside.lines
-    c.in-Err.at.fault c.in-Err.at.line c.in-Err.ensures.at c.in-Err.ensures.refused)
+    c.in-Err-next.at.fault c.in-Err-next.at.line c.in-Err-next.ensures.at c.in-Err-next.ensures.refused)
 
-pub returns-in-Err-clause-some : goal.returns-in-Err-clause-some
-returns-in-Err-clause-some g c =
+pub returns-in-Err-next-clause-some : goal.returns-in-Err-next-clause-some
+returns-in-Err-next-clause-some g c =
     lines_come g.R.Source.gives (IsChosen c.args.choice.now) c.args.shift g.met.R.Source.gives_something c.next.new.self
     c.next.ensures.ended
 
-pub returns-in-Ok-clause-text : goal.returns-in-Ok-clause-text
-returns-in-Ok-clause-text g c =
+pub returns-in-Ok-feature_line-clause-text : goal.returns-in-Ok-feature_line-clause-text
+returns-in-Ok-feature_line-clause-text g c =
     let taken = rw c.in-Ok-Some.field-0-is at c.in-Ok-Some.ensures.line in
     let from = rw c.in-Ok-Some.field-0-is at c.in-Ok-Some.ensures.first in
     let later = rw c.in-Ok-Some.field-0-is at c.in-Ok-Some.ensures.later in
-    let given = rw c.items.ensures at c.in-Ok.ensures.ok in
+    let given = rw c.items.ensures at c.in-Ok-feature_line.ensures.ok in
     let lines = c.self.inside.lines in
     rw (← c.self.view_is) (λ chosen. text_comes g.R.Source.gives (IsChosen c.args.choice.now) c.args.shift lines
     c.next.new.self c.in-Ok-Some.line.number c.in-Ok-Some.line.bytes taken from lines
-    (λ texts outcome comes. comes) later given.0 c.in-Ok.is_chosen given.1 given.2 chosen c.emptied-text.result
+    (λ texts outcome comes. comes) later given.0 c.in-Ok-feature_line.is_chosen given.1 given.2 chosen c.emptied-text.result
     c.feature_line.new.text c.emptied-text.ensures given.3)
 
-pub returns-in-Ok-clause-skipped : goal.returns-in-Ok-clause-skipped
-returns-in-Ok-clause-skipped g c =
+pub returns-in-Ok-feature_line-clause-skipped : goal.returns-in-Ok-feature_line-clause-skipped
+returns-in-Ok-feature_line-clause-skipped g c =
     let taken = rw c.in-Ok-Some.field-0-is at c.in-Ok-Some.ensures.line in
     let from = rw c.in-Ok-Some.field-0-is at c.in-Ok-Some.ensures.first in
     let later = rw c.in-Ok-Some.field-0-is at c.in-Ok-Some.ensures.later in
-    let given = rw c.items.ensures at c.in-Ok.ensures.ok in
+    let given = rw c.items.ensures at c.in-Ok-feature_line.ensures.ok in
     let lines = c.self.inside.lines in
     rw (← c.self.view_is) (λ skipped. (
-      no_text given.0 c.in-Ok.is_chosen given.2 skipped c.emptied-text.result c.feature_line.new.text
+      no_text given.0 c.in-Ok-feature_line.is_chosen given.2 skipped c.emptied-text.result c.feature_line.new.text
           c.emptied-text.ensures given.3,
       none_comes g.R.Source.gives (IsChosen c.args.choice.now) c.args.shift lines c.next.new.self
           c.in-Ok-Some.line.number c.in-Ok-Some.line.bytes taken from lines (λ texts outcome comes. comes)
-          later given.0 c.in-Ok.is_chosen given.1 given.2 skipped,
+          later given.0 c.in-Ok-feature_line.is_chosen given.1 given.2 skipped,
     ))
 
-pub returns-in-Ok-clause-some : goal.returns-in-Ok-clause-some
-returns-in-Ok-clause-some g c =
+pub returns-in-Ok-feature_line-clause-some : goal.returns-in-Ok-feature_line-clause-some
+returns-in-Ok-feature_line-clause-some g c =
     lines_come g.R.Source.gives (IsChosen c.args.choice.now) c.args.shift g.met.R.Source.gives_something c.next.new.self
     c.next.ensures.ended
 
