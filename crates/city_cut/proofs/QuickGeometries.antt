@@ -1,10 +1,12 @@
 -- Boundaries and geometries that are copied from their compact texts.
-use Rattle.std.proofs.Common.{◌≡◌, ◌∙◌, ◌++◌, ◌<◌, ◌≤◌, ℕ, List, [], ◌∷◌, None, length, take, drop, get_or, slice_range, refl, sym, ap, subst, arith, append-nil, codes}
+use Rattle.std.proofs.Common.{◌≡◌, ◌⊎◌, ◌∙◌, ◌++◌, ◌<◌, ◌≤◌, ◌+◌, ◌-◌, ℕ, List, [], ◌∷◌, None, length, take, drop, get_or, slice_range, inl, inr, refl, sym, ap, subst, arith, append-nil, length-append, codes}
+use Rattle.std.proofs.lemmas.List.{drop-drop, drop-take, get_or_append_left, get_or_push, take-append-drop, take-take}
 use Rattle.std.specs.List.{flat_map, AllByRecursion}
 use Rattle.city_json.proofs.CompactEnds.{number_other}
-use Rattle.city_json.proofs.Places.{drop_one, shown_one}
-use Rattle.city_json.specs.Bytes.{colon, open_bracket}
+use Rattle.city_json.proofs.Places.{drop_one, shown_more, shown_one}
+use Rattle.city_json.specs.Bytes.{close_brace, colon, comma, open_bracket}
 use Rattle.city_json.specs.Compact.{compact, quoted}
+use Rattle.city_json.specs.CompactEnds.{IsStopped, LeavesValue}
 use Rattle.city_json.specs.Compacting.{shown}
 use Rattle.city_json.specs.Members.{first_named}
 use Rattle.city_json.specs.Parts.{AreParts}
@@ -14,21 +16,23 @@ use Rattle.city_json.specs.declared.compacting.parts.Part.{Part}
 use Rattle.city_feature.proofs.QuickLines.{utf8}
 use Rattle.city_feature.specs.Quick.{IsPartNamed}
 use Rattle.city_cut.specs.Boundaries.{IsGeometry, changed_members, own_boundary, relabelled_boundary}
-use Rattle.city_cut.specs.Copied.{Copies, CopiesItems}
+use Rattle.city_cut.specs.Copied.{Copies, CopiesItems, CopiesPart}
+use Rattle.city_cut.specs.FrontMembers.{EndsAfter, HasFrontParts, IsValuePlace}
 use Rattle.city_cut.specs.Leaves.{IsBoundary, IsNested, leaves, relabelled}
 use Rattle.city_cut.specs.Texts.{IsCompactOf}
 use Rattle.city_cut.proofs.CopiedArrays.{part_array}
 use Rattle.city_cut.proofs.CopiedTexts.{copies_so, copies_text, shown_here}
+use Rattle.city_cut.proofs.QuickMembers.{has_front_parts}
 use Rattle.city_cut.proofs.QuickTexts.{changed_absent, copies_exchanged, member_there}
 
-part_boundary : (count : ℕ) (value : Tree) (tail : List ℕ) → IsWritable value
-    → compact value ++ [] ≡ open_bracket ∷ tail → IsNested count value → IsBoundary count value
-part_boundary count null tail w is part = absurd part
-part_boundary count (boolean b) tail w is part = absurd part
-part_boundary count (number text) tail w is part = absurd (number_other text [] tail open_bracket w refl is)
-part_boundary count (string text) tail w is part = absurd part
-part_boundary count (array items) tail w is part = part
-part_boundary count (object members) tail w is part = absurd part
+part_boundary : (count : ℕ) (value : Tree) (rest tail : List ℕ) → IsWritable value
+    → compact value ++ rest ≡ open_bracket ∷ tail → IsNested count value → IsBoundary count value
+part_boundary count null rest tail w is part = absurd part
+part_boundary count (boolean b) rest tail w is part = absurd part
+part_boundary count (number text) rest tail w is part = absurd (number_other text rest tail open_bracket w refl is)
+part_boundary count (string text) rest tail w is part = absurd part
+part_boundary count (array items) rest tail w is part = part
+part_boundary count (object members) rest tail w is part = absurd part
 
 pub boundary_made : (count : ℕ) (text t o line t' o' line' line₃ : List ℕ) (from end : ℕ) → 0 < length text
     → get_or text 0 0 ≡ open_bracket
@@ -44,7 +48,7 @@ boundary_made count text t o line t' o' line' line₃ from end some here items p
     ∙ ap (λ l. l ++ open_bracket ∷ []) (shown_here line text 0 0 refl) in
     let made = part_array count t o line (shown line text 0 1) t' o' (shown line' text from end) text (drop 1 text)
     (drop end text) begins opened items value [] writable tt (is ∙ sym (append-nil (compact value))) in (
-      part_boundary count value (drop 1 text) writable (append-nil (compact value) ∙ (sym is ∙ begins)) made.1,
+      part_boundary count value [] (drop 1 text) writable (append-nil (compact value) ∙ (sym is ∙ begins)) made.1,
       subst (λ l. Copies t o line t' o' l (leaves value) (λ change. compact (relabelled change value))) (sym last)
           made.2,
     )
@@ -92,3 +96,121 @@ abbrev pub GeometryMade : ℕ → List ℕ → List ℕ → List ℕ → List �
 GeometryMade count t o line t' o' line' value = IsGeometry count value
     × Copies t o line t' o' line' (flat_map leaves (own_boundary value))
     (λ change. compact (relabelled_boundary change value))
+
+-- ---- a geometry in front of other bytes, whose boundaries were copied where they were come upon
+slice_of_front : (text : List ℕ) (stop from to : ℕ) → from ≤ to → to ≤ stop
+    → slice_range (take stop text) from to ≡ slice_range text from to
+slice_of_front text stop from to order within =
+    let count : from + (stop - from) ≡ stop = omega arith in
+    ap (take (to - from)) (ap (λ n. drop from (take n text)) (sym count) ∙ drop-take from (stop - from) text)
+    ∙ take-take (to - from) (stop - from) (drop from text) (omega arith)
+
+drop_of_front : (text : List ℕ) (stop from : ℕ) → from ≤ stop → drop from (take stop text) ≡ slice_range text from stop
+drop_of_front text stop from order =
+    let count : from + (stop - from) ≡ stop = omega arith in
+    ap (λ n. drop from (take n text)) (sym count) ∙ drop-take from (stop - from) text
+
+pub walked : (text name : List ℕ) (value end stop : ℕ) (there : IsValuePlace text name value)
+    → LeavesValue 128 (drop value text) (drop end text) → end < length text → EndsAfter text end stop
+    → (parts : List Part) × IsPartNamed text parts name (record { at = there.at; value = value; end = end })
+    × HasFrontParts text parts stop
+walked text name value end stop there leaves inside ends =
+    let part : Part = record { at = there.at; value = value; end = end } in
+    let found = ends (there.parts ++ part ∷ []) (record {
+      at = there.at;
+      before = there.parts;
+      part = part;
+      listed = refl;
+      ends = refl;
+      goes_on = there.goes_on;
+      leaves = there.leaves end (omega (arith, inside)) leaves;
+    }) in
+    let here : length there.parts < length (there.parts ++ part ∷ []) =
+    omega (arith, length-append there.parts (part ∷ [])) in (
+      (there.parts ++ part ∷ []) ++ found.0,
+      record {
+        place = length there.parts;
+        within = omega (arith, here, length-append (there.parts ++ part ∷ []) found.0);
+        is = get_or_append_left (there.parts ++ part ∷ []) found.0 part (length there.parts) here
+            ∙ get_or_push there.parts part part (length there.parts) refl;
+        named = there.named;
+      },
+      has_front_parts text ((there.parts ++ part ∷ []) ++ found.0) stop there.some there.opens found.1,
+    )
+
+-- boundaries at a place, whose items were copied
+pub copied_there : (count : ℕ) (text t o line t' o' line' : List ℕ) (value end : ℕ) → value < length text
+    → get_or text value 0 ≡ open_bracket
+    → CopiesItems count (drop (value + 1) text) (drop end text)
+    (Copies t o (shown line text 0 (value + 1)) t' o' line')
+    → CopiesPart count (drop value text) (drop end text) (Copies t o (shown line text 0 value) t' o' line')
+copied_there count text t o line t' o' line' value end inside here copied =
+    part_array count t o (shown line text 0 value) (shown line text 0 (value + 1)) t' o' line' (drop value text)
+    (drop (value + 1) text) (drop end text) (drop_one text value open_bracket inside here)
+    (shown_one line text 0 value open_bracket (omega arith) inside here) copied
+
+pub part_leaves : (count : ℕ) (b after t o line t' o' line' : List ℕ)
+    → CopiesPart count b after (Copies t o line t' o' line') → LeavesValue 128 b after
+part_leaves count b after t o line t' o' line' copied = λ value rest w shallow stopped is.
+    (copied value rest w stopped is).0
+
+module _ (count : ℕ) (text t o line t' o' line' line₃ : List ℕ) (at value end stop from : ℕ)
+    (parts : List Part)
+    (named : IsPartNamed text parts (quoted (codes "boundaries") ++ colon ∷ [])
+    (record { at = at; value = value; end = end }))
+    (front : HasFrontParts text parts stop) (begins : at ≤ value) (inside : value < length text)
+    (opens : get_or text value 0 ≡ open_bracket) (order : value ≤ end) (more : end ≤ stop) (copied_to : from ≤ end)
+    (stopped : IsStopped (drop end text))
+    (copied : CopiesPart count (drop value text) (drop end text)
+    (Copies t o (shown line text 0 value) t' o' (shown line' text from end)))
+    (last : line₃ ≡ line' ++ slice_range text from stop) where
+  walked_lies : drop value text ≡ slice_range text value end ++ drop end text
+  walked_lies =
+      let count : value + (end - value) ≡ end = omega (arith, order) in
+      sym (take-append-drop (end - value) (drop value text))
+      ∙ ap (λ l. slice_range text value end ++ l) (drop-drop (end - value) value text ∙ ap (λ n. drop n text) count)
+
+  walked_front : shown line text 0 value ≡ line ++ take value (take stop text)
+  walked_front =
+      let count : value - 0 ≡ value = omega arith in
+      ap (λ n. line ++ take n text) count
+      ∙ ap (λ l. line ++ l) (sym (take-take value stop text (omega (arith, order, more))))
+
+  walked_boundary : (boundary : Tree) → IsWritable boundary
+      → slice_range (take stop text) value end ≡ compact boundary → IsBoundary count boundary
+      × Copies t o (line ++ take value (take stop text)) t' o' (shown line' text from end) (leaves boundary)
+      (λ change. compact (relabelled change boundary))
+  walked_boundary boundary writable is =
+      let lies : drop value text ≡ compact boundary ++ drop end text =
+      walked_lies ∙ ap (λ l. l ++ drop end text) (sym (slice_of_front text stop value end order more) ∙ is) in
+      let made = copied boundary (drop end text) writable stopped lies in (
+        part_boundary count boundary (drop end text) (drop (value + 1) text) writable
+            (sym lies ∙ drop_one text value open_bracket inside opens) made.1,
+        subst (λ l. Copies t o l t' o' (shown line' text from end) (leaves boundary)
+            (λ change. compact (relabelled change boundary))) walked_front made.2,
+      )
+
+  pub walked_made : (v : Tree) → IsCompactOf (take stop text) v → GeometryMade count t o line t' o' line₃ v
+  walked_made v of =
+      let part : Part = record { at = at; value = value; end = end } in
+      let (members, is_object, are, left) = front v (drop stop text) of.writable of.within
+      (sym (take-append-drop stop text) ∙ ap (λ l. l ++ drop stop text) of.is) in
+      let of_object : IsCompactOf (take stop text) (object members) =
+      subst (IsCompactOf (take stop text)) is_object of in
+      subst (GeometryMade count t o line t' o' line₃) (sym is_object)
+      (geometry_made count (take stop text) (slice_range (take stop text) value end) t o line
+      (line ++ take value (take stop text)) t' o' (shown line' text from end) line₃ parts part members of_object are
+      (record {
+        place = named.place;
+        within = named.within;
+        is = named.is;
+        named = slice_of_front text stop at value begins (omega (arith, order, more)) ∙ named.named;
+      }) refl refl walked_boundary
+      (last ∙ (shown_more line' text from end stop copied_to more
+      ∙ ap (λ l. shown line' text from end ++ l) (sym (drop_of_front text stop end more)))))
+
+pub member_stopped : (text : List ℕ) (end : ℕ) → end < length text → (get_or text end 0 ≡ comma)
+    ⊎ (get_or text end 0 ≡ close_brace) → IsStopped (drop end text)
+member_stopped text end inside (inl here) = subst IsStopped (sym (drop_one text end comma inside here)) (inl refl)
+member_stopped text end inside (inr here) = subst IsStopped (sym (drop_one text end close_brace inside here))
+    (inr (inr refl))

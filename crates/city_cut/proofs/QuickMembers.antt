@@ -16,27 +16,7 @@ use Rattle.city_json.specs.Parts.{IsPart, AreParts}
 use Rattle.city_json.specs.Tree.{Tree, null, boolean, number, string, array, object, MemberTrees, no_members, member}
 use Rattle.city_json.specs.Writable.{IsWritable, AreWritableMembers}
 use Rattle.city_json.specs.declared.compacting.parts.Part.{Part}
-use Rattle.city_cut.specs.FrontMembers.{HasFrontParts}
-
--- some members are left, and where they lie in some parts, all do in these after those that were found
-pub record MembersLeft (front : ℕ) (b rest : List ℕ) (parts : List Part) (all : MemberTrees) : Type 0 where
-  pub name : List ℕ
-  pub first : Tree
-  pub others : MemberTrees
-  pub writable : AreWritableMembers (member name first others)
-  pub within : members_depth (member name first others) ≤ max_depth
-  pub is : b ≡ compact_members (member name first others) ++ close_brace ∷ rest
-  pub whole : (more : List Part) → AreParts front more (member name first others) → AreParts 1 (parts ++ more) all
-
--- the same for whatever object the text begins with
-abbrev pub GoesOn : ℕ → List ℕ → List Part → Type 0
-GoesOn at text parts = (all : MemberTrees) (rest : List ℕ) → AreWritableMembers all → members_depth all ≤ max_depth
-    → text ≡ compact (object all) ++ rest → MembersLeft at (drop at text) rest parts all
-
--- where all members lie, and what is left
-abbrev pub IsThere : List ℕ → List Part → ℕ → Type 0
-IsThere text parts end = (all : MemberTrees) (rest : List ℕ) → AreWritableMembers all → members_depth all ≤ max_depth
-    → text ≡ compact (object all) ++ rest → AreParts 1 parts all × (drop end text ≡ rest)
+use Rattle.city_cut.specs.FrontMembers.{EndsAfter, GoesOn, GoneTo, HasFrontParts, IsThere, MembersLeft}
 
 after_brace : (text rest : List ℕ) (all : MemberTrees) → text ≡ compact (object all) ++ rest
     → drop 1 text ≡ compact_members all ++ close_brace ∷ rest
@@ -181,3 +161,54 @@ pub whole_parts : (text : List ℕ) (parts : List Part) (end : ℕ) → HasFront
 whole_parts text parts end has = λ value w within is.
     let (members, is_object, are, left) = has value [] w within (is ∙ sym (append-nil (compact value))) in
     (members, is_object, are)
+
+-- ---- from one member to the next
+pub gone_stop : (text : List ℕ) (parts : List Part) (end : ℕ) → GoneTo text parts end → end < length text
+    → get_or text end 0 ≡ close_brace → IsThere text parts (end + 1)
+gone_stop text parts end gone inside here =
+    let inside₂ : gone.part.end < length text = subst (λ n. n < length text) (sym gone.ends) inside in
+    let here₂ : get_or text gone.part.end 0 ≡ close_brace =
+    subst (λ n. get_or text n 0 ≡ close_brace) (sym gone.ends) here in
+    subst (λ n. IsThere text parts (n + 1)) gone.ends
+    (members_stop text gone.at gone.part gone.before parts gone.goes_on gone.leaves inside₂ here₂ gone.listed)
+
+pub gone_on : (text : List ℕ) (parts : List Part) (end : ℕ) (next : Part) → GoneTo text parts end
+    → end < length text → get_or text end 0 ≢ close_brace
+    → LeavesMember (end + 1) next (drop (end + 1) text) (drop next.end text) → GoneTo text (parts ++ next ∷ []) next.end
+gone_on text parts end next gone inside other leaves =
+    let inside₂ : gone.part.end < length text = subst (λ n. n < length text) (sym gone.ends) inside in
+    let other₂ : get_or text gone.part.end 0 ≢ close_brace =
+    subst (λ n. get_or text n 0 ≢ close_brace) (sym gone.ends) other in
+    record {
+      at = end + 1;
+      before = parts;
+      part = next;
+      listed = refl;
+      ends = refl;
+      goes_on = subst (λ n. GoesOn (n + 1) text parts) gone.ends
+          (members_go_on text gone.at gone.part gone.before parts gone.goes_on gone.leaves inside₂ other₂ gone.listed);
+      leaves = leaves;
+    }
+
+-- members up to one place that lie in some parts lie up to another in these and others
+abbrev pub GoesFrom : List ℕ → ℕ → ℕ → Type 0
+GoesFrom text from to = (parts : List Part) → GoneTo text parts from
+    → (more : List Part) × GoneTo text (parts ++ more) to
+
+pub goes_nowhere : (text : List ℕ) (end : ℕ) → GoesFrom text end end
+goes_nowhere text end = λ parts gone. ([], subst (λ l. GoneTo text l end) (sym (append-nil parts)) gone)
+
+pub goes_on_from : (text : List ℕ) (from to : ℕ) (next : Part) → GoesFrom text from to → to < length text
+    → get_or text to 0 ≢ close_brace → LeavesMember (to + 1) next (drop (to + 1) text) (drop next.end text)
+    → GoesFrom text from next.end
+goes_on_from text from to next so_far inside other leaves = λ parts gone.
+    let (more, on) = so_far parts gone in (
+      more ++ next ∷ [],
+      subst (λ l. GoneTo text l next.end) (append_assoc parts more (next ∷ []))
+          (gone_on text (parts ++ more) to next on inside other leaves),
+    )
+
+pub ends_from : (text : List ℕ) (from to : ℕ) → GoesFrom text from to → to < length text
+    → get_or text to 0 ≡ close_brace → EndsAfter text from (to + 1)
+ends_from text from to so_far inside here = λ parts gone.
+    let (more, on) = so_far parts gone in (more, gone_stop text (parts ++ more) to on inside here)

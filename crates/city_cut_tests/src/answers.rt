@@ -23,7 +23,7 @@ fn is_row_answered(alloc: Global, form: &str, row: &str) -> Result<bool, AllocEr
     Ok(is_answered(alloc, &filled(alloc, form, row)?))
 }
 
-fn expect_answers(rt: &(impl Abort + AllocGlobal), form: &str, table: &str) {
+pub(crate) fn expect_answers(rt: &(impl Abort + AllocGlobal), form: &str, table: &str) {
     for row in table.lines() {
         assert!(rt; is_row_answered(rt.alloc(), form, row) == Ok(true), "{row}");
     }
@@ -64,6 +64,17 @@ const BARE: &str = r#"
 ,"CityObjects":{"a":{"children":["b"],"geometry":[{"type":"MultiSurface","boundaries":[[],[[]]]}]},"b":{"parents":["a"],"address":[{"location":{"boundaries":[]}}]}}
 ,"geometry-templates":{"templates":[]},"appearance":{},"vertices":[]"#;
 
+/// City objects and vertices in either order, alone, and with members in front of them, between them and behind them.
+const ORDERS: &str = r#","CityObjects":{"a":{"geometry":[{"boundaries":[3,0]}]}},"vertices":POINTS
+,"vertices":POINTS,"CityObjects":{"a":{"geometry":[{"boundaries":[3,0]}]}}
+,"metadata":{"CityObjects":{"z":1},"vertices":[9]},"CityObjects":{"a":{"vertices":[8]}},"+b":[1],"vertices":POINTS,"+c":{"x":1.50}
+,"+b":"\"vertices\":","vertices":POINTS,"metadata":{"CityObjects":{}},"+c":[{"vertices":2}],"CityObjects":{"a":{"geometry":[{"boundaries":[2]}]}},"+d":null
+,"CityObjects":{"CityObjects":{},"vertices":{"geometry":[{"boundaries":[1]}]}},"appearance":{"vertices-texture":[[0.5,1]]},"vertices":POINTS
+,"vertices":POINTS,"geometry-templates":{"templates":[],"vertices-templates":[[1,2,3]]},"CityObjects":{},"appearance":{}
+,"+b":2,"CityObjects":{"a":{}},"+c":3
+,"+b":2,"vertices":POINTS,"+c":3
+,"cityObjects":{"a":1},"Vertices":[9],"CityObjects\"":0,"vertices\":":1"#;
+
 /// Rare spellings.
 const RARE: &str =
     r#""Ci\u0074yObjects":{"a":{"\u0067eometry":[{"bound\u0061ries":[3,0]}]}},"\u0076ertices":[[0,0,0],[1,1,1],[2,2,2],[3,3,3]]
@@ -94,6 +105,7 @@ fn valid_documents_are_answered(rt: HostRuntime) {
     expect_answers(&rt, WITH_MEMBERS, MEMBERS);
     expect_answers(&rt, WITH_VERTICES, VERTICES);
     expect_answers(&rt, "HEADROW}", BARE);
+    expect_answers(&rt, "HEADROW}", ORDERS);
     expect_answers(&rt, "\r\n\t HEAD,ROW} \n", RARE);
     expect_answers(&rt, WITH_GEOMETRIES, GEOMETRIES);
 }

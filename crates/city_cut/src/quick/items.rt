@@ -1,21 +1,24 @@
 //! Geometries and addresses, copied with numbers of their own at the leaves of their boundaries.
-ghost use Rattle.std.specs.Prelude.{◌≡◌, ◌++◌, ◌≤◌, ℕ, List, length, drop, slice_range, IfSome, OnSome, codes};
+ghost use Rattle.std.specs.Prelude.{◌≡◌, ◌++◌, ◌≤◌, ◌<◌, ◌⊎◌, ◌∷◌, [], ℕ, List, length, drop, take, slice_index, slice_range, IfSome, OnSome, IsTrue, codes};
 ghost use Rattle.std.specs.List.{flat_map};
-ghost use Rattle.city_json.specs.Compact.{compact};
+ghost use Rattle.city_json.specs.Bytes.{close_brace, colon, comma};
+ghost use Rattle.city_json.specs.Compact.{compact, quoted};
 ghost use Rattle.city_json.specs.CompactEnds.{LeavesValue};
 ghost use Rattle.city_json.specs.CompactMembers.{HasParts};
 ghost use Rattle.city_json.specs.Tree.{Tree};
 ghost use Rattle.city_json.specs.Writable.{IsWritable};
+ghost use Rattle.city_json.specs.declared.compacting.parts.Part.{Part};
 ghost use Rattle.city_cut.specs.Boundaries.{IsAddress, IsGeometry, address_boundary, in_member, own_boundary};
 ghost use Rattle.city_cut.specs.Boundaries.{relabelled_boundary};
 ghost use Rattle.city_cut.specs.Copied.{Copies};
+ghost use Rattle.city_cut.specs.FrontMembers.{HasFrontParts, IsValuePlace};
 ghost use Rattle.city_cut.specs.Holders.{AreHeld, IsHeld, boundary_in, held_uses, relabelled_held, relabelled_in};
 ghost use Rattle.city_cut.specs.Leaves.{IsBoundary, leaves, relabelled};
 ghost use Rattle.city_cut.specs.Texts.{IsCompactOf};
 
 use super::drafts::{Draft, copy_items};
 use super::holders::Holder;
-use super::members::members_at;
+use super::members::{end_after, members_at, value_place};
 use super::texts::{append_back, append_front, append_text, is_absent, parts_of};
 use crate::numbering::Numbering;
 use city_feature::{between, part_named};
@@ -25,6 +28,18 @@ use std::alloc::Global;
 
 /// Brackets nest no deeper than this in the brackets of a boundary.
 const MAX_LEVELS: usize = 127;
+
+/// Whether a member of an object ends at a place.
+#[inline(always)]
+fn ends_member(text: &[u8], at: usize) -> bool
+    ensures { IsTrue result → (at < length text.now)
+        × ((slice_index text.now at ≡ comma) ⊎ (slice_index text.now at ≡ close_brace)) }
+{
+    if byte_is(text, at, b',') {
+        return true;
+    }
+    byte_is(text, at, b'}')
+}
 
 /// Copies a boundary.
 fn append_boundary(text: &[u8], numbering: &mut Numbering, draft: &mut Draft) -> Option<()>
@@ -126,8 +141,39 @@ fn append_address(
     append_back(text, &part, &mut draft.line)
 }
 
-/// Copies the geometry that begins at `at`: where it ends.
-fn append_geometry_at(
+/// Copies the geometry that stands in front, the boundaries of which begin at `value`: where it ends.
+fn append_walked(
+    text: &[u8],
+    value: usize,
+    numbering: &mut Numbering,
+    draft: &mut Draft,
+) -> Option<usize>
+    requires { IsValuePlace text.now (quoted (codes "boundaries") ++ colon ∷ []) value }
+    ensures within { IfSome result (λ end. end ≤ length text.now) }
+    ensures is { IfSome result (λ end. (parts : List Part) × HasFrontParts text.now parts end) }
+    ensures long { OnSome result (length numbering.new.table.items ≡ length numbering.old.table.items) }
+    ensures made { IfSome result (λ end. (value : Tree) → IsCompactOf (take end text.now) value
+        → IsGeometry (length numbering.old.table.items) value
+        × Copies numbering.old.table.items numbering.old.order.items draft.old.line
+        numbering.new.table.items numbering.new.order.items draft.new.line
+        (flat_map leaves (own_boundary value)) (λ change. compact (relabelled_boundary change value))) }
+{
+    if !byte_is(text, value, b'[') {
+        return None;
+    }
+    draft.from = 0;
+    let boundary_end = copy_items(text, value + 1, MAX_LEVELS, numbering, draft)?;
+    if !ends_member(text, boundary_end) {
+        return None;
+    }
+    let end = end_after(text, boundary_end)?;
+    let last = between(text, draft.from, end)?;
+    append_text(last, &mut draft.line)?;
+    Some(end)
+}
+
+/// Copies the geometry that begins at `at`, whatever its members: where it ends.
+fn append_any_at(
     alloc: Global,
     text: &[u8],
     at: usize,
@@ -148,6 +194,33 @@ fn append_geometry_at(
     let found = members_at(alloc, text, at)?;
     append_listed(&text[at..found.end], &found.parts, numbering, draft)?;
     Some(found.end)
+}
+
+/// Copies the geometry that begins at `at`: where it ends.
+fn append_geometry_at(
+    alloc: Global,
+    text: &[u8],
+    at: usize,
+    numbering: &mut Numbering,
+    draft: &mut Draft,
+) -> Option<usize>
+    requires { at ≤ length text.now }
+    ensures onward { IfSome result (λ end. at ≤ end) }
+    ensures within { IfSome result (λ end. end ≤ length text.now) }
+    ensures leaves { IfSome result (λ end. LeavesValue 128 (drop at text.now) (drop end text.now)) }
+    ensures long { OnSome result (length numbering.new.table.items ≡ length numbering.old.table.items) }
+    ensures made { IfSome result (λ end. (value : Tree) → IsCompactOf (slice_range text.now at end) value
+        → IsGeometry (length numbering.old.table.items) value
+        × Copies numbering.old.table.items numbering.old.order.items draft.old.line
+        numbering.new.table.items numbering.new.order.items draft.new.line
+        (flat_map leaves (own_boundary value)) (λ change. compact (relabelled_boundary change value))) }
+{
+    let geometry = &text[at..];
+    let Some(value) = value_place(geometry, b"\"boundaries\":") else {
+        return append_any_at(alloc, text, at, numbering, draft);
+    };
+    let end = append_walked(geometry, value, numbering, draft)?;
+    Some(at + end)
 }
 
 /// Copies the address that begins at `at`: where it ends.

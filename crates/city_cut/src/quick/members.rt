@@ -1,11 +1,12 @@
 //! Where the members of an object lie that stands in front of other bytes in its compact text.
 //!
 //! As the ends of values, this knows that the text is compact, and checks nothing of it.
-ghost use Rattle.std.specs.Prelude.{◌≡◌, ◌++◌, ◌∷◌, [], ◌<◌, ◌≤◌, length, drop, slice_range, IfSome, OnSome};
-ghost use Rattle.city_json.specs.CompactEnds.{LeavesValue};
+ghost use Rattle.std.specs.Prelude.{◌≡◌, ◌++◌, ◌∷◌, [], ◌+◌, ◌<◌, ◌≤◌, length, drop, slice_range, IfSome, OnSome};
+ghost use Rattle.city_json.specs.CompactEnds.{LeavesString, LeavesValue};
 ghost use Rattle.city_json.specs.CompactMembers.{HasParts, LeavesMember};
-ghost use Rattle.city_cut.specs.FrontMembers.{HasFrontParts};
+ghost use Rattle.city_cut.specs.FrontMembers.{EndsAfter, HasFrontParts, IsValuePlace};
 
+use city_feature::is_between;
 use city_json::{Part, string_end, value_end};
 use std::alloc::Global;
 
@@ -20,12 +21,12 @@ pub(super) struct PlacedMembers {
     pub end: usize,
 }
 
-/// Where the member lies that begins at `at`.
+/// Where the name ends of the member that begins at `at`: the place of the colon.
 #[inline(always)]
-fn member_at(text: &[u8], at: usize) -> Option<Part>
-    ensures onward { IfSome result (λ part. at < part.end) }
-    ensures within { IfSome result (λ part. part.end < length text.now) }
-    ensures is { IfSome result (λ part. LeavesMember at part (drop at text.now) (drop part.end text.now)) }
+fn colon_after(text: &[u8], at: usize) -> Option<usize>
+    ensures onward { IfSome result (λ colon. at < colon) }
+    ensures within { IfSome result (λ colon. colon < length text.now) }
+    ensures is { IfSome result (λ colon. LeavesString (drop (at + 1) text.now) (drop colon text.now)) }
 {
     if at >= text.len() {
         return None;
@@ -34,6 +35,19 @@ fn member_at(text: &[u8], at: usize) -> Option<Part>
     if colon == text.len() {
         return None;
     }
+    Some(colon)
+}
+
+/// Where the member lies that begins at `at`, and whose name ends at `colon`.
+#[inline(always)]
+fn member_from(text: &[u8], at: usize, colon: usize) -> Option<Part>
+    requires order { at < colon }
+    requires within { colon < length text.now }
+    requires is { LeavesString (drop (at + 1) text.now) (drop colon text.now) }
+    ensures onward { IfSome result (λ part. at < part.end) }
+    ensures within { IfSome result (λ part. part.end < length text.now) }
+    ensures is { IfSome result (λ part. LeavesMember at part (drop at text.now) (drop part.end text.now)) }
+{
     let end = value_end(text, colon + 1);
     if end == text.len() {
         return None;
@@ -43,6 +57,17 @@ fn member_at(text: &[u8], at: usize) -> Option<Part>
         value: colon + 1,
         end,
     })
+}
+
+/// Where the member lies that begins at `at`.
+#[inline(always)]
+fn member_at(text: &[u8], at: usize) -> Option<Part>
+    ensures onward { IfSome result (λ part. at < part.end) }
+    ensures within { IfSome result (λ part. part.end < length text.now) }
+    ensures is { IfSome result (λ part. LeavesMember at part (drop at text.now) (drop part.end text.now)) }
+{
+    let colon = colon_after(text, at)?;
+    member_from(text, at, colon)
 }
 
 /// No parts, with room for some.
@@ -105,4 +130,50 @@ pub(super) fn members_at(alloc: Global, text: &[u8], at: usize) -> Option<Placed
         parts: found.parts,
         end: at + found.end,
     })
+}
+
+/// Where the value begins of the first member of this name in the object that stands in front. The name is given with
+/// its marks and its colon. `None`: none is found.
+pub(super) fn value_place(text: &[u8], name: &[u8]) -> Option<usize>
+    ensures within { IfSome result (λ value. value ≤ length text.now) }
+    ensures is { IfSome result (λ value. IsValuePlace text.now name.now value) }
+{
+    if text.len() < 2 {
+        return None;
+    }
+    if text[0] != b'{' {
+        return None;
+    }
+    if text[1] == b'}' {
+        return None;
+    }
+    let mut at = 1usize;
+    'members: loop {
+        let colon = colon_after(text, at)?;
+        if is_between(text, at, colon + 1, name) {
+            return Some(colon + 1);
+        }
+        let part = member_from(text, at, colon)?;
+        if text[part.end] == b'}' {
+            return None;
+        }
+        at = part.end + 1;
+    }
+}
+
+/// Where the object ends of which a member ends at `end`.
+pub(super) fn end_after(text: &[u8], end: usize) -> Option<usize>
+    requires { end < length text.now }
+    ensures onward { IfSome result (λ stop. end < stop) }
+    ensures within { IfSome result (λ stop. stop ≤ length text.now) }
+    ensures is { IfSome result (λ stop. EndsAfter text.now end stop) }
+{
+    let mut last = end;
+    'members: loop {
+        if text[last] == b'}' {
+            return Some(last + 1);
+        }
+        let part = member_at(text, last + 1)?;
+        last = part.end;
+    }
 }

@@ -1,5 +1,5 @@
 use Rattle.std.proofs.Common.{◌≤◌, ◌-◌, length}
-use Rattle.city_cut.proofs.QuickMembers.{GoesOn}
+use Rattle.city_cut.specs.FrontMembers.{GoesOn}
 use Rattle.city_cut.proofs.quick.members.front_members.Given as goal
 
 abbrev pub invariant-members : goal.invariant-members
