@@ -5,7 +5,7 @@ ghost use Rattle.city_json.specs.Bytes.{comma, close_bracket};
 ghost use Rattle.city_json.specs.Compacting.{shown};
 ghost use Rattle.city_cut.specs.Copied.{Copies, CopiesItems, CopiesPart};
 
-use super::numbers::append_number;
+use super::numbers::{append_between, append_number};
 use crate::numbering::Numbering;
 use city_grid::{byte_is, number_at};
 use city_json::Line;
@@ -40,10 +40,7 @@ fn put_front(text: &[u8], at: usize, draft: &mut Draft) -> Option<()>
     if at - draft.from == 1 {
         return Some(());
     }
-    let Ok(_) = draft.line.append(&text[draft.from..at - 1]) else {
-        return None;
-    };
-    Some(())
+    append_between(text, draft.from, at - 1, &mut draft.line)
 }
 
 /// Copies the text up to `at`, and writes a number in place of what stands there up to `end`.

@@ -9,9 +9,10 @@ ghost use Rattle.city_feature.specs.Quick.{SpellsVertices};
 ghost use Rattle.city_cut.specs.Chosen.{point_at};
 ghost use Rattle.city_cut.specs.VertexTexts.{StandAt};
 
+use super::numbers::append_between;
 use super::texts::append_text;
 use byte_streams::Line;
-use city_feature::{append_vertices, between, vertices_of};
+use city_feature::{append_vertices, vertices_of};
 use city_grid::{byte_is, vertex_end};
 use std::alloc::Global;
 
@@ -101,8 +102,11 @@ fn append_point(vertices: &VertexTexts<'_>, number: usize, line: &mut Line) -> O
     if next == 0 {
         return None;
     }
-    let text = between(vertices.text, vertices.starts[number] as usize, next - 1)?;
-    append_text(text, line)
+    let start = vertices.starts[number] as usize;
+    if start > next - 1 || next - 1 > vertices.text.len() {
+        return None;
+    }
+    append_between(vertices.text, start, next - 1, line)
 }
 
 /// Appends the texts of the vertices of these numbers, with a comma before each.

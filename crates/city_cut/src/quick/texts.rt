@@ -67,6 +67,7 @@ pub(super) fn member_or<'a>(
 }
 
 /// Appends a text.
+#[inline(always)]
 pub(super) fn append_text(text: &[u8], line: &mut Line) -> Option<()>
     ensures { OnSome result (line.new ≡ line.old ++ text.now) }
 {

@@ -1,25 +1,19 @@
-use Rattle.std.proofs.Common.{◌≡◌, ◌≤◌, ◌-◌, ◌∙◌, ◌++◌, ◌∷◌, ap, arith, drop, take, length, length-drop}
-use Rattle.std.proofs.lemmas.Fmt.{length-decimal-le}
-use Rattle.std.proofs.lemmas.List.{append-nil, take_all}
+use Rattle.std.proofs.Common.{◌≡◌, ◌+◌, ◌/◌, ◌%◌, ◌∙◌, ◌++◌, ◌∷◌, [], ap, arith, sym}
+use Rattle.std.proofs.lemmas.Fmt.{decimal_digit, decimal_step}
 use Rattle.std.specs.Fmt.{decimal}
+use Rattle.city_cut.proofs.QuickTexts.{on_some_more}
 use Rattle.city_cut.proofs.quick.numbers.append_number.Goals as goal
 
-pub write_digits-digits-requires : goal.write_digits-digits-requires
-write_digits-digits-requires c =
-    let short = length-decimal-le 20 c.args.number (omega arith) (omega arith) (omega arith) in
-    (omega (arith, short), omega arith)
+pub returns-then-number-lt10 : goal.returns-then-number-lt10
+returns-then-number-lt10 c = on_some_more c.append_text.result (λ appended.
+    appended ∙ ap (λ l. c.args.to.now ++ c.args.before ∷ l)
+    (sym (decimal_digit c.args.number c.if-number-lt10.true))) c.append_text.ensures
 
-pub returns : goal.returns
-returns c =
-    let text = c.put_byte-start.new.to in
-    let start = c.put_byte-start.result in
-    let put = c.put_byte-start.ensures.put ∙ ap (λ l. c.args.before ∷ l) c.write_digits-digits.ensures.written in
-    let short : length (drop start text) ≤ 24 - start = omega (arith, length-drop start text) in
-    let all : take (24 - start) (drop start text) ≡ drop start text = take_all (24 - start) (drop start text) short in
-    c.in-Ok.ensures.ok ∙ ap (λ l. c.args.to.now ++ l)
-    (all ∙ (put ∙ ap (λ l. c.args.before ∷ l) (append-nil (decimal c.args.number))))
-
-pub put_byte-start-requires-clause-some : goal.put_byte-start-requires-clause-some
-put_byte-start-requires-clause-some c =
-    let short = length-decimal-le 20 c.args.number (omega arith) (omega arith) (omega arith) in
-    omega (arith, short, c.write_digits-digits.ensures.start)
+pub returns-then-number-lt100 : goal.returns-then-number-lt100
+returns-then-number-lt100 c =
+    let number = c.args.number in
+    let two : decimal number ≡ (48 + number / 10) ∷ (48 + number % 10) ∷ [] =
+    decimal_step number c.if-number-lt10.false (omega (arith, c.if-number-lt100.true))
+    ∙ ap (λ l. l ++ (48 + number % 10) ∷ []) (decimal_digit (number / 10) (omega (arith, c.if-number-lt100.true))) in
+    on_some_more c.append_text-then-number-lt100.result (λ appended.
+    appended ∙ ap (λ l. c.args.to.now ++ c.args.before ∷ l) (sym two)) c.append_text-then-number-lt100.ensures
