@@ -1,5 +1,5 @@
 -- The header of a document, from the text in which two of its members are exchanged.
-use Rattle.std.proofs.Common.{◌≡◌, ◌∙◌, ◌++◌, ◌≤◌, arith, ℕ, Bool, true, false, List, [], ◌∷◌, Option, Some, None, IsUtf8, is_some, bytes_eq, take, drop, slice_range, refl, sym, ap, subst, codes}
+use Rattle.std.proofs.Common.{◌≡◌, ◌∙◌, ◌++◌, ◌≤◌, append_assoc, arith, ℕ, Bool, true, false, List, [], ◌∷◌, Option, Some, None, IsUtf8, is_some, bytes_eq, take, drop, slice_range, refl, sym, ap, subst, codes}
 use Rattle.std.proofs.lemmas.Slice.Eq.{bytes_eq-Decides}
 use Rattle.city_json.proofs.SpelledWritable.{read_of_compact}
 use Rattle.city_json.specs.Bytes.{colon}
@@ -17,11 +17,14 @@ use Rattle.city_feature.proofs.QuickLines.{utf8}
 use Rattle.city_feature.specs.Changes.{changed_member, changed_named, without_named}
 use Rattle.city_feature.specs.Header.{IsHeader}
 use Rattle.city_feature.specs.Quick.{IsPartNamed}
+use Rattle.city_cut.specs.Boundaries.{changed_members}
 use Rattle.city_cut.specs.Cut.{without_appearance}
 use Rattle.city_cut.specs.HeaderText.{HasHeader, IsEmptied}
+use Rattle.city_cut.specs.Items.{members_in}
 use Rattle.city_cut.specs.Texts.{IsCompactOf}
 use Rattle.city_cut.proofs.MemberChanges.{kept, none_is_unchanged, set_is_changed}
-use Rattle.city_cut.proofs.QuickTexts.{member_there, three}
+use Rattle.city_cut.proofs.QuickTexts.{changed_with, member_there, three}
+use Rattle.city_cut.proofs.TwoMembers.{two_exchanged}
 
 -- ---- with another value for a member
 writable_changed : (name : List ℕ) (value : Tree) (members : MemberTrees) → IsWritable value
@@ -167,6 +170,79 @@ commute_changed m n f g (member other v others) apart =
         ≡ changed_named m f (changed_named n g (member other v others))
     by true e later = rw (at_m e, e, at_m e) refl
     by false e later = not_m (bytes_eq other n) refl e later
+
+-- ---- both at once
+same_changed : (name : List ℕ) (new old : Tree) (members : MemberTrees) → HasDistinctNames members
+    → first_named name members ≡ Some old
+    → changed_members name (λ old. new) members ≡ changed_named name (λ old. new) members
+same_changed name new old members differ is = changed_with name (λ old. new) old members differ is
+    ∙ ap (λ t. members_in (Some t)) (set_is_changed name new (object members) (ap is_some is))
+
+pub both_exchanged : (text line₀ line₁ line₂ line₃ line₄ line₅ value middle other : List ℕ) (p q : Part)
+    → middle ≡ slice_range text p.end q.value → p.end ≤ q.value → line₀ ≡ [] → line₁ ≡ line₀ ++ take p.value text
+    → line₂ ≡ line₁ ++ value → line₃ ≡ line₂ ++ middle → line₄ ≡ line₃ ++ other → line₅ ≡ line₄ ++ drop q.end text
+    → (parts : List Part) (members : MemberTrees) (n m : List ℕ) (new next : Tree) → IsCompactOf text (object members)
+    → AreParts 1 parts members → IsUtf8 n → IsUtf8 m → bytes_eq n m ≡ false
+    → IsPartNamed text parts (quoted n ++ colon ∷ []) p → IsPartNamed text parts (quoted m ++ colon ∷ []) q
+    → value ≡ compact new → other ≡ compact next
+    → line₅ ≡ compact (object (changed_named n (λ old. new) (changed_named m (λ old. next) members)))
+both_exchanged text line₀ line₁ line₂ line₃ line₄ line₅ value middle other p q lies ordered empty first second third
+    fourth last parts members n m new next of are utf8 utf8₂ apart here there value_is other_is =
+    let found = member_there text parts members n p (slice_range text p.value p.end) utf8 of are here refl in
+    let found₂ = member_there text parts members m q (slice_range text q.value q.end) utf8₂ of are there refl in
+    let inner : changed_members m (λ old. next) members ≡ changed_named m (λ old. next) members =
+    same_changed m next found₂.value members of.distinct.0 found₂.is in
+    let still : first_named n (changed_named m (λ old. next) members) ≡ Some found.value =
+    kept m n (λ old. next) (object members) (turned apart) ∙ found.is in
+    let outer : changed_members n (λ old. new) (changed_members m (λ old. next) members)
+    ≡ changed_named n (λ old. new) (changed_named m (λ old. next) members) =
+    ap (changed_members n (λ old. new)) inner
+    ∙ same_changed n new found.value (changed_named m (λ old. next) members)
+    (distinct_changed m next members of.distinct.0) still in
+    let text_is = two_exchanged text parts members p q n m found.value found₂.value (λ old. new) (λ old. next) utf8 utf8₂
+    apart of are here there ordered found.is found₂.is in
+    let written : line₅ ≡ take p.value text ++ (value ++ (middle ++ (other ++ drop q.end text))) =
+    last ∙ (ap (λ l. l ++ drop q.end text) (fourth ∙ ap (λ l. l ++ other) (third ∙ ap (λ l. l ++ middle)
+    (second ∙ ap (λ l. l ++ value) (first ∙ ap (λ l. l ++ take p.value text) empty))))
+    ∙ regroup (take p.value text) value middle other (drop q.end text)) in
+    written ∙ (ap (λ l. take p.value text ++ (l ++ (middle ++ (other ++ drop q.end text)))) value_is
+    ∙ (ap (λ l. take p.value text ++ (compact new ++ (l ++ (other ++ drop q.end text)))) lies
+    ∙ (ap (λ l. take p.value text ++ (compact new ++ (slice_range text p.end q.value ++ (l ++ drop q.end text))))
+    other_is ∙ (sym text_is ∙ ap (λ l. compact (object l)) outer))))
+  where
+    regroup : (a b c d e : List ℕ) → (((a ++ b) ++ c) ++ d) ++ e ≡ a ++ (b ++ (c ++ (d ++ e)))
+    regroup a b c d e = simp append_assoc
+
+    turned : bytes_eq n m ≡ false → bytes_eq m n ≡ false
+    turned e = by (bytes_eq m n) refl
+      where
+        true_not_false : true ≡ false → ⊥
+        true_not_false e = cc
+
+        by : (b : Bool) → bytes_eq m n ≡ b → bytes_eq m n ≡ false
+        by true same = absurd (true_not_false (sym ((bytes_eq-Decides n m).1 (sym ((bytes_eq-Decides m n).0 same))) ∙ e))
+        by false other = other
+
+-- the city objects stand first
+pub emptied_in_order : (line : List ℕ) (members : MemberTrees)
+    → line ≡ compact (object (changed_named (codes "CityObjects") (λ old. object no_members)
+    (changed_named (codes "vertices") (λ old. array no_items) members)))
+    → line ≡ compact (object (changed_named (codes "vertices") (λ old. array no_items)
+    (changed_named (codes "CityObjects") (λ old. object no_members) members)))
+emptied_in_order line members is = is ∙ ap (λ m. compact (object m))
+    (sym (commute_changed (codes "CityObjects") (codes "vertices") (λ old. object no_members) (λ old. array no_items)
+    members refl))
+
+pub emptied_at_once : (text empty again : List ℕ) (members : MemberTrees) (value : Tree)
+    → IsCompactOf text (object members)
+    → empty ≡ compact (object (changed_named (codes "vertices") (λ old. array no_items)
+    (changed_named (codes "CityObjects") (λ old. object no_members) members)))
+    → again ≡ empty → Spells again value → IsEmptied members value
+emptied_at_once text empty again members value of empty_is again_is read_is =
+    let bare = changed_named (codes "CityObjects") (λ old. object no_members) members in
+    sym (read_of_compact again (object (changed_named (codes "vertices") (λ old. array no_items) bare)) value
+    (writable_changed (codes "vertices") (array no_items) bare tt
+    (writable_changed (codes "CityObjects") (object no_members) members tt of.writable)) (again_is ∙ empty_is) read_is)
 
 -- ---- what is left is the header
 commute_named : (m n : List ℕ) (f : Tree → Tree) (members : MemberTrees) → bytes_eq m n ≡ false

@@ -1,18 +1,20 @@
 //! The header of a document, read from the compact text of what is no city object and no vertex.
-ghost use Rattle.std.specs.Prelude.{◌≡◌, ◌++◌, ◌∷◌, [], ℕ, List, IfSome, IsUtf8};
+ghost use Rattle.std.specs.Prelude.{◌≡◌, ◌++◌, ◌∷◌, [], ℕ, List, IfSome, IsUtf8, bytes_eq, codes, false};
 ghost use Rattle.city_json.specs.Bytes.{colon};
 ghost use Rattle.city_json.specs.Compact.{compact, quoted};
 ghost use Rattle.city_json.specs.Parts.{AreParts};
-ghost use Rattle.city_json.specs.Tree.{MemberTrees, Tree, object, tree};
+ghost use Rattle.city_json.specs.Tree.{MemberTrees, Tree, array, no_items, no_members, object, tree};
+ghost use Rattle.city_json.specs.declared.compacting.parts.Part.{Part};
 ghost use Rattle.city_feature.specs.Changes.{changed_named};
 ghost use Rattle.city_feature.specs.Header.{IsHeader};
+ghost use Rattle.city_feature.specs.Quick.{IsPartNamed};
 ghost use Rattle.city_cut.specs.HeaderText.{HasHeader, IsEmptied};
 ghost use Rattle.city_cut.specs.Texts.{IsCompactOf};
 
 use super::texts::{append_back, append_front, append_text, is_absent, parts_of};
 use crate::headers::drop_appearance;
 use byte_streams::Line;
-use city_feature::{Header, header, part_named};
+use city_feature::{Header, between, header, part_named};
 use city_json::{Json, Part, read};
 use std::alloc::Global;
 
@@ -44,8 +46,49 @@ fn exchange_value(
     Some(line)
 }
 
-/// Reads the document with no city objects and no vertices.
-fn read_emptied(alloc: Global, text: &[u8], parts: &[Part]) -> Option<Json>
+/// The text with other values of two members, of which the first stands before the second.
+fn exchange_two(
+    alloc: Global,
+    text: &[u8],
+    first: &Part,
+    value: &[u8],
+    second: &Part,
+    other: &[u8],
+) -> Option<Line>
+    ensures { IfSome result (λ line. (parts : List Part) (members : MemberTrees) (n m : List ℕ) (new next : Tree)
+        → IsCompactOf text.now (object members) → AreParts 1 parts members → IsUtf8 n → IsUtf8 m
+        → bytes_eq n m ≡ false → IsPartNamed text.now parts (quoted n ++ colon ∷ []) first.now
+        → IsPartNamed text.now parts (quoted m ++ colon ∷ []) second.now → value.now ≡ compact new
+        → other.now ≡ compact next
+        → line ≡ compact (object (changed_named n (λ old. new) (changed_named m (λ old. next) members)))) }
+{
+    let middle = between(text, first.end, second.value)?;
+    let mut line = Line::new(alloc);
+    append_front(text, first, &mut line)?;
+    append_text(value, &mut line)?;
+    append_text(middle, &mut line)?;
+    append_text(other, &mut line)?;
+    append_back(text, second, &mut line)?;
+    Some(line)
+}
+
+/// The text of the document with no city objects and no vertices, where it has both. `None`: undecided.
+fn emptied_text(alloc: Global, text: &[u8], parts: &[Part]) -> Option<Line>
+    ensures { IfSome result (λ line. (members : MemberTrees) → IsCompactOf text.now (object members)
+        → AreParts 1 parts.now members
+        → line ≡ compact (object (changed_named (codes "vertices") (λ old. array no_items)
+        (changed_named (codes "CityObjects") (λ old. object no_members) members)))) }
+{
+    let objects = part_named(text, parts, b"\"CityObjects\":")?;
+    let vertices = part_named(text, parts, b"\"vertices\":")?;
+    if objects.at < vertices.at {
+        return exchange_two(alloc, text, &objects, b"{}", &vertices, b"[]");
+    }
+    exchange_two(alloc, text, &vertices, b"[]", &objects, b"{}")
+}
+
+/// Reads the document with no city objects and no vertices, which it need not have.
+fn read_exchanged(alloc: Global, text: &[u8], parts: &[Part]) -> Option<Json>
     ensures { IfSome result (λ json. (members : MemberTrees)
         → IsCompactOf text.now (object members) → AreParts 1 parts.now members
         → IsEmptied members (tree json)) }
@@ -53,6 +96,21 @@ fn read_emptied(alloc: Global, text: &[u8], parts: &[Part]) -> Option<Json>
     let bare = exchange_value(alloc, text, parts, b"\"CityObjects\":", b"{}")?;
     let others = parts_of(alloc, bare.items())?;
     let empty = exchange_value(alloc, bare.items(), &others, b"\"vertices\":", b"[]")?;
+    let Ok(json) = read(alloc, empty.items()) else {
+        return None;
+    };
+    Some(json)
+}
+
+/// Reads the document with no city objects and no vertices.
+fn read_emptied(alloc: Global, text: &[u8], parts: &[Part]) -> Option<Json>
+    ensures { IfSome result (λ json. (members : MemberTrees)
+        → IsCompactOf text.now (object members) → AreParts 1 parts.now members
+        → IsEmptied members (tree json)) }
+{
+    let Some(empty) = emptied_text(alloc, text, parts) else {
+        return read_exchanged(alloc, text, parts);
+    };
     let Ok(json) = read(alloc, empty.items()) else {
         return None;
     };
