@@ -1,13 +1,14 @@
 //! The names of the members of the open objects, and whether those of one object differ (RFC 8259, section 4).
-ghost use Rattle.std.specs.Prelude.{◌≡◌, ◌++◌, ◌∷◌, ◌≤◌, [], take, drop, length, map, IfSome, OnSome, IsTrue};
+ghost use Rattle.std.specs.Prelude.{◌≡◌, ◌≢◌, ◌++◌, ◌∷◌, ◌≤◌, [], take, drop, length, map, IfSome, OnSome, IsTrue};
 ghost use Rattle.city_json.specs.Fits.{IsNewName, HasDistinctNames};
-ghost use Rattle.city_json.specs.MemberName.{name_bytes};
+ghost use Rattle.city_json.specs.MemberName.{decoded_bytes, name_bytes};
 ghost use Rattle.city_json.specs.Members.{names};
 ghost use Rattle.city_json.specs.NamePrint.{print_of, short_print_of};
 ghost use Rattle.city_json.specs.Tree.{MemberTrees};
 
-use super::name::Name;
+use super::name::{DecodedName, Name};
 use crate::reading::names::{MAX_COMPARED, are_apart_when_sorted};
+use crate::reading::strings::decode_into;
 use std::alloc::Global;
 use std::marker::Model;
 
@@ -75,22 +76,21 @@ impl<'a> Names<'a> {
             → HasDistinctNames members }
     {
         let listed = &self.listed[base..];
-        if listed.len() <= MAX_COMPARED {
-            few_are_apart(listed)
-        } else {
-            many_are_apart(alloc, listed)
+        if listed.len() <= MAX_COMPARED && few_are_apart(listed) {
+            return true;
         }
+        many_are_apart(alloc, listed)
     }
 }
 
-/// The same for few names, each compared with each.
+/// Whether the names are pairwise different and have no escapes: each is compared with each.
 fn few_are_apart(listed: &[Name<'_>]) -> bool
     ensures { IsTrue result → (members : MemberTrees) → names members ≡ map name_bytes listed.now
         → HasDistinctNames members }
 {
     let mut rest = listed;
     while let [first, others @ ..] = rest {
-        if !is_new(first.bytes(), others) {
+        if !is_new(first, others) {
             return false;
         }
         rest = others;
@@ -98,20 +98,34 @@ fn few_are_apart(listed: &[Name<'_>]) -> bool
     true
 }
 
-/// Whether the name is none of these.
-fn is_new(name: &[u8], listed: &[Name<'_>]) -> bool
+/// Whether the name is none of these, and none of them has an escape.
+fn is_new(name: &Name<'_>, listed: &[Name<'_>]) -> bool
     ensures { IsTrue result → (members : MemberTrees) → names members ≡ map name_bytes listed.now
-        → IsNewName name.now members }
+        → IsNewName (name_bytes name.now) members }
 {
+    let Name::AsWritten(name) = name else {
+        return false;
+    };
     for other in listed {
-        if other.bytes() == name {
+        if !is_other(name, other) {
             return false;
         }
     }
     true
 }
 
-/// The same for many names: by their prints, and where two of these are equal by the names themselves.
+/// Whether this name without escapes has none either, and is another one.
+#[inline(always)]
+fn is_other(name: &[u8], other: &Name<'_>) -> bool
+    ensures { IsTrue result → name_bytes other.now ≢ name.now }
+{
+    match other {
+        Name::AsWritten(other) => *other != name,
+        Name::Escaped(_) => false,
+    }
+}
+
+/// Whether the names are pairwise different: by their prints, and where two of these are equal by the names themselves.
 fn many_are_apart(alloc: Global, listed: &[Name<'_>]) -> bool
     ensures { IsTrue result → (members : MemberTrees) → names members ≡ map name_bytes listed.now
         → HasDistinctNames members }
@@ -122,7 +136,10 @@ fn many_are_apart(alloc: Global, listed: &[Name<'_>]) -> bool
     if rise_when_sorted(prints) {
         return true;
     }
-    let Some(all) = bytes_of(alloc, listed) else {
+    let Some(held) = decoded_names(alloc, listed) else {
+        return false;
+    };
+    let Some(all) = bytes_of(alloc, &held) else {
         return false;
     };
     are_apart_when_sorted(all)
@@ -135,19 +152,49 @@ fn prints_of(alloc: Global, listed: &[Name<'_>]) -> Option<Vec<u64>>
     let Ok(mut prints) = Vec::with_capacity(alloc, listed.len()) else {
         return None;
     };
+    let mut scratch = Vec::new(alloc);
     for name in listed {
-        prints.push_reserved(print_of(name.bytes()));
+        let print = print_by(name, &mut scratch)?;
+        prints.push_reserved(print);
     }
     Some(prints)
 }
 
-fn bytes_of<'b>(alloc: Global, listed: &'b [Name<'_>]) -> Option<Vec<&'b [u8]>>
-    ensures { IfSome result (λ all. map (λ name. name.now) all.items ≡ map name_bytes listed.now) }
+/// The print of a name. What `scratch` held is dropped; it is taken for its memory.
+#[inline(always)]
+fn print_by(name: &Name<'_>, scratch: &mut Vec<u8>) -> Option<u64>
+    ensures { IfSome result (λ print. print ≡ print_of (name_bytes name.now)) }
 {
-    let Ok(mut all) = Vec::with_capacity(alloc, listed.len()) else {
+    match name {
+        Name::AsWritten(name) => Some(print_of(name)),
+        Name::Escaped(text) => {
+            decode_into(text, scratch)?;
+            Some(print_of(scratch))
+        }
+    }
+}
+
+fn decoded_names<'a>(alloc: Global, listed: &[Name<'a>]) -> Option<Vec<DecodedName<'a>>>
+    ensures { IfSome result (λ held. map decoded_bytes held.items ≡ map name_bytes listed.now) }
+{
+    let Ok(mut held) = Vec::with_capacity(alloc, listed.len()) else {
         return None;
     };
     for name in listed {
+        let decoded = name.decoded(alloc)?;
+        held.push_reserved(decoded);
+    }
+    Some(held)
+}
+
+fn bytes_of<'b>(alloc: Global, held: &'b [DecodedName<'_>]) -> Option<Vec<&'b [u8]>>
+    ensures { IfSome result (λ all. map (λ name. name.now) all.items
+        ≡ map decoded_bytes held.now) }
+{
+    let Ok(mut all) = Vec::with_capacity(alloc, held.len()) else {
+        return None;
+    };
+    for name in held {
         all.push_reserved(name.bytes());
     }
     Some(all)

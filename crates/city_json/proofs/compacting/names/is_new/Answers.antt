@@ -1,19 +1,16 @@
-use Rattle.std.proofs.Common.{◌≡◌, ◌∙◌, false, ap, map, get_or, arith}
-use Rattle.std.specs.Prelude.{bytes_eq}
+use Rattle.std.proofs.Common.{◌∙◌, ap, map, arith, subst, sym}
 use Rattle.std.proofs.lemmas.List.{drop_all}
+use Rattle.city_json.specs.Fits.{IsNewName}
 use Rattle.city_json.specs.MemberName.{name_bytes}
 use Rattle.city_json.proofs.NamesApart.{new_step_at, no_names}
 use Rattle.city_json.proofs.compacting.names.is_new.Goals as goal
 
 pub returns : goal.returns
-returns c = λ ok. c.loop-other.invariant
-    (λ members is. no_names _ members (is
-    ∙ ap (map name_bytes) (drop_all c.loop-other.other-index c.args.listed.now (omega arith))))
+returns c = λ ok members is. subst (λ name. IsNewName (name_bytes name) members) (sym c.in-AsWritten.is)
+    (c.loop-other.invariant (λ members is. no_names _ members (is
+    ∙ ap (map name_bytes) (drop_all c.loop-other.other-index c.args.listed.now (omega arith)))) members is)
 
 pub loop-other-preserved : goal.loop-other-preserved
 loop-other-preserved c =
-    let apart : false ≡ bytes_eq (name_bytes (get_or c.args.listed.now c.loop-other.other-index c.other-item.result))
-    c.args.name.now = c.if-eq.ensures
-    ∙ ap (λ l. bytes_eq l c.args.name.now) (c.bytes.ensures ∙ ap name_bytes c.other-item.is) in
-    new_step_at name_bytes c.args.name.now c.args.listed.now c.loop-other.other-index c.other-item.result _
-    c.loop-other-test.true apart c.loop-other.invariant
+    new_step_at name_bytes _ c.args.listed.now c.loop-other.other-index _ _ c.loop-other-test.true
+    (c.is_other.ensures c.if-not-is_other.false) c.loop-other.invariant

@@ -12,14 +12,14 @@ from_base names held slice base seen same =
     ∙ (ap (map name_bytes) (sym (take_rest held base))
     ∙ ap (λ l. map name_bytes (take (length l - base) (drop base l))) (sym same)))
 
-pub returns-then-listed-le-MAX_COMPARED : goal.returns-then-listed-le-MAX_COMPARED
-returns-then-listed-le-MAX_COMPARED c = λ so members is.
-    c.few_are_apart.ensures so members (is
+pub returns-then-few_are_apart : goal.returns-then-few_are_apart
+returns-then-few_are_apart c = λ _ members is.
+    c.few_are_apart.ensures c.if-few_are_apart.true members (is
     ∙ from_base c.args.self.now c.self.inside.listed.items c.deref.result.now c.args.base
     (sym c.self.view_is) c.deref.ensures.value)
 
-pub returns-else-listed-le-MAX_COMPARED : goal.returns-else-listed-le-MAX_COMPARED
-returns-else-listed-le-MAX_COMPARED c = λ so members is.
+pub returns : goal.returns
+returns c = λ so members is.
     c.many_are_apart.ensures so members (is
     ∙ from_base c.args.self.now c.self.inside.listed.items c.deref.result.now c.args.base
     (sym c.self.view_is) c.deref.ensures.value)
