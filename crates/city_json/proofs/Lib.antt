@@ -33,6 +33,7 @@ pub mod ReadString
 pub mod Replacing
 pub mod ScalarRuns
 pub mod Scanning
+pub mod Sieving
 pub mod SortedNames
 pub mod Sound
 pub mod SoundItems

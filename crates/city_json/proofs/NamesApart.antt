@@ -1,8 +1,5 @@
 -- The names of members that differ, as the pass holds them.
 use Rattle.std.proofs.Common.{◌≡◌, ◌∙◌, ◌≤◌, ◌<◌, ◌+◌, ◌-◌, ℕ, List, [], ◌∷◌, length, take, drop, map, get_or, ap, sym, subst, arith, Bool, true, false}
-use Rattle.std.proofs.lemmas.Bool.{false≢true}
-use Rattle.std.proofs.lemmas.Slice.Eq.{bytes_eq-Decides}
-use Rattle.std.specs.Prelude.{bytes_eq}
 use Rattle.std.proofs.lemmas.List.{drop_more, take_rest}
 use Rattle.std.proofs.Common.{true≢false, ltb}
 use Rattle.std.proofs.lemmas.Bool.{ltb-true}
@@ -65,7 +62,7 @@ differ_step_at bytes rest n d W some count new before differ = before (λ member
     ∙ ap (λ l. bytes (get_or rest 0 d) ∷ map bytes l) (sym others))))
 
 -- ---- by their prints
-abbrev same_number : ℕ → ℕ → Bool
+abbrev pub same_number : ℕ → ℕ → Bool
 same_number = eq_by_cmp nat_cmp
 
 new_by_print : (name : List ℕ) (members : MemberTrees) (print : List ℕ → ℕ)
@@ -77,7 +74,7 @@ new_by_print name (member other value others) print apart =
       new_by_print name others print apart.1,
     )
 
-apart_by_prints : (members : MemberTrees) (print : List ℕ → ℕ) → IsDistinct same_number (map print (names members))
+pub apart_by_prints : (members : MemberTrees) (print : List ℕ → ℕ) → IsDistinct same_number (map print (names members))
     → HasDistinctNames members
 unfolding IsDistinct
 apart_by_prints no_members print apart = tt

@@ -21,6 +21,7 @@ pub mod ReadString
 pub mod Reading
 pub mod Refusals
 pub mod ShortBytes
+pub mod Sieve
 pub mod Strings
 pub mod Tree
 pub mod Triples

@@ -20,6 +20,7 @@ mod names;
 mod parts;
 mod runs;
 mod scalars;
+mod sieve;
 mod strings;
 mod triples;
 mod values;

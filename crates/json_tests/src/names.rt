@@ -5,16 +5,19 @@ use city_json::read;
 use std::alloc::{AllocError, AllocGlobal, Global};
 use std::process::Abort;
 
-const DISTINCT: [Pieces<'static>; 6] = [
+const DISTINCT: [Pieces<'static>; 9] = [
     &[(b"{\"a\":1,\"b\":1}", 1)],
     &[(b"[null,", 1), (b"{\"a\":1,\"b\":1}", 1), (b"]", 1)],
     &[(b"[null,", 127), (b"{\"a\":1,\"b\":1}", 1), (b"]", 127)],
     &[(b"{\"a\":{\"a\":1,\"b\":1},\"b\":{\"a\":1,\"b\":1}}", 1)],
     &[(b"{\"\":null,\"a\":null,\"b\":null,\"ab\":null}", 1)],
     &[(b"{\"A\":null,\"a\":null,\"\xc3\xa9\":null,\"e\":null}", 1)],
+    &[(b"{\"\\n\":1,\"n\":1,\"\\\\n\":1,\"\\\\\":1}", 1)],
+    &[(b"{\"\\n\":{\"\\n\":1,\"a\":1},\"a\":{\"\\n\":1}}", 1)],
+    &[(b"{\"\\\"\":1,\"\\\"\\\"\":1,\"\":1}", 1)],
 ];
 
-const REPEATED: [Pieces<'static>; 8] = [
+const REPEATED: [Pieces<'static>; 13] = [
     &[(b"{\"a\":1,\"a\":1}", 1)],
     &[(b"[null,", 1), (b"{\"a\":1,\"a\":1}", 1), (b"]", 1)],
     &[(b"[null,", 127), (b"{\"a\":1,\"a\":1}", 1), (b"]", 127)],
@@ -23,6 +26,11 @@ const REPEATED: [Pieces<'static>; 8] = [
     &[(b"{\"a\":null,\"a\":null,\"b\":null,\"c\":null}", 1)],
     &[(b"{\"a\":null,\"b\":null,\"c\":null,\"a\":null}", 1)],
     &[(b"{\"b\":null,\"c\":null,\"a\":null,\"a\":null}", 1)],
+    &[(b"{\"\\u0061\":1,\"a\":1}", 1)],
+    &[(b"{\"a\\nb\":1,\"a\\u000ab\":1}", 1)],
+    &[(b"{\"\\/\":1,\"/\":1}", 1)],
+    &[(b"{\"\\ud83d\\ude00\":1,\"\xf0\x9f\x98\x80\":1}", 1)],
+    &[(b"{\"a\":{\"\\u0062\":1,\"b\":1},\"b\":1}", 1)],
 ];
 
 #[test]
@@ -53,6 +61,8 @@ enum Names {
     OnePrint,
     /// They have one hash in a table whose seed is known.
     OneHash,
+    /// An escape stands in each, also in the compact text.
+    Lines,
 }
 
 /// The member of this number.
@@ -67,6 +77,19 @@ fn member(alloc: Global, names: Names, number: usize) -> Result<String, AllocErr
         Names::OneHash => format!(in alloc;
             "\"hi4iSqofOI1SdKlRPfC,#S Z{number:08}0123456789abcdef\":null"
         ),
+        Names::Lines => format!(in alloc; "\"line\\n{number:06}\\n\":null"),
+    }
+}
+
+/// The same member, with more escapes in its name.
+fn respelled(alloc: Global, names: Names, number: usize) -> Result<String, AllocError> {
+    match names {
+        Names::Streets => format!(in alloc; "\"\\u0073tra\\u00dfe {number:05} of many\":null"),
+        Names::OnePrint => format!(in alloc;
+            "\"\\u0061ttribute {number:04} attribut\\u0065\":null"
+        ),
+        Names::Lines => format!(in alloc; "\"l\\u0069ne\\u000A{number:06}\\u000a\":null"),
+        Names::Alike | Names::Fronts | Names::OneHash => member(alloc, names, number),
     }
 }
 
@@ -109,7 +132,7 @@ struct Objects {
     repeated: &'static str,
 }
 
-const OBJECTS: [Objects; 6] = [
+const OBJECTS: [Objects; 7] = [
     Objects {
         names: Names::Alike,
         counts: &[1, 2, 15, 16, 17, 1000],
@@ -126,7 +149,9 @@ const OBJECTS: [Objects; 6] = [
     },
     Objects {
         names: Names::Streets,
-        counts: &[1, 2, 3, 16, 17, 40, 257, 300, 10_000],
+        counts: &[
+            1, 2, 3, 15, 16, 17, 40, 63, 64, 65, 257, 300, 511, 512, 513, 10_000,
+        ],
         distinct: "",
         compact: "",
         repeated: ",\"stra\u{df}e 00000 of many\":null",
@@ -140,10 +165,10 @@ const OBJECTS: [Objects; 6] = [
     },
     Objects {
         names: Names::OnePrint,
-        counts: &[1000],
+        counts: &[1, 2, 16, 17, 40, 64, 65, 300, 512, 513, 1000],
         distinct: "",
         compact: "",
-        repeated: ",\"attribute 0999 attribute\":null",
+        repeated: ",\"attribute 0000 attribute\":null",
     },
     Objects {
         names: Names::OneHash,
@@ -152,7 +177,18 @@ const OBJECTS: [Objects; 6] = [
         compact: "",
         repeated: ",\"hi4iSqofOI1SdKlRPfC,#S Z000039990123456789abcdef\":null",
     },
+    Objects {
+        names: Names::Alike,
+        counts: &[1, 15, 16, 40, 62, 63, 300, 510, 511],
+        distinct: SAME_PLACES,
+        compact: SAME_PLACES,
+        repeated: ",\"a name that begins like each other 224283\":null,\"a name that begins like each other 224283\":null",
+    },
 ];
+
+/// Members whose names have prints of their own, and pairwise the same places in both sets of the sieve.
+const SAME_PLACES: &str =
+    ",\"a name that begins like each other 224283\":null,\"a name that begins like each other 408020\":null,\"a name that begins like each other 264286\":null,\"a name that begins like each other 408027\":null";
 
 fn are_told_apart(alloc: Global, row: &Objects, count: usize) -> bool {
     is_taken(alloc, row.names, count, row.distinct, row.compact)
@@ -171,6 +207,69 @@ fn names_are_told_apart_in_objects_of_any_size(rt: HostRuntime) {
     for row in OBJECTS.iter() {
         expect_told_apart(&rt, row);
     }
+}
+
+/// An object of so many members, where this one stands in place of one of them.
+fn exchanged(
+    alloc: Global,
+    names: Names,
+    count: usize,
+    place: usize,
+    other: &str,
+) -> Result<String, AllocError> {
+    let mut text = String::new(alloc);
+    for number in 0..count {
+        text.push_str(if number == 0 { "{" } else { "," })?;
+        if number == place {
+            text.push_str(other)?;
+        } else {
+            text.push_str(&member(alloc, names, number)?)?;
+        }
+    }
+    text.push('}')?;
+    Ok(text)
+}
+
+/// Whether a name with escapes at this place is taken where it is a new one, and refused where another member has it.
+fn is_decoded_at(
+    alloc: Global,
+    names: Names,
+    count: usize,
+    place: usize,
+) -> Result<bool, AllocError> {
+    let other = if place == 0 { 1 } else { 0 };
+    let new = exchanged(alloc, names, count, place, &respelled(alloc, names, count)?)?;
+    let compact = exchanged(alloc, names, count, place, &member(alloc, names, count)?)?;
+    let old = exchanged(alloc, names, count, place, &respelled(alloc, names, other)?)?;
+    Ok(
+        is_compacted(alloc, new.as_bytes(), compact.as_bytes())
+            && is_refused(alloc, old.as_bytes(), Fault::DuplicateName),
+    )
+}
+
+const ESCAPED: [Names; 3] = [Names::Streets, Names::OnePrint, Names::Lines];
+
+const COUNTS: [usize; 8] = [2, 16, 17, 40, 64, 65, 300, 2000];
+
+fn expect_decoded(rt: &(impl Abort + AllocGlobal), names: Names, count: usize) {
+    for place in [0, count / 2, count.saturating_sub(1)] {
+        let holds = is_decoded_at(rt.alloc(), names, count, place) == Ok(true);
+        expect_at(rt, holds, count, b"escaped");
+    }
+}
+
+#[test]
+fn a_name_with_escapes_is_told_by_what_it_spells(rt: HostRuntime) {
+    for names in ESCAPED {
+        for count in COUNTS {
+            expect_decoded(&rt, names, count);
+        }
+    }
+}
+
+#[test]
+fn many_names_with_escapes_take_no_long_time(rt: HostRuntime) {
+    assert!(rt; is_taken(rt.alloc(), Names::Lines, 30_000, "", ""));
 }
 
 fn many_long_names_are_read(alloc: Global) -> bool {

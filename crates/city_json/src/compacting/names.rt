@@ -1,12 +1,14 @@
 //! The names of the members of the open objects, and whether those of one object differ (RFC 8259, section 4).
-ghost use Rattle.std.specs.Prelude.{◌≡◌, ◌≢◌, ◌++◌, ◌∷◌, ◌≤◌, [], take, drop, length, map, IfSome, OnSome, IsTrue};
+ghost use Rattle.std.specs.Prelude.{◌≡◌, ◌≢◌, ◌++◌, ◌∷◌, ◌<◌, ◌≤◌, [], take, drop, length, map, IfSome, OnSome, IsTrue};
 ghost use Rattle.city_json.specs.Fits.{IsNewName, HasDistinctNames};
-ghost use Rattle.city_json.specs.MemberName.{decoded_bytes, name_bytes};
+ghost use Rattle.city_json.specs.MemberName.{content_read, decoded_bytes, name_bytes};
 ghost use Rattle.city_json.specs.Members.{names};
 ghost use Rattle.city_json.specs.NamePrint.{print_of, short_print_of};
+ghost use Rattle.city_json.specs.ReadString.{decoded};
 ghost use Rattle.city_json.specs.Tree.{MemberTrees};
 
 use super::name::{DecodedName, Name};
+use super::sieve::mark;
 use crate::reading::names::{MAX_COMPARED, are_apart_when_sorted};
 use crate::reading::strings::decode_into;
 use std::alloc::Global;
@@ -14,6 +16,14 @@ use std::marker::Model;
 
 /// Most features have no more names in objects that are open at once.
 const COMMON_NAMES: usize = 16;
+
+/// Up to so many names go through a sieve of two sets of 2,048 bits. Of 64 that are different two in a hundred are not
+/// told so by it, of 40 half a one: the number of names to the third, over three times the square of a set's bits.
+const FEW_SIEVED: usize = 64;
+
+/// Up to so many go through one of two sets of 16,384 bits: of 300 three in a hundred are not told so, of 512 seventeen.
+/// Of more it is likelier that the prints have to be sorted, whatever the sieve did.
+const MAX_SIEVED: usize = 512;
 
 /// The names of the members of the open objects, in their order.
 #[derive(Drop)]
@@ -126,10 +136,14 @@ fn is_other(name: &[u8], other: &Name<'_>) -> bool
 }
 
 /// Whether the names are pairwise different: by their prints, and where two of these are equal by the names themselves.
+#[inline(never)]
 fn many_are_apart(alloc: Global, listed: &[Name<'_>]) -> bool
     ensures { IsTrue result → (members : MemberTrees) → names members ≡ map name_bytes listed.now
         → HasDistinctNames members }
 {
+    if are_sieved_apart(alloc, listed) {
+        return true;
+    }
     let Some(prints) = prints_of(alloc, listed) else {
         return false;
     };
@@ -143,6 +157,60 @@ fn many_are_apart(alloc: Global, listed: &[Name<'_>]) -> bool
         return false;
     };
     are_apart_when_sorted(all)
+}
+
+/// Whether a sieve tells each name from all before it. Where names are too many for that, none is looked at.
+fn are_sieved_apart(alloc: Global, listed: &[Name<'_>]) -> bool
+    ensures { IsTrue result → (members : MemberTrees) → names members ≡ map name_bytes listed.now
+        → HasDistinctNames members }
+{
+    if listed.len() <= FEW_SIEVED {
+        return pass_small(alloc, listed);
+    }
+    if listed.len() <= MAX_SIEVED {
+        return pass_large(alloc, listed);
+    }
+    false
+}
+
+/// Whether each name is told from all before it by two sets of 2,048 bits.
+#[inline(never)]
+fn pass_small(alloc: Global, listed: &[Name<'_>]) -> bool
+    ensures { IsTrue result → (members : MemberTrees) → names members ≡ map name_bytes listed.now
+        → HasDistinctNames members }
+{
+    let (mut first, mut second) = ([0; 32], [0; 32]);
+    pass(alloc, listed, &mut first, &mut second)
+}
+
+/// The same by two sets of 16,384 bits.
+#[inline(never)]
+fn pass_large(alloc: Global, listed: &[Name<'_>]) -> bool
+    ensures { IsTrue result → (members : MemberTrees) → names members ≡ map name_bytes listed.now
+        → HasDistinctNames members }
+{
+    let (mut first, mut second) = ([0; 256], [0; 256]);
+    pass(alloc, listed, &mut first, &mut second)
+}
+
+/// Whether each name is told from all before it by these two sets.
+#[inline(always)]
+fn pass(alloc: Global, listed: &[Name<'_>], first: &mut [u64], second: &mut [u64]) -> bool
+    requires first { 0 < length first.old }
+    requires second { 0 < length second.old }
+    ensures { IsTrue result → (members : MemberTrees) → names members ≡ map name_bytes listed.now
+        → HasDistinctNames members }
+{
+    let mut scratch = Vec::new(alloc);
+    for name in listed {
+        let Some(print) = print_by(name, &mut scratch) else {
+            return false;
+        };
+        if !mark(first, second, print) {
+            return false;
+        }
+    }
+    true
 }
 
 fn prints_of(alloc: Global, listed: &[Name<'_>]) -> Option<Vec<u64>>
@@ -167,11 +235,17 @@ fn print_by(name: &Name<'_>, scratch: &mut Vec<u8>) -> Option<u64>
 {
     match name {
         Name::AsWritten(name) => Some(print_of(name)),
-        Name::Escaped(text) => {
-            decode_into(text, scratch)?;
-            Some(print_of(scratch))
-        }
+        Name::Escaped(text) => decoded_print(text, scratch),
     }
+}
+
+/// The print of the name after whose opening mark the text goes on so.
+#[inline(never)]
+fn decoded_print(text: &[u8], scratch: &mut Vec<u8>) -> Option<u64>
+    ensures { IfSome result (λ print. print ≡ print_of (content_read (decoded text.now))) }
+{
+    decode_into(text, scratch)?;
+    Some(print_of(scratch))
 }
 
 fn decoded_names<'a>(alloc: Global, listed: &[Name<'a>]) -> Option<Vec<DecodedName<'a>>>

@@ -1,0 +1,29 @@
+use Rattle.std.proofs.Common.{◌<◌, length, arith}
+use Rattle.city_json.specs.MemberName.{name_bytes}
+use Rattle.city_json.specs.NamePrint.{print_of}
+use Rattle.city_json.proofs.Sieving.{apart_when_told, none_told, one_more_at}
+use Rattle.city_json.proofs.compacting.names.pass.Goals as goal
+
+pub loop-name-init : goal.loop-name-init
+loop-name-init c = record {
+  first = c.requires.first;
+  second = c.requires.second;
+  told = none_told c.args.first.now c.args.second.now;
+}
+
+pub loop-name-preserved : goal.loop-name-preserved
+loop-name-preserved c =
+    let some_first : 0 < length c.loop-name.first = c.loop-name.invariant.first in
+    let some_second : 0 < length c.loop-name.second = c.loop-name.invariant.second in
+    record {
+      first = omega (arith, some_first);
+      second = omega (arith, some_second);
+      told = one_more_at (λ name. print_of (name_bytes name)) c.loop-name.first c.loop-name.second _ _ c.args.listed.now
+          c.loop-name.name-index _ c.in-Some.print c.loop-name-test.true c.in-Some.ensures c.loop-name.invariant.told
+          (c.mark.ensures.new c.if-not-mark.false) c.mark.ensures.marked c.mark.ensures.kept;
+    }
+
+pub returns : goal.returns
+returns c = λ ok members is.
+    apart_when_told name_bytes print_of c.loop-name.first c.loop-name.second c.args.listed.now c.loop-name.name-index
+    members c.loop-name-test.false c.loop-name.invariant.told is

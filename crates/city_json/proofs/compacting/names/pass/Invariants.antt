@@ -1,0 +1,12 @@
+use Rattle.std.proofs.Common.{◌<◌, length, map, take}
+use Rattle.city_json.specs.MemberName.{name_bytes}
+use Rattle.city_json.specs.NamePrint.{print_of}
+use Rattle.city_json.proofs.Sieving.{AreTold}
+use Rattle.city_json.proofs.compacting.names.pass.Given as goal
+
+abbrev pub invariant-loop-name : goal.invariant-loop-name
+invariant-loop-name l = record {
+  first : 0 < length l.first;
+  second : 0 < length l.second;
+  told : AreTold l.first l.second (map (λ name. print_of (name_bytes name)) (take l.name-index l.listed));
+}
