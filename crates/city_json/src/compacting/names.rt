@@ -150,6 +150,17 @@ fn many_are_apart(alloc: Global, listed: &[Name<'_>]) -> bool
     if rise_when_sorted(prints) {
         return true;
     }
+    are_apart_by_bytes(alloc, listed)
+}
+
+/// The same by the names themselves: those with escapes are decoded, all are sorted, and neighbours compared.
+fn are_apart_by_bytes(alloc: Global, listed: &[Name<'_>]) -> bool
+    ensures { IsTrue result → (members : MemberTrees) → names members ≡ map name_bytes listed.now
+        → HasDistinctNames members }
+{
+    if let Some(all) = written_names(alloc, listed) {
+        return are_apart_when_sorted(all);
+    }
     let Some(held) = decoded_names(alloc, listed) else {
         return false;
     };
@@ -157,6 +168,22 @@ fn many_are_apart(alloc: Global, listed: &[Name<'_>]) -> bool
         return false;
     };
     are_apart_when_sorted(all)
+}
+
+/// The names as they stand in the text, where no escape is in any of them.
+fn written_names<'a>(alloc: Global, listed: &[Name<'a>]) -> Option<Vec<&'a [u8]>>
+    ensures { IfSome result (λ all. map (λ name. name.now) all.items ≡ map name_bytes listed.now) }
+{
+    let Ok(mut all) = Vec::with_capacity(alloc, listed.len()) else {
+        return None;
+    };
+    for name in listed {
+        let Name::AsWritten(bytes) = name else {
+            return None;
+        };
+        all.push_reserved(*bytes);
+    }
+    Some(all)
 }
 
 /// Whether a sieve tells each name from all before it. Where names are too many for that, none is looked at.
