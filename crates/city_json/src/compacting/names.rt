@@ -9,13 +9,18 @@ ghost use Rattle.city_json.specs.Tree.{MemberTrees};
 
 use super::name::{DecodedName, Name};
 use super::sieve::mark;
-use crate::reading::names::{MAX_COMPARED, are_apart_when_sorted};
+use crate::reading::names::are_apart_when_sorted;
 use crate::reading::strings::decode_into;
 use std::alloc::Global;
 use std::marker::Model;
 
-/// Most features have no more names in objects that are open at once.
-const COMMON_NAMES: usize = 16;
+/// Most features have no more names in objects that are open at once. They take less than a kilobyte, which is asked
+/// for once a text.
+const COMMON_NAMES: usize = 40;
+
+/// The most names that are compared with one another. Names of attributes often begin alike and are as long as each
+/// other, so that past it a sieve is faster.
+const MAX_COMPARED: usize = 6;
 
 /// Up to so many names go through a sieve of two sets of 2,048 bits. Of 64 that are different two in a hundred are not
 /// told so by it, of 40 half a one: the number of names to the third, over three times the square of a set's bits.
@@ -93,7 +98,7 @@ impl<'a> Names<'a> {
     }
 }
 
-/// Whether the names are pairwise different and have no escapes: each is compared with each.
+/// Whether the names are pairwise different and, if they are several, have no escapes: each is compared with each.
 fn few_are_apart(listed: &[Name<'_>]) -> bool
     ensures { IsTrue result → (members : MemberTrees) → names members ≡ map name_bytes listed.now
         → HasDistinctNames members }
@@ -108,13 +113,13 @@ fn few_are_apart(listed: &[Name<'_>]) -> bool
     true
 }
 
-/// Whether the name is none of these, and none of them has an escape.
+/// Whether the name is none of these, and where there are any neither it nor one of them has an escape.
 fn is_new(name: &Name<'_>, listed: &[Name<'_>]) -> bool
     ensures { IsTrue result → (members : MemberTrees) → names members ≡ map name_bytes listed.now
         → IsNewName (name_bytes name.now) members }
 {
     let Name::AsWritten(name) = name else {
-        return false;
+        return listed.is_empty();
     };
     for other in listed {
         if !is_other(name, other) {

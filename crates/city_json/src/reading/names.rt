@@ -8,7 +8,7 @@ use crate::json::Member;
 use std::alloc::{AllocError, Global};
 
 /// The most members whose names are compared with one another. Past it sorting the names is faster.
-pub(crate) const MAX_COMPARED: usize = 16;
+const MAX_COMPARED: usize = 16;
 
 /// Whether no two members have the same name. The time is near linear in the names' bytes, whatever they are.
 /// Memory is taken for more than [`MAX_COMPARED`] members only.
