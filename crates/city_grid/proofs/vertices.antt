@@ -1,4 +1,5 @@
 pub mod DecimalIntegers
+pub mod DigitWords
 pub mod IntegerTexts
 pub mod OneVertex
 pub mod WrittenVertex

@@ -3,6 +3,7 @@ ghost use Rattle.std.specs.Option.{SomeIff};
 ghost use Rattle.byte_streams.specs.Limits.{max_steps};
 ghost use Rattle.city_grid.specs.Axes.{IsInRange, sum, triple};
 
+mod digits;
 mod integers;
 pub(crate) mod reader;
 pub(crate) mod spelled;
