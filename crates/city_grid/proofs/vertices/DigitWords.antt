@@ -45,6 +45,16 @@ counted (suc n) [] within digits = absurd (omega arith)
 counted (suc n) (b ∷ bytes) within digits =
     rw (is_digit b digits.0) (omega (arith, counted n bytes (omega arith) digits.1))
 
+-- a word of eight digits is read as what they write, and zeros in front of them write no more
+written_as : (word value : ℕ) (front text : List ℕ) → front ≡ text
+    → ((digits : List ℕ) → IsEightDigits digits → word ≡ number_l 256 digits → value ≡ number_from_digits 10 digits)
+    → ((digits : List ℕ) × IsEightDigits digits × (word ≡ number_l 256 digits)
+    × (number_from_digits 10 digits ≡ digits_value 10 front))
+    → value ≡ digits_value 10 text
+written_as word value front text same read (digits, eight, shown, written) =
+    read digits eight shown ∙ written ∙ ap (digits_value 10) same
+
+-- what is read of the word of eight bytes of a text, those after the digits shifted out
 pub few_digits_are : (text : List ℕ) (at end word value : ℕ) → at < end → end ≤ at + 8 → at + 8 ≤ length text
     → ((k : ℕ) → get_or text k 0 < 256) → word ≡ from_le_bytes w64 (slice_range text at (at + 8))
     → AllDigits 10 (slice_range text at end)
@@ -57,15 +67,15 @@ few_digits_are text at end word value some few within fit loaded digits read =
     let bytes = take 8 (drop at text) in
     let eight : IsEightBytes bytes = eight_at text at fit within in
     let length_is : at + 8 - at ≡ 8 = omega arith in
-    let is : word ≡ number_l 256 bytes =
-    loaded ∙ ap (λ n. from_le_bytes w64 (take n (drop at text))) length_is ∙ word_is bytes eight.0 in
+    let loaded_is = ap (λ n. from_le_bytes w64 (take n (drop at text))) length_is in
+    let is : word ≡ number_l 256 bytes = loaded ∙ loaded_is ∙ word_is bytes eight.0 in
     let front : take count bytes ≡ slice_range text at end = take-take count 8 (drop at text) (omega arith) in
     let within_digits = counted count bytes (omega (arith, eight.0)) (subst (AllDigits 10) (sym front) digits) in
     let shift : 64 - 8 * count ≡ 8 * (8 - count) = omega arith in
     let places : 2 ^ (64 - 8 * count) ≡ 256 ^ (8 - count) = ap (λ bits. 2 ^ bits) shift ∙ byte_places (8 - count) in
     let lanes = number_l 256 (map less_zero bytes) in
-    let lanes_is : bit_xor word 0x3030_3030_3030_3030 ≡ lanes = lanes_are bytes word eight is in
+    let lanes_are_bytes : bit_xor word 0x3030_3030_3030_3030 ≡ lanes = lanes_are bytes word eight is in
     let shifted : bit_xor word 0x3030_3030_3030_3030 * 2 ^ (64 - 8 * count) % 2 ^ 64 ≡ lanes * 256 ^ (8 - count) % 2 ^ 64 =
-    λ i. lanes_is i * places i % 2 ^ 64 in
-    let (values, are_digits, shown, written) = shifted_is bytes count _ eight within_digits (omega arith) shifted in
-    read values are_digits shown ∙ written ∙ ap (digits_value 10) front
+    λ i. lanes_are_bytes i * places i % 2 ^ 64 in
+    written_as (bit_xor word 0x3030_3030_3030_3030 * 2 ^ (64 - 8 * count) % 2 ^ 64) value (take count bytes)
+    (slice_range text at end) front read (shifted_is bytes count _ eight within_digits (omega arith) shifted)

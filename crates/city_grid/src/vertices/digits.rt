@@ -50,3 +50,33 @@ pub(super) fn few_digits_value(text: &[u8], at: usize, end: usize) -> u64
     let values = word_at(text, at) ^ ZEROS;
     value_of_eight(values << (64 - 8 * (end - at)))
 }
+
+/// The number that up to sixteen digits write, one after the other.
+#[inline(never)]
+fn value_by_digits(digits: &[u8]) -> u64
+    requires { length digits.now ≤ 16 }
+    ensures { AllDigits 10 digits.now → result ≡ digits_value 10 digits.now }
+{
+    let mut value = 0u64;
+    for digit in digits {
+        value = value
+            .wrapping_mul(10)
+            .wrapping_add(u64::from(digit.wrapping_sub(b'0')));
+    }
+    value
+}
+
+/// The same of one to sixteen digits, wherever the text ends.
+#[inline(always)]
+pub(super) fn digits_value_between(text: &[u8], at: usize, end: usize) -> u64
+    requires some { at < end }
+    requires few { end ≤ at + 16 }
+    requires within { end ≤ length text.now }
+    ensures { AllDigits 10 (slice_range text.now at end)
+        → result ≡ digits_value 10 (slice_range text.now at end) }
+{
+    if end - at <= 8 && at + 8 <= text.len() {
+        return few_digits_value(text, at, end);
+    }
+    value_by_digits(&text[at..end])
+}
