@@ -7,3 +7,4 @@ pub mod QuickTypes
 pub mod QuickMoves
 pub mod FirstTypes
 pub mod TriplesAreVertices
+pub mod TripleVertices

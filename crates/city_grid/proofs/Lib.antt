@@ -1,1 +1,2 @@
 pub mod VertexLaws
+pub mod ShortIntegers

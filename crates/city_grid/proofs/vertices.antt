@@ -5,3 +5,5 @@ pub mod OneVertex
 pub mod WrittenVertex
 pub mod VertexTexts
 pub mod SpelledIntegers
+pub mod NumberRuns
+pub mod TripleTexts

@@ -8,6 +8,7 @@ mod integers;
 pub(crate) mod reader;
 pub(crate) mod spelled;
 pub(crate) mod texts;
+pub(crate) mod triples;
 pub(crate) mod writer;
 
 use crate::axes::Axes;

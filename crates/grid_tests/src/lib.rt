@@ -11,6 +11,8 @@ mod texts;
 #[cfg(test)]
 mod transforms;
 #[cfg(test)]
+mod triples;
+#[cfg(test)]
 mod vertices;
 
 #[cfg(test)]

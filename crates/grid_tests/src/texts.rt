@@ -6,7 +6,7 @@ use std::alloc::{AllocError, AllocGlobal, Global};
 use std::process::Abort;
 
 /// Integers of 1 to 16 digits, the first and the last of each length.
-const INTEGERS: [i64; 33] = [
+pub(crate) const INTEGERS: [i64; 33] = [
     0,
     9,
     10,

@@ -4,6 +4,7 @@
 ghost use Rattle.std.specs.Prelude.{◌≡◌, ◌≤◌, ◌++◌, [], ℕ, List, All, Option, codes, slice_range, ◌↔◌, is_some, unwrap_or, IfSome, IfNone, IsTrue, OnOk, OnSome};
 ghost use Rattle.city_json.specs.Compact.{compact};
 ghost use Rattle.city_json.specs.Parts.{with_value};
+ghost use Rattle.city_json.specs.Triples.{HasTriples};
 ghost use Rattle.city_json.specs.Tree.{MemberTrees, object};
 ghost use Rattle.city_grid.specs.Axes.{IsInRange};
 ghost use Rattle.city_feature.specs.Choice.{HasType, IsChosen};
@@ -18,10 +19,10 @@ use crate::choices::Choice;
 use crate::choices::selecting::selects_of;
 use crate::choices::types::Types;
 use crate::features::moving::moved_all;
-use crate::features::texts::{SpelledVertices, append_vertices, vertices_of};
+use crate::features::texts::{SpelledVertices, append_vertices, vertices_of, vertices_of_triples};
 use byte_streams::Line;
 use city_grid::{Shift, Vertex, byte_is};
-use city_json::{Compacted, Part, compact_feature};
+use city_json::{Compacted, Part, Span, compact_feature};
 use kept::{has_vertices, put_kept};
 use std::alloc::Global;
 use std::mem::swap;
@@ -105,21 +106,38 @@ fn has_other_members(line: &[u8], parts: &[Part]) -> bool
     byte_is(line, objects.value, b'{')
 }
 
-/// The vertices that stand between two places of a line.
-fn vertices_between(alloc: Global, line: &[u8], from: usize, to: usize) -> Option<SpelledVertices>
-    ensures spelled { IfSome result (λ found.
-        SpellsVertices (slice_range line.now from to) found.vertices.items) }
+/// The vertices of a text, which most often are the triples that were found in what was read.
+fn spelled_vertices(
+    alloc: Global,
+    source: &[u8],
+    triples: Span,
+    text: &[u8],
+) -> Option<SpelledVertices>
+    requires triples { HasTriples source.now triples }
+    ensures spelled { IfSome result (λ found. SpellsVertices text.now found.vertices.items) }
     ensures written { IfSome result (λ found. IsTrue found.as_written
-        → slice_range line.now from to ≡ compact (vertices_tree found.vertices.items)) }
+        → text.now ≡ compact (vertices_tree found.vertices.items)) }
     ensures range { IfSome result (λ found. All IsInRange found.vertices.items) }
-    ensures ordered { IfSome result (λ found. from ≤ to) }
 {
-    let found = between(line, from, to)?;
-    vertices_of(alloc, found)
+    if triples.from < triples.end && is_between(source, triples.from, triples.end, text) {
+        let vertices = vertices_of_triples(alloc, source, triples.from, triples.end)?;
+        return Some(SpelledVertices {
+            vertices,
+            as_written: true,
+        });
+    }
+    vertices_of(alloc, text)
 }
 
 /// The vertices of a line that is a feature, and where they stand.
-fn placed_vertices(alloc: Global, line: &[u8], parts: &[Part]) -> Option<PlacedVertices>
+fn placed_vertices(
+    alloc: Global,
+    source: &[u8],
+    triples: Span,
+    line: &[u8],
+    parts: &[Part],
+) -> Option<PlacedVertices>
+    requires triples { HasTriples source.now triples }
     ensures feature { IfSome result (λ placed. (members : MemberTrees) → IsLine line.now parts.now members
         → IsFeature (object members) placed.vertices.items
         × IsPlaceOf (codes "vertices") members line.now placed.part) }
@@ -131,7 +149,8 @@ fn placed_vertices(alloc: Global, line: &[u8], parts: &[Part]) -> Option<PlacedV
         return None;
     }
     let part = part_named(line, parts, b"\"vertices\":")?;
-    let found = vertices_between(alloc, line, part.value, part.end)?;
+    let text = between(line, part.value, part.end)?;
+    let found = spelled_vertices(alloc, source, triples, text)?;
     Some(PlacedVertices {
         part,
         vertices: found.vertices,
@@ -170,10 +189,13 @@ fn are_to_stay(as_written: bool, shift: Shift) -> bool
 /// Takes a line as a feature, and moves its vertices.
 fn moved_line(
     alloc: Global,
+    source: &[u8],
+    triples: Span,
     found: Compacted,
     shift: Shift,
     types: &Option<Types>,
 ) -> Option<MovedLine>
+    requires triples { HasTriples source.now triples }
     ensures there { IfSome result (λ moved. (bytes : List ℕ)
         → IsCompacted bytes found.line found.parts.items
         → (there : FeatureValue)
@@ -186,7 +208,7 @@ fn moved_line(
         → with_value moved.line moved.part (compact (vertices_tree moved.vertices.items)) ≡ moved.line) }
 {
     let (line, parts) = (found.line.items(), found.parts.as_slice());
-    let placed = placed_vertices(alloc, line, parts)?;
+    let placed = placed_vertices(alloc, source, triples, line, parts)?;
     let has_type = has_given_type(alloc, types, line, parts)?;
     let stay = are_to_stay(placed.as_written, shift);
     let vertices = shifted_vertices(placed.vertices, shift)?;
@@ -279,7 +301,7 @@ pub fn quick_line(
             }
         }
     }
-    let moved = moved_line(alloc, found, shift, &choice.types)?;
+    let moved = moved_line(alloc, bytes, triples, found, shift, &choice.types)?;
     if !selects_of(choice, moved.has_type, &moved.vertices) {
         return Some(false);
     }

@@ -1,17 +1,23 @@
 //! The vertices of a feature in their compact text.
 ghost use Rattle.std.specs.Prelude.{◌≡◌, ◌++◌, ◌∷◌, [], ◌<◌, ◌≤◌, length, slice_range, All, IfSome, IsTrue, OnSome, OnOk};
 ghost use Rattle.city_json.specs.Compact.{compact};
+ghost use Rattle.city_json.specs.Triples.{IsTriplesText};
 ghost use Rattle.city_grid.specs.Axes.{IsInRange};
 ghost use Rattle.city_grid.specs.Vertex.{SpellsVertex, vertex_tree};
 ghost use Rattle.city_feature.specs.Feature.{vertices_tree};
 ghost use Rattle.city_feature.specs.Quick.{IsVerticesText, SpellsVertices};
 
 use byte_streams::Line;
-use city_grid::{Vertex, append_vertex, byte_is, spelled_vertex_at, vertex_at, vertex_end};
+use city_grid::{
+    Vertex, append_vertex, byte_is, spelled_vertex_at, triple_vertex_at, vertex_at, vertex_end,
+};
 use std::alloc::{AllocError, Global};
 
 /// How many bytes the text of a vertex and a comma have mostly at least.
 const COMMON_LEN: usize = 20;
+
+/// The text of an array of one vertex or more has at least so many bytes.
+const MIN_LEN: usize = 4;
 
 /// A vertex, where its text ends, and whether that is the text that would be written for it.
 #[derive(Clone, Copy, Drop)]
@@ -107,6 +113,35 @@ pub fn vertices_of(alloc: Global, text: &[u8]) -> Option<SpelledVertices>
         }
         if !byte_is(text, found.end, b',') {
             return None;
+        }
+        at = found.end + 1;
+    }
+}
+
+/// The vertices that stand between two places of a text as triples of short whole numbers, so that they need no check;
+/// `None`: undecided.
+#[inline(never)]
+pub(super) fn vertices_of_triples(
+    alloc: Global,
+    text: &[u8],
+    from: usize,
+    end: usize,
+) -> Option<Vec<Vertex>>
+    requires { IsTriplesText text.now from end }
+    ensures written { IfSome result (λ vertices.
+        slice_range text.now from end ≡ compact (vertices_tree vertices.items)) }
+    ensures range { IfSome result (λ vertices. All IsInRange vertices.items) }
+{
+    if end > text.len() || from >= end || end - from < MIN_LEN {
+        return None;
+    }
+    let mut vertices = Vec::with_capacity(alloc, (end - from) / COMMON_LEN).ok()?;
+    let mut at = from + 1;
+    'vertices: loop {
+        let found = triple_vertex_at(text, at)?;
+        push_vertex(found.vertex, &mut vertices)?;
+        if found.end + 1 >= end {
+            return Some(vertices);
         }
         at = found.end + 1;
     }

@@ -1,0 +1,5 @@
+use Rattle.city_grid.proofs.vertices.NumberRuns.{stop_mask}
+use Rattle.city_grid.proofs.vertices.triples.stops_in.Goals as goal
+
+pub returns : goal.returns
+returns c = stop_mask c.args.bytes c.fits-bytes.0

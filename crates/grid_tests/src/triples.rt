@@ -1,0 +1,111 @@
+//! Vertices that are read where the text of one is known to stand: at each length of their numbers, wherever the text
+//! begins and ends.
+use crate::texts::INTEGERS;
+use byte_streams::Fault;
+use city_grid::{Vertex, triple_vertex_at};
+use std::alloc::{AllocGlobal, Global};
+use std::process::Abort;
+
+/// What stands before a vertex, and after it: little, and more than is read at once.
+const AROUND: [(&str, &str); 6] = [
+    ("", ""),
+    ("[", "]"),
+    ("[[1,2,3],", ",[4,5,6]]}"),
+    ("[[-1,-2,-3],[10000000,20000000,30000000],", "]}"),
+    ("[", ",[1000000,2000000,3000000],[4000000,5000000,6000000]]"),
+    (
+        "-12345678901234567890",
+        "12345678901234567890,98765432109876543210",
+    ),
+];
+
+/// Whether the vertex of the integers is read, and its end found, in this text around it.
+fn is_read(
+    alloc: Global,
+    (x, y, z): (i64, i64, i64),
+    (before, after): (&str, &str),
+) -> Result<bool, Fault> {
+    let vertex = Vertex::new(x, y, z).ok_or(Fault::VertexRange)?;
+    let text = format!(in alloc; "{before}[{x},{y},{z}]{after}")?;
+    let Some(found) = triple_vertex_at(text.as_bytes(), before.len()) else {
+        return Ok(false);
+    };
+    Ok(found.vertex == vertex && found.end == text.len().saturating_sub(after.len()))
+}
+
+fn is_read_everywhere(alloc: Global, integers: (i64, i64, i64)) -> bool {
+    AROUND
+        .iter()
+        .all(|around| is_read(alloc, integers, *around) == Ok(true))
+}
+
+/// Whether an integer is read in each place, beside short and long ones.
+fn is_read_on_each_axis(alloc: Global, integer: i64) -> bool {
+    is_read_everywhere(alloc, (integer, 0, -7))
+        && is_read_everywhere(alloc, (12_345_678, integer, 123_456_789))
+        && is_read_everywhere(alloc, (-1, 85_000_000, integer))
+        && is_read_everywhere(alloc, (integer, integer, integer))
+}
+
+fn expect_read(rt: &(impl Abort + AllocGlobal), integer: i64) {
+    let are_read = is_read_on_each_axis(rt.alloc(), integer)
+        && is_read_on_each_axis(rt.alloc(), i64::wrapping_neg(integer));
+    assert!(rt; are_read, "{integer}");
+}
+
+#[test]
+fn triples_of_all_lengths_are_read(rt: HostRuntime) {
+    for integer in INTEGERS.iter() {
+        if *integer < 1_000_000_000_000_000 {
+            expect_read(&rt, *integer);
+        }
+    }
+}
+
+/// Numbers of one to eight digits in no order, but the same ones in each run.
+#[test]
+fn triples_of_mixed_digits_are_read(rt: HostRuntime) {
+    let mut state = 1u64;
+    for number in 0..3000u32 {
+        state = state
+            .wrapping_mul(6364136223846793005)
+            .wrapping_add(1442695040888963407);
+        let x = (state >> 20) % 100_000_000;
+        let y = (state >> 40) % 10_000;
+        let z = (state >> 33) % 1_000_003;
+        let integers = (x as i64, i64::wrapping_neg(y as i64), z as i64);
+        assert!(rt; is_read_everywhere(rt.alloc(), integers), "{number}");
+    }
+}
+
+/// What is no vertex: anything may be found in it, but nothing that reaches past its end.
+const OTHERS: [&str; 12] = [
+    "",
+    "[",
+    "[,,]",
+    "[1,2]",
+    "[1,2,",
+    "[1,2,3",
+    "[1,2,-]",
+    "[-,-,-]",
+    "[a,b,c]",
+    "]]]]",
+    ",,,,",
+    "[12345678901234567,1,1]",
+];
+
+fn stays_within(text: &[u8], at: usize) -> bool {
+    match triple_vertex_at(text, at) {
+        Some(found) => at < found.end && found.end <= text.len(),
+        None => true,
+    }
+}
+
+#[test]
+fn other_texts_are_not_passed(rt: HostRuntime) {
+    for text in OTHERS.iter() {
+        for at in 0..40usize {
+            assert!(rt; stays_within(text.as_bytes(), at), "{text}");
+        }
+    }
+}
