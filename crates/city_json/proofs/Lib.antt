@@ -43,7 +43,8 @@ pub mod Starts
 pub mod StringEnds
 pub mod StringSteps
 pub mod Texts
-pub mod TripleMarks
+pub mod TripleFronts
+pub mod TripleSums
 pub mod Triples
 pub mod TriplesTaken
 pub mod WholeArrays

@@ -42,7 +42,7 @@ all_digits (suc n) text at end is within digits =
     )
 
 -- after the first byte, each byte is a digit
-digits_after : (text : List ℕ) (at end i : ℕ) → ((j : ℕ) → at ≤ j → j < end → IsInNumber text j) → at < i → i < end
+pub digits_after : (text : List ℕ) (at end i : ℕ) → ((j : ℕ) → at ≤ j → j < end → IsInNumber text j) → at < i → i < end
     → is_ascii_digit (get_or text i 0) ≡ true
 digits_after text at end i between onward less = elim (between i (omega arith) less) [
   | inl digit ↦ digit

@@ -1,25 +1,51 @@
 //! Arrays of three whole numbers each, as the vertices of a feature are (CityJSON 2.0, CityJSONFeature), in their
 //! compact text, 64 bytes at a time.
-ghost use Rattle.std.specs.Prelude.{◌≡◌, ◌<◌, ◌≤◌, ◌+◌, ◌-◌, ◌++◌, false, true, ℕ, List, length, drop, map, take, slice_range, get_or, IfSome, IsTrue};
-ghost use Rattle.std.specs.Simd.Lanes.{mask_l};
-ghost use Rattle.city_json.specs.Triples.{IsShortNumeral, IsTriplesText};
-ghost use Rattle.city_json.specs.TriplesFound.{AreMarks, ClosesTriples, IsInNumber, IsTripleText, is_separator};
+ghost use Rattle.std.specs.Prelude.{◌≡◌, ◌<◌, ◌≤◌, ◌+◌, ◌-◌, ◌++◌, false, true, ℕ, List, length, drop, take, max, min, bit_or, slice_range};
+ghost use Rattle.std.specs.Int.{bit_at};
+ghost use Rattle.city_json.specs.Triples.{IsTriplesText};
+ghost use Rattle.city_json.specs.TriplesFound.{AreApart, AreKinds, AreNext, AreWithout, ClosesTriples, DoEndsFit, DoNumbersFit, EndsRuns, HasBit, HasNoBit, HasNoneUpTo, IsAfter};
 
-use super::whole_arrays::{digit_marks, lag};
+use super::whole_arrays::digit_marks;
 use crate::reading::depth::marks_of;
 use std::simd::prelude::*;
 
 /// How many bytes are gone through at a time: more than a triple and what stands after it may have.
 const BLOCK: usize = 64;
 
-/// At most so many digits are taken: with fifteen of them a number is in the range of a vertex.
-const MAX_DIGITS: usize = 15;
-
-/// The place of a byte that stands in no number, and a bit for each such byte after it.
+/// A bit for each byte of a block that is of a kind.
 #[derive(Clone, Copy, Drop)]
-struct Mark {
-    at: usize,
-    others: u64,
+struct Kinds {
+    digits: u64,
+    zeros: u64,
+    minuses: u64,
+    commas: u64,
+    opens: u64,
+    closes: u64,
+}
+
+/// A bit for each byte that stands in a number, and for each with which a number may begin: a minus sign elsewhere
+/// stands in none.
+#[derive(Clone, Copy, Drop)]
+struct Numbers {
+    inner: u64,
+    starts: u64,
+}
+
+/// A bit for each byte that ends the first number after an opening bracket, and the second, and the third.
+#[derive(Clone, Copy, Drop)]
+struct Ends {
+    first: u64,
+    second: u64,
+    third: u64,
+}
+
+/// A bit for each comma after a triple, and for each closing bracket, as far as no byte before it is wrong, nor it
+/// itself: one that may not stand where it stands.
+#[derive(Clone, Copy, Drop)]
+struct Found {
+    going: u64,
+    closing: u64,
+    wrong: u64,
 }
 
 /// How many bytes at the front of a block are triples, each with the comma after it, or after the last of all the
@@ -30,90 +56,160 @@ struct Front {
     closed: bool,
 }
 
-/// A bit for each byte of a block that stands in no number.
 #[inline(always)]
-fn marks_in(bytes: &[u8]) -> u64
+fn kinds_in(bytes: &[u8]) -> Kinds
     requires long { length bytes.now ≡ 64 }
-    ensures { AreMarks bytes.now 0 result }
+    ensures { AreKinds bytes.now result.digits result.zeros result.minuses result.commas result.opens result.closes }
 {
     let block = u8x64::from_slice(bytes);
-    let minuses = marks_of(block, b'-');
-    let places = digit_marks(block) | minuses;
-    let late = minuses & lag(places, true);
-    (u64::MAX - places) | late
+    Kinds {
+        digits: digit_marks(block),
+        zeros: marks_of(block, b'0'),
+        minuses: marks_of(block, b'-'),
+        commas: marks_of(block, b','),
+        opens: marks_of(block, b'['),
+        closes: marks_of(block, b']'),
+    }
 }
 
-/// The first of the marks; `None`: there is none.
+/// Each mark one place on.
 #[inline(always)]
-fn first_mark(bytes: &[u8], from: usize, marks: u64) -> Option<Mark>
-    requires marks { AreMarks bytes.now from marks }
-    ensures onward { IfSome result (λ mark. from ≤ mark.at) }
-    ensures within { IfSome result (λ mark. mark.at < 64) }
-    ensures between { IfSome result (λ mark. (i : ℕ) → from ≤ i → i < mark.at → IsInNumber bytes.now i) }
-    ensures others { IfSome result (λ mark. AreMarks bytes.now (mark.at + 1) mark.others) }
+fn one_on(marks: u64) -> u64
+    ensures { IsAfter marks result }
 {
-    let _ = bytes;
-    let _ = from;
-    if marks == 0 {
-        return None;
-    }
-    Some(Mark {
-        at: marks.trailing_zeros() as usize,
-        others: marks & (marks - 1),
-    })
+    marks << 1
 }
 
-/// Whether bytes between two places, of which each may stand in a number, are one of at most fifteen digits in the
-/// spelling in which it would be written.
+/// The marks that are not among the others.
 #[inline(always)]
-fn is_short(bytes: &[u8], at: usize, end: usize) -> bool
-    requires some { 0 < at }
-    requires order { at ≤ end }
-    requires within { end < length bytes.now }
-    requires separated { is_separator (get_or bytes.now (at - 1) 0) ≡ true }
-    requires between { (i : ℕ) → at ≤ i → i < end → IsInNumber bytes.now i }
-    ensures { IsTrue result → IsShortNumeral (slice_range bytes.now at end) }
+fn without(marks: u64, others: u64) -> u64
+    ensures { AreWithout marks others result }
 {
-    let start = if bytes[at] == b'-' { at + 1 } else { at };
-    if start >= end || end - start > MAX_DIGITS {
-        return false;
-    }
-    if bytes[start] != b'0' {
-        return true;
-    }
-    end - at == 1
+    marks & !others
 }
 
-/// The closing bracket of the triple at `at`; `None`: undecided.
 #[inline(always)]
-fn triple_at(bytes: &[u8], at: usize, marks: u64) -> Option<Mark>
+fn numbers_of(kinds: Kinds) -> Numbers
+    ensures inner { (i : ℕ) → bit_at result.inner i
+        ≡ max (bit_at kinds.digits i) (min (bit_at kinds.minuses i) (bit_at result.starts i)) }
+    ensures starts { IsAfter (bit_or kinds.opens kinds.commas) result.starts }
+{
+    let starts = one_on(kinds.opens | kinds.commas);
+    Numbers {
+        inner: kinds.digits | (kinds.minuses & starts),
+        starts,
+    }
+}
+
+/// The first byte in no number after each of the marks: a carry runs through the number that begins there.
+#[inline(always)]
+fn ends_after(marks: u64, numbers: u64) -> u64
+    requires apart { AreApart marks numbers }
+    ensures next { AreNext marks numbers result }
+    ensures apart { AreApart result numbers }
+{
+    (marks << 1).wrapping_add(numbers) & !numbers
+}
+
+#[inline(always)]
+fn ends_of(opens: u64, numbers: u64) -> Ends
+    requires apart { AreApart opens numbers }
+    ensures first { AreNext opens numbers result.first }
+    ensures second { AreNext result.first numbers result.second }
+    ensures third { AreNext result.second numbers result.third }
+{
+    let first = ends_after(opens, numbers);
+    let second = ends_after(first, numbers);
+    let third = ends_after(second, numbers);
+    Ends {
+        first,
+        second,
+        third,
+    }
+}
+
+/// A bit for each byte that may not stand where it stands: at the end of a number, two places after a triple, or at the
+/// block's front.
+#[inline(always)]
+fn wrong_ends(kinds: Kinds, ends: Ends) -> u64
+    ensures { (i : ℕ) → i < 64 → HasNoBit result i
+        → DoEndsFit kinds.commas kinds.opens kinds.closes ends.first ends.second ends.third i }
+{
+    let no_comma = without(ends.first | ends.second, kinds.commas);
+    let no_close = without(ends.third, kinds.closes);
+    let no_more = without(
+        one_on(one_on(ends.third)),
+        one_on(kinds.commas) & kinds.opens,
+    );
+    no_comma | no_close | no_more | without(1, kinds.opens)
+}
+
+/// A bit for the last of any sixteen digits.
+#[inline(always)]
+fn long_runs(digits: u64) -> u64
+    ensures { EndsRuns digits result }
+{
+    let two = digits & (digits << 1);
+    let four = two & (two << 2);
+    let eight = four & (four << 4);
+    eight & (eight << 8)
+}
+
+/// A bit for each byte at which it shows that a number is none, or not as it would be written, or too long.
+#[inline(always)]
+fn wrong_numbers(kinds: Kinds, numbers: Numbers) -> u64
+    ensures { (i : ℕ) → i < 64 → HasNoBit result i
+        → DoNumbersFit kinds.digits kinds.zeros kinds.minuses kinds.opens numbers.inner numbers.starts i }
+{
+    let empty = without(numbers.starts, numbers.inner | kinds.opens);
+    let bare = without(one_on(kinds.minuses), without(kinds.digits, kinds.zeros));
+    let led_by_zero = one_on(kinds.zeros & numbers.starts) & kinds.digits;
+    empty | bare | led_by_zero | long_runs(kinds.digits)
+}
+
+/// Those of the marks at which and before which nothing is wrong.
+#[inline(always)]
+fn before_wrong(marks: u64, wrong: u64) -> u64
+    ensures { (i : ℕ) → HasBit result i → HasBit marks i × HasNoneUpTo i wrong }
+{
+    marks & (wrong.wrapping_sub(1) & !wrong)
+}
+
+/// What is found in 64 bytes, the first of which begins a triple.
+#[inline(always)]
+fn found_in(bytes: &[u8]) -> Found
     requires long { length bytes.now ≡ 64 }
-    requires marks { AreMarks bytes.now at marks }
-    ensures onward { IfSome result (λ close. at < close.at) }
-    ensures within { IfSome result (λ close. close.at < 64) }
-    ensures is { IfSome result (λ close. IsTripleText bytes.now at (close.at + 1)) }
-    ensures others { IfSome result (λ close. AreMarks bytes.now (close.at + 1) close.others) }
+    ensures going { (at : ℕ) → at < 64 → HasBit result.going at → HasNoneUpTo at result.wrong
+        → (more : List ℕ) → ClosesTriples more → ClosesTriples (take (at + 1) bytes.now ++ more) }
+    ensures closing { (at : ℕ) → at < 64 → HasBit result.closing at → HasNoneUpTo at result.wrong
+        → ClosesTriples (take (at + 1) bytes.now) }
 {
-    let open = first_mark(bytes, at, marks)?;
-    if open.at != at || bytes[at] != b'[' {
-        return None;
+    let kinds = kinds_in(bytes);
+    let numbers = numbers_of(kinds);
+    let ends = ends_of(kinds.opens, numbers.inner);
+    let after = one_on(ends.third);
+    Found {
+        going: after & kinds.commas,
+        closing: after & kinds.closes,
+        wrong: wrong_ends(kinds, ends) | wrong_numbers(kinds, numbers),
     }
-    let first = first_mark(bytes, at + 1, open.others)?;
-    if bytes[first.at] != b',' || !is_short(bytes, at + 1, first.at) {
-        return None;
-    }
-    let second = first_mark(bytes, first.at + 1, first.others)?;
-    if bytes[second.at] != b',' || !is_short(bytes, first.at + 1, second.at) {
-        return None;
-    }
-    let close = first_mark(bytes, second.at + 1, second.others)?;
-    if bytes[close.at] != b']' || !is_short(bytes, second.at + 1, close.at) {
-        return None;
-    }
-    Some(close)
 }
 
-/// The front of 64 bytes, the first of which begins a triple; with no bytes: undecided.
+/// The bytes up to the last of the marks.
+#[inline(always)]
+fn up_to_last(marks: u64) -> Front
+    ensures goes_on { result.closed ≡ false }
+    ensures within { result.len ≤ 64 }
+    ensures last { 0 < result.len → HasBit marks (result.len - 1) }
+{
+    Front {
+        len: 64 - marks.leading_zeros() as usize,
+        closed: false,
+    }
+}
+
+/// The front of 64 bytes, the first of which begins a triple; with no bytes: undecided. Mostly nothing is wrong in
+/// them, and then what comes next need not wait until it is known what is.
 #[inline(always)]
 fn front_of(bytes: &[u8]) -> Front
     requires long { length bytes.now ≡ 64 }
@@ -122,31 +218,18 @@ fn front_of(bytes: &[u8]) -> Front
         → ClosesTriples (take result.len bytes.now ++ more) }
     ensures closed { result.closed ≡ true → ClosesTriples (take result.len bytes.now) }
 {
-    let mut len = 0usize;
-    let mut marks = marks_in(bytes);
-    'triples: while len < BLOCK {
-        let Some(close) = triple_at(bytes, len, marks) else {
-            return Front { len, closed: false };
-        };
-        let Some(after) = first_mark(bytes, close.at + 1, close.others) else {
-            return Front { len, closed: false };
-        };
-        if after.at != close.at + 1 {
-            return Front { len, closed: false };
-        }
-        if bytes[after.at] == b']' {
-            return Front {
-                len: after.at + 1,
-                closed: true,
-            };
-        }
-        if bytes[after.at] != b',' {
-            return Front { len, closed: false };
-        }
-        len = after.at + 1;
-        marks = after.others;
+    let found = found_in(bytes);
+    if found.wrong == 0 {
+        return up_to_last(found.going);
     }
-    Front { len, closed: false }
+    let closing = before_wrong(found.closing, found.wrong);
+    if closing != 0 {
+        return Front {
+            len: closing.trailing_zeros() as usize + 1,
+            closed: true,
+        };
+    }
+    up_to_last(before_wrong(found.going, found.wrong))
 }
 
 /// The front of what stands from `at` on.

@@ -51,7 +51,7 @@ fn leads_item(byte: u8) -> bool
 
 /// Each bit one place up, after a first one.
 #[inline(always)]
-pub(super) fn lag(mask: u64, first: bool) -> u64
+fn lag(mask: u64, first: bool) -> u64
     ensures { (marks : List Bool) → length marks ≡ 64 → mask ≡ mask_l marks
         → result ≡ mask_l (lag first marks) }
 {

@@ -1,29 +1,27 @@
-use Rattle.std.proofs.Common.{◌≡◌, ◌+◌, arith, subst, get_or, refl}
-use Rattle.city_json.proofs.Triples.{front_closes, front_goes_on}
-use Rattle.city_json.specs.TriplesFound.{IsTripleText}
+use Rattle.std.proofs.Common.{◌∙◌, ap, arith, w64}
+use Rattle.std.proofs.lemmas.Nat.Bits.{bit_at-trailing_zeros, bit_at-zero}
+use Rattle.std.specs.Int.{bit_at}
+use Rattle.std.specs.Int.Count.{count_trailing_zeros}
+use Rattle.city_json.proofs.TripleFronts.{goes_on_to_last}
 use Rattle.city_json.proofs.compacting.triples.front_of.Goals as goal
 
-pub returns-then-bytes-after-eq93-clause-closed : goal.returns-then-bytes-after-eq93-clause-closed
-returns-then-bytes-after-eq93-clause-closed c = λ _.
-    let bytes = c.args.bytes.now in
-    let after = c.in-Some-first_mark.after.at in
-    let next : c.in-Some.close.at + 1 ≡ after = omega arith in
-    front_closes bytes c.triples.len after (get_or bytes after 0) (omega (arith, c.in-Some.ensures.onward))
-    (omega (arith, c.requires.long, c.in-Some-first_mark.ensures.within)) refl
-    (subst (IsTripleText bytes c.triples.len) next c.in-Some.ensures.is) c.triples.invariant.goes_on
-    (omega (arith, c.if-bytes-after-eq93.true))
+pub returns-then-found-eq0-clause-goes_on : goal.returns-then-found-eq0-clause-goes_on
+returns-then-found-eq0-clause-goes_on c = λ _.
+    let found = c.found_in-found.result in
+    goes_on_to_last c.args.bytes.now found.going found.wrong found.going c.up_to_last.result.len
+    c.up_to_last.ensures.within c.found_in-found.ensures.going
+    (λ i has. (has, λ j order. ap (λ w. bit_at w j) c.if-found-eq0.true ∙ bit_at-zero j)) c.up_to_last.ensures.last
 
-pub triples-preserved : goal.triples-preserved
-triples-preserved c =
-    let bytes = c.args.bytes.now in
-    let after = c.in-Some-first_mark.after.at in
-    let next : c.in-Some.close.at + 1 ≡ after = omega arith in
-    record {
-      within = omega (arith, c.in-Some-first_mark.ensures.within);
-      marks = c.in-Some-first_mark.ensures.others;
-      goes_on = front_goes_on bytes c.triples.len after (get_or bytes after 0)
-          (omega (arith, c.in-Some.ensures.onward))
-          (omega (arith, c.requires.long, c.in-Some-first_mark.ensures.within)) refl
-          (subst (IsTripleText bytes c.triples.len) next c.in-Some.ensures.is) c.triples.invariant.goes_on
-          (omega (arith, c.if-bytes-after-ne44.false));
-    }
+pub returns-then-closing-ne0-clause-closed : goal.returns-then-closing-ne0-clause-closed
+returns-then-closing-ne0-clause-closed c = λ _.
+    let closing = c.before_wrong-closing.result in
+    let lowest = bit_at-trailing_zeros w64 closing (omega (arith, c.if-closing-ne0.true))
+    c.before_wrong-closing.type_inv in
+    let sound = c.before_wrong-closing.ensures (count_trailing_zeros 64 closing) lowest.1 in
+    c.found_in-found.ensures.closing (count_trailing_zeros 64 closing) lowest.0 sound.0 sound.1
+
+pub returns-clause-goes_on : goal.returns-clause-goes_on
+returns-clause-goes_on c = λ _.
+    let found = c.found_in-found.result in
+    goes_on_to_last c.args.bytes.now found.going found.wrong c.before_wrong.result c.up_to_last-2.result.len
+    c.up_to_last-2.ensures.within c.found_in-found.ensures.going c.before_wrong.ensures c.up_to_last-2.ensures.last
