@@ -135,7 +135,7 @@ struct Objects {
 const OBJECTS: [Objects; 7] = [
     Objects {
         names: Names::Alike,
-        counts: &[1, 2, 15, 16, 17, 1000],
+        counts: &[1, 2, 5, 6, 7, 15, 16, 17, 1000],
         distinct: "",
         compact: "",
         repeated: ",\"a name that begins like each other 000000\":null",
@@ -165,7 +165,7 @@ const OBJECTS: [Objects; 7] = [
     },
     Objects {
         names: Names::OnePrint,
-        counts: &[1, 2, 16, 17, 40, 64, 65, 300, 512, 513, 1000],
+        counts: &[1, 2, 6, 7, 16, 17, 40, 64, 65, 300, 512, 513, 1000],
         distinct: "",
         compact: "",
         repeated: ",\"attribute 0000 attribute\":null",
@@ -179,7 +179,7 @@ const OBJECTS: [Objects; 7] = [
     },
     Objects {
         names: Names::Alike,
-        counts: &[1, 15, 16, 40, 62, 63, 300, 510, 511],
+        counts: &[1, 2, 3, 12, 13, 40, 60, 61, 300, 508, 509],
         distinct: SAME_PLACES,
         compact: SAME_PLACES,
         repeated: ",\"a name that begins like each other 224283\":null,\"a name that begins like each other 224283\":null",
@@ -249,7 +249,7 @@ fn is_decoded_at(
 
 const ESCAPED: [Names; 3] = [Names::Streets, Names::OnePrint, Names::Lines];
 
-const COUNTS: [usize; 8] = [2, 16, 17, 40, 64, 65, 300, 2000];
+const COUNTS: [usize; 10] = [2, 6, 7, 16, 17, 40, 64, 65, 300, 2000];
 
 fn expect_decoded(rt: &(impl Abort + AllocGlobal), names: Names, count: usize) {
     for place in [0, count / 2, count.saturating_sub(1)] {
