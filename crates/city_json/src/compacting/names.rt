@@ -18,9 +18,13 @@ use std::marker::Model;
 /// for once a text.
 const COMMON_NAMES: usize = 40;
 
-/// The most names that are compared with one another. Names of attributes often begin alike and are as long as each
-/// other, so that past it a sieve is faster.
-const MAX_COMPARED: usize = 6;
+/// The most names that are compared with one another at once. Names of attributes often begin alike and are as long as
+/// each other, so that past it a sieve is faster.
+const MAX_COMPARED_AT_ONCE: usize = 6;
+
+/// The most names that are compared with one another where the sieve does not tell them apart, so that no memory is
+/// asked for.
+const MAX_COMPARED: usize = 16;
 
 /// Up to so many names go through a sieve of two sets of 2,048 bits. Of 64 that are different two in a hundred are not
 /// told so by it, of 40 half a one: the number of names to the third, over three times the square of a set's bits.
@@ -91,7 +95,7 @@ impl<'a> Names<'a> {
             → HasDistinctNames members }
     {
         let listed = &self.listed[base..];
-        if listed.len() <= MAX_COMPARED && few_are_apart(listed) {
+        if listed.len() <= MAX_COMPARED_AT_ONCE && few_are_apart(listed) {
             return true;
         }
         many_are_apart(alloc, listed)
@@ -147,6 +151,9 @@ fn many_are_apart(alloc: Global, listed: &[Name<'_>]) -> bool
         → HasDistinctNames members }
 {
     if are_sieved_apart(alloc, listed) {
+        return true;
+    }
+    if listed.len() <= MAX_COMPARED && few_are_apart(listed) {
         return true;
     }
     let Some(prints) = prints_of(alloc, listed) else {

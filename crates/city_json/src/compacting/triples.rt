@@ -209,7 +209,8 @@ fn up_to_last(marks: u64) -> Front
 }
 
 /// The front of 64 bytes, the first of which begins a triple; with no bytes: undecided. Mostly nothing is wrong in
-/// them, and then what comes next need not wait until it is known what is.
+/// them, and then what comes next need not wait until it is known what is. A bracket that closes the array as the last
+/// byte is left to the next look then, which begins at the last triple: one alone is never so long.
 #[inline(always)]
 fn front_of(bytes: &[u8]) -> Front
     requires long { length bytes.now ≡ 64 }
