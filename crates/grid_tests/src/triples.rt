@@ -3,7 +3,7 @@
 use crate::texts::INTEGERS;
 use byte_streams::Fault;
 use city_grid::{Vertex, triple_vertex_at};
-use std::alloc::{AllocGlobal, Global};
+use std::alloc::{AllocError, AllocGlobal, Global};
 use std::process::Abort;
 
 /// What stands before a vertex, and after it: little, and more than is read at once.
@@ -78,34 +78,37 @@ fn triples_of_mixed_digits_are_read(rt: HostRuntime) {
     }
 }
 
-/// What is no vertex: anything may be found in it, but nothing that reaches past its end.
-const OTHERS: [&str; 12] = [
-    "",
-    "[",
+/// In what is no vertex, and in the front of one, none is found, whatever stands after the one and nothing after the
+/// other.
+const OTHERS: [&str; 5] = [
     "[,,]",
-    "[1,2]",
-    "[1,2,",
-    "[1,2,3",
-    "[1,2,-]",
     "[-,-,-]",
-    "[a,b,c]",
-    "]]]]",
-    ",,,,",
+    "[1,2,-]",
     "[12345678901234567,1,1]",
+    "[9007199254740992,1,1]",
 ];
 
-fn stays_within(text: &[u8], at: usize) -> bool {
-    match triple_vertex_at(text, at) {
-        Some(found) => at < found.end && found.end <= text.len(),
-        None => true,
-    }
+const FRONTS: [&str; 9] = [
+    "", "[", "[1", "[1,", "[1,2", "[1,2,", "[1,2,3", "[-1,-2,", ",,",
+];
+
+/// Bytes that stand after a vertex: more than is looked at at once.
+const AFTER: &str = ",[1,2,3],[400,500,600],[7000,8000,9000],[10000,20000,30000]]";
+
+fn is_passed_over(alloc: Global, front: &str, after: &str) -> Result<bool, AllocError> {
+    let text = format!(in alloc; "{front}{after}")?;
+    Ok(triple_vertex_at(text.as_bytes(), 0).is_none())
 }
 
 #[test]
-fn other_texts_are_not_passed(rt: HostRuntime) {
+fn nothing_is_found_in_other_texts(rt: HostRuntime) {
     for text in OTHERS.iter() {
-        for at in 0..40usize {
-            assert!(rt; stays_within(text.as_bytes(), at), "{text}");
-        }
+        let is_alone = is_passed_over(rt.alloc(), text, "") == Ok(true);
+        let is_followed = is_passed_over(rt.alloc(), text, AFTER) == Ok(true);
+        assert!(rt; is_alone && is_followed, "{text}");
+    }
+    for text in FRONTS.iter() {
+        assert!(rt; is_passed_over(rt.alloc(), text, "") == Ok(true), "{text}");
+        assert!(rt; triple_vertex_at(text.as_bytes(), 40).is_none(), "{text}");
     }
 }

@@ -135,7 +135,9 @@ struct Objects {
 const OBJECTS: [Objects; 7] = [
     Objects {
         names: Names::Alike,
-        counts: &[1, 2, 5, 6, 7, 15, 16, 17, 1000],
+        counts: &[
+            1, 2, 5, 6, 7, 15, 16, 17, 40, 63, 64, 65, 300, 511, 512, 513, 1000,
+        ],
         distinct: "",
         compact: "",
         repeated: ",\"a name that begins like each other 000000\":null",

@@ -163,17 +163,19 @@ fn a_byte_changed_in_triples_has_one_answer(rt: HostRuntime) {
 /// Digits of numbers of up to sixteen.
 const DIGITS: &[u8] = b"9080706050403021";
 
-/// Whether two triples and a short one, of numbers of so many digits, are noted with and without signs.
+/// Whether two triples and a short one, of numbers of so many digits, are noted with and without signs, or none of them
+/// where a number has sixteen.
 fn shape_is_noted(alloc: Global, x: usize, y: usize, z: usize) -> bool {
     let shape = [
         DIGITS.get(..x).unwrap_or(b""),
         DIGITS.get(..y).unwrap_or(b""),
         DIGITS.get(..z).unwrap_or(b""),
     ];
-    are_noted(alloc, shape, b"") && are_noted(alloc, shape, b"-")
+    let are_few = x < 16 && y < 16 && z < 16;
+    are_noted(alloc, shape, b"", are_few) && are_noted(alloc, shape, b"-", are_few)
 }
 
-fn are_noted(alloc: Global, shape: [&'static [u8]; 3], sign: &'static [u8]) -> bool {
+fn are_noted(alloc: Global, shape: [&'static [u8]; 3], sign: &'static [u8], are_few: bool) -> bool {
     let [x, y, z] = shape;
     let comma = (b",".as_slice(), 1);
     let pieces: Pieces<'_> = &[
@@ -195,18 +197,19 @@ fn are_noted(alloc: Global, shape: [&'static [u8]; 3], sign: &'static [u8]) -> b
         (b"],[0,-1,2]]}", 1),
     ];
     match text_of(alloc, pieces) {
-        Ok(text) => notes(
+        Ok(text) if are_few => notes(
             alloc,
             &text,
             text.get(5..text.len().saturating_sub(1)).unwrap_or(b""),
         ),
+        Ok(text) => notes(alloc, &text, b""),
         Err(_) => false,
     }
 }
 
 fn shapes_are_noted(alloc: Global, x: usize, y: usize) -> bool {
     for z in 1..17 {
-        if shape_is_noted(alloc, x, y, z) != (x < 16 && y < 16 && z < 16) {
+        if !shape_is_noted(alloc, x, y, z) {
             return false;
         }
     }
