@@ -1,5 +1,5 @@
 -- Where numbers end in arrays of whole numbers, in their compact text.
-use Rattle.std.specs.Prelude.{◌||◌, ◌==◌, ℕ, Bool, not, List, nat_lt}
+use Rattle.std.specs.Prelude.{◌≡◌, ◌+◌, ◌||◌, ◌==◌, ℕ, Bool, not, List, drop, nat_lt}
 use Rattle.std.specs.List.{prefix_len}
 use Rattle.city_json.specs.Bytes.{comma, digit_nine}
 
@@ -13,3 +13,9 @@ stays_in_number c = not (ends_number c)
 -- how many bytes stand before the first such one
 abbrev pub number_len : List ℕ → ℕ
 number_len bytes = prefix_len stays_in_number bytes
+
+-- where the three numbers end of the array whose opening bracket is at `at`
+abbrev pub AreEnds : List ℕ → ℕ → ℕ → ℕ → ℕ → Type 0
+AreEnds text at first second third = (first ≡ at + 1 + number_len (drop (at + 1) text))
+    × (second ≡ first + 1 + number_len (drop (first + 1) text))
+    × (third ≡ second + 1 + number_len (drop (second + 1) text))

@@ -78,6 +78,48 @@ fn triples_of_mixed_digits_are_read(rt: HostRuntime) {
     }
 }
 
+/// Numbers of one to fifteen digits are below one of these.
+const POWERS: [u64; 15] = [
+    10,
+    100,
+    1_000,
+    10_000,
+    100_000,
+    1_000_000,
+    10_000_000,
+    100_000_000,
+    1_000_000_000,
+    10_000_000_000,
+    100_000_000_000,
+    1_000_000_000_000,
+    10_000_000_000_000,
+    100_000_000_000_000,
+    1_000_000_000_000_000,
+];
+
+/// Some number below this one.
+fn below(most: u64, state: u64) -> i64 {
+    match state.checked_rem(most) {
+        Some(number) => number.cast_signed(),
+        None => 0,
+    }
+}
+
+#[test]
+fn triples_of_all_digits_are_read(rt: HostRuntime) {
+    let mut state = 1u64;
+    for most in POWERS.iter() {
+        for others in POWERS.iter() {
+            state = state
+                .wrapping_mul(6364136223846793005)
+                .wrapping_add(1442695040888963407);
+            let y = i64::wrapping_neg(below(*others, state >> 3));
+            let integers = (below(*most, state >> 8), y, below(*most, !state >> 8));
+            assert!(rt; is_read_everywhere(rt.alloc(), integers), "{most} {others}");
+        }
+    }
+}
+
 /// In what is no vertex, and in the front of one, none is found, whatever stands after the one and nothing after the
 /// other.
 const OTHERS: [&str; 5] = [

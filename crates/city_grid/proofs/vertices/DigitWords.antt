@@ -1,8 +1,8 @@
 -- Digits in the bytes of a word.
-use Rattle.std.proofs.Common.{◌≡◌, ℕ, zero, suc, ◌+◌, ◌-◌, ◌*◌, ◌%◌, ◌^◌, ◌<◌, ◌≤◌, ◌∙◌, refl, sym, ap, subst, List, [], ◌∷◌, map, length, get_or, take, drop, slice_range, true, arith}
+use Rattle.std.proofs.Common.{◌≡◌, ℕ, zero, suc, ◌+◌, ◌-◌, ◌*◌, ◌%◌, ◌^◌, ◌<◌, ◌≤◌, ◌∙◌, refl, sym, ap, subst, List, [], ◌∷◌, map, length, length-drop, get_or, take, drop, slice_range, true, arith}
 use Rattle.std.proofs.Math.Nat.{pow-suc}
 use Rattle.std.proofs.lemmas.Bool.Decides.{nat_tests}
-use Rattle.std.proofs.lemmas.List.{take-take}
+use Rattle.std.proofs.lemmas.List.{drop-drop, drop-take, length-take-le, take-append-drop, take-take, take_all}
 use Rattle.std.proofs.lemmas.Nat.{pow-add}
 use Rattle.std.proofs.lemmas.Str.Parse.{digit_from_value}
 use Rattle.std.specs.Char.{digit_value, is_ascii_digit}
@@ -14,6 +14,8 @@ use Rattle.std.specs.Simd.Lanes.{number_l}
 use Rattle.std.specs.Str.Parse.{AllDigits, digits_value}
 use Rattle.core.specs.Dec2flt.Digits.{less_zero, IsEightBytes, IsEightDigits}
 use Rattle.core.proofs.dec2flt.Eight.{eight_at, lanes_are, shifted_is}
+use Rattle.core.proofs.dec2flt.Rows.{value_below}
+use Rattle.city_grid.proofs.decimals.DigitValues.{all_digits-drop, all_digits-take, value-append}
 
 -- what eight bytes are as a word, written by place or by what follows each
 word_is : (bytes : List ℕ) → length bytes ≡ 8 → from_le_bytes w64 bytes ≡ number_l 256 bytes
@@ -79,3 +81,32 @@ few_digits_are text at end word value some few within fit loaded digits read =
     λ i. lanes_are_bytes i * places i % 2 ^ 64 in
     written_as (bit_xor word 0x3030_3030_3030_3030 * 2 ^ (64 - 8 * count) % 2 ^ 64) value (take count bytes)
     (slice_range text at end) front read (shifted_is bytes count _ eight within_digits (omega arith) shifted)
+
+-- what is read of nine to sixteen digits in two parts
+pub many_digits_are : (text : List ℕ) (at end front back : ℕ) → at + 8 < end → end ≤ at + 16 → end ≤ length text
+    → AllDigits 10 (slice_range text at end)
+    → (AllDigits 10 (slice_range text at (end - 8)) → front ≡ digits_value 10 (slice_range text at (end - 8)))
+    → (AllDigits 10 (slice_range text (end - 8) end) → back ≡ digits_value 10 (slice_range text (end - 8) end))
+    → (front * 100_000_000 % 2 ^ 64 + back) % 2 ^ 64 ≡ digits_value 10 (slice_range text at end)
+many_digits_are text at end front back many few within digits front_is back_is =
+    let ds = slice_range text at end in
+    let count = end - 8 - at in
+    let long : length ds ≡ end - at = length-take-le (end - at) (drop at text) (omega (arith, length-drop at text)) in
+    let first : take count ds ≡ slice_range text at (end - 8) = take-take count (end - at) (drop at text) (omega arith) in
+    let parts : end - at ≡ count + 8 = omega arith in
+    let eight : end - (end - 8) ≡ 8 = omega arith in
+    let place : at + count ≡ end - 8 = omega arith in
+    let last : drop count ds ≡ slice_range text (end - 8) end =
+    ap (λ n. drop count (take n (drop at text))) parts ∙ drop-take count 8 (drop at text)
+    ∙ ap (take 8) (drop-drop count at text ∙ ap (λ n. drop n text) place)
+    ∙ ap (λ n. take n (drop (end - 8) text)) (sym eight) in
+    let last_long : length (drop count ds) ≡ 8 = omega (arith, length-drop count ds, long) in
+    let a = front_is (subst (AllDigits 10) first (all_digits-take count ds digits)) ∙ ap (digits_value 10) (sym first) in
+    let b = back_is (subst (AllDigits 10) last (all_digits-drop count ds digits)) ∙ ap (digits_value 10) (sym last) in
+    let joined : digits_value 10 ds ≡ digits_value 10 (take count ds) * 10 ^ length (drop count ds) + digits_value 10 (drop count ds) =
+    ap (digits_value 10) (sym (take-append-drop count ds)) ∙ value-append (take count ds) (drop count ds) in
+    let worth : digits_value 10 (take count ds) * 10 ^ length (drop count ds) ≡ digits_value 10 (take count ds) * 100_000_000 =
+    ap (λ n. digits_value 10 (take count ds) * 10 ^ n) last_long in
+    let small : digits_value 10 ds < 10 ^ 16 =
+    subst (λ xs. digits_value 10 xs < 10 ^ 16) (take_all 16 ds (omega (arith, long))) (value_below ds 0 16 digits) in
+    omega (arith, a, b, joined, worth, small)

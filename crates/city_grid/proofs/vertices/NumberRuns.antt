@@ -10,9 +10,9 @@ use lib.Count.{count_trailing_zeros}
 use lib.Lanes.{mask_l, top, zip2}
 use Rattle.std.specs.List.{AllByRecursion}
 use Rattle.city_json.proofs.WholeArrays.{marks_behind}
-use Rattle.city_grid.specs.NumberEnds.{ends_number, number_len}
+use Rattle.city_grid.specs.NumberEnds.{AreEnds, ends_number, number_len}
 
--- ---- the bits of 32 bytes
+-- ---- the bits of up to 64 bytes
 abbrev where_same : ℕ → ℕ → ℕ
 where_same a b = cond (eqb a b) 255 0
 
@@ -31,18 +31,18 @@ any_of false false = refl
 top-lane : (b : ℕ) → top 7 (lane b) ≡ ends_number b
 top-lane b = any_of (eqb b 44) (ltb 57 b)
 
-pub stop_mask : (bytes : List ℕ) → length bytes ≡ 32
-    → mask_l (map (top 7) (zip2 bit_or (zip2 where_same bytes (replicate 32 44))
-    (zip2 where_below (replicate 32 57) bytes))) % 2 ^ 64 ≡ mask_l (map ends_number bytes)
-stop_mask bytes long =
-    ap (λ x. mask_l (map (top 7) (zip2 bit_or x (zip2 where_below (replicate 32 57) bytes))) % 2 ^ 64)
-    (zip2_splat where_same bytes 32 44 long)
+pub stop_mask : (n : ℕ) (bytes : List ℕ) → n ≤ 64 → length bytes ≡ n
+    → mask_l (map (top 7) (zip2 bit_or (zip2 where_same bytes (replicate n 44))
+    (zip2 where_below (replicate n 57) bytes))) % 2 ^ 64 ≡ mask_l (map ends_number bytes)
+stop_mask n bytes few long =
+    ap (λ x. mask_l (map (top 7) (zip2 bit_or x (zip2 where_below (replicate n 57) bytes))) % 2 ^ 64)
+    (zip2_splat where_same bytes n 44 long)
     ∙ ap (λ x. mask_l (map (top 7) (zip2 bit_or (map (λ b. where_same b 44) bytes) x)) % 2 ^ 64)
-    (zip2_splat_left where_below 57 32 bytes long)
+    (zip2_splat_left where_below 57 n bytes long)
     ∙ ap (λ x. mask_l (map (top 7) x) % 2 ^ 64) (zip2-map bit_or (λ b. where_same b 44) (λ b. where_below 57 b) bytes)
     ∙ ap (λ x. mask_l x % 2 ^ 64) (map-map (top 7) lane bytes
     ∙ ap (λ (f : ℕ → Bool). map f bytes) (λ i b. top-lane b i))
-    ∙ mask_l-mod (map ends_number bytes) 64 (omega (arith, length-map bytes ends_number))
+    ∙ mask_l-mod (map ends_number bytes) 64 (omega (arith, few, long, length-map bytes ends_number))
 
 -- ---- the first bit
 stopped : (bytes : List ℕ) → 0 < mask_l (map ends_number bytes) → number_len bytes < length bytes
@@ -127,11 +127,9 @@ abbrev pub Finds : ℕ → ℕ → ℕ → Type 0
 Finds stops len after = (bytes : List ℕ) → length bytes ≤ 64 → stops ≡ mask_l (map ends_number bytes)
     → (len ≡ number_len bytes) × (len < length bytes) × (after ≡ mask_l (map ends_number (drop (len + 1) bytes)))
 
-pub record AreNear (text : List ℕ) (at x y z : ℕ) : Type 0 where
-  pub first : x ≡ number_len (drop (at + 1) text)
-  pub second : y ≡ number_len (drop (at + 1 + x + 1) text)
-  pub third : z ≡ number_len (drop (at + 1 + x + 1 + y + 1) text)
-  pub few : 1 + x + 1 + y + 1 + z < 32
+pub record AreNear (text : List ℕ) (at count x y z : ℕ) : Type 0 where
+  pub ends : AreEnds text at (at + 1 + x) (at + 1 + x + 1 + y) (at + 1 + x + 1 + y + 1 + z)
+  pub few : at + 1 + x + 1 + y + 1 + z < at + count
 
 -- a run in a window, and the window after it
 record IsNear (text window : List ℕ) (at count len after : ℕ) : Type 0 where
@@ -154,15 +152,23 @@ near_run text window at count stops len after w short bits finds =
       bits = found.2;
     }
 
-pub near : (text window : List ℕ) (at stops x y z after_x after_y after_z : ℕ) → IsWindow text window at 32
-    → stops ≡ mask_l (map ends_number window) → Finds (stops / 2) x after_x → Finds after_x y after_y
-    → Finds after_y z after_z → AreNear text at x y z
-near text window at stops x y z after_x after_y after_z w bits finds_x finds_y finds_z =
+pub near : (text : List ℕ) (at count stops x y z after_x after_y after_z : ℕ) → count ≤ 64 → at + count ≤ length text
+    → stops ≡ mask_l (map ends_number (take count (drop at text))) → Finds (stops / 2) x after_x → Finds after_x y after_y
+    → Finds after_y z after_z → AreNear text at count x y z
+near text at count stops x y z after_x after_y after_z short within bits finds_x finds_y finds_z =
+    let window = take count (drop at text) in
+    let w : IsWindow text window at count = record { is = refl; within = within } in
     let shifted : stops / 2 ≡ mask_l (map ends_number (drop 1 window)) =
     omega arith ∙ marks_behind ends_number 0 window stops bits in
-    let one = near_run text (drop 1 window) (at + 1) 31 (stops / 2) x after_x
-    (later_window text window at 32 w 1 (omega arith)) (omega arith) shifted finds_x in
-    let two = near_run text _ (at + 1 + x + 1) (31 - (x + 1)) after_x y after_y one.onward (omega arith) one.bits finds_y in
-    let three = near_run text _ (at + 1 + x + 1 + y + 1) (31 - (x + 1) - (y + 1)) after_y z after_z two.onward (omega arith)
-    two.bits finds_z in
-    record { first = one.is; second = two.is; third = three.is; few = omega (arith, one.few, two.few, three.few) }
+    let long = window_long text window at count w in
+    let found = finds_x (drop 1 window) (omega (arith, long, length-drop 1 window)) shifted in
+    let some : 1 ≤ count = omega (arith, long, length-drop 1 window, found.1) in
+    let one = near_run text (drop 1 window) (at + 1) (count - 1) (stops / 2) x after_x
+    (later_window text window at count w 1 some) (omega arith) shifted finds_x in
+    let two = near_run text _ (at + 1 + x + 1) (count - 1 - (x + 1)) after_x y after_y one.onward (omega arith) one.bits finds_y in
+    let three = near_run text _ (at + 1 + x + 1 + y + 1) (count - 1 - (x + 1) - (y + 1)) after_y z after_z two.onward
+    (omega arith) two.bits finds_z in
+    record {
+      ends = (ap (λ n. at + 1 + n) one.is, ap (λ n. at + 1 + x + 1 + n) two.is, ap (λ n. at + 1 + x + 1 + y + 1 + n) three.is);
+      few = omega (arith, one.few, two.few, three.few);
+    }

@@ -40,7 +40,7 @@ fn word_at(text: &[u8], at: usize) -> u64
 /// The number that one to eight digits write which stand from `at` up to `end`. Eight bytes are
 /// read at once, and those after the digits are shifted out.
 #[inline(always)]
-pub(super) fn few_digits_value(text: &[u8], at: usize, end: usize) -> u64
+fn few_digits_value(text: &[u8], at: usize, end: usize) -> u64
     requires some { at < end }
     requires few { end ≤ at + 8 }
     requires within { at + 8 ≤ length text.now }
@@ -51,10 +51,25 @@ pub(super) fn few_digits_value(text: &[u8], at: usize, end: usize) -> u64
     value_of_eight(values << (64 - 8 * (end - at)))
 }
 
-/// The number that up to sixteen digits write, one after the other.
+/// The number that nine to sixteen digits write: the last eight by one word, and those before them by another.
+#[inline(always)]
+fn many_digits_value(text: &[u8], at: usize, end: usize) -> u64
+    requires many { at + 8 < end }
+    requires few { end ≤ at + 16 }
+    requires within { end ≤ length text.now }
+    ensures { AllDigits 10 (slice_range text.now at end)
+        → result ≡ digits_value 10 (slice_range text.now at end) }
+{
+    let last = end - 8;
+    few_digits_value(text, at, last)
+        .wrapping_mul(100_000_000)
+        .wrapping_add(few_digits_value(text, last, end))
+}
+
+/// The number that up to eight digits write, one after the other.
 #[inline(never)]
 fn value_by_digits(digits: &[u8]) -> u64
-    requires { length digits.now ≤ 16 }
+    requires { length digits.now ≤ 8 }
     ensures { AllDigits 10 digits.now → result ≡ digits_value 10 digits.now }
 {
     let mut value = 0u64;
@@ -66,7 +81,7 @@ fn value_by_digits(digits: &[u8]) -> u64
     value
 }
 
-/// The same of one to sixteen digits, wherever the text ends.
+/// The number that one to sixteen digits write, wherever the text ends.
 #[inline(always)]
 pub(super) fn digits_value_between(text: &[u8], at: usize, end: usize) -> u64
     requires some { at < end }
@@ -75,7 +90,10 @@ pub(super) fn digits_value_between(text: &[u8], at: usize, end: usize) -> u64
     ensures { AllDigits 10 (slice_range text.now at end)
         → result ≡ digits_value 10 (slice_range text.now at end) }
 {
-    if end - at <= 8 && at + 8 <= text.len() {
+    if end - at > 8 {
+        return many_digits_value(text, at, end);
+    }
+    if at + 8 <= text.len() {
         return few_digits_value(text, at, end);
     }
     value_by_digits(&text[at..end])

@@ -1,6 +1,6 @@
 //! Vertices in a text in which arrays of three short whole numbers are known to stand (CityJSON 2.0, CityJSONFeature):
 //! they are read, and not checked again. In any other text some vertices are found, or none.
-ghost use Rattle.std.specs.Prelude.{◌≡◌, ◌<◌, ◌≤◌, ◌+◌, ℕ, List, drop, length, map, slice_range, unsigned_abs, IfSome};
+ghost use Rattle.std.specs.Prelude.{◌≡◌, ◌<◌, ◌≤◌, ◌+◌, ℕ, List, drop, take, length, map, slice_range, unsigned_abs, IfSome};
 ghost use Rattle.std.specs.Fmt.{signed_decimal};
 ghost use Rattle.std.specs.Simd.Lanes.{mask_l};
 ghost use Rattle.std.specs.Str.Parse.{AllDigits, digits_value};
@@ -9,7 +9,7 @@ ghost use Rattle.city_json.specs.Compact.{compact};
 ghost use Rattle.city_json.specs.Tree.{Tree};
 ghost use Rattle.city_json.specs.Triples.{IsShortNumeral, IsTriple};
 ghost use Rattle.city_grid.specs.Axes.{IsInRange};
-ghost use Rattle.city_grid.specs.NumberEnds.{ends_number, number_len};
+ghost use Rattle.city_grid.specs.NumberEnds.{AreEnds, ends_number, number_len};
 ghost use Rattle.city_grid.specs.Vertex.{vertex_tree};
 
 use crate::vertices::Vertex;
@@ -19,6 +19,9 @@ use std::simd::prelude::*;
 
 /// How many bytes are looked at at once: more than the text of most vertices has.
 const WINDOW: usize = 32;
+
+/// The same where that is too few: more than three numbers of [`MAX_DIGITS`] digits have.
+const WIDE_WINDOW: usize = 64;
 
 /// At most so many digits are read.
 const MAX_DIGITS: usize = 16;
@@ -46,6 +49,14 @@ fn stops_in(bytes: u8x32) -> u64
     (bytes.simd_eq(u8x32::splat(b',')) | bytes.simd_gt(u8x32::splat(b'9'))).to_bitmask()
 }
 
+/// The same of more bytes.
+#[inline(always)]
+fn stops_in_more(bytes: u8x64) -> u64
+    ensures { result ≡ mask_l (map ends_number bytes) }
+{
+    (bytes.simd_eq(u8x64::splat(b',')) | bytes.simd_gt(u8x64::splat(b'9'))).to_bitmask()
+}
+
 /// The run up to the first of the bits; `None`: there is none.
 #[inline(always)]
 fn first_run(stops: u64) -> Option<Run>
@@ -68,19 +79,15 @@ fn first_run(stops: u64) -> Option<Run>
     })
 }
 
-/// Where the three numbers end of the array whose opening bracket is at `at`, where that is not far.
+/// Where the three numbers end of the array whose opening bracket is at `at`, where they end among the bytes whose bits
+/// these are: those from the bracket on.
 #[inline(always)]
-fn near_ends(text: &[u8], at: usize) -> Option<Ends>
-    requires { at + 32 ≤ length text.now }
-    ensures first { IfSome result (λ ends. ends.first
-        ≡ at + 1 + number_len (drop (at + 1) text.now)) }
-    ensures second { IfSome result (λ ends. ends.second
-        ≡ ends.first + 1 + number_len (drop (ends.first + 1) text.now)) }
-    ensures third { IfSome result (λ ends. ends.third
-        ≡ ends.second + 1 + number_len (drop (ends.second + 1) text.now)) }
-    ensures within { IfSome result (λ ends. ends.third < at + 32) }
+fn ends_by(text: &[u8], at: usize, stops: u64) -> Option<Ends>
+    requires { at < length text.now }
+    ensures { IfSome result (λ ends. (count : ℕ) → count ≤ 64 → at + count ≤ length text.now
+        → stops ≡ mask_l (map ends_number (take count (drop at text.now)))
+        → AreEnds text.now at ends.first ends.second ends.third × (ends.third < at + count)) }
 {
-    let stops = stops_in(u8x32::from_slice(&text[at..]));
     let x = first_run(stops >> 1)?;
     let y = first_run(x.after)?;
     let z = first_run(y.after)?;
@@ -91,6 +98,28 @@ fn near_ends(text: &[u8], at: usize) -> Option<Ends>
         second,
         third: second + 1 + z.len,
     })
+}
+
+/// Where the three numbers end of the array whose opening bracket is at `at`, where that is not far.
+#[inline(always)]
+fn near_ends(text: &[u8], at: usize) -> Option<Ends>
+    requires { at + 32 ≤ length text.now }
+    ensures are { IfSome result (λ ends. AreEnds text.now at ends.first ends.second ends.third) }
+    ensures within { IfSome result (λ ends. ends.third < length text.now) }
+{
+    let ends = ends_by(text, at, stops_in(u8x32::from_slice(&text[at..])))?;
+    Some(ends)
+}
+
+/// The same, where it is farther.
+#[inline(always)]
+fn wide_ends(text: &[u8], at: usize) -> Option<Ends>
+    requires { at + 64 ≤ length text.now }
+    ensures are { IfSome result (λ ends. AreEnds text.now at ends.first ends.second ends.third) }
+    ensures within { IfSome result (λ ends. ends.third < length text.now) }
+{
+    let ends = ends_by(text, at, stops_in_more(u8x64::from_slice(&text[at..])))?;
+    Some(ends)
 }
 
 /// Where the number that begins at `at` ends, with a byte that ends it; `None`: there is none.
@@ -108,16 +137,10 @@ fn number_end(text: &[u8], at: usize) -> Option<usize>
     Some(end)
 }
 
-/// The same as of [`near_ends`], wherever they are.
-#[inline(never)]
-fn far_ends(text: &[u8], at: usize) -> Option<Ends>
+/// The same as of [`near_ends`], wherever they are, number by number.
+fn ends_by_numbers(text: &[u8], at: usize) -> Option<Ends>
     requires { at < length text.now }
-    ensures first { IfSome result (λ ends. ends.first
-        ≡ at + 1 + number_len (drop (at + 1) text.now)) }
-    ensures second { IfSome result (λ ends. ends.second
-        ≡ ends.first + 1 + number_len (drop (ends.first + 1) text.now)) }
-    ensures third { IfSome result (λ ends. ends.third
-        ≡ ends.second + 1 + number_len (drop (ends.second + 1) text.now)) }
+    ensures are { IfSome result (λ ends. AreEnds text.now at ends.first ends.second ends.third) }
     ensures within { IfSome result (λ ends. ends.third < length text.now) }
 {
     let first = number_end(text, at + 1)?;
@@ -130,16 +153,26 @@ fn far_ends(text: &[u8], at: usize) -> Option<Ends>
     })
 }
 
+/// The same, where they are not near, or the text ends soon.
+#[inline(never)]
+fn far_ends(text: &[u8], at: usize) -> Option<Ends>
+    requires { at < length text.now }
+    ensures are { IfSome result (λ ends. AreEnds text.now at ends.first ends.second ends.third) }
+    ensures within { IfSome result (λ ends. ends.third < length text.now) }
+{
+    if text.len() - at >= WIDE_WINDOW {
+        if let Some(ends) = wide_ends(text, at) {
+            return Some(ends);
+        }
+    }
+    ends_by_numbers(text, at)
+}
+
 /// Where the three numbers end of the array whose opening bracket is at `at`.
 #[inline(always)]
 fn ends_at(text: &[u8], at: usize) -> Option<Ends>
     requires { at < length text.now }
-    ensures first { IfSome result (λ ends. ends.first
-        ≡ at + 1 + number_len (drop (at + 1) text.now)) }
-    ensures second { IfSome result (λ ends. ends.second
-        ≡ ends.first + 1 + number_len (drop (ends.first + 1) text.now)) }
-    ensures third { IfSome result (λ ends. ends.third
-        ≡ ends.second + 1 + number_len (drop (ends.second + 1) text.now)) }
+    ensures are { IfSome result (λ ends. AreEnds text.now at ends.first ends.second ends.third) }
     ensures within { IfSome result (λ ends. ends.third < length text.now) }
 {
     if text.len() - at >= WINDOW {

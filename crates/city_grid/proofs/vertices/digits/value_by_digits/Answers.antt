@@ -22,6 +22,6 @@ returns c digits =
     let ds = c.args.digits.now in
     let i = c.loop-digit.digit-index in
     let whole : take i ds ≡ ds = take_all i ds (omega (arith, c.loop-digit-test.false)) in
-    let small : digits_value 10 ds < 10 ^ 16 =
-    subst (λ xs. digits_value 10 xs < 10 ^ 16) (take_all 16 ds c.requires) (value_below ds 0 16 digits) in
+    let small : digits_value 10 ds < 10 ^ 8 =
+    subst (λ xs. digits_value 10 xs < 10 ^ 8) (take_all 8 ds c.requires) (value_below ds 0 8 digits) in
     omega (arith, c.loop-digit.invariant digits, ap (digits_value 10) whole, small)

@@ -1,0 +1,6 @@
+use Rattle.std.proofs.Common.{arith}
+use Rattle.city_grid.proofs.vertices.NumberRuns.{stop_mask}
+use Rattle.city_grid.proofs.vertices.triples.stops_in_more.Goals as goal
+
+pub returns : goal.returns
+returns c = stop_mask 64 c.args.bytes (omega arith) c.fits-bytes.0
