@@ -10,6 +10,7 @@ ghost use Rattle.byte_streams.specs.Limits.{max_steps};
 ghost use Rattle.city_grid.specs.Vertex.{vertex_tree, IsShortNumber, IsShortInteger, IsVertexText};
 
 use crate::vertices::Vertex;
+use crate::vertices::digits::digits_value_between;
 use byte_streams::Line;
 use byte_streams::limits::MAX_STEPS;
 use core::dec2flt::read_digits;
@@ -55,6 +56,28 @@ pub fn byte_is(text: &[u8], at: usize, byte: u8) -> bool
 /// The digits from `at` on, where there are at most sixteen; else none of them.
 #[inline(always)]
 fn digits_at(text: &[u8], at: usize) -> Digits
+    requires { at ≤ length text.now }
+    ensures onward { at ≤ result.end }
+    ensures within { result.end ≤ length text.now }
+    ensures few { result.end ≤ at + 16 }
+    ensures digits { AllDigits 10 (slice_range text.now at result.end) }
+    ensures value { result.size ≡ digits_value 10 (slice_range text.now at result.end) }
+{
+    if text.len() - at >= 16 {
+        let end = few_digits_end(text, at);
+        if at < end {
+            return Digits {
+                size: digits_value_between(text, at, end),
+                end,
+            };
+        }
+    }
+    digits_at_slowly(text, at)
+}
+
+/// The same digit by digit, wherever the text ends.
+#[inline(never)]
+fn digits_at_slowly(text: &[u8], at: usize) -> Digits
     requires { at ≤ length text.now }
     ensures onward { at ≤ result.end }
     ensures within { result.end ≤ length text.now }

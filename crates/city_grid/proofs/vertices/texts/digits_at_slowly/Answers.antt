@@ -2,7 +2,7 @@ use Rattle.std.proofs.Common.{◌-◌, ◌<◌, ◌^◌, arith, drop, refl, slic
 use Rattle.core.proofs.dec2flt.Rows.{AllDigits-digits_len}
 use Rattle.std.specs.Str.Parse.{AllDigits, digits_value}
 use Rattle.city_grid.proofs.vertices.VertexTexts.{few_digits}
-use Rattle.city_grid.proofs.vertices.texts.digits_at.Goals as goal
+use Rattle.city_grid.proofs.vertices.texts.digits_at_slowly.Goals as goal
 
 pub returns-clause-digits : goal.returns-clause-digits
 returns-clause-digits c =
