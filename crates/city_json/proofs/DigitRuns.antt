@@ -3,7 +3,7 @@ use Rattle.std.proofs.Common.{◌≡◌, ℕ, suc, ◌+◌, ◌*◌, ◌%◌, �
 use Rattle.std.specs.List.{prefix_len}
 use Rattle.std.proofs.lemmas.Bool.{cases_Bool, cond-true, cond-false, eq-eqb, ne_eqb}
 use Rattle.std.proofs.lemmas.Bool.Decides.{nat_tests}
-use Rattle.std.proofs.lemmas.List.{length-map}
+use Rattle.std.proofs.lemmas.List.{drop-drop, length-map}
 use Rattle.std.proofs.lemmas.List.Folds.{prefix_len-append}
 use Rattle.std.proofs.lemmas.List.Sums.{prefix_len-le-length}
 use Rattle.std.proofs.lemmas.Simd.{chunk-drop, length-chunk, first_set_mask_l, zip2_splat, zip2_splat_left, zip2-map, map-map, mask_l-mod}
@@ -111,3 +111,13 @@ past_is (c ∷ bytes) = by (is_ascii_digit c) refl (past_is bytes)
         let next : 1 + prefix_len is_ascii_digit bytes ≡ suc (prefix_len is_ascii_digit bytes) = omega arith in
         rw is (ap (λ k. drop k (c ∷ bytes)) next ∙ rest)
     by false is rest = rw is refl
+
+pub past_at : (text : List ℕ) (at : ℕ)
+    → drop (at + prefix_len is_ascii_digit (drop at text)) text ≡ past_digits (drop at text)
+past_at text at = sym (drop-drop (prefix_len is_ascii_digit (drop at text)) at text) ∙ past_is (drop at text)
+
+-- after some of the digits the same stands behind them
+pub same_rest : (text : List ℕ) (at end : ℕ)
+    → end + prefix_len is_ascii_digit (drop end text) ≡ at + prefix_len is_ascii_digit (drop at text)
+    → past_digits (drop end text) ≡ past_digits (drop at text)
+same_rest text at end same = sym (past_at text end) ∙ ap (λ n. drop n text) same ∙ past_at text at

@@ -1,5 +1,5 @@
 //! Which texts are numbers, how they are kept, and their parts.
-use crate::texts::expect;
+use crate::texts::{expect, expect_at, is_answered};
 use byte_streams::Fault;
 use city_json::{Json, NumText};
 use std::alloc::Global;
@@ -164,4 +164,42 @@ fn number_is_shown(alloc: Global, text: &[u8], wanted: &str) -> bool {
 #[test]
 fn a_number_shows_its_bytes(rt: HostRuntime) {
     assert!(rt; number_is_shown(rt.alloc(), b"-3", "NumText { text: [45, 51] }"));
+}
+
+/// Whether numbers of so many digits are taken as they are, and none with a byte more in the digits' midst, whatever
+/// stands behind them.
+fn are_taken(alloc: Global, digits: usize) -> bool {
+    let ends: [&'static [u8]; 4] = [
+        b"",
+        b",1",
+        b",12345678901234567",
+        b",\"0123456789012345678901234567890123456789\"",
+    ];
+    for end in ends {
+        let whole = [(b"[7".as_slice(), 1), (b"3", digits), (end, 1), (b"]", 1)];
+        let fraction = [(b"[7.0".as_slice(), 1), (b"3", digits), (end, 1), (b"]", 1)];
+        let broken = [
+            (b"[7".as_slice(), 1),
+            (b"3", digits),
+            (b"/", 1),
+            (b"3", digits),
+            (end, 1),
+            (b"]", 1),
+        ];
+        if !is_answered(alloc, &whole, None)
+            || !is_answered(alloc, &fraction, None)
+            || !is_answered(alloc, &broken, Some(Fault::Syntax))
+        {
+            return false;
+        }
+    }
+    true
+}
+
+#[test]
+fn numbers_of_any_length_are_taken(rt: HostRuntime) {
+    for digits in 0..80 {
+        expect_at(&rt, are_taken(rt.alloc(), digits), digits, b"");
+    }
+    expect_at(&rt, are_taken(rt.alloc(), 100_001), 100_001, b"");
 }

@@ -31,9 +31,27 @@ fn not_digits(bytes: u8x16) -> u64
     (bytes.simd_lt(u8x16::splat(b'0')) | bytes.simd_gt(u8x16::splat(b'9'))).to_bitmask()
 }
 
-/// Scalar fallback of `digits_end`.
+/// The same of any number of digits, wherever the text ends.
 #[inline(never)]
 fn digits_end_slowly(text: &[u8], at: usize) -> usize
+    requires { at ≤ length text.now }
+    ensures onward { at ≤ result }
+    ensures within { result ≤ length text.now }
+    ensures passed { drop result text.now ≡ past_digits (drop at text.now) }
+{
+    let mut end = at;
+    while text.len() - end >= 16 {
+        let stops = not_digits(u8x16::from_slice(&text[end..]));
+        if stops != 0 {
+            return end + stops.trailing_zeros() as usize;
+        }
+        end += 16;
+    }
+    last_digits_end(text, end)
+}
+
+/// The same byte by byte.
+fn last_digits_end(text: &[u8], at: usize) -> usize
     requires { at ≤ length text.now }
     ensures onward { at ≤ result }
     ensures within { result ≤ length text.now }
