@@ -41,4 +41,5 @@ pub record IsTriplesText (text : List ℕ) (at end : ℕ) : Type 0 where
 
 -- what is noted of a text: nothing, or where one stands in it
 abbrev pub HasTriples : List ℕ → Span → Type 0
-HasTriples text span = span.from < span.end → IsTriplesText text span.from span.end
+HasTriples text span = span.from < span.end
+    → (span.end ≤ length text) × IsTriplesText text span.from span.end

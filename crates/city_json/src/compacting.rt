@@ -31,7 +31,9 @@ use byte_streams::limits::MAX_DEPTH;
 use draft::{begun, copy_to, skip_white};
 pub use ends::{string_end, value_end};
 pub use members::members_of_compact;
-pub use parts::{Compacted, CompactedFeature, Part, Span, compact_feature, compact_parts};
+pub use parts::{
+    Compacted, CompactedFeature, Part, Span, compact_feature, compact_given, compact_parts,
+};
 use std::alloc::Global;
 use values::value;
 

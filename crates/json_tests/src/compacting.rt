@@ -1,8 +1,8 @@
 //! Of the one pass: that it answers for the texts that users have, as the reader and the printer do.
 use crate::texts::{Pieces, expect, expect_of_pieces, is_answered, is_compacted, text_of};
 use byte_streams::Line;
-use city_json::compact_parts;
-use std::alloc::Global;
+use city_json::{compact_given, compact_parts};
+use std::alloc::{AllocError, Global};
 
 /// Texts and their compact texts.
 const COMPACTED: [(&[u8], &[u8]); 41] = [
@@ -229,5 +229,67 @@ fn is_parted(alloc: Global, row: &Parted) -> bool {
 fn only_an_object_is_told_by_its_parts(rt: HostRuntime) {
     for row in PARTED.iter() {
         expect(&rt, is_parted(rt.alloc(), row), row.text);
+    }
+}
+
+/// Compact texts with white space at their end, and how long they are without it.
+const GIVEN: [(&[u8], usize); 5] = [
+    (b"{}", 2),
+    (b"{\"a\":[1,-0.50e+3,\"n\"]}", 22),
+    (b"{\"a\":{\"v\":[[1,2,3]]}}\n", 21),
+    (b"{\"v\":[[1,2,3]]} \t\r\n", 15),
+    (b"{\"caf\xc3\xa9\":null} ", 14),
+];
+
+/// How much more room than it needs a text has.
+const ROOM: usize = 1_000;
+
+/// What a text that is given away becomes.
+fn given(alloc: Global, text: Vec<u8>) -> Option<Vec<u8>> {
+    match compact_given(alloc, Line::from_vec(text), Line::new(alloc)) {
+        Ok(feature) => {
+            let found = feature.found;
+            let line = found.line;
+            Some(line.into_vec())
+        }
+        Err(_) => None,
+    }
+}
+
+/// Whether the text is kept up to this length, with no more room than that.
+fn is_kept(alloc: Global, text: &[u8], len: usize) -> Result<bool, AllocError> {
+    let mut roomy = Vec::with_capacity(alloc, text.len().saturating_add(ROOM))?;
+    roomy.extend_from_slice(text)?;
+    let Some(kept) = given(alloc, roomy) else {
+        return Ok(false);
+    };
+    Ok(kept.capacity() == len && Some(kept.as_slice()) == text.get(..len))
+}
+
+#[test]
+fn a_compact_text_that_is_given_is_kept(rt: HostRuntime) {
+    for (text, len) in GIVEN.iter() {
+        let kept = is_kept(rt.alloc(), text, *len);
+        expect(&rt, kept == Ok(true), text);
+    }
+}
+
+/// The same of a text with so many blanks at its end.
+fn are_kept(alloc: Global, pieces: Pieces<'_>, blanks: usize) -> Result<bool, AllocError> {
+    let text = text_of(alloc, pieces)?;
+    is_kept(alloc, &text, text.len().saturating_sub(blanks))
+}
+
+#[test]
+fn a_large_text_that_is_given_is_kept(rt: HostRuntime) {
+    for count in [1, 1_000, 300_000] {
+        let pieces: [(&'static [u8], usize); 4] = [
+            (b"{\"a\":[0", 1),
+            (b",[1,22,\"x\"]", count),
+            (b"]}", 1),
+            (b" ", count),
+        ];
+        let kept = are_kept(rt.alloc(), &pieces, count);
+        expect_of_pieces(&rt, kept == Ok(true), &pieces);
     }
 }

@@ -1,11 +1,11 @@
 //! Of triples of whole numbers, as vertices are: which are noted, and that a text has one answer with and without them.
 use crate::texts::{Pieces, expect, expect_at, has_one_answer, text_of};
 use byte_streams::Line;
-use city_json::{compact, compact_feature};
+use city_json::{CompactedFeature, Span, compact, compact_feature, compact_given};
 use std::alloc::{AllocError, Global};
 
 /// A text, and what is noted of it.
-const NOTED: [(&[u8], &[u8]); 30] = [
+const NOTED: [(&[u8], &[u8]); 33] = [
     (b"{\"vertices\":[[1,2,3]]}", b"[[1,2,3]]"),
     (
         b"{\"vertices\":[[0,-1,-20],[7,0,10]]}",
@@ -23,6 +23,18 @@ const NOTED: [(&[u8], &[u8]); 30] = [
     (
         b"{\"v\":[[-999999999999999,-999999999999999,-999999999999999],[123456789012345,123456789012345,12345678901234]] , \"more\":1}",
         b"[[-999999999999999,-999999999999999,-999999999999999],[123456789012345,123456789012345,12345678901234]]",
+    ),
+    (
+        b" { \"a\" : \"\\u00e9\", \"v\": [[1,2,3],[-40,5,6]], \"b\" : [ 1 ] } ",
+        b"[[1,2,3],[-40,5,6]]",
+    ),
+    (
+        b"{\"v\":[[1,2,3]],\"n\":\"\\/\\/\" , \"t\":[ ]}",
+        b"[[1,2,3]]",
+    ),
+    (
+        b"{\"v\":[[1,2,3]], \"\\u0077\":[[4,5,6]] ,\"x\":0}",
+        b"[[4,5,6]]",
     ),
     (b"{\"v\":[[1000000000000000,2,3]]}", b""),
     (b"{\"v\":[[1,2,-1000000000000000]]}", b""),
@@ -56,9 +68,15 @@ const NOTED: [(&[u8], &[u8]); 30] = [
     (b"{\"v\":[[1234567890123456,2,3],[1,2,3]]}", b""),
 ];
 
+/// The text at the place that is noted.
+fn noted(feature: &CompactedFeature) -> Option<&[u8]> {
+    let Span { from, end } = feature.triples;
+    feature.found.line.items().get(from..end)
+}
+
 fn notes(alloc: Global, text: &[u8], wanted: &[u8]) -> bool {
     match compact_feature(alloc, text, Line::new(alloc)) {
-        Some(feature) => text.get(feature.triples.from..feature.triples.end) == Some(wanted),
+        Some(feature) => noted(&feature) == Some(wanted),
         None => false,
     }
 }
@@ -116,7 +134,26 @@ const PIECES: [&[u8]; 12] = [
 
 /// Whether the pass has the reader's answer, and the same of an object with and without its parts.
 fn has_same_answer(alloc: Global, text: &[u8]) -> bool {
-    has_one_answer(alloc, text) && has_same_line(alloc, text)
+    has_one_answer(alloc, text) && has_same_line(alloc, text) && has_same_feature(alloc, text)
+}
+
+/// Whether the pass finds the same in a text that is given away, or gives it back.
+fn has_same_feature(alloc: Global, text: &[u8]) -> bool {
+    let Ok(copy) = text.to_vec(alloc) else {
+        return false;
+    };
+    let given = compact_given(alloc, Line::from_vec(copy), Line::new(alloc));
+    match (compact_feature(alloc, text, Line::new(alloc)), given) {
+        (Some(feature), Ok(other)) => is_same(&feature, &other),
+        (None, Err(back)) => back.items() == text,
+        _ => false,
+    }
+}
+
+fn is_same(feature: &CompactedFeature, other: &CompactedFeature) -> bool {
+    feature.found.line.items() == other.found.line.items()
+        && feature.found.parts.as_slice() == other.found.parts.as_slice()
+        && feature.triples == other.triples
 }
 
 fn has_same_line(alloc: Global, text: &[u8]) -> bool {
@@ -359,7 +396,7 @@ fn is_noted_as(alloc: Global, triples: &[u8], end: &[u8]) -> Result<bool, AllocE
     let are = are_triples(triples);
     let wanted = if are { triples } else { b"" };
     Ok(match compact_feature(alloc, &text, Line::new(alloc)) {
-        Some(feature) => text.get(feature.triples.from..feature.triples.end) == Some(wanted),
+        Some(feature) => noted(&feature) == Some(wanted),
         None => !are,
     })
 }

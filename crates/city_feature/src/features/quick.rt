@@ -1,7 +1,7 @@
 //! The line of a feature with no tree: checked, moved and written on its compact text.
 //!
 //! It decides only lines in the common spellings that have no fault.
-ghost use Rattle.std.specs.Prelude.{◌≡◌, ◌≤◌, ◌++◌, [], ℕ, List, All, Option, codes, slice_range, ◌↔◌, is_some, unwrap_or, IfSome, IfNone, IsTrue, OnOk, OnSome};
+ghost use Rattle.std.specs.Prelude.{◌≡◌, ◌<◌, ◌≤◌, ◌++◌, [], ℕ, List, All, Option, codes, slice_range, ◌↔◌, is_some, unwrap_or, IfSome, IfNone, IsTrue, OnOk, OnSome};
 ghost use Rattle.city_json.specs.Compact.{compact};
 ghost use Rattle.city_json.specs.Parts.{with_value};
 ghost use Rattle.city_json.specs.Triples.{HasTriples};
@@ -106,38 +106,49 @@ fn has_other_members(line: &[u8], parts: &[Part]) -> bool
     byte_is(line, objects.value, b'{')
 }
 
-/// The vertices of a text, which most often are the triples that were found in what was read.
+/// Whether the value in a part is the triples that were found.
+fn are_value(triples: Span, part: Part) -> bool
+    ensures { IsTrue result
+        → (triples.from < triples.end) × (triples.from ≡ part.value) × (triples.end ≡ part.end) }
+{
+    triples.from < triples.end && triples.from == part.value && triples.end == part.end
+}
+
+/// The vertices in a part of a line, which most often are the triples that were found there.
 fn spelled_vertices(
     alloc: Global,
-    source: &[u8],
+    line: &[u8],
     triples: Span,
-    text: &[u8],
+    part: Part,
 ) -> Option<SpelledVertices>
-    requires triples { HasTriples source.now triples }
-    ensures spelled { IfSome result (λ found. SpellsVertices text.now found.vertices.items) }
+    requires triples { HasTriples line.now triples }
+    ensures ordered { IfSome result (λ found. part.value ≤ part.end) }
+    ensures spelled { IfSome result (λ found.
+        SpellsVertices (slice_range line.now part.value part.end) found.vertices.items) }
     ensures written { IfSome result (λ found. IsTrue found.as_written
-        → text.now ≡ compact (vertices_tree found.vertices.items)) }
+        → slice_range line.now part.value part.end ≡ compact (vertices_tree found.vertices.items)) }
     ensures range { IfSome result (λ found. All IsInRange found.vertices.items) }
 {
-    if triples.from < triples.end && is_between(source, triples.from, triples.end, text) {
-        let vertices = vertices_of_triples(alloc, source, triples.from, triples.end)?;
+    if are_value(triples, part) {
+        let vertices = vertices_of_triples(alloc, line, triples.from, triples.end)?;
         return Some(SpelledVertices {
             vertices,
             as_written: true,
         });
     }
-    vertices_of(alloc, text)
+    let text = between(line, part.value, part.end)?;
+    let found = vertices_of(alloc, text)?;
+    Some(found)
 }
 
 /// The vertices of a line that is a feature, and where they stand.
 fn placed_vertices(
     alloc: Global,
-    source: &[u8],
-    triples: Span,
     line: &[u8],
     parts: &[Part],
+    triples: Span,
 ) -> Option<PlacedVertices>
-    requires triples { HasTriples source.now triples }
+    requires triples { HasTriples line.now triples }
     ensures feature { IfSome result (λ placed. (members : MemberTrees) → IsLine line.now parts.now members
         → IsFeature (object members) placed.vertices.items
         × IsPlaceOf (codes "vertices") members line.now placed.part) }
@@ -149,8 +160,7 @@ fn placed_vertices(
         return None;
     }
     let part = part_named(line, parts, b"\"vertices\":")?;
-    let text = between(line, part.value, part.end)?;
-    let found = spelled_vertices(alloc, source, triples, text)?;
+    let found = spelled_vertices(alloc, line, triples, part)?;
     Some(PlacedVertices {
         part,
         vertices: found.vertices,
@@ -189,13 +199,12 @@ fn are_to_stay(as_written: bool, shift: Shift) -> bool
 /// Takes a line as a feature, and moves its vertices.
 fn moved_line(
     alloc: Global,
-    source: &[u8],
-    triples: Span,
     found: Compacted,
+    triples: Span,
     shift: Shift,
     types: &Option<Types>,
 ) -> Option<MovedLine>
-    requires triples { HasTriples source.now triples }
+    requires triples { HasTriples found.line triples }
     ensures there { IfSome result (λ moved. (bytes : List ℕ)
         → IsCompacted bytes found.line found.parts.items
         → (there : FeatureValue)
@@ -208,7 +217,7 @@ fn moved_line(
         → with_value moved.line moved.part (compact (vertices_tree moved.vertices.items)) ≡ moved.line) }
 {
     let (line, parts) = (found.line.items(), found.parts.as_slice());
-    let placed = placed_vertices(alloc, source, triples, line, parts)?;
+    let placed = placed_vertices(alloc, line, parts, triples)?;
     let has_type = has_given_type(alloc, types, line, parts)?;
     let stay = are_to_stay(placed.as_written, shift);
     let vertices = shifted_vertices(placed.vertices, shift)?;
@@ -296,12 +305,12 @@ pub fn quick_line(
     let (found, triples) = (feature.found, feature.triples);
     if is_still(shift) {
         if choice.area.is_none() {
-            if has_vertices(bytes, triples, found.line.items(), &found.parts) {
+            if has_vertices(found.line.items(), &found.parts, triples) {
                 return put_kept(alloc, found, choice, text);
             }
         }
     }
-    let moved = moved_line(alloc, bytes, triples, found, shift, &choice.types)?;
+    let moved = moved_line(alloc, found, triples, shift, &choice.types)?;
     if !selects_of(choice, moved.has_type, &moved.vertices) {
         return Some(false);
     }

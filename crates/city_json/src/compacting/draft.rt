@@ -191,7 +191,7 @@ pub(super) fn skip_white<'a>(text: &'a [u8], at: usize, draft: &mut Draft<'a>) -
 
 /// The place of the first byte from `at` on that is no white space.
 #[inline(always)]
-fn white_end(text: &[u8], at: usize) -> usize
+pub(super) fn white_end(text: &[u8], at: usize) -> usize
     requires { at ≤ length text.now }
     ensures onward { at ≤ result }
     ensures within { result ≤ length text.now }

@@ -1,16 +1,16 @@
 //! The compact text of an object, and where its members lie in it.
-ghost use Rattle.std.specs.Prelude.{◌≡◌, ◌++◌, ◌<◌, ◌≤◌, ◌∷◌, [], length, drop, IfSome, OnSome, IsUtf8};
+ghost use Rattle.std.specs.Prelude.{◌≡◌, ◌++◌, ◌<◌, ◌≤◌, ◌∷◌, [], false, length, drop, take, IsTrue, IfSome, IfOk, IfErr, OnSome, IsUtf8};
 ghost use Rattle.city_json.specs.Compact.{compact};
 ghost use Rattle.city_json.specs.Compacting.{shown, Taken, TakenPart, TakenParts};
 ghost use Rattle.city_json.specs.Depth.{IsDeep};
 ghost use Rattle.city_json.specs.Fits.{Fits};
 ghost use Rattle.city_json.specs.Grammar.{Spells};
 ghost use Rattle.city_json.specs.Parts.{AreParts};
-ghost use Rattle.city_json.specs.Triples.{HasTriples};
+ghost use Rattle.city_json.specs.Triples.{HasTriples, IsTriplesText};
 ghost use Rattle.city_json.specs.Tree.{MemberTrees, object};
 ghost use Rattle.city_json.specs.declared.compacting.parts.Part.{Part};
 
-use super::draft::{Draft, begun, copy_to, skip, skip_white, written_len};
+use super::draft::{Draft, begun, skip, skip_white, white_end, written_len};
 use super::strings::name_and_colon;
 use super::triples::triples_end;
 use super::values::member_value;
@@ -45,9 +45,9 @@ pub struct Span {
     pub end: usize,
 }
 
-/// The compact text of an object, and where in the text that was read the compact text stands of an array of arrays of
-/// three whole numbers each, as the vertices of a feature are (CityJSON 2.0, CityJSONFeature). Whose value it is is not
-/// promised, nor that one is noted where there is one; who uses it compares the bytes.
+/// The compact text of an object, and where in it an array stands of arrays of three whole numbers each, as the vertices
+/// of a feature are (CityJSON 2.0, CityJSONFeature). Whose value it is is not promised, nor that one is noted where there
+/// is one; who uses it compares the places.
 #[derive(Debug, Drop)]
 pub struct CompactedFeature {
     pub found: Compacted,
@@ -67,21 +67,110 @@ pub fn compact_parts(alloc: Global, text: &[u8], line: Line) -> Option<Compacted
     Some(found)
 }
 
-/// The same, and where in the text triples of whole numbers stand, if any were found.
+/// The same, and where in the compact text triples of whole numbers stand, if any were found.
 ///
 /// `None`: undecided; [`crate::read`] decides.
 pub fn compact_feature(alloc: Global, text: &[u8], line: Line) -> Option<CompactedFeature>
     ensures object { IfSome result (λ feature. (members : MemberTrees)
         × Spells text.now (object members) × Fits (object members) × (¬ IsDeep text.now)
         × (feature.found.line ≡ compact (object members)) × AreParts 1 feature.found.parts.items members) }
-    ensures triples { IfSome result (λ feature. HasTriples text.now feature.triples) }
+    ensures triples { IfSome result (λ feature. HasTriples feature.found.line feature.triples) }
+{
+    let mut passed = pass(alloc, text, line)?;
+    passed.line.append(&text[passed.from..passed.end]).ok()?;
+    let found = Compacted {
+        line: passed.line,
+        parts: passed.parts,
+    };
+    Some(CompactedFeature {
+        found,
+        triples: passed.triples,
+    })
+}
+
+/// The same of a text that is given away. Where it is its own compact text, but for white space at its end, it is kept,
+/// and not copied; else what `spare` held is dropped, and it is taken for its memory.
+///
+/// # Errors
+///
+/// The text, where it is undecided, or memory ran out; [`crate::read`] decides.
+pub fn compact_given(alloc: Global, text: Line, spare: Line) -> Result<CompactedFeature, Line>
+    ensures object { IfOk result (λ feature. (members : MemberTrees)
+        × Spells text (object members) × Fits (object members) × (¬ IsDeep text)
+        × (feature.found.line ≡ compact (object members)) × AreParts 1 feature.found.parts.items members) }
+    ensures triples { IfOk result (λ feature. HasTriples feature.found.line feature.triples) }
+    ensures back { IfErr result (λ back. back ≡ text) }
+{
+    let Some(passed) = pass(alloc, text.items(), spare) else {
+        return Err(text);
+    };
+    if passed.from == 0 && passed.line.items().is_empty() {
+        return Ok(kept(text, passed));
+    }
+    let mut line = passed.line;
+    let Ok(_) = line.append(&text.items()[passed.from..passed.end]) else {
+        return Err(text);
+    };
+    let found = Compacted {
+        line,
+        parts: passed.parts,
+    };
+    Ok(CompactedFeature {
+        found,
+        triples: passed.triples,
+    })
+}
+
+/// Where no triples were found.
+const NO_TRIPLES: Span = Span { from: 0, end: 0 };
+
+/// What the pass over a whole text found: its compact text is `line`, and after it the text from `from` up to `end`.
+#[derive(Drop)]
+struct Passed {
+    line: Line,
+    from: usize,
+    end: usize,
+    parts: Vec<Part>,
+    triples: Span,
+}
+
+/// The text in which the pass wrote nothing: it is compact up to the end of the object. Room that it does not need is
+/// given back.
+fn kept(text: Line, passed: Passed) -> CompactedFeature
+    ensures line { result.found.line ≡ take passed.end text }
+    ensures parts { result.found.parts.items ≡ passed.parts.items }
+    ensures triples { result.triples ≡ passed.triples }
+{
+    let mut bytes = text.into_vec();
+    bytes.truncate(passed.end);
+    bytes.shrink_to_fit();
+    let found = Compacted {
+        line: Line::from_vec(bytes),
+        parts: passed.parts,
+    };
+    CompactedFeature {
+        found,
+        triples: passed.triples,
+    }
+}
+
+/// Goes over a whole text. What `line` held is dropped; it is taken for its memory.
+fn pass(alloc: Global, text: &[u8], line: Line) -> Option<Passed>
+    ensures object { IfSome result (λ passed. (members : MemberTrees)
+        × Spells text.now (object members) × Fits (object members) × (¬ IsDeep text.now)
+        × (shown passed.line text.now passed.from passed.end ≡ compact (object members))
+        × AreParts 1 passed.parts.items members) }
+    ensures copied { IfSome result (λ passed. passed.from ≤ passed.end) }
+    ensures within { IfSome result (λ passed. passed.end ≤ length text.now) }
+    ensures triples { IfSome result (λ passed.
+        HasTriples (shown passed.line text.now passed.from passed.end) passed.triples) }
 {
     if !simdutf8::is_utf8(text) {
         return None;
     }
     let mut draft = begun(alloc, line);
     let mut parts = Vec::with_capacity(alloc, COMMON_PARTS).ok()?;
-    let mut triples = Span { from: 0, end: 0 };
+    let mut triples = NO_TRIPLES;
     let at = skip_white(text, 0, &mut draft)?;
     if at == text.len() || text[at] != b'{' {
         return None;
@@ -94,16 +183,16 @@ pub fn compact_feature(alloc: Global, text: &[u8], line: Line) -> Option<Compact
         &mut parts,
         &mut triples,
     )?;
-    let last = skip_white(text, end, &mut draft)?;
-    if last < text.len() {
+    if white_end(text, end) < text.len() {
         return None;
     }
-    copy_to(text, last, last, &mut draft)?;
-    let found = Compacted {
+    Some(Passed {
         line: draft.line,
+        from: draft.from,
+        end,
         parts,
-    };
-    Some(CompactedFeature { found, triples })
+        triples,
+    })
 }
 
 /// The members after the first brace, and the closing one: where it ends.
@@ -120,7 +209,7 @@ fn members<'a>(
     requires within { at ≤ length text.now }
     requires none { draft.old.names ≡ [] }
     requires no_parts { parts.old.items ≡ [] }
-    requires triples { HasTriples text.now triples.old }
+    requires triples { HasTriples (shown draft.old.line text.now draft.old.from at) triples.old }
     ensures onward { IfSome result (λ end. at < end) }
     ensures within { IfSome result (λ end. end ≤ length text.now) }
     ensures copied { IfSome result (λ end. draft.new.from ≤ end) }
@@ -128,7 +217,8 @@ fn members<'a>(
         (shown draft.old.line text.now draft.old.from at)
         (shown draft.new.line text.now draft.new.from end)
         parts.new.items) }
-    ensures triples { OnSome result (HasTriples text.now triples.new) }
+    ensures triples { IfSome result (λ end.
+        HasTriples (shown draft.new.line text.now draft.new.from end) triples.new) }
 {
     let mut i = skip(text, at, draft);
     if i == text.len() {
@@ -160,6 +250,7 @@ fn members<'a>(
 }
 
 /// A member that begins at `at`: where it ends. Its name stands last among the names, its place last among the parts.
+/// Where its value is triples, that is noted.
 fn member<'a>(
     text: &'a [u8],
     at: usize,
@@ -171,7 +262,7 @@ fn member<'a>(
     requires utf8 { IsUtf8 text.now }
     requires copied { draft.old.from ≤ at }
     requires within { at ≤ length text.now }
-    requires triples { HasTriples text.now triples.old }
+    requires triples { HasTriples (shown draft.old.line text.now draft.old.from at) triples.old }
     ensures onward { IfSome result (λ end. at < end) }
     ensures within { IfSome result (λ end. end ≤ length text.now) }
     ensures copied { IfSome result (λ end. draft.new.from ≤ end) }
@@ -179,47 +270,75 @@ fn member<'a>(
         (shown draft.old.line text.now draft.old.from at)
         (shown draft.new.line text.now draft.new.from end)
         draft.old.names draft.new.names parts.old.items parts.new.items) }
-    ensures triples { OnSome result (HasTriples text.now triples.new) }
+    ensures triples { IfSome result (λ end.
+        HasTriples (shown draft.new.line text.now draft.new.from end) triples.new) }
 {
     let named = written_len(text, at, draft)?;
     let start = name_and_colon(text, at, draft)?;
     let valued = written_len(text, start, draft)?;
-    let end = top_value(text, start, levels, draft, triples)?;
-    let ended = written_len(text, end, draft)?;
+    let value = top_value(text, start, levels, draft)?;
+    let ended = written_len(text, value.end, draft)?;
+    *triples = noted(*triples, value.are_triples, valued, ended);
     list_part(named, valued, ended, parts)?;
-    Some(end)
+    Some(value.end)
 }
 
-/// The value of a member of the whole object that begins at `at`: where it ends. Where it is triples, that is noted.
+/// Where a member's value ends, and whether it is triples, and nothing was copied.
+#[derive(Clone, Copy, Drop)]
+struct TopValue {
+    end: usize,
+    are_triples: bool,
+}
+
+/// Where triples stand in what is written: these, where they are some, or those before.
+#[inline(always)]
+fn noted(before: Span, are_triples: bool, from: usize, end: usize) -> Span
+    ensures some { IsTrue are_triples → (result.from ≡ from) × (result.end ≡ end) }
+    ensures none { are_triples ≡ false → result ≡ before }
+{
+    if are_triples {
+        Span { from, end }
+    } else {
+        before
+    }
+}
+
+/// The value of a member of the whole object that begins at `at`.
 #[inline(always)]
 fn top_value<'a>(
     text: &'a [u8],
     at: usize,
     levels: usize,
     draft: &mut Draft<'a>,
-    triples: &mut Span,
-) -> Option<usize>
+) -> Option<TopValue>
     requires utf8 { IsUtf8 text.now }
     requires copied { draft.old.from ≤ at }
     requires within { at ≤ length text.now }
-    requires triples { HasTriples text.now triples.old }
-    ensures onward { IfSome result (λ end. at < end) }
-    ensures within { IfSome result (λ end. end ≤ length text.now) }
-    ensures copied { IfSome result (λ end. draft.new.from ≤ end) }
+    ensures onward { IfSome result (λ value. at < value.end) }
+    ensures within { IfSome result (λ value. value.end ≤ length text.now) }
+    ensures copied { IfSome result (λ value. draft.new.from ≤ value.end) }
     ensures names { OnSome result (draft.new.names ≡ draft.old.names) }
-    ensures taken { IfSome result (λ end. Taken levels (drop at text.now) (drop end text.now)
+    ensures taken { IfSome result (λ value. Taken levels (drop at text.now) (drop value.end text.now)
         (shown draft.old.line text.now draft.old.from at)
-        (shown draft.new.line text.now draft.new.from end)) }
-    ensures triples { OnSome result (HasTriples text.now triples.new) }
+        (shown draft.new.line text.now draft.new.from value.end)) }
+    ensures triples { IfSome result (λ value. IsTrue value.are_triples
+        → IsTriplesText text.now at value.end × (draft.new.line ≡ draft.old.line)
+        × (draft.new.from ≡ draft.old.from)) }
 {
     if levels > 1 {
         let end = triples_end(text, at);
         if at < end {
-            *triples = Span { from: at, end };
-            return Some(end);
+            return Some(TopValue {
+                end,
+                are_triples: true,
+            });
         }
     }
-    member_value(text, at, levels, draft)
+    let end = member_value(text, at, levels, draft)?;
+    Some(TopValue {
+        end,
+        are_triples: false,
+    })
 }
 
 /// Puts a part after the parts.

@@ -1,5 +1,5 @@
 //! The line of a feature whose vertices stay where they are, and may be anywhere: they are looked at, and not read.
-ghost use Rattle.std.specs.Prelude.{◌≡◌, ◌++◌, [], ◌↔◌, ℕ, List, Option, None, is_some, unwrap_or, IfSome, IfNone, IsTrue};
+ghost use Rattle.std.specs.Prelude.{◌≡◌, ◌≤◌, ◌++◌, [], ◌↔◌, ℕ, List, Option, None, is_some, unwrap_or, slice_range, IfSome, IfNone, IsTrue};
 ghost use Rattle.city_json.specs.Compact.{compact};
 ghost use Rattle.city_feature.specs.Choice.{HasType, IsChosen};
 ghost use Rattle.city_feature.specs.Feature.{FeatureValue};
@@ -8,7 +8,7 @@ ghost use Rattle.city_json.specs.Triples.{HasTriples};
 ghost use Rattle.city_feature.specs.Quick.{IsAsWritten, IsCompacted, IsVerticesText, no_steps};
 
 use super::types::has_given_type;
-use super::{between, has_other_members, is_between, part_named, put_after};
+use super::{are_value, between, has_other_members, part_named, put_after};
 use crate::choices::Choice;
 use crate::choices::selecting::selects_of;
 use crate::choices::types::Types;
@@ -26,8 +26,8 @@ struct KeptLine {
 }
 
 /// Whether the line is a feature whose vertices stand as they would be written.
-pub(super) fn has_vertices(bytes: &[u8], triples: Span, line: &[u8], parts: &[Part]) -> bool
-    requires triples { HasTriples bytes.now triples }
+pub(super) fn has_vertices(line: &[u8], parts: &[Part], triples: Span) -> bool
+    requires triples { HasTriples line.now triples }
     ensures { IsTrue result → IsAsWritten line.now parts.now }
 {
     if !has_other_members(line, parts) {
@@ -36,21 +36,22 @@ pub(super) fn has_vertices(bytes: &[u8], triples: Span, line: &[u8], parts: &[Pa
     let Some(part) = part_named(line, parts, b"\"vertices\":") else {
         return false;
     };
+    are_vertices(line, triples, part)
+}
+
+/// Whether what stands in a part of a line is what would be written for its vertices, which most often are the triples
+/// that were found there; `false`: undecided.
+fn are_vertices(line: &[u8], triples: Span, part: Part) -> bool
+    requires triples { HasTriples line.now triples }
+    ensures { IsTrue result → (part.value ≤ part.end)
+        × IsVerticesText (slice_range line.now part.value part.end) }
+{
+    if are_value(triples, part) {
+        return true;
+    }
     let Some(text) = between(line, part.value, part.end) else {
         return false;
     };
-    are_vertices(bytes, triples, text)
-}
-
-/// Whether the text is what would be written for its vertices, which most often are the triples that were found in what
-/// was read; `false`: undecided.
-fn are_vertices(bytes: &[u8], triples: Span, text: &[u8]) -> bool
-    requires triples { HasTriples bytes.now triples }
-    ensures { IsTrue result → IsVerticesText text.now }
-{
-    if triples.from < triples.end && is_between(bytes, triples.from, triples.end, text) {
-        return true;
-    }
     is_vertices_text(text)
 }
 

@@ -1,7 +1,5 @@
-use Rattle.std.proofs.Common.{◌∙◌, subst, sym}
 use Rattle.city_json.specs.Compact.{compact}
 use Rattle.city_feature.specs.Feature.{vertices_tree}
-use Rattle.city_feature.specs.Quick.{SpellsVertices}
 use Rattle.city_feature.proofs.QuickLines.{feature_at}
 use Rattle.city_feature.proofs.features.QuickMoves.{kept}
 use Rattle.city_feature.proofs.features.quick.placed_vertices.Goals as goal
@@ -11,10 +9,10 @@ returns-clause-feature c = λ members is.
     let found = c.in_ok-found in
     feature_at c.args.line.now c.args.parts.now members c.in_ok-part.part found.found.vertices.items is
     (c.has_other_members.ensures c.if-not-has_other_members.false members is) c.in_ok-part.ensures
-    (subst (λ l. SpellsVertices l found.found.vertices.items) c.in_ok-text.ensures.some found.ensures.spelled)
+    found.ensures.spelled
 
 pub returns-clause-text : goal.returns-clause-text
 returns-clause-text c = λ as_written.
     let found = c.in_ok-found in
     kept c.args.line.now (compact (vertices_tree found.found.vertices.items)) c.in_ok-part.part
-    c.in_ok-text.ensures.ordered (sym c.in_ok-text.ensures.some ∙ found.ensures.written as_written)
+    found.ensures.ordered (found.ensures.written as_written)

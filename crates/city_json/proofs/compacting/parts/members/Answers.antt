@@ -1,6 +1,8 @@
 use Rattle.std.proofs.Common.{◌≡◌, ◌++◌, ◌≤◌, ◌<◌, ◌+◌, ◌∙◌, length, drop, get_or, refl, sym, arith, subst, append-nil, [], ◌∷◌}
 use Rattle.city_json.specs.Bytes.{comma, close_brace}
 use Rattle.city_json.specs.Compacting.{shown, TakenParts}
+use Rattle.city_json.specs.Triples.{HasTriples}
+use Rattle.city_json.proofs.GivenTexts.{triples_more}
 use Rattle.city_json.proofs.PassMembers.{names_more}
 use Rattle.city_json.proofs.PassParts.{PartsWhole, parts_more, parts_none, parts_start, parts_step, parts_stop}
 use Rattle.city_json.proofs.Places.{at_mark, mark_shown}
@@ -17,6 +19,14 @@ returns-then-text-i-eq125-clause-taken c =
     (mark_shown c.skip-i.new.draft.line text _ c.skip-i.new.draft.from c.skip-i.result close_brace
     (c.skip-i.ensures.copied inside) inside c.if-text-i-eq125.true (c.skip-i.ensures.is_shown inside))
 
+pub returns-then-text-i-eq125-clause-triples : goal.returns-then-text-i-eq125-clause-triples
+returns-then-text-i-eq125-clause-triples c =
+    let text = c.args.text.now in
+    let inside : c.skip-i.result < length text = omega (arith, c.if-i-text.false, c.skip-i.ensures.within) in
+    triples_more _ (close_brace ∷ []) _ _ (mark_shown c.skip-i.new.draft.line text _ c.skip-i.new.draft.from c.skip-i.result
+    close_brace (c.skip-i.ensures.copied inside) inside c.if-text-i-eq125.true (c.skip-i.ensures.is_shown inside))
+    c.requires.triples
+
 pub members-init : goal.members-init
 members-init c =
     let text = c.args.text.now in
@@ -26,7 +36,8 @@ members-init c =
       onward = c.skip-i.ensures.onward inside;
       within = before_end;
       copied = c.skip-i.ensures.copied inside;
-      triples = c.requires.triples;
+      triples = subst (λ written. HasTriples written c.args.triples.now) (sym (c.skip-i.ensures.is_shown inside))
+          c.requires.triples;
       goes_on = λ rest after listed parts from.
           parts_start c.args.levels (drop c.args.at text)
           (drop c.skip-i.result text) rest _ _ after c.skip-i.new.draft.names listed c.args.parts.now.items parts
@@ -54,7 +65,9 @@ members-preserved c =
       onward = omega (arith, onward, further, so_far, behind);
       within = before_end₂;
       copied = c.skip-i-in-members.ensures.copied inside₂;
-      triples = c.in_ok-end.ensures.triples;
+      triples = triples_more _ (comma ∷ []) _ _ (c.skip-i-in-members.ensures.is_shown inside₂
+          ∙ mark_shown draft.line text _ draft.from c.skip-place.result comma (c.skip-place.ensures.copied inside) inside
+          is_comma (c.skip-place.ensures.is_shown inside)) c.in_ok-end.ensures.triples;
       goes_on = λ rest after listed parts from.
           subst (λ l. PartsWhole c.args.levels (drop c.args.at text) rest
           (shown c.args.draft.now.line text c.args.draft.now.from c.args.at) after l
@@ -98,3 +111,12 @@ returns-then-text-place-eq125-clause-taken c =
     (shown c.args.draft.now.line text c.args.draft.now.from c.args.at)
     (shown draft.line text draft.from (c.skip-place.result + 1)) l) (sym t.parts_are)
     (all.whole (c.are_apart_from.ensures c.if-not-are_apart_from.false all.members all_listed))
+
+pub returns-then-text-place-eq125-clause-triples : goal.returns-then-text-place-eq125-clause-triples
+returns-then-text-place-eq125-clause-triples c =
+    let text = c.args.text.now in
+    let inside : c.skip-place.result < length text = omega (arith, c.if-place-text.false, c.skip-place.ensures.within) in
+    let draft = c.skip-place.new.draft in
+    triples_more _ (close_brace ∷ []) _ _ (mark_shown draft.line text _ draft.from c.skip-place.result close_brace
+    (c.skip-place.ensures.copied inside) inside c.if-text-place-eq125.true (c.skip-place.ensures.is_shown inside))
+    c.in_ok-end.ensures.triples

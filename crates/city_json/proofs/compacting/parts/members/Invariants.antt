@@ -10,7 +10,7 @@ invariant-members l = record {
   onward : l.at ≤ l.i;
   within : l.i ≤ length l.text;
   copied : l.draft.from ≤ l.i;
-  triples : HasTriples l.text l.triples;
+  triples : HasTriples (shown l.draft.line l.text l.draft.from l.i) l.triples;
   goes_on : (rest after : List ℕ) (listed : List (List ℕ)) (parts : List Part)
       → PartsFrom l.levels (drop l.i l.text) rest (shown l.draft.line l.text l.draft.from l.i) after listed parts
       → PartsWhole l.levels (drop l.at l.text) rest (shown l.fn.draft.line l.text l.fn.draft.from l.at) after

@@ -1,4 +1,3 @@
-use Rattle.std.proofs.Common.{◌∙◌, sym}
 use Rattle.city_json.specs.Compact.{compact}
 use Rattle.city_feature.specs.Feature.{vertices_tree}
 use Rattle.city_feature.proofs.QuickLines.{feature_at, written_vertices}
@@ -9,12 +8,12 @@ pub returns : goal.returns
 returns c = λ yes.
     let line = c.args.line.now in
     let part = c.in-Some.part in
-    let (ps, text_is, range) = c.are_vertices.ensures yes in
-    let lies = sym c.in-Some-between.ensures.some ∙ text_is in (
+    let (ordered, vertices) = c.are_vertices.ensures yes in
+    let (ps, lies, range) = vertices in (
       part,
       ps,
       range,
-      kept line (compact (vertices_tree ps)) part c.in-Some-between.ensures.ordered lies,
+      kept line (compact (vertices_tree ps)) part ordered lies,
       λ members is. feature_at line c.args.parts.now members part ps is
           (c.has_other_members.ensures c.if-not-has_other_members.false members is) c.in-Some.ensures
           (written_vertices _ ps lies range),
