@@ -36,6 +36,7 @@ pub mod SpelledFeatures
 pub mod SpelledLengths
 pub mod Tables
 pub mod Trees
+mod TripleStarts
 mod TwoMembers
 pub mod Unspoilt
 pub mod WholeDocument

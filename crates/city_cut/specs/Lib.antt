@@ -24,4 +24,5 @@ pub mod Relabelling
 pub mod Search
 pub mod Table
 pub mod Texts
+pub mod TripleStarts
 pub mod VertexTexts

@@ -16,6 +16,7 @@ mod overview;
 mod points;
 mod short_parts;
 mod texts;
+mod triples;
 
 ghost use Rattle.std.specs.Prelude.{◌≡◌, ◌++◌, ◌∷◌, [], ℕ, List, Option, IfSome, OnSome, All, Some, Contains, codes, length, map};
 ghost use Rattle.std.specs.List.{AllZip};
@@ -25,6 +26,7 @@ ghost use Rattle.city_json.specs.Fits.{Fits, IsDistinct};
 ghost use Rattle.city_json.specs.Grammar.{Spells};
 ghost use Rattle.city_json.specs.Members.{first_named};
 ghost use Rattle.city_json.specs.Parts.{AreParts};
+ghost use Rattle.city_json.specs.Triples.{HasTriples};
 ghost use Rattle.city_json.specs.Tree.{MemberTrees, Tree, items_tree, member_trees, named_tree, object, tree};
 ghost use Rattle.city_grid.specs.Axes.{Triple};
 ghost use Rattle.city_feature.specs.Feature.{FeatureValue};
@@ -46,7 +48,7 @@ use crate::families::{Family, families_among};
 use crate::held::FeatureTexts;
 use byte_streams::Line;
 use city_feature::{between, part_named};
-use city_json::{Part, compact_parts};
+use city_json::{Part, Span, compact_feature};
 use features::feature_texts;
 use graph::{graph_of, table_of};
 use headers::header_of;
@@ -54,6 +56,7 @@ use overview::{Overview, overview_of};
 use points::{VertexTexts, starts_of, write_anew};
 use std::alloc::Global;
 use texts::{append_text, is_absent, member_or};
+use triples::{starts_of_triples, triples_text};
 
 /// What stands after the vertices of each feature.
 fn tail_of(alloc: Global, text: &[u8], parts: &[Part]) -> Option<Line>
@@ -161,7 +164,8 @@ fn cut_on(
     Some(CutTexts { header, texts })
 }
 
-/// Cuts the document whose compact text this is, and whose members lie in these parts, as [`compact_parts`] gives them.
+/// Cuts the document whose compact text this is, and whose members lie in these parts, as
+/// [`city_json::compact_parts`] gives them.
 /// `None`: undecided, or out of memory; [`crate::cut_texts`] decides.
 pub fn cut_compacted(alloc: Global, line: &[u8], parts: &[Part]) -> Option<CutTexts>
     requires { (members : MemberTrees) × IsCompactOf line.now (object members) × AreParts 1 parts.now members }
@@ -181,6 +185,29 @@ pub fn cut_compacted(alloc: Global, line: &[u8], parts: &[Part]) -> Option<CutTe
     cut_on(alloc, line, parts, &VertexTexts { text, starts })
 }
 
+/// The same, where it is known that triples of whole numbers stand in the line, as [`city_json::compact_given`] tells.
+/// `None`: undecided, or out of memory; [`crate::cut_texts`] decides.
+pub fn cut_compacted_triples(
+    alloc: Global,
+    line: &[u8],
+    parts: &[Part],
+    triples: Span,
+) -> Option<CutTexts>
+    requires members { (members : MemberTrees) × IsCompactOf line.now (object members) × AreParts 1 parts.now members }
+    requires triples { HasTriples line.now triples }
+    ensures { IfSome result (λ cut. (members : MemberTrees) → IsCompactOf line.now (object members)
+        → AreParts 1 parts.now members
+        → IsCuttable (object members)
+        × (features : List FeatureValue) × IsCut (object members) (header_value cut.header) features
+        × (texts_in cut.texts ≡ texts_of features)) }
+{
+    let Some(text) = triples_text(line, parts, triples) else {
+        return cut_compacted(alloc, line, parts);
+    };
+    let starts = starts_of_triples(alloc, text)?;
+    cut_on(alloc, line, parts, &VertexTexts { text, starts })
+}
+
 /// Cuts the document that a text spells into a header and the texts of its features. `None`: undecided, or out of
 /// memory; [`crate::cut_texts`] decides.
 pub fn quick_cut(alloc: Global, text: &[u8]) -> Option<CutTexts>
@@ -189,6 +216,7 @@ pub fn quick_cut(alloc: Global, text: &[u8]) -> Option<CutTexts>
         × (features : List FeatureValue) × IsCut document (header_value cut.header) features
         × (texts_in cut.texts ≡ texts_of features)) }
 {
-    let found = compact_parts(alloc, text, Line::new(alloc))?;
-    cut_compacted(alloc, found.line.items(), &found.parts)
+    let feature = compact_feature(alloc, text, Line::new(alloc))?;
+    let found = &feature.found;
+    cut_compacted_triples(alloc, found.line.items(), &found.parts, feature.triples)
 }

@@ -1,7 +1,14 @@
 //! Documents that the quick cut answers, with the texts of the plain one.
+ghost use Rattle.std.specs.Prelude.{IfSome};
+ghost use Rattle.city_json.specs.Parts.{AreParts};
+ghost use Rattle.city_json.specs.Tree.{MemberTrees, object};
+ghost use Rattle.city_json.specs.Triples.{HasTriples};
+ghost use Rattle.city_cut.specs.Texts.{IsCompactOf};
+
 use crate::texts::{filled, put_texts, repeated, texts_are, with_repeated};
 use byte_streams::Line;
-use city_cut::{CutTexts, quick_cut};
+use city_cut::{CutTexts, cut_compacted_triples, quick_cut};
+use city_json::{CompactedFeature, compact_given};
 use std::alloc::{AllocError, AllocGlobal, Global};
 use std::process::Abort;
 
@@ -10,12 +17,40 @@ fn is_plain(alloc: Global, cut: &CutTexts, document: &str) -> bool {
     put_texts(&mut stream, cut).is_ok() && texts_are(alloc, document, stream.items(), None)
 }
 
-/// Whether the quick cut answers the document with the texts of the plain one.
-fn is_answered(alloc: Global, document: &str) -> bool {
-    match quick_cut(alloc, document.as_bytes()) {
+/// The document in its compact text, in which its triples are noted.
+fn given(alloc: Global, document: &str) -> Option<CompactedFeature>
+    ensures { IfSome result (λ feature. (members : MemberTrees) × IsCompactOf feature.found.line (object members)
+        × AreParts 1 feature.found.parts.items members × HasTriples feature.found.line feature.triples) }
+{
+    let text = document.as_bytes().to_vec(alloc).ok()?;
+    match compact_given(alloc, Line::from_vec(text), Line::new(alloc)) {
+        Ok(feature) => Some(feature),
+        Err(_) => None,
+    }
+}
+
+/// The document, cut where its triples are known.
+fn given_cut(alloc: Global, document: &str) -> Option<CutTexts> {
+    let feature = given(alloc, document)?;
+    cut_compacted_triples(
+        alloc,
+        feature.found.line.items(),
+        &feature.found.parts,
+        feature.triples,
+    )
+}
+
+fn is_some_plain(alloc: Global, answer: Option<CutTexts>, document: &str) -> bool {
+    match answer {
         Some(cut) => is_plain(alloc, &cut, document),
         None => false,
     }
+}
+
+/// Whether the quick cut answers the document with the texts of the plain one, also where its triples are known.
+fn is_answered(alloc: Global, document: &str) -> bool {
+    is_some_plain(alloc, quick_cut(alloc, document.as_bytes()), document)
+        && is_some_plain(alloc, given_cut(alloc, document), document)
 }
 
 /// The same of a form, in which the row stands for `ROW`.
@@ -72,6 +107,7 @@ const ORDERS: &str = r#","CityObjects":{"a":{"geometry":[{"boundaries":[3,0]}]}}
 ,"+b":"\"vertices\":","vertices":POINTS,"metadata":{"CityObjects":{}},"+c":[{"vertices":2}],"CityObjects":{"a":{"geometry":[{"boundaries":[2]}]}},"+d":null
 ,"CityObjects":{"CityObjects":{},"vertices":{"geometry":[{"boundaries":[1]}]}},"appearance":{"vertices-texture":[[0.5,1]]},"vertices":POINTS
 ,"vertices":POINTS,"geometry-templates":{"templates":[],"vertices-templates":[[1,2,3]]},"CityObjects":{},"appearance":{}
+,"+b":[[1,2,3]],"vertices":POINTS,"+c":[[4,5,6],[7,8,9]],"CityObjects":{"a":{"geometry":[{"boundaries":[3,0]}]}}
 ,"+b":2,"CityObjects":{"a":{}},"+c":3
 ,"+b":2,"vertices":POINTS,"+c":3
 ,"cityObjects":{"a":1},"Vertices":[9],"CityObjects\"":0,"vertices\":":1"#;
@@ -167,4 +203,69 @@ fn is_long_answered(alloc: Global) -> Result<bool, AllocError> {
 fn deep_and_long_documents_are_answered(rt: HostRuntime) {
     assert!(rt; is_deep_answered(rt.alloc()) == Ok(true));
     assert!(rt; is_long_answered(rt.alloc()) == Ok(true));
+}
+
+/// Numbers of one digit to fifteen, with signs and without, behind which stands the number of their vertex.
+const LENGTHS: &str =
+    ",[NUMBER,1NUMBER,-12NUMBER],[-123NUMBER,1234NUMBER,-12345NUMBER],[123456NUMBER,-1234567NUMBER,12345678NUMBER],[-123456789NUMBER,1234567890NUMBER,-12345678901NUMBER],[-1234567890123NUMBER,123456789012NUMBER,1234567890123NUMBER]";
+
+/// Short ones, so many that they end anywhere in a block of bytes. In two rows some are no triples of short numbers: the
+/// first -0, and those of sixteen digits.
+const SHORTEST: &str = ",[0,0,0]
+,[0,NUMBER,0]
+,[-1,-NUMBER,1]
+,[9007199254740991,NUMBER,-1]";
+
+const WITH_USES: &str =
+    r#"HEAD,"CityObjects":{"a":{"geometry":[{"boundaries":[USES0]}]},"b":{"geometry":[{"boundaries":[1,0]}]}},"+b":[[1,2,3]],"vertices":[[0,0,0]ROW]}"#;
+
+/// Whether a document is answered that has these vertices so many times, with the numbers from 0 on for `NUMBER`, and
+/// uses as many of them.
+fn are_vertices_answered(
+    alloc: Global,
+    vertices: &str,
+    count: u32,
+    uses: u32,
+) -> Result<bool, AllocError> {
+    let form = with_repeated(alloc, WITH_USES, "USES", "NUMBER,", uses)?;
+    is_row_answered(alloc, &form, &repeated(alloc, vertices, count)?)
+}
+
+#[test]
+fn vertices_of_all_lengths_are_answered(rt: HostRuntime) {
+    for count in 1u32..24 {
+        assert!(rt;
+            are_vertices_answered(rt.alloc(), LENGTHS, count, count * 5 + 1) == Ok(true),
+            "{count}"
+        );
+    }
+}
+
+#[test]
+fn vertices_of_all_counts_are_answered(rt: HostRuntime) {
+    for vertices in SHORTEST.lines() {
+        for count in 1u32..40 {
+            assert!(rt;
+                are_vertices_answered(rt.alloc(), vertices, count, count + 1) == Ok(true),
+                "{count} {vertices}"
+            );
+        }
+    }
+}
+
+fn has_triples(feature: &CompactedFeature) -> bool {
+    feature.triples.from < feature.triples.end
+}
+
+fn are_triples_known(alloc: Global) -> Result<bool, AllocError> {
+    let document = filled(alloc, WITH_VERTICES, "[[1,2,3],[-40,50,60]]")?;
+    Ok(match given(alloc, &document) {
+        Some(feature) => has_triples(&feature),
+        None => false,
+    })
+}
+
+#[test]
+fn triples_of_a_document_are_known(rt: HostRuntime) {
+    assert!(rt; are_triples_known(rt.alloc()) == Ok(true));
 }

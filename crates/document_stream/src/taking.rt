@@ -5,6 +5,7 @@ ghost use Rattle.city_json.specs.Fits.{IsDistinct};
 ghost use Rattle.city_json.specs.Grammar.{IsBlank};
 ghost use Rattle.city_json.specs.Parts.{AreParts};
 ghost use Rattle.city_json.specs.Tree.{MemberTrees, object, tree};
+ghost use Rattle.city_json.specs.Triples.{HasTriples};
 ghost use Rattle.city_feature.specs.Values.{header_value};
 ghost use Rattle.city_cut.specs.HeldTexts.{texts_in};
 ghost use Rattle.city_cut.specs.Texts.{IsCompactOf};
@@ -15,9 +16,9 @@ ghost use Rattle.tile_stream.specs.Stream.{stream};
 
 use byte_streams::limits::MAX_LINE_BYTES;
 use byte_streams::{Fault, Line, Source, Stop, read_all};
-use city_cut::{CutTexts, FeatureTexts, cut_compacted, cut_texts};
+use city_cut::{CutTexts, FeatureTexts, cut_compacted_triples, cut_texts};
 use city_feature::Header;
-use city_json::{Compacted, Json, compact_parts, print, read};
+use city_json::{Compacted, Json, Span, compact_given, print, read};
 use std::alloc::Global;
 
 /// The stream of a document that was cut.
@@ -81,7 +82,8 @@ fn take_cut<R: Source>(alloc: Global, source: &mut R) -> Result<CutTexts, Fault>
     }
 }
 
-/// Cuts the document that a text spells. The text is dropped as soon as its compact text is there.
+/// Cuts the document that a text spells. The text is kept where it is compact, but for white space at its end, and else
+/// dropped as soon as its compact text is there.
 ///
 /// # Errors
 ///
@@ -93,11 +95,10 @@ fn cut_text(alloc: Global, text: Vec<u8>) -> Result<CutTexts, Fault>
     if is_white_space(&text) {
         return Err(Fault::NoHeader);
     }
-    let Some(compacted) = compact_parts(alloc, &text, Line::new(alloc)) else {
-        return plain_cut(alloc, &text);
-    };
-    drop(text);
-    cut_compact(alloc, compacted)
+    match compact_given(alloc, Line::from_vec(text), Line::new(alloc)) {
+        Ok(feature) => cut_compact(alloc, feature.found, feature.triples),
+        Err(text) => plain_cut(alloc, text.items()),
+    }
 }
 
 /// Cuts the document that a text spells by its value.
@@ -110,16 +111,24 @@ fn plain_cut(alloc: Global, text: &[u8]) -> Result<CutTexts, Fault>
     cut_texts(alloc, document)
 }
 
-/// Cuts a document in its compact text: on the text where that answers, and else by its value.
-fn cut_compact(alloc: Global, compacted: Compacted) -> Result<CutTexts, Fault>
-    requires { (members : MemberTrees) × IsCompactOf compacted.line (object members) × AreParts 1 compacted.parts.items members }
+/// Cuts a document in its compact text, in which these triples stand: on the text where that answers, and else by its
+/// value.
+fn cut_compact(alloc: Global, compacted: Compacted, triples: Span) -> Result<CutTexts, Fault>
+    requires members { (members : MemberTrees) × IsCompactOf compacted.line (object members)
+        × AreParts 1 compacted.parts.items members }
+    requires triples { HasTriples compacted.line triples }
     ensures ok { IfOk result (λ cut. (members : MemberTrees) → IsCompactOf compacted.line (object members)
         → AreParts 1 compacted.parts.items members
         → CutsInto (object members) (header_value cut.header) (texts_in cut.texts)) }
     ensures refused { IfErr result (λ fault. (members : MemberTrees) → IsCompactOf compacted.line (object members)
         → AreParts 1 compacted.parts.items members → RefusesRead fault (object members)) }
 {
-    if let Some(cut) = cut_compacted(alloc, compacted.line.items(), &compacted.parts) {
+    if let Some(cut) = cut_compacted_triples(
+        alloc,
+        compacted.line.items(),
+        &compacted.parts,
+        triples,
+    ) {
         return Ok(cut);
     }
     let document = read_again(alloc, compacted.line.items())?;

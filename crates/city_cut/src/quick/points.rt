@@ -17,7 +17,7 @@ use city_grid::{byte_is, vertex_end};
 use std::alloc::Global;
 
 /// How many bytes the text of a vertex and a comma have mostly at least.
-const COMMON_LEN: usize = 20;
+pub(super) const COMMON_LEN: usize = 20;
 
 /// The compact text of an array of vertices. The one of number `k` stands from `starts[k]` on, up to the byte before
 /// `starts[k + 1]`.
@@ -27,8 +27,9 @@ pub(super) struct VertexTexts<'a> {
     pub starts: Vec<u32>,
 }
 
+/// Puts a place after the places.
 #[inline(always)]
-fn push_start(at: usize, starts: &mut Vec<u32>) -> Option<()>
+pub(super) fn push_start(at: usize, starts: &mut Vec<u32>) -> Option<()>
     ensures { OnSome result (starts.new.items ≡ starts.old.items ++ at ∷ []) }
 {
     let Ok(start) = u32::try_from(at) else {

@@ -1,23 +1,28 @@
 use Rattle.std.proofs.Common.{subst, sym}
 use Rattle.city_json.specs.Parts.{AreParts}
 use Rattle.city_json.specs.Tree.{object}
+use Rattle.city_json.specs.Triples.{HasTriples}
 use Rattle.city_cut.proofs.QuickDocuments.{compact_of}
 use Rattle.city_cut.proofs.QuickTexts.{if_some_more}
 use Rattle.city_cut.proofs.quick.quick_cut.Goals as goal
 
-pub cut_compacted-requires : goal.cut_compacted-requires
-cut_compacted-requires c =
-    let (members, spells, fits, shallow, written, are) = c.in_ok-found.ensures in (
+pub cut_compacted_triples-requires-clause-members : goal.cut_compacted_triples-requires-clause-members
+cut_compacted_triples-requires-clause-members c =
+    let (members, spells, fits, shallow, written, are) = c.in_ok-feature.ensures.object in (
       members,
-      compact_of c.args.text.now c.in_ok-found.found.line c.items.result.now members spells fits written
+      compact_of c.args.text.now c.in_ok-feature.feature.found.line c.items.result.now members spells fits written
           c.items.ensures,
       subst (λ p. AreParts 1 p members) (sym c.deref.ensures.value) are,
     )
 
+pub cut_compacted_triples-requires-clause-triples : goal.cut_compacted_triples-requires-clause-triples
+cut_compacted_triples-requires-clause-triples c =
+    subst (λ line. HasTriples line c.in_ok-feature.feature.triples) (sym c.items.ensures) c.in_ok-feature.ensures.triples
+
 pub returns : goal.returns
-returns c = if_some_more c.cut_compacted.result (λ cut holds.
-    let (members, spells, fits, shallow, written, are) = c.in_ok-found.ensures in
+returns c = if_some_more c.cut_compacted_triples.result (λ cut holds.
+    let (members, spells, fits, shallow, written, are) = c.in_ok-feature.ensures.object in
     let (cuttable, features, is_cut, texts) =
-    holds members (compact_of c.args.text.now c.in_ok-found.found.line c.items.result.now members spells fits
+    holds members (compact_of c.args.text.now c.in_ok-feature.feature.found.line c.items.result.now members spells fits
     written c.items.ensures) (subst (λ p. AreParts 1 p members) (sym c.deref.ensures.value) are) in
-    (object members, spells, fits, shallow, cuttable, features, is_cut, texts)) c.cut_compacted.ensures
+    (object members, spells, fits, shallow, cuttable, features, is_cut, texts)) c.cut_compacted_triples.ensures
