@@ -256,14 +256,14 @@ fn given(alloc: Global, text: Vec<u8>) -> Option<Vec<u8>> {
     }
 }
 
-/// Whether the text is kept up to this length, with no more room than that.
+/// Whether the text is kept up to this length, in no more than twice its room.
 fn is_kept(alloc: Global, text: &[u8], len: usize) -> Result<bool, AllocError> {
     let mut roomy = Vec::with_capacity(alloc, text.len().saturating_add(ROOM))?;
     roomy.extend_from_slice(text)?;
     let Some(kept) = given(alloc, roomy) else {
         return Ok(false);
     };
-    Ok(kept.capacity() == len && Some(kept.as_slice()) == text.get(..len))
+    Ok(kept.capacity() / 2 <= len && Some(kept.as_slice()) == text.get(..len))
 }
 
 #[test]
@@ -282,14 +282,17 @@ fn are_kept(alloc: Global, pieces: Pieces<'_>, blanks: usize) -> Result<bool, Al
 
 #[test]
 fn a_large_text_that_is_given_is_kept(rt: HostRuntime) {
-    for count in [1, 1_000, 300_000] {
-        let pieces: [(&'static [u8], usize); 4] = [
-            (b"{\"a\":[0", 1),
-            (b",[1,22,\"x\"]", count),
-            (b"]}", 1),
-            (b" ", count),
-        ];
-        let kept = are_kept(rt.alloc(), &pieces, count);
-        expect_of_pieces(&rt, kept == Ok(true), &pieces);
+    for count in [1usize, 1_000, 300_000] {
+        for times in [0, 1, 12, 40] {
+            let blanks = count.saturating_mul(times);
+            let pieces: [(&'static [u8], usize); 4] = [
+                (b"{\"a\":[0", 1),
+                (b",[1,22,\"x\"]", count),
+                (b"]}", 1),
+                (b" ", blanks),
+            ];
+            let kept = are_kept(rt.alloc(), &pieces, blanks);
+            expect_of_pieces(&rt, kept == Ok(true), &pieces);
+        }
     }
 }

@@ -88,8 +88,8 @@ pub fn compact_feature(alloc: Global, text: &[u8], line: Line) -> Option<Compact
     })
 }
 
-/// The same of a text that is given away. Where it is its own compact text, but for white space at its end, it is kept,
-/// and not copied; else what `spare` held is dropped, and it is taken for its memory.
+/// The same of a text that is given away. Where white space stands at its end alone and no string in it has an escape, it
+/// is kept, and not copied; else what `spare` held is dropped, and it is taken for its memory.
 ///
 /// # Errors
 ///
@@ -126,16 +126,16 @@ const NO_TRIPLES: Span = Span { from: 0, end: 0 };
 
 /// What the pass over a whole text found: its compact text is `line`, and after it the text from `from` up to `end`.
 #[derive(Drop)]
-struct Passed {
-    line: Line,
-    from: usize,
-    end: usize,
-    parts: Vec<Part>,
-    triples: Span,
+pub(super) struct Passed {
+    pub(super) line: Line,
+    pub(super) from: usize,
+    pub(super) end: usize,
+    pub(super) parts: Vec<Part>,
+    pub(super) triples: Span,
 }
 
-/// The text in which the pass wrote nothing: it is compact up to the end of the object. Room that it does not need is
-/// given back.
+/// The text in which the pass wrote nothing: it is compact up to the end of the object. Where more than half of its room
+/// is behind that, the room is given back; else it stays, since its pages would be asked for anew.
 fn kept(text: Line, passed: Passed) -> CompactedFeature
     ensures line { result.found.line ≡ take passed.end text }
     ensures parts { result.found.parts.items ≡ passed.parts.items }
@@ -143,7 +143,9 @@ fn kept(text: Line, passed: Passed) -> CompactedFeature
 {
     let mut bytes = text.into_vec();
     bytes.truncate(passed.end);
-    bytes.shrink_to_fit();
+    if bytes.capacity() / 2 > bytes.len() {
+        bytes.shrink_to_fit();
+    }
     let found = Compacted {
         line: Line::from_vec(bytes),
         parts: passed.parts,
@@ -155,7 +157,7 @@ fn kept(text: Line, passed: Passed) -> CompactedFeature
 }
 
 /// Goes over a whole text. What `line` held is dropped; it is taken for its memory.
-fn pass(alloc: Global, text: &[u8], line: Line) -> Option<Passed>
+pub(super) fn pass(alloc: Global, text: &[u8], line: Line) -> Option<Passed>
     ensures object { IfSome result (λ passed. (members : MemberTrees)
         × Spells text.now (object members) × Fits (object members) × (¬ IsDeep text.now)
         × (shown passed.line text.now passed.from passed.end ≡ compact (object members))
