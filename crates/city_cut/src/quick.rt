@@ -48,7 +48,7 @@ use crate::families::{Family, families_among};
 use crate::held::FeatureTexts;
 use byte_streams::Line;
 use city_feature::{between, part_named};
-use city_json::{Part, Span, compact_feature};
+use city_json::{Part, Span, compact_lent};
 use features::feature_texts;
 use graph::{graph_of, table_of};
 use headers::header_of;
@@ -216,7 +216,6 @@ pub fn quick_cut(alloc: Global, text: &[u8]) -> Option<CutTexts>
         × (features : List FeatureValue) × IsCut document (header_value cut.header) features
         × (texts_in cut.texts ≡ texts_of features)) }
 {
-    let feature = compact_feature(alloc, text, Line::new(alloc))?;
-    let found = &feature.found;
-    cut_compacted_triples(alloc, found.line.items(), &found.parts, feature.triples)
+    let found = compact_lent(alloc, text, Line::new(alloc))?;
+    cut_compacted_triples(alloc, found.text.bytes(), &found.parts, found.triples)
 }

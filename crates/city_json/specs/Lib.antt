@@ -9,6 +9,7 @@ pub mod Fits
 pub mod Flat
 pub mod Gives
 pub mod Grammar
+pub mod Lent
 pub mod MemberName
 pub mod Members
 pub mod NamePrint

@@ -14,6 +14,7 @@ pub(crate) mod digits;
 mod draft;
 mod ends;
 mod flat;
+mod lent;
 mod members;
 mod name;
 mod names;
@@ -30,6 +31,7 @@ use byte_streams::Line;
 use byte_streams::limits::MAX_DEPTH;
 use draft::{begun, copy_to, skip_white};
 pub use ends::{string_end, value_end};
+pub use lent::{LentFeature, LentText, compact_lent};
 pub use members::members_of_compact;
 pub use parts::{
     Compacted, CompactedFeature, Part, Span, compact_feature, compact_given, compact_parts,

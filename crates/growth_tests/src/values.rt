@@ -1,7 +1,9 @@
 //! Bytes that are gathered, JSON values and texts.
 
 use byte_streams::{Bin, Fault, Line, Sequence, Stop, Tape, read_all, write_all};
-use city_json::{Json, NumText, Part, Str, compact, compact_parts, print, read};
+use city_json::{
+    Json, NumText, Part, Str, compact, compact_given, compact_lent, compact_parts, print, read,
+};
 use growth_support::{Call, expect, is_fault, refused, wanted};
 use std::alloc::{AllocError, Global};
 use std::io::Eprint;
@@ -299,6 +301,57 @@ fn text_is_compact_with_parts(rt: &(impl AllocGlobal + Eprint)) -> Result<bool, 
     }
 }
 
+/// A text that is given away becomes its compact text, or comes back as it was where memory is wanted.
+fn given_text_is_compact(
+    rt: &(impl AllocGlobal + Eprint),
+    text: &[u8],
+    compact: &[u8],
+) -> Result<bool, Fault> {
+    let given = Line::from_vec(text.to_vec(rt.alloc())?);
+    match compact_given(rt.alloc(), given, Line::new(rt.alloc())) {
+        Ok(feature) => Ok(feature.found.line.items() == compact),
+        Err(back) => {
+            if back.items() != text {
+                return Ok(false);
+            }
+            refused(rt, Call("compact_given"), Fault::Memory)
+        }
+    }
+}
+
+fn given_texts_are_compact(rt: &(impl AllocGlobal + Eprint)) -> Result<bool, Fault> {
+    for (text, compact) in [(TEXT, COMPACT), (COMPACT, COMPACT)].iter() {
+        if !given_text_is_compact(rt, text, compact)? {
+            return Ok(false);
+        }
+    }
+    Ok(true)
+}
+
+/// Of a text that is lent nothing is said where memory is wanted, and only there.
+fn lent_text_is_compact(
+    rt: &(impl AllocGlobal + Eprint),
+    text: &[u8],
+    compact: &[u8],
+) -> Result<bool, Fault> {
+    let Some(found) = compact_lent(rt.alloc(), text, Line::new(rt.alloc())) else {
+        return refused(rt, Call("compact_lent"), Fault::Memory);
+    };
+    match found.text.into_line() {
+        Some(line) => Ok(line.items() == compact),
+        None => refused(rt, Call("LentText::into_line"), Fault::Memory),
+    }
+}
+
+fn lent_texts_are_compact(rt: &(impl AllocGlobal + Eprint)) -> Result<bool, Fault> {
+    for (text, compact) in [(TEXT, COMPACT), (COMPACT, COMPACT)].iter() {
+        if !lent_text_is_compact(rt, text, compact)? {
+            return Ok(false);
+        }
+    }
+    Ok(true)
+}
+
 #[test]
 fn bytes_values_and_texts(rt: HostRuntime) -> Result<(), Fault> {
     expect!(rt; line_grows(&rt));
@@ -315,5 +368,7 @@ fn bytes_values_and_texts(rt: HostRuntime) -> Result<(), Fault> {
     expect!(rt; bin_is_filled(&rt));
     expect!(rt; text_is_compact(&rt));
     expect!(rt; text_is_compact_with_parts(&rt));
+    expect!(rt; given_texts_are_compact(&rt));
+    expect!(rt; lent_texts_are_compact(&rt));
     Ok(())
 }

@@ -9,6 +9,8 @@ mod compacting;
 #[cfg(test)]
 mod depth;
 #[cfg(test)]
+mod lent;
+#[cfg(test)]
 mod names;
 #[cfg(test)]
 mod numbers;

@@ -1,4 +1,5 @@
 use Rattle.std.proofs.Common.{subst, sym}
+use Rattle.city_json.specs.Lent.{lent_bytes}
 use Rattle.city_json.specs.Parts.{AreParts}
 use Rattle.city_json.specs.Tree.{object}
 use Rattle.city_json.specs.Triples.{HasTriples}
@@ -8,21 +9,21 @@ use Rattle.city_cut.proofs.quick.quick_cut.Goals as goal
 
 pub cut_compacted_triples-requires-clause-members : goal.cut_compacted_triples-requires-clause-members
 cut_compacted_triples-requires-clause-members c =
-    let (members, spells, fits, shallow, written, are) = c.in_ok-feature.ensures.object in (
+    let (members, spells, fits, shallow, written, are) = c.in_ok-found.ensures.object in (
       members,
-      compact_of c.args.text.now c.in_ok-feature.feature.found.line c.items.result.now members spells fits written
-          c.items.ensures,
+      compact_of c.args.text.now (lent_bytes c.in_ok-found.found.text) c.bytes.result.now members spells fits written
+          c.bytes.ensures,
       subst (λ p. AreParts 1 p members) (sym c.deref.ensures.value) are,
     )
 
 pub cut_compacted_triples-requires-clause-triples : goal.cut_compacted_triples-requires-clause-triples
 cut_compacted_triples-requires-clause-triples c =
-    subst (λ line. HasTriples line c.in_ok-feature.feature.triples) (sym c.items.ensures) c.in_ok-feature.ensures.triples
+    subst (λ line. HasTriples line c.in_ok-found.found.triples) (sym c.bytes.ensures) c.in_ok-found.ensures.triples
 
 pub returns : goal.returns
 returns c = if_some_more c.cut_compacted_triples.result (λ cut holds.
-    let (members, spells, fits, shallow, written, are) = c.in_ok-feature.ensures.object in
+    let (members, spells, fits, shallow, written, are) = c.in_ok-found.ensures.object in
     let (cuttable, features, is_cut, texts) =
-    holds members (compact_of c.args.text.now c.in_ok-feature.feature.found.line c.items.result.now members spells fits
-    written c.items.ensures) (subst (λ p. AreParts 1 p members) (sym c.deref.ensures.value) are) in
+    holds members (compact_of c.args.text.now (lent_bytes c.in_ok-found.found.text) c.bytes.result.now members spells fits
+    written c.bytes.ensures) (subst (λ p. AreParts 1 p members) (sym c.deref.ensures.value) are) in
     (object members, spells, fits, shallow, cuttable, features, is_cut, texts)) c.cut_compacted_triples.ensures
