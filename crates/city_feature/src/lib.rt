@@ -1,7 +1,8 @@
 //! Headers and features of CityJSONSeq (CityJSON 2.0, Text sequences and streaming with
 //! CityJSONFeature): what they are ([`header`], [`feature`]), how the headers of tiles join
 //! ([`join_headers`]), how a feature is moved onto the shared grid ([`shifted`]) and chosen
-//! ([`selects`]), and the one step from a feature's line to its text ([`feature_line`]).
+//! ([`selects`]), and the one step from a feature's line to its text ([`feature_line`],
+//! [`feature_text`]).
 #![tactic(auto)]
 
 mod base;
@@ -20,7 +21,7 @@ pub use choices::area::reader::area;
 pub use choices::selecting::selects;
 pub use choices::types::{Types, types};
 pub use features::Feature;
-pub use features::lines::feature_line;
+pub use features::lines::{feature_line, feature_text};
 pub use features::moving::shifted;
 pub use features::quick::{between, is_between, part_named};
 pub use features::reader::feature;

@@ -2,9 +2,11 @@
 //! and the text of its feature, `chosen` for any text, `none` where the feature is not chosen, or the fault.
 use crate::texts::{filled, is_named, split};
 use byte_streams::{Fault, Line};
-use city_feature::{Choice, Feature, area, feature, feature_line, line, selects, shifted, types};
+use city_feature::{
+    Choice, Feature, area, feature, feature_line, feature_text, line, selects, shifted, types,
+};
 use city_grid::Shift;
-use city_json::read;
+use city_json::{LentText, read};
 use std::alloc::{AllocError, Global};
 
 /// A field of what is asked for: how far features are moved, their types, their area, and `others` where all but these
@@ -61,7 +63,27 @@ pub(crate) fn is_answered(
         Ok(is_chosen) => fault.is_none() && is_chosen != added.is_empty(),
         Err(found) => fault == Some(found),
     };
-    is_told && text.items().strip_prefix(FRONT) == Some(added)
+    is_told
+        && text.items().strip_prefix(FRONT) == Some(added)
+        && is_answered_alone(alloc, bytes, (shift, choice), added, fault)
+}
+
+/// The same of the line's text by itself.
+fn is_answered_alone(
+    alloc: Global,
+    bytes: &[u8],
+    (shift, choice): (Shift, &Choice),
+    added: &[u8],
+    fault: Option<Fault>,
+) -> bool {
+    let Ok(spare) = front(alloc) else {
+        return false;
+    };
+    match feature_text(alloc, bytes, shift, choice, spare) {
+        Ok(Some(text)) => fault.is_none() && !added.is_empty() && text.bytes() == added,
+        Ok(None) => fault.is_none() && added.is_empty(),
+        Err(found) => fault == Some(found),
+    }
 }
 
 fn moved_feature(alloc: Global, bytes: &[u8], shift: Shift) -> Result<Feature, Fault> {
@@ -169,6 +191,23 @@ fn takes_over(alloc: Global, line: &str, names: &str, exclude: bool) -> bool {
 /// is seen by the memory that the text has: such a line takes it over, and a value is printed into memory of its own.
 pub(crate) fn takes_memory_over(alloc: Global, line: &str, names: &str) -> bool {
     takes_over(alloc, line, names, false) || takes_over(alloc, line, names, true)
+}
+
+/// Whether the line is lent where it is chosen, and not where it is not.
+pub(crate) fn is_lent(
+    alloc: Global,
+    line: &str,
+    names: &str,
+    area: &str,
+    is_chosen: bool,
+) -> Result<bool, Fault> {
+    let choice = choice_of(alloc, names, area, false)?;
+    let bytes = line.as_bytes();
+    match feature_text(alloc, bytes, Shift::zero(), &choice, Line::new(alloc))? {
+        Some(LentText::AsRead(lent, _)) => Ok(is_chosen && lent == bytes),
+        Some(LentText::Written(_)) => Ok(false),
+        None => Ok(!is_chosen),
+    }
 }
 
 /// The form in which what is wanted is put: a fault, `chosen` and `none` stand for themselves.

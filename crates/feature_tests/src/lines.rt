@@ -1,5 +1,5 @@
 //! Lines of features: which are chosen, how they are moved, and which fault they have.
-use crate::answers::{gives_asked, has_room, holds, is_answered};
+use crate::answers::{gives_asked, has_room, holds, is_answered, is_lent};
 use crate::texts::{Numbers, below, filled, repeated, split};
 use byte_streams::Fault;
 use city_feature::Choice;
@@ -52,6 +52,58 @@ const MOVED: &str = "
 10,20,30;;0,0,9,20;others => [[0,0,0],[5,5,5]] => chosen
 1500,0,0;;10,0,10,100 => [[10,20,30]] => none
 ";
+
+/// Vertices that stay where they are, and of which an area is asked: what counts is their extent in x and y.
+const MEASURED: &str = "
+;;10,20,30,40 => [[10,20,5]] => chosen
+;;10,20,30,40 => [[30,40,-5]] => chosen
+;;10,20,30,40 => [[9,30,0]] => none
+;;10,20,30,40 => [[31,30,0]] => none
+;;10,20,30,40 => [[20,19,0]] => none
+;;10,20,30,40 => [[20,41,0]] => none
+;;10,20,30,40 => [[0,0,0],[100,100,0]] => chosen
+;;10,20,30,40 => [[0,30,0],[9,30,20]] => none
+;;10,20,30,40 => [[31,30,0],[200,30,20],[40,-5,20]] => none
+;;10,20,30,40 => [[0,0,0],[5,100,0],[10,50,0]] => chosen
+;;10,20,30,40 => [[0,0,0],[10,50,0],[5,100,0]] => chosen
+;;10,20,30,40 => [[0,0,0],[9,50,0],[5,100,0]] => none
+;;10,20,30,40 => [[100,0,0],[30,100,0],[50,60,7]] => chosen
+;;10,20,30,40 => [[100,0,0],[31,100,0],[50,60,7]] => none
+;;10,20,30,40 => [[10,0,0],[30,20,0],[20,-60,7]] => chosen
+;;10,20,30,40 => [[10,0,0],[30,19,0],[20,-60,7]] => none
+;;10,20,30,40 => [[10,50,0],[30,40,0],[20,60,7]] => chosen
+;;10,20,30,40 => [[10,50,0],[30,41,0],[20,60,7]] => none
+;;10,20,30,40;others => [[10,20,5]] => none
+;;10,20,30,40;others => [[9,30,0]] => chosen
+;Building;10,20,30,40 => [[10,20,5]] => chosen
+;Building;10,20,30,40 => [[9,20,5]] => none
+;Road;10,20,30,40 => [[10,20,5]] => none
+;Road;10,20,30,40;others => [[10,20,5]] => chosen
+;Building;10,20,30,40;others => [[9,20,5]] => chosen
+;;-30,-40,-10,-20 => [[-10,-20,5]] => chosen
+;;-30,-40,-10,-20 => [[-9,-20,5]] => none
+;;-30,-40,-10,-20 => [[-31,-20,5],[-9,-50,5]] => chosen
+;;10,20,30,40 => [] => none
+;;10,20,30,40;others => [] => chosen
+;;100000000000000,20,200000000000000,40 => [[123456789012345,30,-123456789012345]] => chosen
+;;100000000000000,20,200000000000000,40 => [[99999999999999,30,-123456789012345]] => none
+;;10,20,30,40 => [[20,30,9007199254740992]] => VertexRange
+;;10,20,30,40;others => [[20,30,9007199254740992]] => VertexRange
+;;10,20,30,40 => [[20,30,0],[20,30,1.5]] => VertexNotInteger
+;;10,20,30,40 => [[20,30]] => VertexShape
+;;10,20,30,40 => [[0,0,0],[20,30,0,1]] => VertexShape
+;;10,20,30,40 => [[0,0,0],[20,30,-0]] => chosen
+;;10,20,30,40 => [[9007199254740991,30,0]] => none
+;;10,20,30,40 => [ [ 10 , 20 , 5 ] ] => chosen
+";
+
+/// Only those in the member of that name are measured.
+const OTHER_TRIPLES: &str = r#"
+;;10,20,30,40 => {"type":"CityJSONFeature","id":"a","CityObjects":{},"vertices":[[0,0,0]],"x":[[20,30,0]]} => none
+;;10,20,30,40 => {"type":"CityJSONFeature","id":"a","CityObjects":{},"vertices":[[20,30,0]],"x":[[0,0,0]]} => chosen
+;;10,20,30,40 => {"type":"CityJSONFeature","id":"a","CityObjects":{},"x":[[20,30,0]],"vertices":[[0,0,0]]} => none
+;;10,20,30,40 => {"type":"CityJSONFeature","id":"a","CityObjects":{},"x":[[0,0,0]],"vertices":[[20,30,0]]} => chosen
+"#;
 
 /// All else is kept.
 const KEPT: &str = r#"
@@ -172,6 +224,8 @@ const FAR_ZEROS: &str = "
 fn lines_are_answered_as_their_values_are(rt: HostRuntime) {
     expect(&rt, "ROW", TAKEN, true);
     expect(&rt, BUILDING, MOVED, false);
+    expect(&rt, BUILDING, MEASURED, false);
+    expect(&rt, "ROW", OTHER_TRIPLES, false);
     expect(&rt, "ROW", KEPT, false);
     expect(&rt, BUILDING, FAULTY_VERTICES, false);
     expect(&rt, "ROW", NO_FEATURES, false);
@@ -332,6 +386,30 @@ const OTHER_TYPES: &str = r#"
 #[test]
 fn a_type_that_is_no_text_is_none_of_the_types(rt: HostRuntime) {
     expect(&rt, OBJECT, OTHER_TYPES, false);
+}
+
+/// Lines that are their own compact text, of a building.
+const COMPACT: &str = r#"
+{"type":"CityJSONFeature","id":"b","CityObjects":{"b":{"type":"Building"}},"vertices":[]}
+{"type":"CityJSONFeature","id":"b","CityObjects":{"b":{"type":"Building"}},"vertices":[[10,20,30]]}
+{"vertices":[[10,20,30],[-1,0,9007199254740991]],"type":"CityJSONFeature","id":"b","CityObjects":{"b":{"type":"Building"}}}
+"#;
+
+/// They are lent, whether they are asked for by nothing, a type or an area.
+#[test]
+fn compact_lines_are_lent(rt: HostRuntime) {
+    for row in COMPACT.lines() {
+        for area in ["", "0,0,20,30"].iter() {
+            let is_so = is_lent(
+                rt.alloc(),
+                row,
+                "Building",
+                area,
+                row.contains("[[") || area.is_empty(),
+            );
+            assert!(rt; row.is_empty() || is_so == Ok(true), "{row}");
+        }
+    }
 }
 
 /// Many vertices, `GIVEN` in a line and `WRITTEN` in its text, are all moved.

@@ -4,8 +4,8 @@ use crate::values::{is_after, is_printed};
 use byte_streams::{Fault, Line};
 use city_cut::{CutTexts, FeatureTexts, cut, cut_texts, quick_cut};
 use city_feature::{
-    Base, Choice, Feature, Header, HeaderFault, Joined, area, feature, feature_line, header,
-    join_headers, line, selects, set_member, shifted, types,
+    Base, Choice, Feature, Header, HeaderFault, Joined, area, feature, feature_line, feature_text,
+    header, join_headers, line, selects, set_member, shifted, types,
 };
 use city_grid::{Shift, Vertex, append_vertex, vertex_json, write_vertex};
 use city_json::{Json, read};
@@ -374,6 +374,22 @@ fn lines_are_chosen(rt: &(impl AllocGlobal + Eprint)) -> Result<bool, Fault> {
     Ok(is_refused && line_is_appended(rt, SPACED, MOVED)?)
 }
 
+/// Whether a line that is its own compact text, or is written anew, is chosen, with this text.
+fn lends(rt: &(impl AllocGlobal + Eprint), bytes: &[u8], text: &[u8]) -> Result<bool, Fault> {
+    let choice = choice_of(rt.alloc())?;
+    let shift = Shift::new(0, 0, 0).ok_or(Fault::ShiftRange)?;
+    match feature_text(rt.alloc(), bytes, shift, &choice, Line::new(rt.alloc())) {
+        Ok(Some(given)) => Ok(given.bytes() == text),
+        Ok(None) => Ok(false),
+        Err(fault) => refused(rt, Call("feature_text"), fault),
+    }
+}
+
+fn texts_are_lent(rt: &(impl AllocGlobal + Eprint)) -> Result<bool, Fault> {
+    let is_refused = is_fault(lends(rt, FAULTY, b""), Fault::VertexNotInteger)?;
+    Ok(is_refused && lends(rt, MOVED, MOVED)?)
+}
+
 /// Whether so many names stand between the commas, none where one is empty.
 fn are_types(
     rt: &(impl AllocGlobal + Eprint),
@@ -516,6 +532,7 @@ fn vertices_headers_features_and_documents(rt: HostRuntime) -> Result<(), Fault>
     expect!(rt; features_are_moved(&rt));
     expect!(rt; features_are_refused(&rt));
     expect!(rt; lines_are_chosen(&rt));
+    expect!(rt; texts_are_lent(&rt));
     expect!(rt; types_are_read(&rt));
     expect!(rt; choices_are_copied(&rt));
     expect!(rt; documents_are_cut(&rt));

@@ -1,5 +1,5 @@
 -- One text more is taken and its line written.
-use Rattle.std.proofs.Common.{◌≡◌, ◌≢◌, ◌+◌, ◌++◌, ℕ, List, [], ◌∷◌, Option, Some, None, length, take, flat_map, refl, sym, ap, subst, ◌∙◌, arith, append_assoc, append-nil, ⊎_elim, true, false, nat_le, take_all, le_refl}
+use Rattle.std.proofs.Common.{◌≡◌, ◌≢◌, ◌+◌, ◌++◌, ℕ, List, [], ◌∷◌, Option, Some, None, length, take, flat_map, refl, sym, ap, subst, ◌∙◌, arith, append_assoc, append-nil, ⊎_elim, true, false, nat_le, take_all, le_refl, option_to_list}
 use Rattle.std.proofs.lemmas.Bool.{cases_Bool}
 use Rattle.std.proofs.lemmas.Bool.Decides.{nat_tests}
 use Rattle.std.proofs.Math.Seq.{take-append-add, take-append_seam}
@@ -13,9 +13,10 @@ use Rattle.byte_streams.specs.declared.fault.Fault.TheVariants.{Write}
 use Rattle.byte_streams.specs.declared.places.LineFault.{LineFault}
 use Rattle.tile_stream.specs.Coming.{GivesText, SomethingComes, ComesBack}
 use Rattle.tile_stream.specs.Filtered.{failures_after_write}
-use Rattle.tile_stream.specs.Progress.{SoFar, WroteTexts, StoppedAfter, WroteFront, IsRefusedAfter}
+use Rattle.tile_stream.specs.Progress.{SoFar, WroteTexts, StoppedAfter, WroteFront, IsRefusedAfter, HasWritten, HasBegun}
 use Rattle.tile_stream.specs.Stream.{with_newline}
 use Rattle.tile_stream.specs.Texts.{Outcome}
+use Rattle.tile_stream.specs.Unread.{IsLineFault}
 
 -- the first bytes of a list are the first bytes of a longer one
 pub first_of_longer : (count : ℕ) (front back : List ℕ) → (n : ℕ) × (take n (front ++ back) ≡ take count front)
@@ -155,3 +156,89 @@ module _ (comes : List (List ℕ) → Outcome → Type 0) (number : ℕ) (old ne
 pub same_count : (fault : Fault) (count : ℕ) → fault ≢ Write → failures_after_write fault count ≡ count
 same_count Write count not = absurd (not refl)
 same_count other count not = refl
+
+-- what one line came to
+module _ (before after : List (List ℕ) → Outcome → Type 0) where
+  abbrev pub IsTaken : Option (List ℕ) → Type 0
+  IsTaken given = (texts : List (List ℕ)) (outcome : Outcome) → after texts outcome
+      → before (option_to_list given ++ texts) outcome
+
+  module _ (old new : Option (List ℕ)) where
+    pub line_step : (given : Option (List ℕ)) (count : ℕ) → IsTaken given → HasWritten given count old new
+        → SoFar before after count old new
+    line_step (Some text) count back (one, wrote) = subst (λ n. SoFar before after n old new) (sym one)
+        (at_text before old before 0 old (at_start before old) after text back new wrote)
+    line_step None count back (none, same) = record {
+      texts = [];
+      back = back;
+      counted = none;
+      written = subst (λ bytes. Appends old bytes []) (sym same) (Appends-nil old);
+    }
+
+    pub line_begun : (given : Option (List ℕ)) → IsTaken given → SomethingComes after → HasBegun given old new
+        → IsRefusedAfter before Write 0 0 old new
+    line_begun (Some text) back some (count, wrote) = (
+      refl,
+      refl,
+      at_failed_write before old before 0 old (at_start before old) after text back some new count wrote,
+    )
+    line_begun None back some none = absurd none
+
+-- a line is at fault, and nothing was written
+pub line_refused : (before : List (List ℕ) → Outcome → Type 0) (number : ℕ) (bytes : Option (List ℕ)) (fault : Fault)
+    → fault ≢ Write → before [] (Some (record { line = number; fault = fault }))
+    → IsRefusedAfter before fault 1 number bytes bytes
+line_refused before number bytes fault not refused =
+    of_line before number bytes bytes fault not
+    (at_fault before bytes before 0 bytes (at_start before bytes) (record { line = number; fault = fault }) refused)
+
+-- some texts came, and then what comes after them
+module _ (before mid : List (List ℕ) → Outcome → Type 0) (old between : Option (List ℕ)) (count : ℕ)
+    (so_far : SoFar before mid count old between) where
+  pub so_far_more : (after : List (List ℕ) → Outcome → Type 0) (more : ℕ) (new : Option (List ℕ))
+      → SoFar mid after more between new → SoFar before after (count + more) old new
+  so_far_more after more new step = record {
+    texts = so_far.texts ++ step.texts;
+    back = λ others outcome comes. subst (λ texts. before texts outcome)
+        (sym (append_assoc so_far.texts step.texts others))
+        (so_far.back (step.texts ++ others) outcome (step.back others outcome comes));
+    counted = grind (arith, common_steps, so_far.counted, step.counted);
+    written = subst (Appends old new) (sym (flat_map-append with_newline so_far.texts step.texts))
+        (Appends-trans old between new _ _ so_far.written step.written);
+  }
+
+  pub refused_more : (fault : Fault) (tile line : ℕ) (new : Option (List ℕ))
+      → IsRefusedAfter mid fault tile line between new → IsRefusedAfter before fault tile line old new
+  refused_more Write tile line new (no_tile, no_line, (texts, outcome, taken, comes, wrote)) =
+      let written = flat_map with_newline so_far.texts in
+      let part : take (length written + taken) (flat_map with_newline (so_far.texts ++ texts)) ≡ written
+      ++ take taken (flat_map with_newline texts) =
+      ap (take (length written + taken)) (flat_map-append with_newline so_far.texts texts)
+      ∙ take-append-add written (flat_map with_newline texts) taken in (
+        no_tile,
+        no_line,
+        (
+          so_far.texts ++ texts,
+          outcome,
+          length written + taken,
+          so_far.back texts outcome comes,
+          subst (Appends old new) (sym part) (Appends-trans old between new _ _ so_far.written wrote),
+        ),
+      )
+  refused_more other tile line new stopped =
+      let texts = stopped.1.0 in (
+        stopped.0,
+        (
+          so_far.texts ++ texts,
+          so_far.back texts (Some (record { line = line; fault = other })) stopped.1.1,
+          subst (Appends old new) (sym (flat_map-append with_newline so_far.texts texts))
+              (Appends-trans old between new _ _ so_far.written stopped.1.2),
+        ),
+      )
+
+-- a line that cannot be read is none that cannot be written
+pub no_read_fault_write : (fault : Fault) → IsLineFault fault → fault ≢ Write
+no_read_fault_write fault kind is = never (subst IsLineFault is kind)
+  where
+    never : IsLineFault Write → ⊥
+    never kind = absurd kind

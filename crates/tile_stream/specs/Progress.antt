@@ -41,3 +41,13 @@ abbrev pub IsRefusedAfter : (List (List ℕ) → Outcome → Type 0) → Fault �
 IsRefusedAfter comes Write tile line old new = (tile ≡ 0) × (line ≡ 0) × WroteFront comes old new
 IsRefusedAfter comes fault tile line old new =
     (tile ≡ 1) × StoppedAfter comes (record { line = line; fault = fault }) old new
+
+-- the line of the text that is given was written, if there is one
+abbrev pub HasWritten : Option (List ℕ) → ℕ → Option (List ℕ) → Option (List ℕ) → Type 0
+HasWritten (Some text) count old new = (count ≡ 1) × Appends old new (with_newline text)
+HasWritten None count old new = (count ≡ 0) × (new ≡ old)
+
+-- there is one, and of its line some first bytes were written, or all, and nothing else
+abbrev pub HasBegun : Option (List ℕ) → Option (List ℕ) → Option (List ℕ) → Type 0
+HasBegun (Some text) old new = (count : ℕ) × Appends old new (take count (with_newline text))
+HasBegun None old new = ⊥

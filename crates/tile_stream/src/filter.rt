@@ -16,7 +16,8 @@ ghost use Rattle.tile_stream.specs.TileState.{most_to_come, most_texts};
 ghost use Rattle.tile_stream.specs.Unread.{IsOfTile, Leaves, most_left, has_failed, is_read, failed_reads_between};
 
 use crate::spare::emptied;
-use crate::tile_reader::{Head, Passed, TileReader};
+use crate::tile_reader::writing::write_next;
+use crate::tile_reader::{Head, TileReader};
 use byte_streams::{Fault, Line, LineFault, MergeFault, Sink, Source, write_all};
 use city_feature::Choice;
 use city_grid::Shift;
@@ -215,30 +216,20 @@ fn write_features<R: Source, W: Sink>(
     ensures reads { R.failures tile.new.lines.ahead.reader
         ≡ failed_reads_after_filter result (R.failures tile.old.lines.ahead.reader) }
 {
-    let mut text = text;
+    let mut spare = text;
     let mut count = write_held(alloc, tile, choice, output)?;
     'features: loop {
-        let passed = match tile.pass(alloc, Shift::zero(), choice, text) {
-            Ok(Some(passed)) => passed,
+        let step = match write_next(alloc, tile, Shift::zero(), choice, spare, output) {
+            Ok(Some(step)) => step,
             Ok(None) => return Ok(count),
-            Err(at) => return Err(MergeFault::of_line(at.line, at.fault)),
+            Err(refusal) => return Err(refusal),
         };
-        let Passed {
-            is_chosen,
-            text: given,
-        } = passed;
-        if !is_chosen {
-            text = match pass_on(tile, output) {
-                Ok(()) => given,
-                Err(_) => return Err(MergeFault::of_no_line(Fault::Write)),
-            };
-            continue;
-        }
-        text = match write_on(tile, output, given) {
-            Ok(text) => text,
+        match pass_on(tile, output) {
+            Ok(()) => {}
             Err(_) => return Err(MergeFault::of_no_line(Fault::Write)),
-        };
-        count += 1;
+        }
+        count += step.count;
+        spare = step.spare;
     }
 }
 

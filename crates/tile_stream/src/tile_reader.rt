@@ -11,6 +11,7 @@ ghost use Rattle.tile_stream.specs.Whole.{IsWhole};
 mod head;
 mod held;
 mod ready;
+pub(crate) mod writing;
 
 use crate::lines::Lines;
 use crate::spare::emptied;

@@ -1,5 +1,5 @@
 -- The line of a feature once its vertices are moved.
-use Rattle.std.proofs.Common.{◌≡◌, ◌∙◌, ◌++◌, ◌-◌, ◌≤◌, ◌↔◌, ℕ, pos, ◌+ℤ◌, sym, ap, refl, subst, Bool, true, false, List, [], ◌∷◌, take, drop, slice_range, All, Option, Some, None, codes, arith, is_some, unwrap_or, IsTrue, IfSome, MatchBool}
+use Rattle.std.proofs.Common.{◌≡◌, ◌∙◌, ◌++◌, ◌-◌, ◌≤◌, ◌↔◌, ℕ, pos, ◌+ℤ◌, sym, ap, refl, subst, Bool, true, false, List, [], ◌∷◌, take, drop, slice_range, All, Option, Some, None, codes, arith, is_some, option_map, unwrap_or, IsTrue, IfSome, MatchBool}
 use Rattle.std.proofs.Math.IntN.{+ℤ_idr}
 use Rattle.std.proofs.lemmas.List.{append-nil, drop-drop, take-append-drop}
 use Rattle.city_json.proofs.SpelledWritable.{spelled_writable}
@@ -7,9 +7,11 @@ use Rattle.city_json.specs.Compact.{compact}
 use Rattle.city_json.specs.Depth.{IsDeep}
 use Rattle.city_json.specs.Fits.{Fits}
 use Rattle.city_json.specs.Grammar.{Spells}
+use Rattle.city_json.specs.Lent.{lent_bytes}
 use Rattle.city_json.specs.Members.{first_named}
 use Rattle.city_json.specs.Parts.{AreParts, with_value}
 use Rattle.city_json.specs.Tree.{Tree, MemberTrees, object}
+use Rattle.city_json.specs.declared.compacting.lent.LentText.{LentText}
 use Rattle.city_json.specs.declared.compacting.parts.Part.{Part}
 use Rattle.city_grid.specs.Axes.{Triple, triple, IsInRange, sum}
 use Rattle.city_feature.proofs.features.QuickTypes.{moved_types}
@@ -85,29 +87,25 @@ moved_there bytes line items parts passed members part ps qs k types has spells 
     )
 
 pub gives_moved : (IsWanted : FeatureValue → Type 0) (k : Triple) (bytes line : List ℕ) (part : Part)
-    (there : FeatureValue) (qs passed : List Triple) (old given text : List ℕ) → SpellsMoved k bytes there
-    → there.vertices ≡ qs → compact there.value ≡ with_value line part (compact (vertices_tree qs)) → passed ≡ qs
+    (there : FeatureValue) (qs passed : List Triple) (given : List ℕ) → SpellsMoved k bytes there → there.vertices ≡ qs
+    → compact there.value ≡ with_value line part (compact (vertices_tree qs)) → passed ≡ qs
     → IsWanted (record { value = there.value; vertices = passed })
-    → given ≡ with_value line part (compact (vertices_tree qs)) → text ≡ old ++ given
-    → (out : Option (List ℕ)) × GivesFeature IsWanted k bytes out × (is_some out ≡ true)
-    × (text ≡ old ++ unwrap_or out [])
-gives_moved IsWanted k bytes line part there qs passed old given text spells same written also wanted put more =
+    → given ≡ with_value line part (compact (vertices_tree qs)) → GivesFeature IsWanted k bytes (Some given)
+gives_moved IsWanted k bytes line part there qs passed given spells same written also wanted put =
     let wanted_there : IsWanted there =
     subst (λ vs. IsWanted (record { value = there.value; vertices = vs })) (also ∙ sym same) wanted in
-    (Some given, (there, spells, (wanted_there, put ∙ sym written)), refl, more)
+    (there, spells, (wanted_there, put ∙ sym written))
 
 pub not_both : (b : Bool) → b ≡ false → ¬ IsTrue b
 not_both b is_not = λ is. cc
 
 pub gives_none : (IsWanted : FeatureValue → Type 0) (k : Triple) (bytes : List ℕ) (there : FeatureValue)
-    (qs passed : List Triple) (old text : List ℕ) → SpellsMoved k bytes there → there.vertices ≡ qs → passed ≡ qs
-    → ¬ IsWanted (record { value = there.value; vertices = passed }) → text ≡ old
-    → (out : Option (List ℕ)) × GivesFeature IsWanted k bytes out × (is_some out ≡ false)
-    × (text ≡ old ++ unwrap_or out [])
-gives_none IsWanted k bytes there qs passed old text spells same also unwanted stays =
+    (qs passed : List Triple) → SpellsMoved k bytes there → there.vertices ≡ qs → passed ≡ qs
+    → ¬ IsWanted (record { value = there.value; vertices = passed }) → GivesFeature IsWanted k bytes None
+gives_none IsWanted k bytes there qs passed spells same also unwanted =
     let unwanted_there : ¬ IsWanted there =
     subst (λ vs. ¬ IsWanted (record { value = there.value; vertices = vs })) (also ∙ sym same) unwanted in
-    (None, (there, spells, unwanted_there), refl, stays ∙ sym (append-nil old))
+    (there, spells, unwanted_there)
 
 -- where no area is asked for, the vertices choose nothing
 pub chosen_anywhere : (choice : Choice) (value : Tree) (ps qs : List Triple) → choice.area ≡ None
@@ -139,22 +137,14 @@ kept_there bytes line items parts passed members part ps types has spells fits w
     same_line same_parts placed typed stay range in
     (there, moved_is, text ∙ kept_line line items part ps ps no_steps same_line stays stay refl, typed_there)
 
-pub still_given : (IsWanted : FeatureValue → Type 0) (shift : Triple) (bytes line old before new : List ℕ)
-    (parts : List Part) (found : Option Bool) → shift ≡ no_steps → before ≡ old → IsCompacted bytes line parts
-    → IfSome found (λ is_chosen. (from : List ℕ) → IsCompacted from line parts → (given : Option (List ℕ))
-    × GivesFeature IsWanted no_steps from given × (is_some given ≡ is_chosen)
-    × (new ≡ before ++ unwrap_or given []))
-    → IfSome found (λ is_chosen. (given : Option (List ℕ)) × GivesFeature IsWanted shift bytes given
-    × (is_some given ≡ is_chosen) × (new ≡ old ++ unwrap_or given []))
-still_given IsWanted shift bytes line old before new parts None still same is told = tt
-still_given IsWanted shift bytes line old before new parts (Some b) still same is told =
-    let (given, gives, is_given, put) = told bytes is in (
-      given,
-      subst (λ k. GivesFeature IsWanted k bytes given) (sym still) gives,
-      is_given,
-      put
-          ∙ ap (λ l. l ++ unwrap_or given []) same,
-    )
+pub still_given : (IsWanted : FeatureValue → Type 0) (shift : Triple) (bytes line : List ℕ) (parts : List Part)
+    (found : Option (Option LentText)) → shift ≡ no_steps → IsCompacted bytes line parts
+    → IfSome found (λ given. (from : List ℕ) → IsCompacted from line parts
+    → GivesFeature IsWanted no_steps from (option_map lent_bytes given))
+    → IfSome found (λ given. GivesFeature IsWanted shift bytes (option_map lent_bytes given))
+still_given IsWanted shift bytes line parts None still is told = tt
+still_given IsWanted shift bytes line parts (Some given) still is told =
+    subst (λ k. GivesFeature IsWanted k bytes (option_map lent_bytes given)) (sym still) (told bytes is)
 
 pub compacted : (bytes line : List ℕ) (parts : List Part) → (members : MemberTrees) × Spells bytes (object members)
     × Fits (object members) × (¬ IsDeep bytes) × (line ≡ compact (object members)) × AreParts 1 parts members

@@ -1,4 +1,5 @@
-ghost use Rattle.std.specs.Prelude.{◌≡◌, ◌++◌, ℕ, List, [], Option, is_some, unwrap_or, OnErr, IfOk, IfErr};
+ghost use Rattle.std.specs.Prelude.{◌≡◌, ◌++◌, ℕ, List, [], Option, is_some, option_map, unwrap_or, OnErr, IfOk, IfErr};
+ghost use Rattle.city_json.specs.Lent.{lent_bytes};
 ghost use Rattle.city_feature.specs.Choice.{IsChosen};
 ghost use Rattle.city_feature.specs.FeatureLine.{GivesFeature, RefusesFeatureLine, SpellsMoved};
 ghost use Rattle.city_feature.specs.Values.{feature_value};
@@ -7,11 +8,11 @@ use crate::choices::Choice;
 use crate::choices::selecting::selects;
 use crate::features::Feature;
 use crate::features::moving::shifted;
-use crate::features::quick::quick_line;
+use crate::features::quick::{quick_line, quick_text};
 use crate::features::reader::feature;
 use byte_streams::{Fault, Line};
 use city_grid::Shift;
-use city_json::{print, read};
+use city_json::{LentText, print, read};
 use std::alloc::Global;
 
 /// Reads a line as a feature, and moves it by the shift.
@@ -48,6 +49,24 @@ fn plain_line(
     Ok(true)
 }
 
+/// The same in a text of its own.
+fn plain_text<'a>(
+    alloc: Global,
+    bytes: &[u8],
+    shift: Shift,
+    choice: &Choice,
+) -> Result<Option<LentText<'a>>, Fault>
+    ensures ok { IfOk result (λ given.
+        GivesFeature (IsChosen choice.now) shift bytes.now (option_map lent_bytes given)) }
+    ensures refusal { IfErr result (λ fault. RefusesFeatureLine shift fault bytes.now) }
+{
+    let mut text = Line::new(alloc);
+    if !plain_line(alloc, bytes, shift, choice, &mut text)? {
+        return Ok(None);
+    }
+    Ok(Some(LentText::Written(text)))
+}
+
 /// Appends the compact text of the feature that a line spells, moved by the shift, where it is chosen
 /// then, and says whether it is. On a fault the text is as before.
 ///
@@ -76,4 +95,27 @@ pub fn feature_line(
         return Ok(is_chosen);
     }
     plain_line(alloc, bytes, shift, choice, text)
+}
+
+/// The compact text of the feature that a line spells, moved by the shift, where it is chosen then. It may be lent,
+/// where it is the line itself. What `spare` held is dropped; it is taken for its memory.
+///
+/// # Errors
+///
+/// Those of [`feature_line`].
+pub fn feature_text<'a>(
+    alloc: Global,
+    bytes: &'a [u8],
+    shift: Shift,
+    choice: &Choice,
+    spare: Line,
+) -> Result<Option<LentText<'a>>, Fault>
+    ensures ok { IfOk result (λ given.
+        GivesFeature (IsChosen choice.now) shift bytes.now (option_map lent_bytes given)) }
+    ensures refusal { IfErr result (λ fault. RefusesFeatureLine shift fault bytes.now) }
+{
+    if let Some(given) = quick_text(alloc, bytes, shift, choice, spare) {
+        return Ok(given);
+    }
+    plain_text(alloc, bytes, shift, choice)
 }

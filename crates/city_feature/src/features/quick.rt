@@ -1,8 +1,9 @@
 //! The line of a feature with no tree: checked, moved and written on its compact text.
 //!
 //! It decides only lines in the common spellings that have no fault.
-ghost use Rattle.std.specs.Prelude.{◌≡◌, ◌<◌, ◌≤◌, ◌++◌, [], ℕ, List, All, Option, codes, slice_range, ◌↔◌, is_some, unwrap_or, IfSome, IfNone, IsTrue, OnOk, OnSome};
+ghost use Rattle.std.specs.Prelude.{◌≡◌, ◌<◌, ◌≤◌, ◌++◌, [], ℕ, List, All, Option, codes, slice_range, ◌↔◌, is_some, option_map, unwrap_or, IfSome, IfNone, IsTrue, OnOk, OnSome};
 ghost use Rattle.city_json.specs.Compact.{compact};
+ghost use Rattle.city_json.specs.Lent.{lent_bytes};
 ghost use Rattle.city_json.specs.Parts.{with_value};
 ghost use Rattle.city_json.specs.Triples.{HasTriples};
 ghost use Rattle.city_json.specs.Tree.{MemberTrees, object};
@@ -22,8 +23,8 @@ use crate::features::moving::moved_all;
 use crate::features::texts::{SpelledVertices, append_vertices, vertices_of, vertices_of_triples};
 use byte_streams::Line;
 use city_grid::{Shift, Vertex, byte_is};
-use city_json::{Compacted, Part, Span, compact_feature};
-use kept::{has_vertices, put_kept};
+use city_json::{LentFeature, LentText, Part, Span, compact_lent};
+use kept::{has_vertices, kept_text};
 use std::alloc::Global;
 use std::mem::swap;
 use types::has_given_type;
@@ -39,8 +40,8 @@ struct PlacedVertices {
 /// A line in its compact text, the place of its vertices, the vertices that are to stand there, whether they do, and
 /// whether the feature has one of the types that are asked for.
 #[derive(Drop)]
-struct MovedLine {
-    line: Line,
+struct MovedLine<'a> {
+    text: LentText<'a>,
     part: Part,
     vertices: Vec<Vertex>,
     stay: bool,
@@ -197,32 +198,32 @@ fn are_to_stay(as_written: bool, shift: Shift) -> bool
 }
 
 /// Takes a line as a feature, and moves its vertices.
-fn moved_line(
+fn moved_line<'a>(
     alloc: Global,
-    found: Compacted,
-    triples: Span,
+    found: LentFeature<'a>,
     shift: Shift,
     types: &Option<Types>,
-) -> Option<MovedLine>
-    requires triples { HasTriples found.line triples }
+) -> Option<MovedLine<'a>>
+    requires triples { HasTriples (lent_bytes found.text) found.triples }
     ensures there { IfSome result (λ moved. (bytes : List ℕ)
-        → IsCompacted bytes found.line found.parts.items
+        → IsCompacted bytes (lent_bytes found.entry.text) found.entry.parts.items
         → (there : FeatureValue)
         × SpellsMoved shift bytes there
         × (there.vertices ≡ moved.vertices.items)
         × (compact there.value
-        ≡ with_value moved.line moved.part (compact (vertices_tree moved.vertices.items)))
+        ≡ with_value (lent_bytes moved.text) moved.part (compact (vertices_tree moved.vertices.items)))
         × (IsTrue moved.has_type ↔ IfSome types.now (λ types. HasType types there.value))) }
     ensures same { IfSome result (λ moved. IsTrue moved.stay
-        → with_value moved.line moved.part (compact (vertices_tree moved.vertices.items)) ≡ moved.line) }
+        → with_value (lent_bytes moved.text) moved.part (compact (vertices_tree moved.vertices.items))
+        ≡ lent_bytes moved.text) }
 {
-    let (line, parts) = (found.line.items(), found.parts.as_slice());
-    let placed = placed_vertices(alloc, line, parts, triples)?;
+    let (line, parts) = (found.text.bytes(), found.parts.as_slice());
+    let placed = placed_vertices(alloc, line, parts, found.triples)?;
     let has_type = has_given_type(alloc, types, line, parts)?;
     let stay = are_to_stay(placed.as_written, shift);
     let vertices = shifted_vertices(placed.vertices, shift)?;
     Some(MovedLine {
-        line: found.line,
+        text: found.text,
         part: placed.part,
         vertices,
         stay,
@@ -231,10 +232,11 @@ fn moved_line(
 }
 
 /// Appends the line with the vertices in their place.
-fn append_moved(moved: &MovedLine, to: &mut Line) -> Option<()>
-    ensures { OnSome result (to.new ≡ to.old ++ with_value moved.now.line moved.now.part (compact (vertices_tree moved.now.vertices.items))) }
+fn append_moved(moved: &MovedLine<'_>, to: &mut Line) -> Option<()>
+    ensures { OnSome result (to.new ≡ to.old
+        ++ with_value (lent_bytes moved.now.text) moved.now.part (compact (vertices_tree moved.now.vertices.items))) }
 {
-    let line = moved.line.items();
+    let line = moved.text.bytes();
     let front = between(line, 0, moved.part.value)?;
     let back = between(line, moved.part.end, line.len())?;
     to.append(front).ok()?;
@@ -243,20 +245,22 @@ fn append_moved(moved: &MovedLine, to: &mut Line) -> Option<()>
 }
 
 /// The line with the vertices in their place: the one that was read, where they stand there already.
-fn written(alloc: Global, moved: MovedLine) -> Option<Line>
-    ensures { IfSome result (λ line.
-        (IsTrue moved.stay → with_value moved.line moved.part (compact (vertices_tree moved.vertices.items)) ≡ moved.line)
-        → line ≡ with_value moved.line moved.part (compact (vertices_tree moved.vertices.items))) }
+fn written<'a>(alloc: Global, moved: MovedLine<'a>) -> Option<LentText<'a>>
+    ensures { IfSome result (λ text. (IsTrue moved.entry.stay
+        → with_value (lent_bytes moved.entry.text) moved.entry.part (compact (vertices_tree moved.entry.vertices.items))
+        ≡ lent_bytes moved.entry.text)
+        → lent_bytes text ≡ with_value (lent_bytes moved.entry.text) moved.entry.part
+        (compact (vertices_tree moved.entry.vertices.items))) }
 {
     if moved.stay {
-        return Some(moved.line);
+        return Some(moved.text);
     }
     // vertices that are moved away from 0 have more digits
-    let length = moved.line.items().len();
+    let length = moved.text.bytes().len();
     let room = length.saturating_add(length / 4);
     let mut line = Line::from_vec(Vec::with_capacity(alloc, room).ok()?);
     append_moved(&moved, &mut line)?;
-    Some(line)
+    Some(LentText::Written(line))
 }
 
 /// The memory of an empty text; else a line that has none.
@@ -270,19 +274,47 @@ fn spare_of(alloc: Global, text: &mut Line) -> Line
     spare
 }
 
-/// Puts a text after another; after an empty one without a copy.
-fn put_after(given: Line, to: &mut Line) -> Option<()>
-    ensures some { OnSome result (to.new ≡ to.old ++ given) }
+/// Puts a text after another; one that has memory of its own after an empty one without a copy.
+fn put_after(given: LentText<'_>, to: &mut Line) -> Option<()>
+    ensures some { OnSome result (to.new ≡ to.old ++ lent_bytes given.entry) }
     ensures none { IfNone result (to.new ≡ to.old) }
 {
     if to.items().is_empty() {
-        *to = given;
+        *to = given.into_line()?;
         return Some(());
     }
-    let Ok(_) = to.append(given.items()) else {
+    let Ok(_) = to.append(given.bytes()) else {
         return None;
     };
     Some(())
+}
+
+/// The compact text of the feature that a line spells, moved by the shift, where it is chosen then. What `spare` held is
+/// dropped; it is taken for its memory. `None`: undecided.
+pub fn quick_text<'a>(
+    alloc: Global,
+    bytes: &'a [u8],
+    shift: Shift,
+    choice: &Choice,
+    spare: Line,
+) -> Option<Option<LentText<'a>>>
+    ensures { IfSome result (λ given.
+        GivesFeature (IsChosen choice.now) shift bytes.now (option_map lent_bytes given)) }
+{
+    let found = compact_lent(alloc, bytes, spare)?;
+    if is_still(shift) {
+        if choice.area.is_none() {
+            if has_vertices(found.text.bytes(), &found.parts, found.triples) {
+                return kept_text(alloc, found, choice);
+            }
+        }
+    }
+    let moved = moved_line(alloc, found, shift, &choice.types)?;
+    if !selects_of(choice, moved.has_type, &moved.vertices) {
+        return Some(None);
+    }
+    let given = written(alloc, moved)?;
+    Some(Some(given))
 }
 
 /// Appends the compact text of the feature that a line spells, moved by the shift, where it is chosen then, and says
@@ -301,20 +333,9 @@ pub fn quick_line(
     ensures none { IfNone result (text.new ≡ text.old) }
 {
     let spare = spare_of(alloc, text);
-    let feature = compact_feature(alloc, bytes, spare)?;
-    let (found, triples) = (feature.found, feature.triples);
-    if is_still(shift) {
-        if choice.area.is_none() {
-            if has_vertices(found.line.items(), &found.parts, triples) {
-                return put_kept(alloc, found, choice, text);
-            }
-        }
-    }
-    let moved = moved_line(alloc, found, triples, shift, &choice.types)?;
-    if !selects_of(choice, moved.has_type, &moved.vertices) {
+    let Some(given) = quick_text(alloc, bytes, shift, choice, spare)? else {
         return Some(false);
-    }
-    let given = written(alloc, moved)?;
+    };
     put_after(given, text)?;
     Some(true)
 }

@@ -1,6 +1,7 @@
 //! The line of a feature whose vertices stay where they are, and may be anywhere: they are looked at, and not read.
-ghost use Rattle.std.specs.Prelude.{◌≡◌, ◌≤◌, ◌++◌, [], ◌↔◌, ℕ, List, Option, None, is_some, unwrap_or, slice_range, IfSome, IfNone, IsTrue};
+ghost use Rattle.std.specs.Prelude.{◌≡◌, ◌≤◌, ◌↔◌, ℕ, List, None, option_map, slice_range, IfSome, IsTrue};
 ghost use Rattle.city_json.specs.Compact.{compact};
+ghost use Rattle.city_json.specs.Lent.{lent_bytes};
 ghost use Rattle.city_feature.specs.Choice.{HasType, IsChosen};
 ghost use Rattle.city_feature.specs.Feature.{FeatureValue};
 ghost use Rattle.city_feature.specs.FeatureLine.{GivesFeature, SpellsMoved};
@@ -8,20 +9,19 @@ ghost use Rattle.city_json.specs.Triples.{HasTriples};
 ghost use Rattle.city_feature.specs.Quick.{IsAsWritten, IsCompacted, IsVerticesText, no_steps};
 
 use super::types::has_given_type;
-use super::{are_value, between, has_other_members, part_named, put_after};
+use super::{are_value, between, has_other_members, part_named};
 use crate::choices::Choice;
 use crate::choices::selecting::selects_of;
 use crate::choices::types::Types;
 use crate::features::texts::is_vertices_text;
-use byte_streams::Line;
 use city_grid::Vertex;
-use city_json::{Compacted, Part, Span};
+use city_json::{LentFeature, LentText, Part, Span};
 use std::alloc::Global;
 
 /// A line in its compact text, and whether the feature has one of the types that are asked for.
 #[derive(Drop)]
-struct KeptLine {
-    line: Line,
+struct KeptLine<'a> {
+    text: LentText<'a>,
     has_type: bool,
 }
 
@@ -56,45 +56,42 @@ fn are_vertices(line: &[u8], triples: Span, part: Part) -> bool
 }
 
 /// Takes a line as a feature whose vertices stay where they are.
-fn kept_line(alloc: Global, found: Compacted, types: &Option<Types>) -> Option<KeptLine>
-    requires { IsAsWritten found.line found.parts.items }
+fn kept_line<'a>(
+    alloc: Global,
+    found: LentFeature<'a>,
+    types: &Option<Types>,
+) -> Option<KeptLine<'a>>
+    requires { IsAsWritten (lent_bytes found.text) found.parts.items }
     ensures { IfSome result (λ kept. (bytes : List ℕ)
-        → IsCompacted bytes found.line found.parts.items
+        → IsCompacted bytes (lent_bytes found.entry.text) found.entry.parts.items
         → (there : FeatureValue)
         × SpellsMoved no_steps bytes there
-        × (compact there.value ≡ kept.line)
+        × (compact there.value ≡ lent_bytes kept.text)
         × (IsTrue kept.has_type ↔ IfSome types.now (λ types. HasType types there.value))) }
 {
-    let has_type = has_given_type(alloc, types, found.line.items(), found.parts.as_slice())?;
+    let has_type = has_given_type(alloc, types, found.text.bytes(), found.parts.as_slice())?;
     Some(KeptLine {
-        line: found.line,
+        text: found.text,
         has_type,
     })
 }
 
-/// Appends the line of a feature whose vertices stand as they would be written, where it is chosen, and says whether it
-/// is. `None`: undecided; `text` is unchanged.
-pub(super) fn put_kept(
+/// The line of a feature whose vertices stand as they would be written, where it is chosen. `None`: undecided.
+pub(super) fn kept_text<'a>(
     alloc: Global,
-    found: Compacted,
+    found: LentFeature<'a>,
     choice: &Choice,
-    text: &mut Line,
-) -> Option<bool>
+) -> Option<Option<LentText<'a>>>
     requires anywhere { choice.now.area ≡ None }
-    requires stays { IsAsWritten found.line found.parts.items }
-    ensures some { IfSome result (λ is_chosen. (bytes : List ℕ)
-        → IsCompacted bytes found.line found.parts.items
-        → (given : Option (List ℕ))
-        × GivesFeature (IsChosen choice.now) no_steps bytes given
-        × (is_some given ≡ is_chosen)
-        × (text.new ≡ text.old ++ unwrap_or given [])) }
-    ensures none { IfNone result (text.new ≡ text.old) }
+    requires stays { IsAsWritten (lent_bytes found.text) found.parts.items }
+    ensures { IfSome result (λ given. (bytes : List ℕ)
+        → IsCompacted bytes (lent_bytes found.entry.text) found.entry.parts.items
+        → GivesFeature (IsChosen choice.now) no_steps bytes (option_map lent_bytes given)) }
 {
     let kept = kept_line(alloc, found, &choice.types)?;
     let nowhere: Vec<Vertex> = Vec::new(alloc);
     if !selects_of(choice, kept.has_type, &nowhere) {
-        return Some(false);
+        return Some(None);
     }
-    put_after(kept.line, text)?;
-    Some(true)
+    Some(Some(kept.text))
 }
