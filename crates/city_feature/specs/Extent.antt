@@ -1,5 +1,5 @@
 -- The extent of vertices.
-use Rattle.std.specs.Prelude.{◌↔◌, ◌≤ℤ◌, ℤ, List, Any}
+use Rattle.std.specs.Prelude.{◌≡◌, ◌↔◌, ◌≤ℤ◌, ℤ, List, [], Option, Some, None, Any}
 use Rattle.city_grid.specs.Axes.{Triple}
 use Rattle.city_feature.specs.declared.choices.extents.Extent.{Extent}
 use Rattle.city_feature.specs.declared.choices.extents.Range.{Range}
@@ -13,3 +13,8 @@ pub record IsRange (measure : Triple → ℤ) (vertices : List Triple) (range : 
 abbrev pub IsExtent : List Triple → Extent → Type 0
 IsExtent vertices extent =
     IsRange (λ p. p.x) vertices extent.x × IsRange (λ p. p.y) vertices extent.y
+
+-- the same while the vertices are gone through: of none there is no extent
+abbrev pub IsExtentSoFar : List Triple → Option Extent → Type 0
+IsExtentSoFar vertices (Some extent) = IsExtent vertices extent
+IsExtentSoFar vertices None = vertices ≡ []

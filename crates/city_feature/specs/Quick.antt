@@ -1,5 +1,5 @@
 -- What is found on the compact text of a feature's line, whose members lie in known parts.
-use Rattle.std.specs.Prelude.{◌≡◌, ◌≢◌, ◌<◌, ◌≤◌, ℕ, List, [], ◌∷◌, length, get_or, slice_range, codes, pos, All}
+use Rattle.std.specs.Prelude.{◌≡◌, ◌≢◌, ◌<◌, ◌≤◌, ◌↔◌, ℕ, Bool, IsTrue, List, [], ◌∷◌, length, get_or, slice_range, codes, pos, All}
 use Rattle.city_json.specs.Bytes.{backslash, plus}
 use Rattle.city_json.specs.Compact.{compact}
 use Rattle.city_json.specs.Fits.{Fits, HasDistinctNames}
@@ -10,8 +10,10 @@ use Rattle.city_json.specs.Tree.{Tree, array, ItemTrees, MemberTrees, object}
 use Rattle.city_json.specs.Writable.{AreWritableItems, IsWritable}
 use Rattle.city_json.specs.declared.compacting.parts.Part.{Part}
 use Rattle.city_grid.specs.Axes.{Triple, triple, IsInRange}
+use Rattle.city_feature.specs.Area.{Meets}
 use Rattle.city_feature.specs.Changes.{with_member}
 use Rattle.city_feature.specs.Feature.{AreVertices, IsFeature, vertices_tree}
+use Rattle.city_feature.specs.declared.choices.area.Area.{Area}
 use Rattle.city_feature.specs.Shapes.{IsObject, IsText, IsThere, Says}
 
 -- one of the parts, where this text stands up to the value
@@ -83,3 +85,14 @@ IsAsWritten line parts =
     × (with_value line part (compact (vertices_tree ps)) ≡ line)
     × ((members : MemberTrees) → IsLine line parts members → IsFeature (object members) ps
     × IsPlaceOf (codes "vertices") members line part)
+
+-- the same, and whether the extent of these vertices meets the area
+abbrev pub IsMeasured : List ℕ → List Part → Area → Bool → Type 0
+IsMeasured line parts area meets =
+    (part : Part)
+    × (ps : List Triple)
+    × All IsInRange ps
+    × (with_value line part (compact (vertices_tree ps)) ≡ line)
+    × ((members : MemberTrees) → IsLine line parts members → IsFeature (object members) ps
+    × IsPlaceOf (codes "vertices") members line part)
+    × (IsTrue meets ↔ Meets area ps)

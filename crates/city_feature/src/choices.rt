@@ -1,7 +1,7 @@
 ghost use Rattle.std.specs.Prelude.{◌≡◌, IfOk, IfErr};
 
 pub(crate) mod area;
-mod extents;
+pub(crate) mod extents;
 pub(crate) mod selecting;
 pub(crate) mod types;
 

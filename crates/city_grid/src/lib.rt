@@ -21,6 +21,6 @@ pub use vertices::spelled::spelled_vertex_at;
 pub use vertices::texts::{
     Digits, PlacedVertex, append_vertex, byte_is, number_at, vertex_at, vertex_end,
 };
-pub use vertices::triples::triple_vertex_at;
+pub use vertices::triples::{PlacedPlan, triple_plan_at, triple_vertex_at};
 pub use vertices::writer::{vertex_json, write_vertex};
 pub use vertices::{Vertex, moved};

@@ -2,7 +2,7 @@
 //! begins and ends.
 use crate::texts::INTEGERS;
 use byte_streams::Fault;
-use city_grid::{Vertex, triple_vertex_at};
+use city_grid::{PlacedPlan, Vertex, triple_plan_at, triple_vertex_at};
 use std::alloc::{AllocError, AllocGlobal, Global};
 use std::process::Abort;
 
@@ -19,7 +19,7 @@ const AROUND: [(&str, &str); 6] = [
     ),
 ];
 
-/// Whether the vertex of the integers is read, and its end found, in this text around it.
+/// Whether the vertex of the integers is read, with its z and without, and its end found, in this text around it.
 fn is_read(
     alloc: Global,
     (x, y, z): (i64, i64, i64),
@@ -27,10 +27,12 @@ fn is_read(
 ) -> Result<bool, Fault> {
     let vertex = Vertex::new(x, y, z).ok_or(Fault::VertexRange)?;
     let text = format!(in alloc; "{before}[{x},{y},{z}]{after}")?;
+    let end = text.len().saturating_sub(after.len());
     let Some(found) = triple_vertex_at(text.as_bytes(), before.len()) else {
         return Ok(false);
     };
-    Ok(found.vertex == vertex && found.end == text.len().saturating_sub(after.len()))
+    let plan = triple_plan_at(text.as_bytes(), before.len());
+    Ok(found.vertex == vertex && found.end == end && plan == Some(PlacedPlan { x, y, end }))
 }
 
 fn is_read_everywhere(alloc: Global, integers: (i64, i64, i64)) -> bool {
@@ -121,13 +123,14 @@ fn triples_of_all_digits_are_read(rt: HostRuntime) {
 }
 
 /// In what is no vertex, and in the front of one, none is found, whatever stands after the one and nothing after the
-/// other.
-const OTHERS: [&str; 5] = [
-    "[,,]",
-    "[-,-,-]",
-    "[1,2,-]",
-    "[12345678901234567,1,1]",
-    "[9007199254740992,1,1]",
+/// other; and no x and y either, but where that is said.
+const OTHERS: [(&str, bool); 6] = [
+    ("[,,]", false),
+    ("[-,-,-]", false),
+    ("[1,2,-]", true),
+    ("[12345678901234567,1,1]", false),
+    ("[9007199254740992,1,1]", false),
+    ("[1,9007199254740992,1]", false),
 ];
 
 const FRONTS: [&str; 9] = [
@@ -137,20 +140,31 @@ const FRONTS: [&str; 9] = [
 /// Bytes that stand after a vertex: more than is looked at at once.
 const AFTER: &str = ",[1,2,3],[400,500,600],[7000,8000,9000],[10000,20000,30000]]";
 
-fn is_passed_over(alloc: Global, front: &str, after: &str) -> Result<bool, AllocError> {
+/// Whether there is no vertex in this text, and an x and a y only where that is said.
+fn is_passed_over(
+    alloc: Global,
+    front: &str,
+    after: &str,
+    has_plan: bool,
+) -> Result<bool, AllocError> {
     let text = format!(in alloc; "{front}{after}")?;
-    Ok(triple_vertex_at(text.as_bytes(), 0).is_none())
+    let is_plan = triple_plan_at(text.as_bytes(), 0).is_some();
+    Ok(triple_vertex_at(text.as_bytes(), 0).is_none() && is_plan == has_plan)
 }
 
 #[test]
 fn nothing_is_found_in_other_texts(rt: HostRuntime) {
-    for text in OTHERS.iter() {
-        let is_alone = is_passed_over(rt.alloc(), text, "") == Ok(true);
-        let is_followed = is_passed_over(rt.alloc(), text, AFTER) == Ok(true);
+    for (text, has_plan) in OTHERS.iter() {
+        let is_alone = is_passed_over(rt.alloc(), text, "", *has_plan) == Ok(true);
+        let is_followed = is_passed_over(rt.alloc(), text, AFTER, *has_plan) == Ok(true);
         assert!(rt; is_alone && is_followed, "{text}");
     }
     for text in FRONTS.iter() {
-        assert!(rt; is_passed_over(rt.alloc(), text, "") == Ok(true), "{text}");
+        assert!(rt;
+            is_passed_over(rt.alloc(), text, "", false) == Ok(true),
+            "{text}"
+        );
         assert!(rt; triple_vertex_at(text.as_bytes(), 40).is_none(), "{text}");
+        assert!(rt; triple_plan_at(text.as_bytes(), 40).is_none(), "{text}");
     }
 }

@@ -83,6 +83,47 @@ range_more measure vertices p range wider is least greatest =
           (λ h. step.0 ((greatest n).0 h), λ h. (greatest n).1 (step.1 h));
     }
 
+none_of_none : {A : Type 0} (P : A → Type 0) → Any P [] → ⊥
+none_of_none P (k, z, within, at, holds) = omega (arith, within)
+
+-- the measure of one vertex
+one_range : (measure : Triple → ℤ) (p : Triple) (range : Range) → range.least ≡ measure p → range.greatest ≡ measure p
+    → IsRange measure (p ∷ []) range
+one_range measure p range least greatest =
+    record {
+      least = λ n. let step = any_along (λ q. measure q ≤ℤ n) ⊥ [] p ((λ no. absurd no), none_of_none _) in (
+        (λ h. step.0 (inr (subst (λ m. m ≤ℤ n) least h))),
+        (λ h. ⊎_elim (λ (no : ⊥). absurd no) (λ holds. subst (λ m. m ≤ℤ n) (sym least) holds) (step.1 h)),
+      );
+      greatest = λ n. let step = any_along (λ q. n ≤ℤ measure q) ⊥ [] p ((λ no. absurd no), none_of_none _) in (
+        (λ h. step.0 (inr (subst (λ m. n ≤ℤ m) greatest h))),
+        (λ h. ⊎_elim (λ (no : ⊥). absurd no) (λ holds. subst (λ m. n ≤ℤ m) (sym greatest) holds) (step.1 h)),
+      );
+    }
+
+-- the extent of one vertex more
+pub extent_begins : (read : List Triple) (p : Triple) (extent : Extent) → read ≡ [] → extent.x.least ≡ p.x
+    → extent.x.greatest ≡ p.x → extent.y.least ≡ p.y → extent.y.greatest ≡ p.y → IsExtent (read ++ p ∷ []) extent
+extent_begins read p extent none least_x greatest_x least_y greatest_y =
+    subst (λ before. IsExtent (before ++ p ∷ []) extent) (sym none)
+    (one_range (λ q. q.x) p extent.x least_x greatest_x, one_range (λ q. q.y) p extent.y least_y greatest_y)
+
+pub extent_more : (read : List Triple) (p : Triple) (x y : ℤ) (extent wider : Extent) → x ≡ p.x → y ≡ p.y
+    → IsExtent read extent
+    → ((n : ℤ) → (wider.x.least ≤ℤ n) ↔ ((extent.x.least ≤ℤ n) ⊎ (x ≤ℤ n)))
+    → ((n : ℤ) → (n ≤ℤ wider.x.greatest) ↔ ((n ≤ℤ extent.x.greatest) ⊎ (n ≤ℤ x)))
+    → ((n : ℤ) → (wider.y.least ≤ℤ n) ↔ ((extent.y.least ≤ℤ n) ⊎ (y ≤ℤ n)))
+    → ((n : ℤ) → (n ≤ℤ wider.y.greatest) ↔ ((n ≤ℤ extent.y.greatest) ⊎ (n ≤ℤ y)))
+    → IsExtent (read ++ p ∷ []) wider
+extent_more read p x y extent wider same_x same_y is least_x greatest_x least_y greatest_y = (
+  range_more (λ q. q.x) read p extent.x wider.x is.0
+      (subst (λ m. (n : ℤ) → (wider.x.least ≤ℤ n) ↔ ((extent.x.least ≤ℤ n) ⊎ (m ≤ℤ n))) same_x least_x)
+      (subst (λ m. (n : ℤ) → (n ≤ℤ wider.x.greatest) ↔ ((n ≤ℤ extent.x.greatest) ⊎ (n ≤ℤ m))) same_x greatest_x),
+  range_more (λ q. q.y) read p extent.y wider.y is.1
+      (subst (λ m. (n : ℤ) → (wider.y.least ≤ℤ n) ↔ ((extent.y.least ≤ℤ n) ⊎ (m ≤ℤ n))) same_y least_y)
+      (subst (λ m. (n : ℤ) → (n ≤ℤ wider.y.greatest) ↔ ((n ≤ℤ extent.y.greatest) ⊎ (n ≤ℤ m))) same_y greatest_y),
+)
+
 -- the same of the first vertex and those up to one place and up to the next; `number` is the next
 -- one's measure as the code passes it on
 pub range_with_next : (measure : Triple → ℤ) (first : Triple) (others : List Triple) (i : ℕ) (d p : Triple) (number : ℤ)

@@ -119,23 +119,23 @@ chosen_anywhere choice value ps qs none chosen =
     (¬ (IfSome choice.types (λ types. HasType types value) × IfSome a (λ area. Meets area ps)))
     (IfSome choice.types (λ types. HasType types value) × IfSome a (λ area. Meets area ps))) none chosen)
 
--- a line whose vertices stay
-pub kept_there : (bytes line items : List ℕ) (parts passed : List Part) (members : MemberTrees) (part : Part)
+-- a line whose vertices stay, and are known
+pub measured_there : (bytes line items : List ℕ) (parts passed : List Part) (members : MemberTrees) (part : Part)
     (ps : List Triple) (types : Option (List (List ℕ))) (has : Bool) → Spells bytes (object members)
     → Fits (object members) → line ≡ compact (object members) → AreParts 1 parts members → items ≡ line → passed ≡ parts
     → (IsLine items passed members → IsFeature (object members) ps × IsPlaceOf (codes "vertices") members items part)
     → (IsLine items passed members → IsThere IsText (first_named (codes "id") members) → IsTrue has
     ↔ IfSome types (λ names. HasType names (object members)))
     → All IsInRange ps → with_value items part (compact (vertices_tree ps)) ≡ items
-    → (there : FeatureValue) × SpellsMoved no_steps bytes there × (compact there.value ≡ line)
+    → (there : FeatureValue) × SpellsMoved no_steps bytes there × (there.vertices ≡ ps) × (compact there.value ≡ line)
     × (IsTrue has ↔ IfSome types (λ names. HasType names there.value))
-kept_there bytes line items parts passed members part ps types has spells fits written are_parts same_line same_parts
-    placed typed range stays =
+measured_there bytes line items parts passed members part ps types has spells fits written are_parts same_line
+    same_parts placed typed range stays =
     let stay : ps ≡ moved_vertices ps no_steps = sym (unmoved ps) in
     let (there, moved_is, vertices, text, typed_there) =
     moved_there bytes line items parts passed members part ps ps no_steps types has spells fits written are_parts
     same_line same_parts placed typed stay range in
-    (there, moved_is, text ∙ kept_line line items part ps ps no_steps same_line stays stay refl, typed_there)
+    (there, moved_is, vertices, text ∙ kept_line line items part ps ps no_steps same_line stays stay refl, typed_there)
 
 pub still_given : (IsWanted : FeatureValue → Type 0) (shift : Triple) (bytes line : List ℕ) (parts : List Part)
     (found : Option (Option LentText)) → shift ≡ no_steps → IsCompacted bytes line parts

@@ -1,9 +1,10 @@
-ghost use Rattle.std.specs.Prelude.{◌↔◌, ◌⊎◌, ◌≤ℤ◌, ℤ, [], ◌∷◌, IsTrue};
+ghost use Rattle.std.specs.Prelude.{◌≡◌, ◌↔◌, ◌⊎◌, ◌≤ℤ◌, ◌++◌, ℤ, List, [], ◌∷◌, IsTrue};
 ghost use Rattle.city_feature.specs.Area.{Meets};
-ghost use Rattle.city_feature.specs.Extent.{IsExtent};
+ghost use Rattle.city_feature.specs.Extent.{IsExtent, IsExtentSoFar};
+ghost use Rattle.city_grid.specs.Axes.{Triple, triple};
 
 use crate::choices::area::Area;
-use city_grid::{Axes, Vertex};
+use city_grid::{Axes, PlacedPlan, Vertex};
 
 /// The numbers from a least to a greatest one.
 #[derive(Clone, Copy)]
@@ -14,7 +15,7 @@ struct Range {
 
 /// The ranges of x and y.
 #[derive(Clone, Copy)]
-struct Extent {
+pub(crate) struct Extent {
     x: Range,
     y: Range,
 }
@@ -31,18 +32,40 @@ fn widened(range: Range, number: i64) -> Range
     }
 }
 
+fn range_at(number: i64) -> Range
+    ensures least { result.least ≡ number }
+    ensures greatest { result.greatest ≡ number }
+{
+    Range {
+        least: number,
+        greatest: number,
+    }
+}
+
 fn extent_at(steps: Axes<i64>) -> Extent
     ensures { IsExtent (steps ∷ []) result }
 {
     Extent {
-        x: Range {
-            least: steps.x,
-            greatest: steps.x,
-        },
-        y: Range {
-            least: steps.y,
-            greatest: steps.y,
-        },
+        x: range_at(steps.x),
+        y: range_at(steps.y),
+    }
+}
+
+/// The extent of the vertices before, if there are any, and of one more.
+#[inline(always)]
+pub(crate) fn extended(extent: Option<Extent>, plan: PlacedPlan) -> Extent
+    ensures { (read : List Triple) (z : ℤ) → IsExtentSoFar read extent
+        → IsExtent (read ++ triple plan.x plan.y z ∷ []) result }
+{
+    let Some(extent) = extent else {
+        return Extent {
+            x: range_at(plan.x),
+            y: range_at(plan.y),
+        };
+    };
+    Extent {
+        x: widened(extent.x, plan.x),
+        y: widened(extent.y, plan.y),
     }
 }
 
@@ -68,6 +91,14 @@ fn overlaps(range: Range, min: i64, max: i64) -> bool
     range.least <= max && min <= range.greatest
 }
 
+/// Whether the extent meets the area, if only at an edge.
+pub(crate) fn reaches(extent: Extent, area: &Area) -> bool
+    ensures { (vertices : List Triple) → IsExtent vertices extent
+        → (IsTrue result ↔ Meets area.now vertices) }
+{
+    overlaps(extent.x, area.min_x, area.max_x) && overlaps(extent.y, area.min_y, area.max_y)
+}
+
 /// Whether the extent of the vertices meets the area, if only at an edge.
 pub fn meets(area: &Area, vertices: &[Vertex]) -> bool
     ensures { IsTrue result ↔ Meets area.now vertices.now }
@@ -75,6 +106,5 @@ pub fn meets(area: &Area, vertices: &[Vertex]) -> bool
     let [first, others @ ..] = vertices else {
         return false;
     };
-    let extent = extent_of(first.steps(), others);
-    overlaps(extent.x, area.min_x, area.max_x) && overlaps(extent.y, area.min_y, area.max_y)
+    reaches(extent_of(first.steps(), others), area)
 }

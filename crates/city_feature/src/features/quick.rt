@@ -14,6 +14,7 @@ ghost use Rattle.city_feature.specs.FeatureLine.{GivesFeature, SpellsMoved};
 ghost use Rattle.city_feature.specs.Quick.{HasOtherMembers, IsCompacted, IsLine, IsPartNamed, IsPlaceOf, SpellsVertices, no_steps};
 
 mod kept;
+mod measured;
 mod types;
 
 use crate::choices::Choice;
@@ -25,6 +26,7 @@ use byte_streams::Line;
 use city_grid::{Shift, Vertex, byte_is};
 use city_json::{LentFeature, LentText, Part, Span, compact_lent};
 use kept::{has_vertices, kept_text};
+use measured::{measured, measured_text};
 use std::alloc::Global;
 use std::mem::swap;
 use types::has_given_type;
@@ -306,6 +308,12 @@ pub fn quick_text<'a>(
         if choice.area.is_none() {
             if has_vertices(found.text.bytes(), &found.parts, found.triples) {
                 return kept_text(alloc, found, choice);
+            }
+        }
+        if let Some(area) = &choice.area {
+            let (line, parts) = (found.text.bytes(), found.parts.as_slice());
+            if let Some(meets) = measured(line, parts, found.triples, area) {
+                return measured_text(alloc, found, meets, choice);
             }
         }
     }

@@ -17,7 +17,7 @@ use std::alloc::{AllocError, Global};
 const COMMON_LEN: usize = 20;
 
 /// The text of an array of one vertex or more has at least so many bytes.
-const MIN_LEN: usize = 4;
+pub(super) const MIN_LEN: usize = 4;
 
 /// A vertex, where its text ends, and whether that is the text that would be written for it.
 #[derive(Clone, Copy, Drop)]

@@ -1,5 +1,5 @@
 -- The text of three short whole numbers in brackets: where they end, and which vertex it is.
-use Rattle.std.proofs.Common.{◌≡◌, ◌≢◌, ◌⊎◌, ◌∙◌, ◌++◌, ◌+◌, ◌-◌, ◌<◌, ◌≤◌, ℕ, suc, ℤ, false, List, [], ◌∷◌, length, length-drop, get_or, drop, refl, ap, sym, subst, arith, append_assoc, append-nil, inl, inr, slice_range}
+use Rattle.std.proofs.Common.{◌≡◌, ◌≢◌, ◌⊎◌, ◌∙◌, ◌++◌, ◌+◌, ◌-◌, ◌<◌, ◌≤◌, ℕ, suc, ℤ, false, List, [], ◌∷◌, length, length-drop, get_or, drop, refl, ap, sym, subst, arith, append_assoc, append-nil, inl, inr, slice_range, unsigned_abs}
 use Rattle.std.proofs.lemmas.Bool.Decides.{nat_tests}
 use Rattle.std.proofs.lemmas.List.{drop-drop, length-append, length-take-le}
 use Rattle.std.proofs.lemmas.List.Folds.{drop_split}
@@ -11,9 +11,11 @@ use Rattle.city_json.specs.Bytes.{digit_zero, minus, comma, open_bracket, close_
 use Rattle.city_json.specs.Compact.{compact}
 use Rattle.city_json.specs.Triples.{IsShortNumeral, IsTriple, three_numbers}
 use Rattle.city_json.specs.Tree.{Tree}
-use Rattle.city_grid.specs.Axes.{Triple, triple}
+use Rattle.byte_streams.specs.Limits.{max_steps}
+use Rattle.city_grid.specs.Axes.{IsInRange, Triple, triple}
 use Rattle.city_grid.specs.NumberEnds.{ends_number, number_len}
 use Rattle.city_grid.specs.Vertex.{vertex_tree}
+use Rattle.city_grid.proofs.ShortIntegers.{integer}
 use Rattle.city_grid.proofs.vertices.NumberRuns.{IsRun, cut_here}
 
 digit_runs : (c : ℕ) → 48 ≤ c → c ≤ 57 → ends_number c ≡ false
@@ -126,4 +128,27 @@ vertex_is text at end first second third x y z v value within some is_first is_s
     let zs : cut.z ≡ signed_decimal z = sym cut.here_z ∙ read_z (subst IsShortNumeral (sym cut.here_z) cut.short_z) in (
       cut.ends,
       cut.written ∙ (λ i. compact (three_numbers (xs i) (ys i) (zs i))) ∙ ap (λ p. compact (vertex_tree p)) (sym is),
+    )
+
+-- the same where z was not read: it stands there all the same
+pub plan_is : (text : List ℕ) (at end first second third : ℕ) (x y : ℤ) (value : Tree) → end ≤ length text
+    → at < length text → first ≡ at + 1 + number_len (drop (at + 1) text)
+    → second ≡ first + 1 + number_len (drop (first + 1) text)
+    → third ≡ second + 1 + number_len (drop (second + 1) text)
+    → (IsShortNumeral (slice_range text (at + 1) first) → slice_range text (at + 1) first ≡ signed_decimal x)
+    → (IsShortNumeral (slice_range text (first + 1) second) → slice_range text (first + 1) second ≡ signed_decimal y)
+    → unsigned_abs x ≤ max_steps → unsigned_abs y ≤ max_steps
+    → IsTriple value → slice_range text at end ≡ compact value
+    → (third + 1 ≡ end) × (z : ℤ) × IsInRange (triple x y z)
+    × (slice_range text at end ≡ compact (vertex_tree (triple x y z)))
+plan_is text at end first second third x y value within some is_first is_second is_third read_x read_y near_x near_y t
+    here =
+    let cut = cut_thrice text at end first second third value within some t here is_first is_second is_third in
+    let xs : cut.x ≡ signed_decimal x = sym cut.here_x ∙ read_x (subst IsShortNumeral (sym cut.here_x) cut.short_x) in
+    let ys : cut.y ≡ signed_decimal y = sym cut.here_y ∙ read_y (subst IsShortNumeral (sym cut.here_y) cut.short_y) in
+    let z = integer cut.z cut.short_z in (
+      cut.ends,
+      z.value,
+      (near_x, near_y, z.small),
+      cut.written ∙ (λ i. compact (three_numbers (xs i) (ys i) (z.printed i))),
     )

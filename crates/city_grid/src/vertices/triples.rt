@@ -1,6 +1,6 @@
 //! Vertices in a text in which arrays of three short whole numbers are known to stand (CityJSON 2.0, CityJSONFeature):
 //! they are read, and not checked again. In any other text some vertices are found, or none.
-ghost use Rattle.std.specs.Prelude.{◌≡◌, ◌<◌, ◌≤◌, ◌+◌, ℕ, List, drop, take, length, map, slice_range, unsigned_abs, IfSome};
+ghost use Rattle.std.specs.Prelude.{◌≡◌, ◌<◌, ◌≤◌, ◌+◌, ℕ, ℤ, List, drop, take, length, map, slice_range, unsigned_abs, IfSome};
 ghost use Rattle.std.specs.Fmt.{signed_decimal};
 ghost use Rattle.std.specs.Simd.Lanes.{mask_l};
 ghost use Rattle.std.specs.Str.Parse.{AllDigits, digits_value};
@@ -8,13 +8,13 @@ ghost use Rattle.byte_streams.specs.Limits.{max_steps};
 ghost use Rattle.city_json.specs.Compact.{compact};
 ghost use Rattle.city_json.specs.Tree.{Tree};
 ghost use Rattle.city_json.specs.Triples.{IsShortNumeral, IsTriple};
-ghost use Rattle.city_grid.specs.Axes.{IsInRange};
+ghost use Rattle.city_grid.specs.Axes.{IsInRange, triple};
 ghost use Rattle.city_grid.specs.NumberEnds.{AreEnds, ends_number, number_len};
 ghost use Rattle.city_grid.specs.Vertex.{vertex_tree};
 
-use crate::vertices::Vertex;
 use crate::vertices::digits::digits_value_between;
 use crate::vertices::texts::PlacedVertex;
+use crate::vertices::{Vertex, is_near};
 use std::simd::prelude::*;
 
 /// How many bytes are looked at at once: more than the text of most vertices has.
@@ -234,6 +234,43 @@ pub fn triple_vertex_at(text: &[u8], at: usize) -> Option<PlacedVertex>
     let vertex = Vertex::new(x, y, z)?;
     Some(PlacedVertex {
         vertex,
+        end: ends.third + 1,
+    })
+}
+
+/// The x and y of a vertex in grid units, and where its text ends.
+#[derive(Clone, Copy, Debug, PartialEq, Eq)]
+pub struct PlacedPlan {
+    pub x: i64,
+    pub y: i64,
+    pub end: usize,
+}
+
+/// The x and y of the vertex whose text begins at `at`, where the text of an array of three short whole numbers does; its
+/// z is passed over. `None`: undecided.
+#[inline(always)]
+pub fn triple_plan_at(text: &[u8], at: usize) -> Option<PlacedPlan>
+    ensures onward { IfSome result (λ found. at < found.end) }
+    ensures within { IfSome result (λ found. found.end ≤ length text.now) }
+    ensures is { IfSome result (λ found. (end : ℕ) (value : Tree) → end ≤ length text.now
+        → IsTriple value → slice_range text.now at end ≡ compact value
+        → (found.end ≡ end) × (z : ℤ) × IsInRange (triple found.x found.y z)
+        × (slice_range text.now at end ≡ compact (vertex_tree (triple found.x found.y z)))) }
+    ensures range { IfSome result (λ found.
+        (unsigned_abs found.x ≤ max_steps) × (unsigned_abs found.y ≤ max_steps)) }
+{
+    if at >= text.len() {
+        return None;
+    }
+    let ends = ends_at(text, at)?;
+    let x = integer_between(text, at + 1, ends.first)?;
+    let y = integer_between(text, ends.first + 1, ends.second)?;
+    if !is_near(x) || !is_near(y) {
+        return None;
+    }
+    Some(PlacedPlan {
+        x,
+        y,
         end: ends.third + 1,
     })
 }

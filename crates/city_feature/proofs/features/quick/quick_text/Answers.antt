@@ -1,5 +1,7 @@
+use Rattle.std.proofs.Common.{subst}
 use Rattle.city_json.specs.Lent.{lent_bytes}
 use Rattle.city_feature.specs.Choice.{IsChosen}
+use Rattle.city_feature.specs.Quick.{IsMeasured}
 use Rattle.city_feature.proofs.features.QuickMoves.{compacted, gives_moved, gives_none, not_both, still_given}
 use Rattle.city_feature.proofs.features.quick.quick_text.Goals as goal
 
@@ -34,3 +36,23 @@ returns-then-has_vertices c =
     c.kept_text.result (c.is_still.ensures c.if-is_still.true)
     (compacted c.args.bytes.now (lent_bytes found.text) found.parts.items c.in_ok-found.ensures.object)
     c.kept_text.ensures
+
+pub measured_text-requires : goal.measured_text-requires
+measured_text-requires c =
+    let found = c.in_ok-found.found in
+    let area = c.in-Some.area in
+    let meets = c.in-Some-measured.meets in (
+      area,
+      c.in-Some.is,
+      subst (λ l. IsMeasured l found.parts.items area meets) c.bytes-line.ensures
+          (subst (λ p. IsMeasured c.bytes-line.result.now p area meets) c.as_slice-parts.ensures.value
+          c.in-Some-measured.ensures),
+    )
+
+pub returns-in-Some-measured : goal.returns-in-Some-measured
+returns-in-Some-measured c =
+    let found = c.in_ok-found.found in
+    still_given (IsChosen c.args.choice.now) c.args.shift c.args.bytes.now (lent_bytes found.text) found.parts.items
+    c.measured_text.result (c.is_still.ensures c.if-is_still.true)
+    (compacted c.args.bytes.now (lent_bytes found.text) found.parts.items c.in_ok-found.ensures.object)
+    c.measured_text.ensures

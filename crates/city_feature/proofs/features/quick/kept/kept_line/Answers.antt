@@ -1,6 +1,6 @@
 use Rattle.city_json.specs.Lent.{lent_bytes}
 use Rattle.std.proofs.Common.{subst, sym}
-use Rattle.city_feature.proofs.features.QuickMoves.{kept_there}
+use Rattle.city_feature.proofs.features.QuickMoves.{measured_there}
 use Rattle.city_feature.specs.Quick.{IsAsWritten}
 use Rattle.city_feature.proofs.features.quick.kept.kept_line.Goals as goal
 
@@ -14,6 +14,8 @@ returns c = λ bytes compacted.
     subst (λ l. IsAsWritten l parts) (sym c.bytes.ensures)
     (subst (IsAsWritten (lent_bytes found.text)) (sym c.as_slice.ensures.value) c.requires) in
     let (part, ps, range, stays, placed) = here in
-    kept_there bytes (lent_bytes found.text) line found.parts.items parts members part ps c.args.types.now c.in_ok-has_type.has_type
+    let (there, moved_is, vertices, text, typed) =
+    measured_there bytes (lent_bytes found.text) line found.parts.items parts members part ps c.args.types.now c.in_ok-has_type.has_type
     spells fits written are_parts c.bytes.ensures c.as_slice.ensures.value (placed members)
-    (c.in_ok-has_type.ensures members) range stays
+    (c.in_ok-has_type.ensures members) range stays in
+    (there, moved_is, text, typed)
