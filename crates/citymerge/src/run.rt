@@ -24,8 +24,8 @@ use tile_stream::{TileReader, filter_tile};
 /// How many texts of a tile are held at most, where each tile has a thread.
 const CAPACITY: u32 = 64;
 
-/// For how many there is room where the tiles take turns, and one is held. The stream is the same
-/// whatever their number.
+/// The same where the tiles take turns: few, which stay in the processor's cache until they are
+/// written. The stream is the same whatever their number.
 const IN_TURN_CAPACITY: u32 = 4;
 
 /// Writes the stream of the chosen features of a tile, of which nothing was taken yet, to `output`,

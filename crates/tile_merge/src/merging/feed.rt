@@ -1,4 +1,4 @@
-ghost use Rattle.std.specs.Prelude.{◌≡◌, ◌≤◌, ◌<◌, ◌+◌, [], false, length, IfOk, IfErr, OnOk, OnErr, IsTrue};
+ghost use Rattle.std.specs.Prelude.{◌≡◌, ◌≤◌, ◌<◌, ◌+◌, false, length, IfOk, IfErr, OnOk, OnErr, IsTrue};
 ghost use Rattle.std.specs.Io.KnownBytes.{Keeps};
 ghost use Rattle.byte_streams.specs.Failures.{after_call};
 ghost use Rattle.city_feature.specs.Choice.{IsChosen};
@@ -9,7 +9,6 @@ ghost use Rattle.tile_stream.specs.TileState.{most_to_come, most_texts};
 
 use crate::merging::ends::{Ending, TileEnd};
 use crate::merging::tiles::OpenTile;
-use byte_streams::limits::MAX_PIECE_BYTES;
 use byte_streams::{Fault, Line, Sink, Source};
 use city_feature::Choice;
 use city_grid::Shift;
@@ -19,8 +18,8 @@ use std::mem;
 use tile_handoff::{Queues, Took};
 use tile_stream::{Passed, ReadyTexts, TileReader, pass_on, write_line};
 
-/// A tile that is merged in turn: its reader, the texts of its first line, and a queue, through which the text of each
-/// later line goes.
+/// A tile that is merged in turn: its reader, the texts of its first line, and a queue of those of later lines that were
+/// read ahead.
 #[derive(Debug, Drop)]
 pub(crate) struct Feed<R> {
     reader: TileReader<R>,
@@ -63,21 +62,9 @@ impl<R> Model for Feed<R> {
         × (has_end (queue_of feed.notes 0).left ≡ false)) };
 }
 
-/// The memory of a text that was written, for the next one. More than 64 KiB is given back.
-fn spare_of(alloc: Global, emptied: Line) -> Line
-    requires { emptied ≡ [] }
-    ensures { result ≡ [] }
-{
-    let bytes = emptied.into_vec();
-    if bytes.capacity() > MAX_PIECE_BYTES {
-        return Line::new(alloc);
-    }
-    Line::from_vec(bytes)
-}
-
 impl<R: Source> Feed<R> {
     /// What the tile gives, moved by the shift: the texts of its first line, which are made here, and then those of
-    /// later lines, each of which goes through the queue of one tile.
+    /// later lines, which are read ahead into the queue of one tile.
     pub(crate) fn new(
         alloc: Global,
         tile: OpenTile<R>,
@@ -112,8 +99,9 @@ impl<R: Source> Feed<R> {
         }
     }
 
-    /// Writes the text of the next feature that is chosen, and says whether there was one. Where a line has to be read that
-    /// may be long in coming, what was written is passed on first.
+    /// Writes the text of the next feature that is chosen, and says whether there was one; texts that need no waiting are
+    /// read ahead, as many as the queue holds. Where a line has to be read that may be long in coming, what was written is
+    /// passed on first.
     ///
     /// # Errors
     ///
@@ -147,7 +135,7 @@ impl<R: Source> Feed<R> {
         match self.notes.take(0) {
             Took::Line(text) => match write_line(output, text) {
                 Ok(spare) => {
-                    self.spare = spare_of(alloc, spare);
+                    self.spare = spare;
                     return Ok(true);
                 }
                 Err(fault) => return Err(fault),
@@ -160,7 +148,7 @@ impl<R: Source> Feed<R> {
         }
     }
 
-    /// Reads until there is a text or a note. A text is made only when it is to be written, so that its memory is warm.
+    /// Reads until there is a text or a note, and then on while lines are held and there is a place for theirs.
     ///
     /// # Errors
     ///
@@ -190,12 +178,15 @@ impl<R: Source> Feed<R> {
         Ok(())
     }
 
-    /// Whether a line more is to be read: where all texts of the first line were written, and there is no note yet.
+    /// Whether a line more is to be read: where all texts of the first line were written, and there is no note yet, or
+    /// the line is held already and there is a place for its note.
     fn reads_on(&self) -> bool
         ensures room { IsTrue result → HasFreePlace self.now }
         ensures ahead { result ≡ false → IsAhead self.now }
     {
-        self.written >= self.first.len() && !self.notes.is_closed(0) && self.notes.is_empty(0)
+        self.written >= self.first.len()
+            && !self.notes.is_closed(0)
+            && (self.notes.is_empty(0) || (self.reader.holds_line() && !self.notes.is_full(0)))
     }
 
     /// Reads the next line, and puts its text into the queue where it is chosen, or the end.

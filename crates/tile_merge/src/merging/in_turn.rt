@@ -23,9 +23,9 @@ use tile_stream::write_line;
 
 /// Merges the tiles that the readers give, in turn: the joined header, then the first feature that
 /// is chosen of each tile that has one, in the tiles' order, then the second ones, and so on. Each
-/// is moved by its tile's shift and then chosen. Of a tile at most one text is held, whatever the
-/// `capacity`, beside those of a first line that is a document. The report has how many features
-/// were written of each tile.
+/// is moved by its tile's shift and then chosen. Of a tile up to `capacity` texts are held, beside
+/// those of a first line that is a document. The report has how many features were written of each
+/// tile.
 ///
 /// # Errors
 ///
