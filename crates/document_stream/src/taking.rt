@@ -82,8 +82,8 @@ fn take_cut<R: Source>(alloc: Global, source: &mut R) -> Result<CutTexts, Fault>
     }
 }
 
-/// Cuts the document that a text spells. The text is kept where it is compact, but for white space at its end, and else
-/// dropped as soon as its compact text is there.
+/// Cuts the document that a text spells. The text is kept where it is compact, but for white space at its end, and no
+/// string in it has an escape; else it is dropped as soon as its compact text is there.
 ///
 /// # Errors
 ///

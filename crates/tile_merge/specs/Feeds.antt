@@ -73,7 +73,7 @@ SomeCourse may = (course : Course) × may course
 abbrev pub IsOver : {R : Type 0} → FeedState R → Type 0
 IsOver feed = (feed.notes.closed ≡ true) × (feed.notes.left ≡ [])
 
--- as many notes were read ahead as may be, or all
+-- a note was read ahead, or all were
 abbrev pub IsAhead : {R : Type 0} → FeedState R → Type 0
 IsAhead feed = (feed.notes.closed ≡ true) ⊎ (0 < length feed.notes.left)
 

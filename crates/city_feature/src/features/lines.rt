@@ -98,7 +98,7 @@ pub fn feature_line(
 }
 
 /// The compact text of the feature that a line spells, moved by the shift, where it is chosen then. It may be lent,
-/// where it is the line itself. What `spare` held is dropped; it is taken for its memory.
+/// where it is the line itself but for white space at its end. What `spare` held is dropped; it is taken for its memory.
 ///
 /// # Errors
 ///
