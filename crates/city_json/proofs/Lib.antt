@@ -12,6 +12,7 @@ pub mod DepthLemmas
 pub mod DigitRuns
 pub mod Fronts
 pub mod GivenTexts
+pub mod HeldNames
 pub mod HiddenString
 pub mod ListEnds
 pub mod MemberEnds

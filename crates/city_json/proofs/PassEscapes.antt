@@ -1,13 +1,15 @@
 -- Strings with escapes, which the pass writes piece by piece.
-use Rattle.std.proofs.Common.{◌≡◌, ◌++◌, ◌∙◌, ◌≤◌, ◌<◌, ◌+◌, ◌-◌, ℕ, List, [], ◌∷◌, Some, length, take, drop, get_or, refl, ap, sym, subst, arith, append_assoc, append-nil, slice_range, IsUtf8, length-drop, length-append, encode_utf8}
+use Rattle.std.proofs.Common.{◌≡◌, ◌⊎◌, ◌++◌, ◌∙◌, ◌≤◌, ◌<◌, ◌+◌, ◌-◌, ◌==◌, ℕ, suc, Bool, true, false, cond, List, [], ◌∷◌, Some, length, take, drop, get_or, nat_lt, refl, ap, sym, subst, inl, inr, arith, append_assoc, append-nil, slice_range, IsUtf8, length-drop, length-append, encode_utf8}
 use Rattle.std.specs.List.{flat_map, prefix_len}
+use Rattle.std.proofs.Math.Seq.{drop-append-add}
+use Rattle.std.proofs.lemmas.Bool.{cases_Bool, cond-true, cond-false}
 use Rattle.std.proofs.lemmas.Grind.{flat_map-append}
 use Rattle.std.proofs.lemmas.List.{drop-drop, drop_at, take-append-drop, append_cancel_right}
 use Rattle.std.proofs.lemmas.List.Edits.{between_none}
 use Rattle.std.proofs.lemmas.Str.{IsUtf8-drop, IsCharBoundary-after_ascii}
-use Rattle.city_json.specs.Bytes.{quotation_mark, backslash}
+use Rattle.city_json.specs.Bytes.{quotation_mark, backslash, backspace, form_feed, newline, carriage_return, tab, space}
 use Rattle.city_json.specs.Compact.{written, quoted}
-use Rattle.city_json.specs.Compacting.{shown, TakenAnew, TakenEscape}
+use Rattle.city_json.specs.Compacting.{shown, TakenString, TakenAnew, TakenEscape}
 use Rattle.city_json.specs.ReadString.{is_plain, decoded, escape_at, prepend}
 use Rattle.city_json.proofs.CompactText.{written_run}
 use Rattle.city_json.proofs.DecodedText.{utf8_decoded}
@@ -131,9 +133,11 @@ pieces_end text line₀ line from₀ from at i stop utf8 copied₀ opens is_open
     ++ flat_map written content = one
     ∙ ap (λ l. l ++ flat_map written content)
     (shown_one line₀ text from₀ at quotation_mark copied₀ opens is_open) in
+    let place : (stop + 1) - 1 ≡ stop = omega arith in
     record {
       content = content;
       is_read = read;
+      closed = ap (λ n. get_or text n 0) place ∙ closes;
       taken = record {
         inner = law.0;
         splits = drop_one text at quotation_mark opens is_open ∙ ap (λ l. quotation_mark ∷ l) law.1;
@@ -183,3 +187,103 @@ escape_taken text rest line before after at from character read end place was no
       ∙ (ap (λ l. after ++ l) (between_none text (length text - length rest))
       ∙ (append-nil after ∙ (now ∙ ap (λ l. l ++ flat_map written (encode_utf8 character)) was)));
 }
+
+-- what is written for a byte is that byte, or begins with a backslash
+abbrev IsItselfOrEscape : ℕ → List ℕ → Type 0
+IsItselfOrEscape b bytes = (bytes ≡ b ∷ []) ⊎ ((more : List ℕ) × (bytes ≡ backslash ∷ more))
+
+one_way : (b : ℕ) (t : Bool) (more others : List ℕ) → IsItselfOrEscape b others
+    → IsItselfOrEscape b (cond t (backslash ∷ more) others)
+one_way b true more others is = inr (more, refl)
+one_way b false more others is = is
+
+written_cases : (b : ℕ) → IsItselfOrEscape b (written b)
+written_cases b =
+    one_way b (b == quotation_mark) _ _
+    (one_way b (b == backslash) _ _
+    (one_way b (b == backspace) _ _
+    (one_way b (b == form_feed) _ _
+    (one_way b (b == newline) _ _ (one_way b (b == carriage_return) _ _
+    (one_way b (b == tab) _ _ (one_way b (nat_lt b space) _ _ (inl refl))))))))
+
+one_longer : (b : ℕ) (others : List ℕ) → is_plain b ≡ true
+    → prefix_len is_plain (b ∷ others) ≡ suc (prefix_len is_plain others)
+one_longer b others stands = cond-true _ _ _ stands ∙ omega arith
+
+none_long : (b : ℕ) (others : List ℕ) → is_plain b ≡ false → prefix_len is_plain (b ∷ others) ≡ 0
+none_long b others other = cond-false _ _ _ other
+
+-- bytes that stand for themselves are written for themselves
+pub plainly_written : (content line : List ℕ) → flat_map written content ≡ line → prefix_len is_plain line ≡ length line
+    → content ≡ line
+plainly_written [] line is plain = is
+plainly_written (b ∷ content) line is plain =
+    elim (written_cases b) [
+      | inl itself ↦ (let others = flat_map written content in
+          let front : b ∷ others ≡ line = sym (ap (λ l. l ++ others) itself) ∙ is in
+          let whole : prefix_len is_plain (b ∷ others) ≡ length (b ∷ others) =
+          subst (λ l. prefix_len is_plain l ≡ length l) (sym front) plain in
+          elim (cases_Bool (is_plain b)) [
+            | inl stands ↦ (let rest : prefix_len is_plain others ≡ length others =
+                omega (arith, sym (one_longer b others stands) ∙ whole) in
+                ap (λ l. b ∷ l) (plainly_written content others refl rest) ∙ front)
+            | inr other ↦ absurd (omega (arith, sym (none_long b others other) ∙ whole))
+          ])
+      | inr escape ↦ (let front : backslash ∷ (escape.0 ++ flat_map written content) ≡ line =
+          sym (ap (λ l. l ++ flat_map written content) escape.1) ∙ is in
+          let none : 0 ≡ length (backslash ∷ (escape.0 ++ flat_map written content)) =
+          subst (λ l. prefix_len is_plain l ≡ length l) (sym front) plain in
+          absurd (omega (arith, none)))
+    ]
+
+-- a name's characters as they stand in the line, whose length was `mark` before the name
+pub record WrittenName (text content line before after : List ℕ) (mark at end : ℕ) : Type 0 where
+  pub inside : mark + 1 ≤ length line
+  pub is : flat_map written content ≡ take (length line - (mark + 1)) (drop (mark + 1) line)
+  pub taken : TakenString content (drop at text) (drop end text) before after
+
+pub written_name : (text first line₁ line₂ line₃ last before : List ℕ) (from₁ from₂ from₃ at end : ℕ) → first ≡ line₁
+    → line₁ ≡ before → from₁ ≡ at → from₂ < end → end ≤ length text
+    → (anew : TakenAnew text at end (shown line₁ text from₁ at) (shown line₂ text from₂ end))
+    → line₃ ≡ shown line₂ text from₂ (end - 1) → from₃ ≡ end - 1 → last ≡ line₃
+    → WrittenName text anew.content last before (shown line₃ text from₃ end) (length first) at end
+written_name text first line₁ line₂ line₃ last before from₁ from₂ from₃ at end is₁ was copied order within anew now
+    place is₃ =
+    let content = anew.content in
+    let close = end - 1 in
+    let next : close + 1 ≡ end = omega (arith, order) in
+    let short : close < length text = omega (arith, order, within) in
+    let before_close : from₂ ≤ close = omega (arith, order) in
+    let closed : shown line₂ text from₂ (close + 1) ≡ shown line₂ text from₂ close ++ quotation_mark ∷ [] =
+    shown_one line₂ text from₂ close quotation_mark before_close short anew.closed in
+    let begun : shown line₁ text from₁ at ≡ line₁ = ap (λ n. shown line₁ text n at) copied
+    ∙ (ap (λ l. line₁ ++ l) (between_none text at) ∙ append-nil line₁) in
+    let ended : shown line₂ text from₂ end ≡ line₃ ++ quotation_mark ∷ [] =
+    ap (λ n. shown line₂ text from₂ n) (sym next) ∙ (closed ∙ ap (λ l. l ++ quotation_mark ∷ []) (sym now)) in
+    let all : line₃ ++ quotation_mark ∷ [] ≡ (line₁ ++ quotation_mark ∷ flat_map written content) ++ quotation_mark
+    ∷ [] = sym ended ∙ (anew.taken.is_shown
+    ∙ (ap (λ l. l ++ quoted content) begun
+    ∙ sym (append_assoc line₁ (quotation_mark ∷ flat_map written content) (quotation_mark ∷ [])))) in
+    let is : last ≡ first ++ quotation_mark ∷ flat_map written content = is₃
+    ∙ (append_cancel_right line₃ (line₁ ++ quotation_mark ∷ flat_map written content) (quotation_mark ∷ []) all
+    ∙ ap (λ l. l ++ quotation_mark ∷ flat_map written content) (sym is₁)) in
+    let long : length last ≡ length first + length (quotation_mark ∷ flat_map written content) = ap length is
+    ∙ length-append first (quotation_mark ∷ flat_map written content) in
+    let left : drop (length first + 1) last ≡ flat_map written content = ap (drop (length first + 1)) is
+    ∙ drop-append-add first (quotation_mark ∷ flat_map written content) 1 in
+    let nothing : shown line₃ text from₃ close ≡ line₃ = ap (λ n. shown line₃ text n close) place
+    ∙ (ap (λ l. line₃ ++ l) (between_none text close) ∙ append-nil line₃) in
+    let finished : shown line₃ text from₃ end ≡ line₃ ++ quotation_mark ∷ [] =
+    ap (λ n. shown line₃ text from₃ n) (sym next)
+    ∙ (shown_one line₃ text from₃ close quotation_mark (omega (arith, place)) short anew.closed
+    ∙ ap (λ l. l ++ quotation_mark ∷ []) nothing) in
+    record {
+      inside = omega (arith, long);
+      is = sym (rest_is last (length first + 1) ∙ left);
+      taken = record {
+        inner = anew.taken.inner;
+        splits = anew.taken.splits;
+        spells = anew.taken.spells;
+        is_shown = finished ∙ (sym ended ∙ (anew.taken.is_shown ∙ ap (λ l. l ++ quoted content) (begun ∙ was)));
+      };
+    }

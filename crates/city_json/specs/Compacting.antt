@@ -1,5 +1,5 @@
 -- What the compactor has taken of a text, and what it has written for it.
-use Rattle.std.specs.Prelude.{◌≡◌, ◌++◌, ◌≤◌, ◌+◌, ℕ, suc, List, [], ◌∷◌, Some, length, drop, slice_range, slice_index, encode_utf8}
+use Rattle.std.specs.Prelude.{◌≡◌, ◌++◌, ◌≤◌, ◌+◌, ◌-◌, ℕ, suc, List, [], ◌∷◌, Some, length, drop, slice_range, slice_index, encode_utf8}
 use Rattle.std.specs.List.{flat_map}
 use Rattle.city_json.specs.Bytes.{comma, close_bracket, close_brace, colon, quotation_mark}
 use Rattle.city_json.specs.Compact.{written, quoted, compact, compact_items, compact_members}
@@ -65,6 +65,7 @@ pub record TakenEscape (b rest before after : List ℕ) : Type 0 where
 pub record TakenAnew (text : List ℕ) (at end : ℕ) (before after : List ℕ) : Type 0 where
   pub content : List ℕ
   pub is_read : decoded (drop (at + 1) text) ≡ Some (content, drop end text)
+  pub closed : slice_index text (end - 1) ≡ quotation_mark
   pub taken : TakenString content (drop at text) (drop end text) before after
 
 -- the same of a member's name, which was put after the names

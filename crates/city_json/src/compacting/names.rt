@@ -1,16 +1,14 @@
 //! The names of the members of the open objects, and whether those of one object differ (RFC 8259, section 4).
-ghost use Rattle.std.specs.Prelude.{◌≡◌, ◌≢◌, ◌++◌, ◌∷◌, ◌<◌, ◌≤◌, [], take, drop, length, map, IfSome, OnSome, IsTrue};
+ghost use Rattle.std.specs.Prelude.{◌≡◌, ◌++◌, ◌∷◌, ◌<◌, ◌≤◌, [], take, drop, length, map, IfSome, OnSome, IsTrue};
 ghost use Rattle.city_json.specs.Fits.{IsNewName, HasDistinctNames};
-ghost use Rattle.city_json.specs.MemberName.{content_read, decoded_bytes, name_bytes};
+ghost use Rattle.city_json.specs.MemberName.{held_before, name_bytes};
 ghost use Rattle.city_json.specs.Members.{names};
 ghost use Rattle.city_json.specs.NamePrint.{print_of, short_print_of};
-ghost use Rattle.city_json.specs.ReadString.{decoded};
 ghost use Rattle.city_json.specs.Tree.{MemberTrees};
 
-use super::name::{DecodedName, Name};
+use super::name::Name;
 use super::sieve::mark;
 use crate::reading::names::are_apart_when_sorted;
-use crate::reading::strings::decode_into;
 use std::alloc::Global;
 use std::marker::Model;
 
@@ -22,8 +20,8 @@ const COMMON_NAMES: usize = 40;
 /// each other, so that past it a sieve is faster.
 const MAX_COMPARED_AT_ONCE: usize = 6;
 
-/// The most names that are compared with one another where the sieve does not tell them apart, so that no memory is
-/// asked for.
+/// The most names that are compared with one another where an escape stands in one of them, or where the sieve does not
+/// tell them apart, so that no memory is asked for.
 const MAX_COMPARED: usize = 16;
 
 /// Up to so many names go through a sieve of two sets of 2,048 bits. Of 64 that are different two in a hundred are not
@@ -34,29 +32,34 @@ const FEW_SIEVED: usize = 64;
 /// Of more it is likelier that the prints have to be sorted, whatever the sieve did.
 const MAX_SIEVED: usize = 512;
 
-/// The names of the members of the open objects, in their order.
+/// The names of the members of the open objects, in their order. Those with escapes are held decoded, in their order, too.
 #[derive(Drop)]
 pub(super) struct Names<'a> {
     listed: Vec<Name<'a>>,
+    held: Vec<Vec<u8>>,
 }
 
 impl<'a> Model for Names<'a> {
-    ghost use Rattle.std.specs.Prelude.{List, ℕ, map};
-    ghost use Rattle.city_json.specs.MemberName.{name_bytes};
+    ghost use Rattle.std.specs.Prelude.{List, ℕ, length, map};
+    ghost use Rattle.city_json.specs.MemberName.{name_bytes, AreHeld};
 
     ghost Value = { List (List ℕ) };
 
-    ghost view = { λ names. map name_bytes names.listed.items };
+    ghost view = { λ names. map (name_bytes names.held.items) names.listed.items };
+
+    ghost invariant = { λ names. AreHeld 0 names.listed.items (length names.held.items) };
 }
 
 impl<'a> Names<'a> {
     pub(super) fn new(alloc: Global) -> Names<'a>
         ensures { result ≡ [] }
     {
+        let held = Vec::new(alloc);
         match Vec::with_capacity(alloc, COMMON_NAMES) {
-            Ok(listed) => Names { listed },
+            Ok(listed) => Names { listed, held },
             Err(_) => Names {
                 listed: Vec::new(alloc),
+                held,
             },
         }
     }
@@ -68,22 +71,53 @@ impl<'a> Names<'a> {
         self.listed.len()
     }
 
-    /// Puts a name after the others.
+    /// Puts a name without escapes after the others.
     #[inline(always)]
-    pub(super) fn push(&mut self, name: Name<'a>) -> Option<()>
-        ensures { OnSome result (self.new ≡ self.old ++ name_bytes name.entry ∷ []) }
+    pub(super) fn push(&mut self, name: &'a [u8]) -> Option<()>
+        ensures { OnSome result (self.new ≡ self.old ++ name.now ∷ []) }
     {
-        if self.listed.push(name).is_err() {
+        let Ok(()) = self.listed.push(Name::AsWritten(name)) else {
             return None;
-        }
+        };
+        Some(())
+    }
+
+    /// Puts a name with escapes, decoded, after the others.
+    pub(super) fn push_held(&mut self, name: Vec<u8>) -> Option<()>
+        ensures { OnSome result (self.new ≡ self.old ++ name.items ∷ []) }
+    {
+        let place = self.held.len();
+        let Ok(()) = self.held.push(name) else {
+            return None;
+        };
+        let Ok(()) = self.listed.push(Name::Held(place)) else {
+            self.held.truncate(place);
+            return None;
+        };
         Some(())
     }
 
     /// Leaves out the names from `base` on.
     #[inline(always)]
     pub(super) fn truncate(&mut self, base: usize)
+        requires { base ≤ length self.old }
         ensures { self.new ≡ take base self.old }
     {
+        if self.held.is_empty() {
+            self.listed.truncate(base);
+        } else {
+            self.truncate_held(base);
+        }
+    }
+
+    /// The same, where names are held: those that are left out are dropped.
+    #[inline(never)]
+    fn truncate_held(&mut self, base: usize)
+        requires { base ≤ length self.old }
+        ensures { self.new ≡ take base self.old }
+    {
+        let stay = held_before(&self.listed[base..], self.held.len());
+        self.held.truncate(stay);
         self.listed.truncate(base);
     }
 
@@ -95,21 +129,34 @@ impl<'a> Names<'a> {
             → HasDistinctNames members }
     {
         let listed = &self.listed[base..];
-        if listed.len() <= MAX_COMPARED_AT_ONCE && few_are_apart(listed) {
-            return true;
+        if listed.len() <= MAX_COMPARED_AT_ONCE {
+            few_are_apart(listed, &self.held)
+        } else {
+            many_are_apart(alloc, listed, &self.held)
         }
-        many_are_apart(alloc, listed)
     }
 }
 
-/// Whether the names are pairwise different and, if they are several, have no escapes: each is compared with each.
-fn few_are_apart(listed: &[Name<'_>]) -> bool
-    ensures { IsTrue result → (members : MemberTrees) → names members ≡ map name_bytes listed.now
+/// How many names are held before these, of so many in all, where none is listed after these.
+fn held_before(listed: &[Name<'_>], count: usize) -> usize
+    ensures { result ≡ held_before listed.now count }
+{
+    for name in listed {
+        if let Name::Held(place) = name {
+            return *place;
+        }
+    }
+    count
+}
+
+/// Whether the names are pairwise different: each is compared with each.
+fn few_are_apart(listed: &[Name<'_>], held: &[Vec<u8>]) -> bool
+    ensures { IsTrue result → (members : MemberTrees) → names members ≡ map (name_bytes held.now) listed.now
         → HasDistinctNames members }
 {
     let mut rest = listed;
     while let [first, others @ ..] = rest {
-        if !is_new(first, others) {
+        if !is_new(first.bytes(held), others, held) {
             return false;
         }
         rest = others;
@@ -117,134 +164,96 @@ fn few_are_apart(listed: &[Name<'_>]) -> bool
     true
 }
 
-/// Whether the name is none of these, and where there are any neither it nor one of them has an escape.
-fn is_new(name: &Name<'_>, listed: &[Name<'_>]) -> bool
-    ensures { IsTrue result → (members : MemberTrees) → names members ≡ map name_bytes listed.now
-        → IsNewName (name_bytes name.now) members }
+/// Whether the name is none of these.
+fn is_new(name: &[u8], listed: &[Name<'_>], held: &[Vec<u8>]) -> bool
+    ensures { IsTrue result → (members : MemberTrees) → names members ≡ map (name_bytes held.now) listed.now
+        → IsNewName name.now members }
 {
-    let Name::AsWritten(name) = name else {
-        return listed.is_empty();
-    };
     for other in listed {
-        if !is_other(name, other) {
+        if other.bytes(held) == name {
             return false;
         }
     }
     true
 }
 
-/// Whether this name without escapes has none either, and is another one.
-#[inline(always)]
-fn is_other(name: &[u8], other: &Name<'_>) -> bool
-    ensures { IsTrue result → name_bytes other.now ≢ name.now }
-{
-    match other {
-        Name::AsWritten(other) => *other != name,
-        Name::Escaped(_) => false,
-    }
-}
-
 /// Whether the names are pairwise different: by their prints, and where two of these are equal by the names themselves.
 #[inline(never)]
-fn many_are_apart(alloc: Global, listed: &[Name<'_>]) -> bool
-    ensures { IsTrue result → (members : MemberTrees) → names members ≡ map name_bytes listed.now
+fn many_are_apart(alloc: Global, listed: &[Name<'_>], held: &[Vec<u8>]) -> bool
+    ensures { IsTrue result → (members : MemberTrees) → names members ≡ map (name_bytes held.now) listed.now
         → HasDistinctNames members }
 {
-    if are_sieved_apart(alloc, listed) {
+    let are_few = listed.len() <= MAX_COMPARED;
+    if are_few && is_any_held(listed, held) {
+        return few_are_apart(listed, held);
+    }
+    if are_sieved_apart(listed, held) {
         return true;
     }
-    if listed.len() <= MAX_COMPARED && few_are_apart(listed) {
-        return true;
+    if are_few {
+        return few_are_apart(listed, held);
     }
-    let Some(prints) = prints_of(alloc, listed) else {
+    let Some(prints) = prints_of(alloc, listed, held) else {
         return false;
     };
     if rise_when_sorted(prints) {
         return true;
     }
-    are_apart_by_bytes(alloc, listed)
-}
-
-/// The same by the names themselves: those with escapes are decoded, all are sorted, and neighbours compared.
-fn are_apart_by_bytes(alloc: Global, listed: &[Name<'_>]) -> bool
-    ensures { IsTrue result → (members : MemberTrees) → names members ≡ map name_bytes listed.now
-        → HasDistinctNames members }
-{
-    if let Some(all) = written_names(alloc, listed) {
-        return are_apart_when_sorted(all);
-    }
-    let Some(held) = decoded_names(alloc, listed) else {
-        return false;
-    };
-    let Some(all) = bytes_of(alloc, &held) else {
+    let Some(all) = bytes_of(alloc, listed, held) else {
         return false;
     };
     are_apart_when_sorted(all)
 }
 
-/// The names as they stand in the text, where no escape is in any of them.
-fn written_names<'a>(alloc: Global, listed: &[Name<'a>]) -> Option<Vec<&'a [u8]>>
-    ensures { IfSome result (λ all. map (λ name. name.now) all.items ≡ map name_bytes listed.now) }
-{
-    let Ok(mut all) = Vec::with_capacity(alloc, listed.len()) else {
-        return None;
-    };
-    for name in listed {
-        let Name::AsWritten(bytes) = name else {
-            return None;
-        };
-        all.push_reserved(*bytes);
-    }
-    Some(all)
+/// Whether an escape stands in any of the names. Where no name of an open object has one, none is looked at.
+fn is_any_held(listed: &[Name<'_>], held: &[Vec<u8>]) -> bool {
+    !held.is_empty() && listed.iter().any(|name| matches!(name, Name::Held(_)))
 }
 
 /// Whether a sieve tells each name from all before it. Where names are too many for that, none is looked at.
-fn are_sieved_apart(alloc: Global, listed: &[Name<'_>]) -> bool
-    ensures { IsTrue result → (members : MemberTrees) → names members ≡ map name_bytes listed.now
+fn are_sieved_apart(listed: &[Name<'_>], held: &[Vec<u8>]) -> bool
+    ensures { IsTrue result → (members : MemberTrees) → names members ≡ map (name_bytes held.now) listed.now
         → HasDistinctNames members }
 {
     if listed.len() <= FEW_SIEVED {
-        return pass_small(alloc, listed);
+        return pass_small(listed, held);
     }
     if listed.len() <= MAX_SIEVED {
-        return pass_large(alloc, listed);
+        return pass_large(listed, held);
     }
     false
 }
 
 /// Whether each name is told from all before it by two sets of 2,048 bits.
 #[inline(never)]
-fn pass_small(alloc: Global, listed: &[Name<'_>]) -> bool
-    ensures { IsTrue result → (members : MemberTrees) → names members ≡ map name_bytes listed.now
+fn pass_small(listed: &[Name<'_>], held: &[Vec<u8>]) -> bool
+    ensures { IsTrue result → (members : MemberTrees) → names members ≡ map (name_bytes held.now) listed.now
         → HasDistinctNames members }
 {
     let (mut first, mut second) = ([0; 32], [0; 32]);
-    pass(alloc, listed, &mut first, &mut second)
+    pass(listed, held, &mut first, &mut second)
 }
 
 /// The same by two sets of 16,384 bits.
 #[inline(never)]
-fn pass_large(alloc: Global, listed: &[Name<'_>]) -> bool
-    ensures { IsTrue result → (members : MemberTrees) → names members ≡ map name_bytes listed.now
+fn pass_large(listed: &[Name<'_>], held: &[Vec<u8>]) -> bool
+    ensures { IsTrue result → (members : MemberTrees) → names members ≡ map (name_bytes held.now) listed.now
         → HasDistinctNames members }
 {
     let (mut first, mut second) = ([0; 256], [0; 256]);
-    pass(alloc, listed, &mut first, &mut second)
+    pass(listed, held, &mut first, &mut second)
 }
 
 /// Whether each name is told from all before it by these two sets.
 #[inline(always)]
-fn pass(alloc: Global, listed: &[Name<'_>], first: &mut [u64], second: &mut [u64]) -> bool
+fn pass(listed: &[Name<'_>], held: &[Vec<u8>], first: &mut [u64], second: &mut [u64]) -> bool
     requires first { 0 < length first.old }
     requires second { 0 < length second.old }
-    ensures { IsTrue result → (members : MemberTrees) → names members ≡ map name_bytes listed.now
+    ensures { IsTrue result → (members : MemberTrees) → names members ≡ map (name_bytes held.now) listed.now
         → HasDistinctNames members }
 {
-    let mut scratch = Vec::new(alloc);
     for name in listed {
-        let Some(print) = print_by(name, &mut scratch) else {
-            return false;
-        };
+        let print = print_of(name.bytes(held));
         if !mark(first, second, print) {
             return false;
         }
@@ -252,63 +261,28 @@ fn pass(alloc: Global, listed: &[Name<'_>], first: &mut [u64], second: &mut [u64
     true
 }
 
-fn prints_of(alloc: Global, listed: &[Name<'_>]) -> Option<Vec<u64>>
+fn prints_of(alloc: Global, listed: &[Name<'_>], held: &[Vec<u8>]) -> Option<Vec<u64>>
     ensures { IfSome result (λ prints. prints.items ≡ map
-        (λ name. print_of (name_bytes name)) listed.now) }
+        (λ name. print_of (name_bytes held.now name)) listed.now) }
 {
     let Ok(mut prints) = Vec::with_capacity(alloc, listed.len()) else {
         return None;
     };
-    let mut scratch = Vec::new(alloc);
     for name in listed {
-        let print = print_by(name, &mut scratch)?;
-        prints.push_reserved(print);
+        prints.push_reserved(print_of(name.bytes(held)));
     }
     Some(prints)
 }
 
-/// The print of a name. What `scratch` held is dropped; it is taken for its memory.
-#[inline(always)]
-fn print_by(name: &Name<'_>, scratch: &mut Vec<u8>) -> Option<u64>
-    ensures { IfSome result (λ print. print ≡ print_of (name_bytes name.now)) }
+fn bytes_of<'b>(alloc: Global, listed: &'b [Name<'_>], held: &'b [Vec<u8>]) -> Option<Vec<&'b [u8]>>
+    ensures { IfSome result (λ all. map (λ name. name.now) all.items
+        ≡ map (name_bytes held.now) listed.now) }
 {
-    match name {
-        Name::AsWritten(name) => Some(print_of(name)),
-        Name::Escaped(text) => decoded_print(text, scratch),
-    }
-}
-
-/// The print of the name after whose opening mark the text goes on so.
-#[inline(never)]
-fn decoded_print(text: &[u8], scratch: &mut Vec<u8>) -> Option<u64>
-    ensures { IfSome result (λ print. print ≡ print_of (content_read (decoded text.now))) }
-{
-    decode_into(text, scratch)?;
-    Some(print_of(scratch))
-}
-
-fn decoded_names<'a>(alloc: Global, listed: &[Name<'a>]) -> Option<Vec<DecodedName<'a>>>
-    ensures { IfSome result (λ held. map decoded_bytes held.items ≡ map name_bytes listed.now) }
-{
-    let Ok(mut held) = Vec::with_capacity(alloc, listed.len()) else {
+    let Ok(mut all) = Vec::with_capacity(alloc, listed.len()) else {
         return None;
     };
     for name in listed {
-        let decoded = name.decoded(alloc)?;
-        held.push_reserved(decoded);
-    }
-    Some(held)
-}
-
-fn bytes_of<'b>(alloc: Global, held: &'b [DecodedName<'_>]) -> Option<Vec<&'b [u8]>>
-    ensures { IfSome result (λ all. map (λ name. name.now) all.items
-        ≡ map decoded_bytes held.now) }
-{
-    let Ok(mut all) = Vec::with_capacity(alloc, held.len()) else {
-        return None;
-    };
-    for name in held {
-        all.push_reserved(name.bytes());
+        all.push_reserved(name.bytes(held));
     }
     Some(all)
 }

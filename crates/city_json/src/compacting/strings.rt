@@ -1,14 +1,17 @@
 //! Strings and names: as they stand where no escape is in them, else written anew.
-ghost use Rattle.std.specs.Prelude.{◌≡◌, ◌+◌, ◌<◌, ◌≤◌, length, drop, slice_index, IfSome, OnSome, IsUtf8};
+ghost use Rattle.std.specs.Prelude.{◌≡◌, ◌+◌, ◌<◌, ◌≤◌, Some, List, ℕ, length, drop, slice_index, IfSome, OnSome, IsUtf8};
+ghost use Rattle.std.specs.List.{flat_map};
 ghost use Rattle.city_json.specs.Bytes.{quotation_mark};
+ghost use Rattle.city_json.specs.Compact.{written};
 ghost use Rattle.city_json.specs.Compacting.{shown, Taken, TakenAnew, TakenEscape, TakenName, TakenStart};
+ghost use Rattle.city_json.specs.ReadString.{decoded};
 
 use super::draft::{Draft, copy_to, skip};
-use super::name::Name;
 use super::scalars::plain_string;
 use crate::printing::put_character;
 use crate::reading::plain::plain_len;
-use crate::reading::strings::escape;
+use crate::reading::strings::{decode_into, escape};
+use std::alloc::Global;
 
 /// A string whose opening mark is at `at`: where it ends.
 #[inline(always)]
@@ -104,9 +107,33 @@ fn respelled_name<'a>(text: &'a [u8], at: usize, draft: &mut Draft<'a>) -> Optio
         (shown draft.new.line text.now draft.new.from end)
         draft.old.names draft.new.names) }
 {
+    copy_to(text, at, at, draft)?;
+    let mark = draft.line.items().len();
     let end = respelled(text, at, draft)?;
-    draft.names.push(Name::Escaped(&text[at + 1..]))?;
+    copy_to(text, end - 1, end - 1, draft)?;
+    let content = content_of(
+        draft.alloc,
+        &text[at + 1..],
+        &draft.line.items()[mark + 1..],
+    )?;
+    draft.names.push_held(content)?;
     Some(end)
+}
+
+/// The content of the string whose opening mark stands before `bytes`, and whose characters are written as in `line`.
+fn content_of(alloc: Global, bytes: &[u8], line: &[u8]) -> Option<Vec<u8>>
+    ensures { IfSome result (λ name. (content rest : List ℕ) → decoded bytes.now ≡ Some (content, rest)
+        → flat_map written content ≡ line.now → content ≡ name.items) }
+{
+    if plain_len(line) == line.len() {
+        let Ok(name) = line.to_vec(alloc) else {
+            return None;
+        };
+        return Some(name);
+    }
+    let mut name = Vec::new(alloc);
+    decode_into(bytes, &mut name)?;
+    Some(name)
 }
 
 /// A member's name whose opening mark is at `at`: where it ends. It stands last among the names.
@@ -126,7 +153,7 @@ fn name<'a>(text: &'a [u8], at: usize, draft: &mut Draft<'a>) -> Option<usize>
 {
     match plain_string(text, at + 1) {
         Some(close) => {
-            draft.names.push(Name::AsWritten(&text[at + 1..close]))?;
+            draft.names.push(&text[at + 1..close])?;
             Some(close + 1)
         }
         None => respelled_name(text, at, draft),

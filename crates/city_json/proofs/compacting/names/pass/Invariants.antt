@@ -8,5 +8,6 @@ abbrev pub invariant-loop-name : goal.invariant-loop-name
 invariant-loop-name l = record {
   first : 0 < length l.first;
   second : 0 < length l.second;
-  told : AreTold l.first l.second (map (λ name. print_of (name_bytes name)) (take l.name-index l.listed));
+  told : AreTold l.first l.second
+      (map (λ name. print_of (name_bytes l.held name)) (take l.name-index l.listed));
 }
