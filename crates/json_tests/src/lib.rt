@@ -5,9 +5,13 @@
 #[cfg(test)]
 mod blocks;
 #[cfg(test)]
+mod chance;
+#[cfg(test)]
 mod compacting;
 #[cfg(test)]
 mod depth;
+#[cfg(test)]
+mod drawn_names;
 #[cfg(test)]
 mod lent;
 #[cfg(test)]

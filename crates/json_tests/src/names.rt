@@ -132,7 +132,7 @@ struct Objects {
     repeated: &'static str,
 }
 
-const OBJECTS: [Objects; 7] = [
+const OBJECTS: [Objects; 8] = [
     Objects {
         names: Names::Alike,
         counts: &[
@@ -171,6 +171,13 @@ const OBJECTS: [Objects; 7] = [
         distinct: "",
         compact: "",
         repeated: ",\"attribute 0000 attribute\":null",
+    },
+    Objects {
+        names: Names::OnePrint,
+        counts: &[1000],
+        distinct: "",
+        compact: "",
+        repeated: ",\"attribute 0999 attribute\":null",
     },
     Objects {
         names: Names::OneHash,
@@ -251,7 +258,7 @@ fn is_decoded_at(
 
 const ESCAPED: [Names; 3] = [Names::Streets, Names::OnePrint, Names::Lines];
 
-const COUNTS: [usize; 10] = [2, 6, 7, 16, 17, 40, 64, 65, 300, 2000];
+const COUNTS: [usize; 14] = [2, 6, 7, 16, 17, 40, 63, 64, 65, 300, 511, 512, 513, 2000];
 
 fn expect_decoded(rt: &(impl Abort + AllocGlobal), names: Names, count: usize) {
     for place in [0, count / 2, count.saturating_sub(1)] {

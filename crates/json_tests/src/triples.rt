@@ -1,4 +1,5 @@
 //! Of triples of whole numbers, as vertices are: which are noted, and that a text has one answer with and without them.
+use crate::chance::Chance;
 use crate::texts::{Pieces, expect, expect_at, has_one_answer, text_of};
 use byte_streams::Line;
 use city_json::{CompactedFeature, Span, compact, compact_feature, compact_given};
@@ -320,27 +321,6 @@ fn are_triples(text: &[u8]) -> bool {
         }
     }
     false
-}
-
-/// Numbers that look as if they were drawn.
-#[derive(Drop)]
-struct Chance {
-    state: u64,
-}
-
-impl Chance {
-    fn below(&mut self, count: u64) -> u64 {
-        self.state = self
-            .state
-            .wrapping_mul(6_364_136_223_846_793_005)
-            .wrapping_add(1_442_695_040_888_963_407);
-        (self.state >> 33).checked_rem(count).unwrap_or(0)
-    }
-
-    fn one_of(&mut self, bytes: &[u8]) -> u8 {
-        let at = self.below(bytes.len() as u64);
-        bytes.get(at as usize).copied().unwrap_or(b'0')
-    }
 }
 
 fn put_number(text: &mut Vec<u8>, chance: &mut Chance) -> Result<(), AllocError> {
