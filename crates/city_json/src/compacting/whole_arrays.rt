@@ -99,8 +99,8 @@ fn brackets_of(block: u8x64, before: u8, zeroed: bool) -> Option<Brackets>
 }
 
 /// Whether nesting stays above 0 throughout a block, from one closing bracket to the next.
-#[inline(never)]
-fn stays_open_slowly(depth: usize, opens: u64, closes: u64) -> bool
+#[inline(always)]
+fn stays_open_by_brackets(depth: usize, opens: u64, closes: u64) -> bool
     requires { depth ≤ 2000 }
     ensures { IsTrue result → (bytes : List ℕ) → length bytes ≤ 64
         → opens ≡ mask_l (map (λ b. b == open_bracket) bytes)
@@ -127,6 +127,17 @@ fn stays_open_slowly(depth: usize, opens: u64, closes: u64) -> bool
     false
 }
 
+/// The same as a call, where it is seldom needed.
+#[inline(never)]
+fn stays_open_slowly(depth: usize, opens: u64, closes: u64) -> bool
+    requires { depth ≤ 2000 }
+    ensures { IsTrue result → (bytes : List ℕ) → length bytes ≤ 64
+        → opens ≡ mask_l (map (λ b. b == open_bracket) bytes)
+        → closes ≡ mask_l (map (λ b. b == close_bracket) bytes) → StaysOpen depth bytes }
+{
+    stays_open_by_brackets(depth, opens, closes)
+}
+
 /// How many arrays are open after a block, where nesting stays above 0 throughout it. Where fewer close than were open
 /// it does, in whatever order the brackets stand.
 #[inline(always)]
@@ -150,10 +161,10 @@ fn open_after(depth: usize, opens: u64, closes: u64) -> Option<usize>
     Some(depth + opened - closed)
 }
 
-/// Whether nesting stays above 0 throughout the block: 16 bytes at a time, in which there are mostly fewer closing
+/// Whether nesting stays above 0 throughout a block: 16 bytes at a time, in which there are mostly fewer closing
 /// brackets than arrays that are open.
 #[inline(always)]
-fn stays_open(depth: usize, opens: u64, closes: u64) -> bool
+fn stays_open_by_parts(depth: usize, opens: u64, closes: u64) -> bool
     requires { depth ≤ 1000 }
     ensures { IsTrue result → (bytes : List ℕ) → length bytes ≤ 64
         → opens ≡ mask_l (map (λ b. b == open_bracket) bytes)
@@ -171,6 +182,28 @@ fn stays_open(depth: usize, opens: u64, closes: u64) -> bool
         down >>= 16;
     }
     true
+}
+
+/// Where for each array that is open so many brackets close in a block, or more, there are mostly 16 bytes that close as
+/// many as are open.
+const MANY_CLOSED: usize = 3;
+
+/// Whether nesting stays above 0 throughout the block. It does where fewer brackets close than were open.
+#[inline(always)]
+fn stays_open(depth: usize, opens: u64, closes: u64) -> bool
+    requires { depth ≤ 1000 }
+    ensures { IsTrue result → (bytes : List ℕ) → length bytes ≤ 64
+        → opens ≡ mask_l (map (λ b. b == open_bracket) bytes)
+        → closes ≡ mask_l (map (λ b. b == close_bracket) bytes) → StaysOpen depth bytes }
+{
+    let closed = closes.count_ones() as usize;
+    if depth > closed {
+        return true;
+    }
+    if closed >= MANY_CLOSED * depth {
+        return stays_open_by_brackets(depth, opens, closes);
+    }
+    stays_open_by_parts(depth, opens, closes)
 }
 
 /// How many arrays are open at a place, how deep its items may still nest, and whether a zero that begins a number

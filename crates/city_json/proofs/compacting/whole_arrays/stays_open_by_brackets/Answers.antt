@@ -4,7 +4,7 @@ use Rattle.std.proofs.lemmas.Nat.{ones-le}
 use Rattle.std.specs.Int.Count.{count_trailing_zeros, ones}
 use Rattle.city_json.specs.Whole.{StaysOpen}
 use Rattle.city_json.proofs.WholeArrays.{round_goes, stays_none, powers}
-use Rattle.city_json.proofs.compacting.whole_arrays.stays_open_slowly.Goals as goal
+use Rattle.city_json.proofs.compacting.whole_arrays.stays_open_by_brackets.Goals as goal
 
 pub returns-then-down-eq0 : goal.returns-then-down-eq0
 returns-then-down-eq0 c = λ _ bytes short is_up is_down.
