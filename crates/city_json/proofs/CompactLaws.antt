@@ -37,7 +37,7 @@ mutual
     spelled-more_items others w.1,
   )
 
-  spelled-more_items : (items : ItemTrees) → AreWritableItems items → SpellsMoreItems items (compact_more_items items)
+  pub spelled-more_items : (items : ItemTrees) → AreWritableItems items → SpellsMoreItems items (compact_more_items items)
   spelled-more_items no_items w = refl
   spelled-more_items (item value others) w = (
     compact value,

@@ -14,6 +14,7 @@ pub mod Fronts
 pub mod GivenTexts
 pub mod HeldNames
 pub mod HiddenString
+pub mod ItemsGoOn
 pub mod ListEnds
 pub mod MemberEnds
 pub mod MemberPlaces

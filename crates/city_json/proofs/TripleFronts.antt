@@ -6,11 +6,11 @@ use Rattle.std.proofs.lemmas.Simd.{bit_mask_l}
 use Rattle.std.specs.Char.{is_ascii_digit}
 use Rattle.std.specs.Int.{bit_at}
 use Rattle.std.specs.Simd.Lanes.{mask_l}
-use Rattle.city_json.proofs.Triples.{digits_after, front_closes, front_goes_on, short_negative, short_positive, triple_text}
+use Rattle.city_json.proofs.Triples.{digits_after, front_closes, front_goes_on, passes_none, short_negative, short_positive, triple_text}
 use Rattle.city_json.proofs.TripleSums.{bit_cases, both_bits, no_bits}
 use Rattle.city_json.specs.Bytes.{digit_zero, minus, comma, open_bracket, close_bracket}
 use Rattle.city_json.specs.Triples.{IsShortNumeral}
-use Rattle.city_json.specs.TriplesFound.{AreApart, AreKinds, AreNext, ClosesTriples, DoEndsFit, DoNumbersFit, HasBit, HasNoBit, HasNoneUpTo, IsAfter, IsInNumber, IsTripleText, is_separator}
+use Rattle.city_json.specs.TriplesFound.{AreApart, AreKinds, AreNext, ClosesTriples, DoEndsFit, DoNumbersFit, HasBit, HasNoBit, HasNoneUpTo, IsAfter, IsInNumber, IsTripleText, PassesTriples, is_separator}
 
 -- ---- a byte of a kind
 found : (f : ℕ → Bool) (bytes : List ℕ) (i : ℕ) → get_or (map f bytes) i false ≡ true
@@ -113,7 +113,7 @@ record EndsWithTriple (bytes : List ℕ) (r : ℕ) : Type 0 where
   len : ℕ
   order : len ≤ r + 1
   is : IsTripleText bytes len (r + 1)
-  so_far : (more : List ℕ) → ClosesTriples more → ClosesTriples (take len bytes ++ more)
+  so_far : PassesTriples (take len bytes)
 
 -- ---- the bits of a block
 module _ (bytes : List ℕ) (long : length bytes ≡ 64) (digits zeros minuses commas opens closes inner starts : ℕ)
@@ -317,7 +317,7 @@ module _ (bytes : List ℕ) (long : length bytes ≡ 64) (digits zeros minuses c
 
     -- one triple after another, up to the one that ends there
     walk : (n p r : ℕ) → r < p + n → r < q → p ≤ r → HasBit opens p → get_or bytes r 0 ≡ close_bracket
-        → ((more : List ℕ) → ClosesTriples more → ClosesTriples (take p bytes ++ more)) → EndsWithTriple bytes r
+        → PassesTriples (take p bytes) → EndsWithTriple bytes r
     walk zero p r few before order opened closing so_far = absurd (omega arith)
     walk (suc n) p r few before order opened closing so_far =
         let t = triple_from p r before order opened closing in
@@ -329,8 +329,8 @@ module _ (bytes : List ℕ) (long : length bytes ≡ 64) (digits zeros minuses c
               (λ e. absurd (omega (arith, e))) in
               let next : t.last + 2 ≡ t.last + 1 + 1 = omega arith in
               walk n (t.last + 2) r (omega (arith, few, t.order)) before (omega (arith, onward)) more.0 closing
-              (λ rest closes. subst (λ k. ClosesTriples (take k bytes ++ rest)) (sym next)
-              (front_goes_on bytes p (t.last + 1) comma (omega (arith, t.order)) (omega (arith, long, onward)) comma_there t.is so_far refl rest closes))
+              (subst (λ k. PassesTriples (take k bytes)) (sym next)
+              (front_goes_on bytes p (t.last + 1) comma (omega (arith, t.order)) (omega (arith, long, onward)) comma_there t.is so_far refl))
           | inr same ↦ record {
             len = p;
             order = omega arith;
@@ -342,7 +342,7 @@ module _ (bytes : List ℕ) (long : length bytes ≡ 64) (digits zeros minuses c
     last_triple : (r : ℕ) → r < q → HasBit third r → EndsWithTriple bytes r
     last_triple r before bit =
         walk (r + 1) 0 r (omega arith) before (omega arith) ((ends 0 (omega arith)).begins refl)
-        (close_at r ((ends r (omega arith)).after_third bit)) (λ more closes. closes)
+        (close_at r ((ends r (omega arith)).after_third bit)) passes_none
 
     closes_front : (r : ℕ) → q ≡ r + 1 → HasBit third r → HasBit closes q → ClosesTriples (take (q + 1) bytes)
     closes_front r is bit closing =
@@ -350,8 +350,7 @@ module _ (bytes : List ℕ) (long : length bytes ≡ 64) (digits zeros minuses c
         front_closes bytes t.len q close_bracket (omega (arith, t.order)) (omega arith) (close_at q closing)
         (subst (IsTripleText bytes t.len) (sym is) t.is) t.so_far refl
 
-    goes_on_front : (r : ℕ) → q ≡ r + 1 → HasBit third r → HasBit commas q
-        → (more : List ℕ) → ClosesTriples more → ClosesTriples (take (q + 1) bytes ++ more)
+    goes_on_front : (r : ℕ) → q ≡ r + 1 → HasBit third r → HasBit commas q → PassesTriples (take (q + 1) bytes)
     goes_on_front r is bit going =
         let t = last_triple r (omega arith) bit in
         front_goes_on bytes t.len q comma (omega (arith, t.order)) (omega arith) (comma_at q going)
@@ -377,8 +376,7 @@ module _ (bytes : List ℕ) (long : length bytes ≡ 64) (digits zeros minuses c
         closes_front first second third at inside next_first next_second next_third ends_to numbers_to last.0 last.1
         last.2 both.1
 
-    pub up_to_comma : HasBit (bit_and after commas) at
-        → (more : List ℕ) → ClosesTriples more → ClosesTriples (take (at + 1) bytes ++ more)
+    pub up_to_comma : HasBit (bit_and after commas) at → PassesTriples (take (at + 1) bytes)
     up_to_comma has =
         let both = both_bits after commas at has in
         let last = behind_last third after at is_after inside both.0 in
@@ -387,13 +385,12 @@ module _ (bytes : List ℕ) (long : length bytes ≡ 64) (digits zeros minuses c
 
 -- up to the last comma that has a bit
 pub goes_on_to_last : (bytes : List ℕ) (going wrong marks len : ℕ) → len ≤ 64
-    → ((at : ℕ) → at < 64 → HasBit going at → HasNoneUpTo at wrong
-    → (more : List ℕ) → ClosesTriples more → ClosesTriples (take (at + 1) bytes ++ more))
+    → ((at : ℕ) → at < 64 → HasBit going at → HasNoneUpTo at wrong → PassesTriples (take (at + 1) bytes))
     → ((i : ℕ) → HasBit marks i → HasBit going i × HasNoneUpTo i wrong) → (0 < len → HasBit marks (len - 1))
-    → (more : List ℕ) → ClosesTriples more → ClosesTriples (take len bytes ++ more)
-goes_on_to_last bytes going wrong marks zero within goes_on sound last more closes = closes
-goes_on_to_last bytes going wrong marks (suc n) within goes_on sound last more closes =
+    → PassesTriples (take len bytes)
+goes_on_to_last bytes going wrong marks zero within goes_on sound last = passes_none
+goes_on_to_last bytes going wrong marks (suc n) within goes_on sound last =
     let back : suc n - 1 ≡ n = omega arith in
     let next : n + 1 ≡ suc n = omega arith in
     let is = sound n (ap (bit_at marks) (sym back) ∙ last (omega arith)) in
-    subst (λ k. ClosesTriples (take k bytes ++ more)) next (goes_on n (omega arith) is.0 is.1 more closes)
+    subst (λ k. PassesTriples (take k bytes)) next (goes_on n (omega arith) is.0 is.1)

@@ -11,9 +11,9 @@ use Rattle.city_json.proofs.Places.{slice_more, slice_one}
 use Rattle.city_json.specs.Bytes.{digit_zero, minus, comma, open_bracket, close_bracket}
 use Rattle.city_json.specs.Compact.{compact, compact_items}
 use Rattle.city_json.specs.Number.{IsWhole}
-use Rattle.city_json.specs.Tree.{Tree, no_items, item}
-use Rattle.city_json.specs.Triples.{IsShortNumeral, IsTriple, IsTriplesText, three_numbers}
-use Rattle.city_json.specs.TriplesFound.{ClosesTriples, IsInNumber, IsTripleText, is_separator}
+use Rattle.city_json.specs.Tree.{Tree, ItemTrees, no_items, item}
+use Rattle.city_json.specs.Triples.{AreTriples, IsShortNumeral, IsTriple, IsTriplesText, three_numbers}
+use Rattle.city_json.specs.TriplesFound.{ClosesTriples, IsInNumber, IsTripleText, PassesTriples, is_separator, with_commas}
 
 -- ---- numbers
 digit_range : (c : ℕ) → is_ascii_digit c ≡ true → (48 ≤ c) × (c ≤ 57)
@@ -169,10 +169,43 @@ one_more value more triple closes = record {
       ∙ sym (append_assoc (compact value) (comma ∷ compact_items (item closes.first closes.others)) (close_bracket ∷ []));
 }
 
+pub passes_none : PassesTriples []
+passes_none = record { items = no_items; triples = tt; written = refl }
+
+pub passes_one : (value : Tree) → IsTriple value → PassesTriples (compact value ++ comma ∷ [])
+passes_one value triple = record { items = item value no_items; triples = (triple, tt); written = refl }
+
+items_pass : (items : ItemTrees) → AreTriples items → (more : List ℕ) → PassesTriples more
+    → PassesTriples (with_commas items ++ more)
+items_pass no_items are more passed = passed
+items_pass (item value others) are more passed =
+    let rest = items_pass others are.1 more passed in
+    record {
+      items = item value rest.items;
+      triples = (are.0, rest.triples);
+      written = append_assoc (compact value) (comma ∷ with_commas others) more
+          ∙ ap (λ l. compact value ++ comma ∷ l) rest.written;
+    }
+
+items_close : (items : ItemTrees) → AreTriples items → (more : List ℕ) → ClosesTriples more
+    → ClosesTriples (with_commas items ++ more)
+items_close no_items are more closes = closes
+items_close (item value others) are more closes =
+    subst ClosesTriples (sym (append_assoc (compact value) (comma ∷ with_commas others) more))
+    (one_more value (with_commas others ++ more) are.0 (items_close others are.1 more closes))
+
+pub both_pass : (front more : List ℕ) → PassesTriples front → PassesTriples more → PassesTriples (front ++ more)
+both_pass front more passed further =
+    subst (λ l. PassesTriples (l ++ more)) (sym passed.written) (items_pass passed.items passed.triples more further)
+
+pub passed_close : (front more : List ℕ) → PassesTriples front → ClosesTriples more → ClosesTriples (front ++ more)
+passed_close front more passed closes =
+    subst (λ l. ClosesTriples (l ++ more)) (sym passed.written) (items_close passed.items passed.triples more closes)
+
 -- ---- the front of a block: a triple more, whose text ends at `after`, and the byte there
 module _ (bytes : List ℕ) (len after mark : ℕ) (order : len ≤ after) (within : after < length bytes)
     (is : get_or bytes after 0 ≡ mark) (t : IsTripleText bytes len after)
-    (before : (more : List ℕ) → ClosesTriples more → ClosesTriples (take len bytes ++ more)) where
+    (before : PassesTriples (take len bytes)) where
   from_start : (n : ℕ) → slice_range bytes 0 n ≡ take n bytes
   from_start n = ap (λ k. take k bytes) (let e : n - 0 ≡ n = omega arith in e)
 
@@ -187,17 +220,12 @@ module _ (bytes : List ℕ) (len after mark : ℕ) (order : len ≤ after) (with
   pub front_closes : mark ≡ close_bracket → ClosesTriples (take (after + 1) bytes)
   front_closes closing = subst ClosesTriples
       (ap (λ m. take len bytes ++ (compact t.value ++ m ∷ [])) (sym closing) ∙ sym front_more)
-      (before _ (one_closes t.value t.triple))
+      (passed_close _ _ before (one_closes t.value t.triple))
 
-  pub front_goes_on : mark ≡ comma → (more : List ℕ) → ClosesTriples more
-      → ClosesTriples (take (after + 1) bytes ++ more)
-  front_goes_on going more closes = subst ClosesTriples
-      (ap (λ m. take len bytes ++ (compact t.value ++ m ∷ more)) (sym going) ∙ joined ∙ ap (λ l. l ++ more) (sym front_more))
-      (before _ (one_more t.value more t.triple closes))
-    where
-      joined : take len bytes ++ (compact t.value ++ mark ∷ more)
-          ≡ (take len bytes ++ (compact t.value ++ mark ∷ [])) ++ more
-      joined = simp append_assoc
+  pub front_goes_on : mark ≡ comma → PassesTriples (take (after + 1) bytes)
+  front_goes_on going = subst PassesTriples
+      (ap (λ m. take len bytes ++ (compact t.value ++ m ∷ [])) (sym going) ∙ sym front_more)
+      (both_pass _ _ before (passes_one t.value t.triple))
 
 -- ---- the front of a block that was taken of a text
 pub front_of_text : (text block : List ℕ) (at len count : ℕ) → len ≤ count → take count block ≡ take count (drop at text)
@@ -206,12 +234,6 @@ front_of_text text block at len count few same =
     let less : (at + len) - at ≡ len = omega arith in
     sym (take-take len count block few) ∙ ap (take len) same ∙ take-take len count (drop at text) few
     ∙ ap (λ n. take n (drop at text)) (sym less)
-
-pub goes_on_in : (text block : List ℕ) (at len : ℕ) → take len block ≡ slice_range text at (at + len)
-    → ((more : List ℕ) → ClosesTriples more → ClosesTriples (take len block ++ more))
-    → (more : List ℕ) → ClosesTriples more → ClosesTriples (slice_range text at (at + len) ++ more)
-goes_on_in text block at len same goes more closes =
-    subst (λ l. ClosesTriples (l ++ more)) same (goes more closes)
 
 -- ---- the whole array
 pub triples_are : (text : List ℕ) (at end : ℕ) → at + 1 ≤ end → at < length text → get_or text at 0 ≡ open_bracket
@@ -223,25 +245,17 @@ triples_are text at end order within opened closes = record {
 }
 
 -- from the front that was gone through up to the end of another
-pub fronts_more : (text : List ℕ) (at i next : ℕ) → at + 1 ≤ i → i ≤ next
-    → ((more : List ℕ) → ClosesTriples more → ClosesTriples (slice_range text (at + 1) i ++ more))
-    → ((more : List ℕ) → ClosesTriples more → ClosesTriples (slice_range text i next ++ more))
-    → (more : List ℕ) → ClosesTriples more → ClosesTriples (slice_range text (at + 1) next ++ more)
-fronts_more text at i next order onward before goes more closes =
-    subst ClosesTriples
-    (sym (append_assoc (slice_range text (at + 1) i) (slice_range text i next) more)
-    ∙ ap (λ l. l ++ more) (sym (slice_more text (at + 1) i next order onward)))
-    (before _ (goes more closes))
+pub fronts_more : (text : List ℕ) (at i next : ℕ) → at + 1 ≤ i → i ≤ next → PassesTriples (slice_range text (at + 1) i)
+    → PassesTriples (slice_range text i next) → PassesTriples (slice_range text (at + 1) next)
+fronts_more text at i next order onward before goes =
+    subst PassesTriples (sym (slice_more text (at + 1) i next order onward)) (both_pass _ _ before goes)
 
 pub fronts_close : (text : List ℕ) (at i end : ℕ) → at + 1 ≤ i → i ≤ end → at < length text
-    → get_or text at 0 ≡ open_bracket
-    → ((more : List ℕ) → ClosesTriples more → ClosesTriples (slice_range text (at + 1) i ++ more))
+    → get_or text at 0 ≡ open_bracket → PassesTriples (slice_range text (at + 1) i)
     → ClosesTriples (slice_range text i end) → IsTriplesText text at end
 fronts_close text at i end order onward within opened before closes =
     triples_are text at end (omega arith) within opened
-    (subst ClosesTriples (sym (slice_more text (at + 1) i end order onward)) (before _ closes))
+    (subst ClosesTriples (sym (slice_more text (at + 1) i end order onward)) (passed_close _ _ before closes))
 
-pub no_front : (text : List ℕ) (at i : ℕ) → i ≡ at + 1 → (more : List ℕ) → ClosesTriples more
-    → ClosesTriples (slice_range text (at + 1) i ++ more)
-no_front text at i is more closes =
-    subst (λ l. ClosesTriples (l ++ more)) (sym (ap (slice_range text (at + 1)) is ∙ between_none text (at + 1))) closes
+pub no_front : (text : List ℕ) (at : ℕ) → PassesTriples (slice_range text at at)
+no_front text at = subst PassesTriples (sym (between_none text at)) passes_none

@@ -29,7 +29,7 @@ number_is text n = record {
     sign (inl none) = inl none
     sign (inr some) = inr some.0
 
-writable_triple : (value : Tree) → IsTriple value → IsWritable value
+pub writable_triple : (value : Tree) → IsTriple value → IsWritable value
 writable_triple value t = subst IsWritable (sym t.is)
     (number_is t.x t.short_x, (number_is t.y t.short_y, (number_is t.z t.short_z, tt)))
 
@@ -37,17 +37,20 @@ pub writable_triples : (items : ItemTrees) → AreTriples items → AreWritableI
 writable_triples no_items are = tt
 writable_triples (item value others) are = (writable_triple value are.0, writable_triples others are.1)
 
+pub triple_distinct : (value : Tree) → IsTriple value → IsDistinct value
+triple_distinct value t = subst IsDistinct (sym t.is) (tt, (tt, (tt, tt)))
+
+pub triple_flat : (value : Tree) → IsTriple value → depth value ≡ 1
+triple_flat value t = ap depth t.is
+
 distinct_triples : (items : ItemTrees) → AreTriples items → AreDistinctItems items
 distinct_triples no_items are = tt
-distinct_triples (item value others) are = (
-  subst IsDistinct (sym are.0.is) (tt, (tt, (tt, tt))),
-  distinct_triples others are.1,
-)
+distinct_triples (item value others) are = (triple_distinct value are.0, distinct_triples others are.1)
 
 flat_triples : (items : ItemTrees) → AreTriples items → items_depth items ≤ 1
 flat_triples no_items are = omega arith
 flat_triples (item value others) are =
-    let one : depth value ≡ 1 = ap depth are.0.is in
+    let one : depth value ≡ 1 = triple_flat value are.0 in
     let rest = flat_triples others are.1 in
     omega (arith, one, rest)
 

@@ -5,7 +5,7 @@ use Rattle.std.specs.Simd.Lanes.{mask_l}
 use Rattle.std.specs.Int.{bit_at}
 use Rattle.city_json.specs.Bytes.{digit_zero, minus, comma, open_bracket, close_bracket}
 use Rattle.city_json.specs.Compact.{compact, compact_items}
-use Rattle.city_json.specs.Tree.{Tree, ItemTrees, item}
+use Rattle.city_json.specs.Tree.{Tree, ItemTrees, no_items, item}
 use Rattle.city_json.specs.Triples.{AreTriples, IsTriple}
 
 -- such an array stands between two places
@@ -21,6 +21,16 @@ pub record ClosesTriples (text : List ℕ) : Type 0 where
   pub triple : IsTriple first
   pub triples : AreTriples others
   pub written : text ≡ compact_items (item first others) ++ close_bracket ∷ []
+
+abbrev pub with_commas : ItemTrees → List ℕ
+with_commas no_items = []
+with_commas (item value others) = compact value ++ comma ∷ with_commas others
+
+-- any number of them, each with a comma after it
+pub record PassesTriples (text : List ℕ) : Type 0 where
+  pub items : ItemTrees
+  pub triples : AreTriples items
+  pub written : text ≡ with_commas items
 
 -- a byte that is neither a digit nor a minus sign
 abbrev pub is_separator : ℕ → Bool

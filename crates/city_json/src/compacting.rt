@@ -33,9 +33,7 @@ use draft::{begun, copy_to, skip_white};
 pub use ends::{string_end, value_end};
 pub use lent::{LentFeature, LentText, compact_lent};
 pub use members::members_of_compact;
-pub use parts::{
-    Compacted, CompactedFeature, Part, Span, compact_feature, compact_given, compact_parts,
-};
+pub use parts::{Compacted, CompactedFeature, Part, Span, compact_given, compact_parts};
 use std::alloc::Global;
 use values::value;
 

@@ -16,8 +16,8 @@ pub use byte_streams::{
     Bin, Device, Fault, Intake, Line, Sequence, Sink, Source, Stop, Tape, read_all, write_all,
 };
 pub use compacting::{
-    Compacted, CompactedFeature, LentFeature, LentText, Part, Span, compact, compact_feature,
-    compact_given, compact_lent, compact_parts, members_of_compact, string_end, value_end,
+    Compacted, CompactedFeature, LentFeature, LentText, Part, Span, compact, compact_given,
+    compact_lent, compact_parts, members_of_compact, string_end, value_end,
 };
 pub use comparing::same;
 pub use json::{Items, Json, Member, Members};

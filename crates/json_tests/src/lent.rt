@@ -2,7 +2,7 @@
 //! told of them as of others.
 use crate::texts::{expect, expect_at, text_of};
 use byte_streams::Line;
-use city_json::{CompactedFeature, LentFeature, LentText, compact_feature, compact_lent};
+use city_json::{CompactedFeature, LentFeature, LentText, compact_given, compact_lent};
 use std::alloc::{AllocError, Global};
 
 /// Texts that are their own compact text but for white space at their end, and how long they are without it.
@@ -64,14 +64,15 @@ fn is_same(feature: &LentFeature<'_>, other: &CompactedFeature) -> bool {
         && feature.triples == other.triples
 }
 
-/// Whether the text is told of as one that is not lent.
+/// Whether the text is told of as one that is given away.
 fn has_same_feature(alloc: Global, text: &[u8]) -> bool {
-    match (
-        lent(alloc, text),
-        compact_feature(alloc, text, Line::new(alloc)),
-    ) {
-        (Some(feature), Some(other)) => is_same(&feature, &other),
-        (None, None) => true,
+    let Ok(copy) = text.to_vec(alloc) else {
+        return false;
+    };
+    let given = compact_given(alloc, Line::from_vec(copy), Line::new(alloc));
+    match (lent(alloc, text), given) {
+        (Some(feature), Ok(other)) => is_same(&feature, &other),
+        (None, Err(back)) => back.items() == text,
         _ => false,
     }
 }

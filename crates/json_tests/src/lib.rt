@@ -13,6 +13,8 @@ mod depth;
 #[cfg(test)]
 mod drawn_names;
 #[cfg(test)]
+mod going_on;
+#[cfg(test)]
 mod lent;
 #[cfg(test)]
 mod names;

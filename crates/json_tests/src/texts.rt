@@ -44,6 +44,11 @@ fn written(alloc: Global, text: &[u8]) -> Result<Line, Fault> {
     Ok(line)
 }
 
+/// The compact text, where the reader takes the text.
+pub(crate) fn read_and_printed(alloc: Global, text: &[u8]) -> Option<Line> {
+    written(alloc, text).ok()
+}
+
 fn is_written(alloc: Global, text: &[u8], wanted: &[u8]) -> bool {
     match written(alloc, text) {
         Ok(line) => line.items() == wanted,

@@ -2,7 +2,7 @@
 use crate::chance::Chance;
 use crate::texts::{Pieces, expect, expect_at, has_one_answer, text_of};
 use byte_streams::Line;
-use city_json::{CompactedFeature, Span, compact, compact_feature, compact_given};
+use city_json::{CompactedFeature, LentFeature, Span, compact, compact_given, compact_lent};
 use std::alloc::{AllocError, Global};
 
 /// A text, and what is noted of it.
@@ -70,13 +70,13 @@ const NOTED: [(&[u8], &[u8]); 33] = [
 ];
 
 /// The text at the place that is noted.
-fn noted(feature: &CompactedFeature) -> Option<&[u8]> {
+fn noted<'a>(feature: &'a LentFeature<'_>) -> Option<&'a [u8]> {
     let Span { from, end } = feature.triples;
-    feature.found.line.items().get(from..end)
+    feature.text.bytes().get(from..end)
 }
 
 fn notes(alloc: Global, text: &[u8], wanted: &[u8]) -> bool {
-    match compact_feature(alloc, text, Line::new(alloc)) {
+    match compact_lent(alloc, text, Line::new(alloc)) {
         Some(feature) => noted(&feature) == Some(wanted),
         None => false,
     }
@@ -144,23 +144,23 @@ fn has_same_feature(alloc: Global, text: &[u8]) -> bool {
         return false;
     };
     let given = compact_given(alloc, Line::from_vec(copy), Line::new(alloc));
-    match (compact_feature(alloc, text, Line::new(alloc)), given) {
+    match (compact_lent(alloc, text, Line::new(alloc)), given) {
         (Some(feature), Ok(other)) => is_same(&feature, &other),
         (None, Err(back)) => back.items() == text,
         _ => false,
     }
 }
 
-fn is_same(feature: &CompactedFeature, other: &CompactedFeature) -> bool {
-    feature.found.line.items() == other.found.line.items()
-        && feature.found.parts.as_slice() == other.found.parts.as_slice()
+fn is_same(feature: &LentFeature<'_>, other: &CompactedFeature) -> bool {
+    feature.text.bytes() == other.found.line.items()
+        && feature.parts.as_slice() == other.found.parts.as_slice()
         && feature.triples == other.triples
 }
 
 fn has_same_line(alloc: Global, text: &[u8]) -> bool {
     let line = compact(alloc, text, Line::new(alloc));
-    match compact_feature(alloc, text, Line::new(alloc)) {
-        Some(feature) => line.is_some_and(|line| line.items() == feature.found.line.items()),
+    match compact_lent(alloc, text, Line::new(alloc)) {
+        Some(feature) => line.is_some_and(|line| line.items() == feature.text.bytes()),
         None => line.is_none(),
     }
 }
@@ -189,7 +189,7 @@ fn all_changed_have_same_answer(alloc: Global, at: usize) -> bool {
 fn a_byte_changed_in_triples_has_one_answer(rt: HostRuntime) {
     expect(
         &rt,
-        compact_feature(rt.alloc(), TEXT, Line::new(rt.alloc())).is_some(),
+        compact_lent(rt.alloc(), TEXT, Line::new(rt.alloc())).is_some(),
         TEXT,
     );
     for at in 0..TEXT.len() {
@@ -375,7 +375,7 @@ fn is_noted_as(alloc: Global, triples: &[u8], end: &[u8]) -> Result<bool, AllocE
     text.extend_from_slice(end)?;
     let are = are_triples(triples);
     let wanted = if are { triples } else { b"" };
-    Ok(match compact_feature(alloc, &text, Line::new(alloc)) {
+    Ok(match compact_lent(alloc, &text, Line::new(alloc)) {
         Some(feature) => noted(&feature) == Some(wanted),
         None => !are,
     })

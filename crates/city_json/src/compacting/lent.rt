@@ -75,7 +75,7 @@ pub struct LentFeature<'a> {
     pub triples: Span,
 }
 
-/// What [`compact_feature`](super::compact_feature) tells of the object that the text spells. The text is lent, and not
+/// What [`compact_given`](super::compact_given) tells of the object that the text spells. The text is lent, and not
 /// copied, where white space stands at its end alone and no string in it has an escape. What `spare` held is dropped; it
 /// is taken for its memory.
 ///

@@ -12,8 +12,8 @@ ghost use Rattle.city_json.specs.declared.compacting.parts.Part.{Part};
 
 use super::draft::{Draft, begun, skip, skip_white, white_end, written_len};
 use super::strings::name_and_colon;
-use super::triples::triples_end;
-use super::values::member_value;
+use super::triples::{look_at_triples, may_begin_triples};
+use super::values::{member_value, more_items};
 use byte_streams::Line;
 use byte_streams::limits::MAX_DEPTH;
 use std::alloc::Global;
@@ -63,33 +63,17 @@ pub fn compact_parts(alloc: Global, text: &[u8], line: Line) -> Option<Compacted
         × Spells text.now (object members) × Fits (object members) × (¬ IsDeep text.now)
         × (found.line ≡ compact (object members)) × AreParts 1 found.parts.items members) }
 {
-    let CompactedFeature { found, triples: _ } = compact_feature(alloc, text, line)?;
-    Some(found)
-}
-
-/// The same, and where in the compact text triples of whole numbers stand, if any were found.
-///
-/// `None`: undecided; [`crate::read`] decides.
-pub fn compact_feature(alloc: Global, text: &[u8], line: Line) -> Option<CompactedFeature>
-    ensures object { IfSome result (λ feature. (members : MemberTrees)
-        × Spells text.now (object members) × Fits (object members) × (¬ IsDeep text.now)
-        × (feature.found.line ≡ compact (object members)) × AreParts 1 feature.found.parts.items members) }
-    ensures triples { IfSome result (λ feature. HasTriples feature.found.line feature.triples) }
-{
     let mut passed = pass(alloc, text, line)?;
     passed.line.append(&text[passed.from..passed.end]).ok()?;
-    let found = Compacted {
+    Some(Compacted {
         line: passed.line,
         parts: passed.parts,
-    };
-    Some(CompactedFeature {
-        found,
-        triples: passed.triples,
     })
 }
 
-/// The same of a text that is given away. Where white space stands at its end alone and no string in it has an escape, it
-/// is kept, and not copied; else what `spare` held is dropped, and it is taken for its memory.
+/// The same of a text that is given away, and where in the compact text triples of whole numbers stand, if any were
+/// found. Where white space stands at its end alone and no string in it has an escape, it is kept, and not copied; else
+/// what `spare` held is dropped, and it is taken for its memory.
 ///
 /// # Errors
 ///
@@ -327,12 +311,19 @@ fn top_value<'a>(
         → IsTriplesText text.now at value.end × (draft.new.line ≡ draft.old.line)
         × (draft.new.from ≡ draft.old.from)) }
 {
-    if levels > 1 {
-        let end = triples_end(text, at);
-        if at < end {
+    if levels > 1 && may_begin_triples(text, at) {
+        let look = look_at_triples(text, at);
+        if look.closed {
+            return Some(TopValue {
+                end: look.at,
+                are_triples: true,
+            });
+        }
+        if look.at > at + 1 {
+            let end = more_items(text, look.at, levels - 1, draft)?;
             return Some(TopValue {
                 end,
-                are_triples: true,
+                are_triples: false,
             });
         }
     }

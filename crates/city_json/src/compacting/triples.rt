@@ -1,9 +1,10 @@
 //! Arrays of three whole numbers each, as the vertices of a feature are (CityJSON 2.0, CityJSONFeature), in their
 //! compact text, 64 bytes at a time.
-ghost use Rattle.std.specs.Prelude.{◌≡◌, ◌<◌, ◌≤◌, ◌+◌, ◌-◌, ◌++◌, false, true, ℕ, List, length, drop, take, max, min, bit_or, slice_range};
+ghost use Rattle.std.specs.Prelude.{◌≡◌, ◌<◌, ◌≤◌, ◌+◌, ◌-◌, false, true, ℕ, length, drop, take, max, min, bit_or, slice_index, slice_range, IsTrue};
 ghost use Rattle.std.specs.Int.{bit_at};
+ghost use Rattle.city_json.specs.Bytes.{open_bracket};
 ghost use Rattle.city_json.specs.Triples.{IsTriplesText};
-ghost use Rattle.city_json.specs.TriplesFound.{AreApart, AreKinds, AreNext, AreWithout, ClosesTriples, DoEndsFit, DoNumbersFit, EndsRuns, HasBit, HasNoBit, HasNoneUpTo, IsAfter};
+ghost use Rattle.city_json.specs.TriplesFound.{AreApart, AreKinds, AreNext, AreWithout, ClosesTriples, DoEndsFit, DoNumbersFit, EndsRuns, HasBit, HasNoBit, HasNoneUpTo, IsAfter, PassesTriples};
 
 use super::whole_arrays::digit_marks;
 use crate::reading::depth::marks_of;
@@ -49,11 +50,19 @@ struct Found {
 }
 
 /// How many bytes at the front of a block are triples, each with the comma after it, or after the last of all the
-/// bracket that closes the array around them.
+/// bracket that closes the array around them; and whether something is wrong in what comes next.
 #[derive(Clone, Copy, Drop)]
 struct Front {
     len: usize,
     closed: bool,
+    stuck: bool,
+}
+
+/// How far the triples of an array go: up to its end, or up to an item of it, with a comma after each triple before.
+#[derive(Clone, Copy, Drop)]
+pub(super) struct Look {
+    pub(super) at: usize,
+    pub(super) closed: bool,
 }
 
 #[inline(always)]
@@ -180,7 +189,7 @@ fn before_wrong(marks: u64, wrong: u64) -> u64
 fn found_in(bytes: &[u8]) -> Found
     requires long { length bytes.now ≡ 64 }
     ensures going { (at : ℕ) → at < 64 → HasBit result.going at → HasNoneUpTo at result.wrong
-        → (more : List ℕ) → ClosesTriples more → ClosesTriples (take (at + 1) bytes.now ++ more) }
+        → PassesTriples (take (at + 1) bytes.now) }
     ensures closing { (at : ℕ) → at < 64 → HasBit result.closing at → HasNoneUpTo at result.wrong
         → ClosesTriples (take (at + 1) bytes.now) }
 {
@@ -195,17 +204,13 @@ fn found_in(bytes: &[u8]) -> Found
     }
 }
 
-/// The bytes up to the last of the marks.
+/// How many bytes there are up to the last of the marks.
 #[inline(always)]
-fn up_to_last(marks: u64) -> Front
-    ensures goes_on { result.closed ≡ false }
-    ensures within { result.len ≤ 64 }
-    ensures last { 0 < result.len → HasBit marks (result.len - 1) }
+fn up_to_last(marks: u64) -> usize
+    ensures within { result ≤ 64 }
+    ensures last { 0 < result → HasBit marks (result - 1) }
 {
-    Front {
-        len: 64 - marks.leading_zeros() as usize,
-        closed: false,
-    }
+    64 - marks.leading_zeros() as usize
 }
 
 /// The front of 64 bytes, the first of which begins a triple; with no bytes: undecided. Mostly nothing is wrong in
@@ -215,22 +220,30 @@ fn up_to_last(marks: u64) -> Front
 fn front_of(bytes: &[u8]) -> Front
     requires long { length bytes.now ≡ 64 }
     ensures within { result.len ≤ 64 }
-    ensures goes_on { result.closed ≡ false → (more : List ℕ) → ClosesTriples more
-        → ClosesTriples (take result.len bytes.now ++ more) }
+    ensures goes_on { result.closed ≡ false → PassesTriples (take result.len bytes.now) }
     ensures closed { result.closed ≡ true → ClosesTriples (take result.len bytes.now) }
 {
     let found = found_in(bytes);
     if found.wrong == 0 {
-        return up_to_last(found.going);
+        return Front {
+            len: up_to_last(found.going),
+            closed: false,
+            stuck: false,
+        };
     }
     let closing = before_wrong(found.closing, found.wrong);
     if closing != 0 {
         return Front {
             len: closing.trailing_zeros() as usize + 1,
             closed: true,
+            stuck: false,
         };
     }
-    up_to_last(before_wrong(found.going, found.wrong))
+    Front {
+        len: up_to_last(before_wrong(found.going, found.wrong)),
+        closed: false,
+        stuck: true,
+    }
 }
 
 /// The front of what stands from `at` on.
@@ -238,8 +251,7 @@ fn front_of(bytes: &[u8]) -> Front
 fn front_at(text: &[u8], at: usize) -> Front
     requires within { at ≤ length text.now }
     ensures within { at + result.len ≤ length text.now }
-    ensures goes_on { result.closed ≡ false → (more : List ℕ) → ClosesTriples more
-        → ClosesTriples (slice_range text.now at (at + result.len) ++ more) }
+    ensures goes_on { result.closed ≡ false → PassesTriples (slice_range text.now at (at + result.len)) }
     ensures closed { result.closed ≡ true
         → ClosesTriples (slice_range text.now at (at + result.len)) }
 {
@@ -267,8 +279,7 @@ fn short_front(text: &[u8], at: usize) -> Front
     requires within { at ≤ length text.now }
     requires few { length text.now < at + 64 }
     ensures within { at + result.len ≤ length text.now }
-    ensures goes_on { result.closed ≡ false → (more : List ℕ) → ClosesTriples more
-        → ClosesTriples (slice_range text.now at (at + result.len) ++ more) }
+    ensures goes_on { result.closed ≡ false → PassesTriples (slice_range text.now at (at + result.len)) }
     ensures closed { result.closed ≡ true
         → ClosesTriples (slice_range text.now at (at + result.len)) }
 {
@@ -278,32 +289,74 @@ fn short_front(text: &[u8], at: usize) -> Front
         return Front {
             len: 0,
             closed: false,
+            stuck: true,
         };
     }
     front
 }
 
-/// Where the array of triples ends whose opening bracket is at `at`, and which holds some; `at`: undecided.
-#[inline(never)]
-pub(super) fn triples_end(text: &[u8], at: usize) -> usize
-    requires { at ≤ length text.now }
-    ensures onward { at ≤ result }
-    ensures within { result ≤ length text.now }
-    ensures is { at < result → IsTriplesText text.now at result }
-{
-    if text.len() - at < 2 || text[at] != b'[' || text[at + 1] != b'[' {
-        return at;
+/// Whether the first byte that stands in no whole number and is no comma is a closing bracket after two commas, where
+/// there is one among the bytes.
+#[inline(always)]
+fn may_hold_three(bytes: u8x16) -> bool {
+    let stops = (bytes.simd_lt(u8x16::splat(b','))
+        | bytes.simd_gt(u8x16::splat(b'9'))
+        | bytes.simd_eq(u8x16::splat(b'.'))).to_bitmask();
+    if stops == 0 {
+        return true;
     }
+    let before = stops.wrapping_sub(1) & !stops;
+    let commas = bytes.simd_eq(u8x16::splat(b',')).to_bitmask();
+    let closes = bytes.simd_eq(u8x16::splat(b']')).to_bitmask();
+    closes & before.wrapping_add(1) != 0 && (commas & before).count_ones() == 2
+}
+
+/// Whether an array of triples may begin at `at`. Most other values are told from it by their first bytes.
+#[inline(always)]
+pub(super) fn may_begin_triples(text: &[u8], at: usize) -> bool
+    requires { at ≤ length text.now }
+    ensures within { IsTrue result → at < length text.now }
+    ensures opened { IsTrue result → slice_index text.now at ≡ open_bracket }
+{
+    if text.len() - at < 3 || text[at] != b'[' || text[at + 1] != b'[' {
+        return false;
+    }
+    if !matches!(text[at + 2], b'-' | b'0'..=b'9') {
+        return false;
+    }
+    text.len() - at < 18 || may_hold_three(u8x16::from_slice(&text[at + 2..]))
+}
+
+/// Goes over the triples of the array whose opening bracket is at `at`.
+#[inline(never)]
+pub(super) fn look_at_triples(text: &[u8], at: usize) -> Look
+    requires within { at < length text.now }
+    requires opened { slice_index text.now at ≡ open_bracket }
+    ensures onward { at < result.at }
+    ensures within { result.at ≤ length text.now }
+    ensures passed { result.closed ≡ false
+        → PassesTriples (slice_range text.now (at + 1) result.at) }
+    ensures is { result.closed ≡ true → IsTriplesText text.now at result.at }
+{
     let mut i = at + 1;
     'fronts: while i < text.len() {
         let front = front_at(text, i);
         if front.closed {
-            return i + front.len;
+            return Look {
+                at: i + front.len,
+                closed: true,
+            };
         }
-        if front.len == 0 {
-            return at;
+        if front.stuck || front.len == 0 {
+            return Look {
+                at: i + front.len,
+                closed: false,
+            };
         }
         i += front.len;
     }
-    at
+    Look {
+        at: i,
+        closed: false,
+    }
 }

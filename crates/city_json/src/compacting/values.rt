@@ -8,7 +8,7 @@ use super::draft::{Draft, skip};
 use super::flat::{Place, after_item, numbers, opens_array};
 use super::scalars::{integer_end, scalar_end};
 use super::strings::{name_and_colon, text_value};
-use super::whole_arrays::whole_from;
+use super::whole_arrays::{whole_after_comma, whole_from};
 
 /// Whether an item or a member may end at `at`.
 #[inline(always)]
@@ -139,6 +139,32 @@ fn items<'a>(text: &'a [u8], at: usize, levels: usize, draft: &mut Draft<'a>) ->
         i = next.at;
         depth = next.depth;
     }
+}
+
+/// The same of the items after others. Most often they are whole numbers, or arrays of them.
+pub(super) fn more_items<'a>(
+    text: &'a [u8],
+    at: usize,
+    levels: usize,
+    draft: &mut Draft<'a>,
+) -> Option<usize>
+    requires utf8 { IsUtf8 text.now }
+    requires copied { draft.old.from ≤ at }
+    requires within { at ≤ length text.now }
+    ensures onward { IfSome result (λ end. at < end) }
+    ensures within { IfSome result (λ end. end ≤ length text.now) }
+    ensures copied { IfSome result (λ end. draft.new.from ≤ end) }
+    ensures names { OnSome result (draft.new.names ≡ draft.old.names) }
+    ensures taken { IfSome result (λ end. ItemsFrom levels (after_white (drop at text.now))
+        (drop end text.now)
+        (shown draft.old.line text.now draft.old.from at)
+        (shown draft.new.line text.now draft.new.from end)) }
+{
+    let whole = whole_after_comma(text, at, levels);
+    if at < whole {
+        return Some(whole);
+    }
+    items(text, at, levels, draft)
 }
 
 /// Goes over the item that is next at `at`, or into it where it is an array, with so many arrays open.

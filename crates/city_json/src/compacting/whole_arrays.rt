@@ -1,10 +1,10 @@
 //! Nested arrays of whole numbers in their compact text, 64 bytes at a time.
-ghost use Rattle.std.specs.Prelude.{◌≡◌, ◌<◌, ◌≤◌, ◌+◌, ◌-◌, ◌++◌, ◌∷◌, ◌==◌, ◌||◌, ◌&&◌, Bool, true, if◌then◌else◌, ℕ, List, length, map, take, slice_index, slice_range, IfSome, IsTrue};
+ghost use Rattle.std.specs.Prelude.{◌≡◌, ◌<◌, ◌≤◌, ◌+◌, ◌-◌, ◌++◌, ◌∷◌, ◌==◌, ◌||◌, ◌&&◌, Bool, false, true, if◌then◌else◌, ℕ, List, length, map, take, slice_index, slice_range, IfSome, IsTrue};
 ghost use Rattle.std.specs.Char.{is_ascii_digit};
 ghost use Rattle.std.specs.Simd.Lanes.{mask_l};
 ghost use Rattle.byte_streams.specs.Limits.{max_depth};
 ghost use Rattle.city_json.specs.Bytes.{open_bracket, close_bracket, comma};
-ghost use Rattle.city_json.specs.Whole.{AreFine, StaysOpen, Closes, IsItemsText, stage_of, is_wrong, begins_zero, zeroed_by, is_place, lag, ups, downs};
+ghost use Rattle.city_json.specs.Whole.{AreFine, StaysOpen, Closes, IsItemsText, after_comma, stage_of, is_wrong, begins_zero, zeroed_by, is_place, lag, ups, downs};
 
 use crate::reading::depth::marks_of;
 use byte_streams::limits::MAX_DEPTH;
@@ -487,17 +487,18 @@ fn short_closing_end(text: &[u8], at: usize, from: Place) -> usize
     at + len
 }
 
-/// Where the array ends whose opening bracket stands before `at`, or `at` where it is not one of whole numbers, or of
-/// such arrays, in its compact text.
+/// Where the one array that is open after the byte before `at` ends, or `at` where its items from there on are not whole
+/// numbers, and arrays of them, in their compact text.
 #[inline(never)]
-pub(super) fn whole_end(text: &[u8], at: usize, levels: usize) -> usize
+fn whole_end(text: &[u8], at: usize, levels: usize) -> usize
     requires some { 0 < at }
     requires within { at ≤ length text.now }
-    requires opened { slice_index text.now (at - 1) ≡ open_bracket }
+    requires place { is_place (slice_index text.now (at - 1)) ≡ true }
     requires levels { levels ≤ max_depth }
     ensures onward { at ≤ result }
     ensures within { result ≤ length text.now }
-    ensures is { at < result → IsItemsText levels text.now at result }
+    ensures closes { at < result
+        → Closes 1 levels (stage_of (slice_index text.now (at - 1)) false) (slice_range text.now at result) }
 {
     let mut i = at;
     let mut place = Place {
@@ -533,7 +534,8 @@ pub(super) fn whole_end(text: &[u8], at: usize, levels: usize) -> usize
     at
 }
 
-/// The same, where anything may stand before `at`. It is tried only after a colon, so that no byte is tried twice.
+/// Where the array ends whose opening bracket stands before `at`, or `at` where it is not one of whole numbers, or of
+/// such arrays, in its compact text. It is tried only after a colon, so that no byte is tried twice.
 #[inline(always)]
 pub(super) fn whole_from(text: &[u8], at: usize, levels: usize) -> usize
     requires { at ≤ length text.now }
@@ -545,6 +547,21 @@ pub(super) fn whole_from(text: &[u8], at: usize, levels: usize) -> usize
         return at;
     }
     if text[at - 2] != b':' || text[at - 1] != b'[' || text[at] > b'[' || text[at] < b'0' {
+        return at;
+    }
+    whole_end(text, at, levels)
+}
+
+/// The same of the items from `at` on, where a comma stands before them.
+#[inline(always)]
+pub(super) fn whole_after_comma(text: &[u8], at: usize, levels: usize) -> usize
+    requires { at ≤ length text.now }
+    ensures onward { at ≤ result }
+    ensures within { result ≤ length text.now }
+    ensures closes { at < result
+        → Closes 1 levels after_comma (slice_range text.now at result) }
+{
+    if at == 0 || levels > MAX_DEPTH || text[at - 1] != b',' {
         return at;
     }
     whole_end(text, at, levels)

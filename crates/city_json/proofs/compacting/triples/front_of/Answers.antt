@@ -8,7 +8,7 @@ use Rattle.city_json.proofs.compacting.triples.front_of.Goals as goal
 pub returns-then-found-eq0-clause-goes_on : goal.returns-then-found-eq0-clause-goes_on
 returns-then-found-eq0-clause-goes_on c = λ _.
     let found = c.found_in-found.result in
-    goes_on_to_last c.args.bytes.now found.going found.wrong found.going c.up_to_last.result.len
+    goes_on_to_last c.args.bytes.now found.going found.wrong found.going c.up_to_last.result
     c.up_to_last.ensures.within c.found_in-found.ensures.going
     (λ i has. (has, λ j order. ap (λ w. bit_at w j) c.if-found-eq0.true ∙ bit_at-zero j)) c.up_to_last.ensures.last
 
@@ -23,5 +23,5 @@ returns-then-closing-ne0-clause-closed c = λ _.
 pub returns-clause-goes_on : goal.returns-clause-goes_on
 returns-clause-goes_on c = λ _.
     let found = c.found_in-found.result in
-    goes_on_to_last c.args.bytes.now found.going found.wrong c.before_wrong.result c.up_to_last-2.result.len
+    goes_on_to_last c.args.bytes.now found.going found.wrong c.before_wrong.result c.up_to_last-2.result
     c.up_to_last-2.ensures.within c.found_in-found.ensures.going c.before_wrong.ensures c.up_to_last-2.ensures.last

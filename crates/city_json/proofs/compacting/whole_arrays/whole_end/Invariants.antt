@@ -1,5 +1,5 @@
-use Rattle.std.proofs.Common.{◌≡◌, ◌≤◌, ◌<◌, ◌+◌, ◌-◌, ◌++◌, ℕ, List, length, get_or, slice_range, true}
-use Rattle.city_json.specs.Whole.{Closes, stage_of, is_place, at_start}
+use Rattle.std.proofs.Common.{◌≡◌, ◌≤◌, ◌<◌, ◌+◌, ◌-◌, ◌++◌, ℕ, List, length, get_or, slice_range, false, true}
+use Rattle.city_json.specs.Whole.{Closes, stage_of, is_place}
 use Rattle.city_json.proofs.compacting.whole_arrays.whole_end.Given as goal
 
 abbrev pub invariant-bytes : goal.invariant-bytes
@@ -11,7 +11,7 @@ invariant-bytes l = record {
   placed : is_place (get_or l.text (l.i - 1) 0) ≡ true;
   goes_on : (further : List ℕ) → Closes l.place.depth l.place.room
       (stage_of (get_or l.text (l.i - 1) 0) l.place.zeroed) further
-      → Closes 1 l.levels at_start (slice_range l.text l.at l.i ++ further);
+      → Closes 1 l.levels (stage_of (get_or l.text (l.at - 1) 0) false) (slice_range l.text l.at l.i ++ further);
 }
 
 abbrev pub decreases-bytes : goal.decreases-bytes
