@@ -24,6 +24,7 @@ pub enum LentText<'a> {
 }
 
 impl<'a> LentText<'a> {
+    /// The text, as it stands where it was read or written.
     pub fn bytes(&self) -> &[u8]
         ensures { result.now ≡ lent_bytes self.now }
     {

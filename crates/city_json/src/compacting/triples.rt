@@ -40,8 +40,8 @@ struct Ends {
     third: u64,
 }
 
-/// A bit for each comma after a triple, and for each closing bracket, as far as no byte before it is wrong, nor it
-/// itself: one that may not stand where it stands.
+/// A bit for each comma behind a triple, for each closing bracket there, and for each byte that may not stand where it
+/// stands. What the first two tell holds as far as no byte up to there is wrong.
 #[derive(Clone, Copy, Drop)]
 struct Found {
     going: u64,
