@@ -130,11 +130,12 @@ stay_is listed slice base count all stay same counted is =
     is ∙ (ap (λ l. held_before (take (length l - base) (drop base l)) count) same
     ∙ (ap (λ l. held_before l count) (take_rest listed base) ∙ ap (held_before (drop base listed)) counted))
 
-pub left : (listed slice listed₂ : List Name) (held held₂ : List (Vec ℕ Global)) (base count stay : ℕ)
+pub left : (listed slice listed₂ : List Name) (held held₂ : List (Vec ℕ Global)) (base count stay size : ℕ)
     → AreHeld 0 listed (length held) → slice ≡ listed → count ≡ length held
     → stay ≡ held_before (take (length slice - base) (drop base slice)) count → listed₂ ≡ take base listed
-    → held₂ ≡ take stay held → AreHeld 0 listed₂ (length held₂)
-left listed slice listed₂ held held₂ base count stay are same counted is now kept =
+    → held₂ ≡ take size held → size ≡ stay → AreHeld 0 listed₂ (length held₂)
+left listed slice listed₂ held held₂ base count stay size are same counted is now cut all =
+    let kept : held₂ ≡ take stay held = cut ∙ ap (λ n. take n held) all in
     let stays : stay ≡ held_before (drop base listed) (length held) =
     stay_is listed slice base count (length held) stay same counted is in
     let few : stay ≤ length held = omega (arith, stays, fewer_before listed base 0 (length held) are) in
@@ -142,11 +143,13 @@ left listed slice listed₂ held held₂ base count stay are same counted is now
     subst (λ l. AreHeld 0 l (length held₂)) (sym now)
     (subst (AreHeld 0 (take base listed)) (sym stays ∙ long) (stay_held listed base 0 (length held) are))
 
-pub left_names : (listed slice listed₂ : List Name) (held held₂ : List (Vec ℕ Global)) (base count stay : ℕ)
+pub left_names : (listed slice listed₂ : List Name) (held held₂ : List (Vec ℕ Global)) (base count stay size : ℕ)
     → AreHeld 0 listed (length held) → slice ≡ listed → count ≡ length held
     → stay ≡ held_before (take (length slice - base) (drop base slice)) count → listed₂ ≡ take base listed
-    → held₂ ≡ take stay held → map (name_bytes held₂) listed₂ ≡ take base (map (name_bytes held) listed)
-left_names listed slice listed₂ held held₂ base count stay are same counted is now kept =
+    → held₂ ≡ take size held → size ≡ stay
+    → map (name_bytes held₂) listed₂ ≡ take base (map (name_bytes held) listed)
+left_names listed slice listed₂ held held₂ base count stay size are same counted is now cut all =
+    let kept : held₂ ≡ take stay held = cut ∙ ap (λ n. take n held) all in
     let stays : stay ≡ held_before (drop base listed) (length held) =
     stay_is listed slice base count (length held) stay same counted is in
     ap (λ h. map (name_bytes h) listed₂) (kept ∙ ap (λ n. take n held) stays)

@@ -6,13 +6,15 @@ pub invariant_of-self : goal.invariant_of-self
 invariant_of-self c =
     let all : c.len.result ≡ length c.self.inside.held.items = omega (arith, c.len.ensures) in
     left c.self.inside.listed.items c.deref.result.now c.truncate-2.new.self.items c.self.inside.held.items
-    c.truncate.new.self.items c.args.base c.len.result c.held_before-stay.result c.self.invariant
+    c.truncate.new.self.items c.args.base c.len.result c.held_before-stay.result _ c.self.invariant
     c.deref.ensures.value all c.held_before-stay.ensures c.truncate-2.ensures.items c.truncate.ensures.items
+    (omega arith)
 
 pub returns : goal.returns
 returns c =
     let all : c.len.result ≡ length c.self.inside.held.items = omega (arith, c.len.ensures) in
     left_names c.self.inside.listed.items c.deref.result.now c.truncate-2.new.self.items c.self.inside.held.items
-    c.truncate.new.self.items c.args.base c.len.result c.held_before-stay.result c.self.invariant
+    c.truncate.new.self.items c.args.base c.len.result c.held_before-stay.result _ c.self.invariant
     c.deref.ensures.value all c.held_before-stay.ensures c.truncate-2.ensures.items c.truncate.ensures.items
+    (omega arith)
     ∙ ap (take c.args.base) c.self.view_is
