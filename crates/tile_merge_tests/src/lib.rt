@@ -24,6 +24,8 @@ mod many;
 #[cfg(test)]
 mod merging;
 #[cfg(test)]
+mod order;
+#[cfg(test)]
 mod origins;
 #[cfg(test)]
 mod texts;
