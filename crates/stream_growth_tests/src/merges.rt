@@ -1,6 +1,8 @@
 //! Streams that are merged, in turn and with threads.
 
-use crate::tiles::{NONE, Tile, after_line, are_given_up, are_turns, bytes_of, lines_of};
+use crate::tiles::{
+    IN_PARTS, NONE, Tile, WHOLE, after_line, are_given_up, are_turns, bytes_of, lines_of,
+};
 use byte_streams::{Bin, Device, Fault, MergeFault};
 use city_feature::{Base, Choice};
 use growth_support::texts::{
@@ -150,16 +152,17 @@ fn is_merged(
     }
 }
 
-/// Gives the bytes of a tile, some at a read, and shares `alive` until it is gone.
+/// Gives the bytes of a tile, so many at a read, and shares `alive` until it is gone.
 #[derive(Drop)]
 struct TileBytes {
     left: Vec<u8>,
+    step: usize,
     _alive: Arc<u8, Global>,
 }
 
 impl Read for TileBytes {
     fn read(&mut self, to: &mut [u8]) -> io::Result<usize> {
-        let count = self.left.len().min(to.len()).min(50);
+        let count = self.left.len().min(to.len()).min(self.step);
         to[..count].copy_from_slice(&self.left[..count]);
         self.left.drain(..count);
         Ok(count)
@@ -170,6 +173,7 @@ impl Read for TileBytes {
 fn readers_of(
     alloc: Global,
     tiles: &[Tile<'_>; 3],
+    step: usize,
     alive: &Arc<u8, Global>,
 ) -> Result<Vec<Device<TileBytes>>, AllocError> {
     let mut readers = Vec::new(alloc);
@@ -177,6 +181,7 @@ fn readers_of(
         if !tile.input.is_empty() {
             readers.push(Device::new(TileBytes {
                 left: bytes_of(alloc, tile.input)?,
+                step,
                 _alive: Arc::try_clone(alive)?,
             }))?;
         }
@@ -208,10 +213,10 @@ fn merges_in_turn(
 fn take_turns(
     rt: &(impl AllocGlobal + Eprint),
     merged: &Merged<'_>,
-    capacity: u32,
+    (step, capacity): (usize, u32),
 ) -> Result<bool, Fault> {
     let alive = Arc::new(rt.alloc(), 0u8)?;
-    let readers = readers_of(rt.alloc(), &merged.tiles, &alive)?;
+    let readers = readers_of(rt.alloc(), &merged.tiles, step, &alive)?;
     let mut output = Bin::new(rt.alloc(), 4096, 100, false)?;
     merges_in_turn(rt, merged, readers, capacity, &mut output)
 }
@@ -269,12 +274,16 @@ fn is_unshared(alive: &mut Arc<u8, Global>) -> bool {
 }
 
 /// The threads that ran have ended after the merge.
-fn work_beside<H>(rt: &H, merged: &Merged<'_>, capacity: u32) -> Result<bool, Fault>
+fn work_beside<H>(
+    rt: &H,
+    merged: &Merged<'_>,
+    (step, capacity): (usize, u32),
+) -> Result<bool, Fault>
 where
     H: AllocGlobal + Eprint + Threads + Wait + Copy + Send + 'static,
 {
     let mut alive = Arc::new(rt.alloc(), 0u8)?;
-    let readers = readers_of(rt.alloc(), &merged.tiles, &alive)?;
+    let readers = readers_of(rt.alloc(), &merged.tiles, step, &alive)?;
     let mut output = Bin::new(rt.alloc(), 4096, 100, false)?;
     let is_merged = merges_beside(rt, merged, readers, capacity, &mut output);
     if is_unshared(&mut alive) {
@@ -314,32 +323,50 @@ fn merged_of(case: Case) -> Merged<'static> {
     }
 }
 
+/// What is merged in turn, and how many texts are held of each tile.
+const IN_TURN: [(Case, u32); 5] = [
+    (Case::Two, 64),
+    (Case::Three, 1),
+    (Case::Three, 2),
+    (Case::Faulty, 64),
+    (Case::WithDocument, 2),
+];
+
+/// The same with a thread for each tile.
+const BESIDE: [(Case, u32); 3] = [
+    (Case::Three, 1),
+    (Case::Faulty, 64),
+    (Case::WithDocument, 2),
+];
+
 #[test]
 fn tiles_take_turns(rt: HostRuntime) -> Result<(), Fault> {
-    for (case, capacity) in [
-        (Case::Two, 64u32),
-        (Case::Three, 1),
-        (Case::Three, 2),
-        (Case::Faulty, 64),
-        (Case::WithDocument, 2),
-    ]
-    .iter()
-    {
-        expect!(rt; take_turns(&rt, &merged_of(*case), *capacity));
+    for (case, capacity) in IN_TURN.iter() {
+        expect!(rt; take_turns(&rt, &merged_of(*case), (IN_PARTS, *capacity)));
+    }
+    Ok(())
+}
+
+#[test]
+fn tiles_of_whole_lines_take_turns(rt: HostRuntime) -> Result<(), Fault> {
+    for (case, capacity) in IN_TURN.iter() {
+        expect!(rt; take_turns(&rt, &merged_of(*case), (WHOLE, *capacity)));
     }
     Ok(())
 }
 
 #[test]
 fn tiles_are_merged_by_threads(rt: HostRuntime) -> Result<(), Fault> {
-    for (case, capacity) in [
-        (Case::Three, 1u32),
-        (Case::Faulty, 64),
-        (Case::WithDocument, 2),
-    ]
-    .iter()
-    {
-        expect!(rt; work_beside(&rt, &merged_of(*case), *capacity));
+    for (case, capacity) in BESIDE.iter() {
+        expect!(rt; work_beside(&rt, &merged_of(*case), (IN_PARTS, *capacity)));
+    }
+    Ok(())
+}
+
+#[test]
+fn tiles_of_whole_lines_are_merged_by_threads(rt: HostRuntime) -> Result<(), Fault> {
+    for (case, capacity) in BESIDE.iter() {
+        expect!(rt; work_beside(&rt, &merged_of(*case), (WHOLE, *capacity)));
     }
     Ok(())
 }

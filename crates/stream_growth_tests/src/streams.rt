@@ -1,6 +1,8 @@
 //! Streams that are read, filtered and made of documents.
 
-use crate::tiles::{Tile, after_line, alone, are_given_up, bytes_of, lines_of, tape_of};
+use crate::tiles::{
+    IN_PARTS, Tile, WHOLE, after_line, alone, are_given_up, bytes_of, lines_of, tape_of,
+};
 use byte_streams::{Bin, Fault, Line, LineFault, MergeFault, Tape};
 use city_feature::{Choice, types};
 use city_grid::Shift;
@@ -73,7 +75,7 @@ fn lines_come(
 
 fn whole_lines_come(rt: &(impl AllocGlobal + Eprint)) -> Result<bool, Fault> {
     let input = bytes_of(rt.alloc(), &[HEADER, A1, "", A2])?;
-    let mut lines = Lines::new(rt.alloc(), tape_of(rt.alloc(), &input)?);
+    let mut lines = Lines::new(rt.alloc(), tape_of(rt.alloc(), &input, IN_PARTS)?);
     lines_come(rt, &mut lines, &[(1, HEADER), (2, A1), (4, A2)], None)
 }
 
@@ -84,7 +86,7 @@ fn short_lines_come(
     texts: &[(u64, &str)],
     end: Option<LineFault>,
 ) -> Result<bool, Fault> {
-    let tape = tape_of(rt.alloc(), input.as_bytes())?;
+    let tape = tape_of(rt.alloc(), input.as_bytes(), IN_PARTS)?;
     let mut lines = Lines::with_limits(rt.alloc(), tape, 4, 10);
     lines_come(rt, &mut lines, texts, end)
 }
@@ -144,13 +146,14 @@ fn is_whole(counts: Option<[usize; 3]>, count: usize, comes: Result<u64, MergeFa
 
 fn stream_is_filtered(
     rt: &(impl AllocGlobal + Eprint),
+    step: usize,
     input: &[u8],
     choice: &Choice,
     tiles: &[Tile<'_>; 3],
     comes: Result<u64, MergeFault>,
 ) -> Result<bool, Fault> {
     let mut output = Bin::new(rt.alloc(), 4096, 100, false)?;
-    let reader = tape_of(rt.alloc(), input)?;
+    let reader = tape_of(rt.alloc(), input, step)?;
     let answer = filter_stream(rt.alloc(), reader, choice, &mut output);
     is_answer(
         rt,
@@ -164,13 +167,14 @@ fn stream_is_filtered(
 
 fn tile_is_filtered(
     rt: &(impl AllocGlobal + Eprint),
+    step: usize,
     input: &[u8],
     choice: &Choice,
     tiles: &[Tile<'_>; 3],
     comes: Result<u64, MergeFault>,
 ) -> Result<bool, Fault> {
     let mut output = Bin::new(rt.alloc(), 4096, 100, false)?;
-    let mut reader = TileReader::new(rt.alloc(), tape_of(rt.alloc(), input)?);
+    let mut reader = TileReader::new(rt.alloc(), tape_of(rt.alloc(), input, step)?);
     let answer = filter_tile(rt.alloc(), &mut reader, choice, &mut output);
     is_answer(
         rt,
@@ -185,6 +189,7 @@ fn tile_is_filtered(
 /// A stream, the line of its header, what is written of it and what is answered.
 fn is_filtered(
     rt: &(impl AllocGlobal + Eprint),
+    step: usize,
     input: &[u8],
     header: u64,
     texts: &[(u64, &str)],
@@ -192,14 +197,15 @@ fn is_filtered(
 ) -> Result<bool, Fault> {
     let (every, tiles) = (every_feature(), alone(header, texts));
     Ok(
-        stream_is_filtered(rt, input, &every, &tiles, comes)?
-            && tile_is_filtered(rt, input, &every, &tiles, comes)?,
+        stream_is_filtered(rt, step, input, &every, &tiles, comes)?
+            && tile_is_filtered(rt, step, input, &every, &tiles, comes)?,
     )
 }
 
 /// The same, where the filter is refused at this line.
 fn filter_is_refused(
     rt: &(impl AllocGlobal + Eprint),
+    step: usize,
     input: &[u8],
     header: u64,
     texts: &[(u64, &str)],
@@ -211,14 +217,14 @@ fn filter_is_refused(
         line,
         fault,
     };
-    is_filtered(rt, input, header, texts, Err(told))
+    is_filtered(rt, step, input, header, texts, Err(told))
 }
 
 /// Memory may be wanted at each part of such a stream, of which there is one, or three.
-fn no_header_is_found(rt: &(impl AllocGlobal + Eprint)) -> Result<bool, Fault> {
+fn no_header_is_found(rt: &(impl AllocGlobal + Eprint), step: usize) -> Result<bool, Fault> {
     Ok(
-        filter_is_refused(rt, b"", 1, &[], 0, Fault::NoHeader)?
-            && filter_is_refused(rt, b"\n \t\r\n", 3, &[], 0, Fault::NoHeader)?,
+        filter_is_refused(rt, step, b"", 1, &[], 0, Fault::NoHeader)?
+            && filter_is_refused(rt, step, b"\n \t\r\n", 3, &[], 0, Fault::NoHeader)?,
     )
 }
 
@@ -230,12 +236,13 @@ fn feature_of(alloc: Global, vertices: &str) -> Result<String, AllocError> {
 
 fn vertices_are_refused(
     rt: &(impl AllocGlobal + Eprint),
+    step: usize,
     vertices: &str,
     fault: Fault,
 ) -> Result<bool, Fault> {
     let text = feature_of(rt.alloc(), vertices)?;
     let input = bytes_of(rt.alloc(), &[HEADER, &text])?;
-    filter_is_refused(rt, &input, 1, &[], 2, fault)
+    filter_is_refused(rt, step, &input, 1, &[], 2, fault)
 }
 
 /// Vertices, and why a feature that has them is refused.
@@ -247,51 +254,55 @@ const NO_VERTICES: [(&str, Fault); 5] = [
     ("[[9007199254740992,0,0]]", Fault::VertexRange),
 ];
 
-fn wrong_vertices_are_refused(rt: &(impl AllocGlobal + Eprint)) -> Result<bool, Fault> {
+fn wrong_vertices_are_refused(
+    rt: &(impl AllocGlobal + Eprint),
+    step: usize,
+) -> Result<bool, Fault> {
     for (vertices, fault) in NO_VERTICES.iter() {
-        if !vertices_are_refused(rt, vertices, *fault)? {
+        if !vertices_are_refused(rt, step, vertices, *fault)? {
             return Ok(false);
         }
     }
     Ok(true)
 }
 
-fn zero_has_no_sign(rt: &(impl AllocGlobal + Eprint)) -> Result<bool, Fault> {
+fn zero_has_no_sign(rt: &(impl AllocGlobal + Eprint), step: usize) -> Result<bool, Fault> {
     let text = feature_of(rt.alloc(), "[[-0,0,0]]")?;
     let written = feature_of(rt.alloc(), "[[0,0,0]]")?;
     let input = bytes_of(rt.alloc(), &[HEADER, &text])?;
-    is_filtered(rt, &input, 1, &[(2, &written)], Ok(1))
+    is_filtered(rt, step, &input, 1, &[(2, &written)], Ok(1))
 }
 
-fn blanks_are_passed_over(rt: &(impl AllocGlobal + Eprint)) -> Result<bool, Fault> {
+fn blanks_are_passed_over(rt: &(impl AllocGlobal + Eprint), step: usize) -> Result<bool, Fault> {
     let texts = [(4u64, EMPTY_A), (5, EMPTY_B)];
     let is_refused = filter_is_refused(
         rt,
+        step,
         BLANKS_CUT.as_bytes(),
         2,
         &texts[..1],
         5,
         Fault::Syntax,
     )?;
-    Ok(is_refused && is_filtered(rt, BLANKS.as_bytes(), 2, &texts, Ok(2))?)
+    Ok(is_refused && is_filtered(rt, step, BLANKS.as_bytes(), 2, &texts, Ok(2))?)
 }
 
-fn first_is_filtered(rt: &(impl AllocGlobal + Eprint)) -> Result<bool, Fault> {
-    is_filtered(rt, FIRST.as_bytes(), 1, &[(2, FIRST_FEATURE)], Ok(1))
+fn first_is_filtered(rt: &(impl AllocGlobal + Eprint), step: usize) -> Result<bool, Fault> {
+    is_filtered(rt, step, FIRST.as_bytes(), 1, &[(2, FIRST_FEATURE)], Ok(1))
 }
 
 /// Features that are chosen, and one that is not.
-fn features_are_chosen(rt: &(impl AllocGlobal + Eprint)) -> Result<bool, Fault> {
+fn features_are_chosen(rt: &(impl AllocGlobal + Eprint), step: usize) -> Result<bool, Fault> {
     let input = bytes_of(rt.alloc(), &[POINTS, A1, B1])?;
     let choice = choice_of(rt.alloc(), false)?;
     let tiles = alone(1, &[(1, X), (2, A1), (3, B1)]);
-    stream_is_filtered(rt, &input, &choice, &tiles, Ok(3))
+    stream_is_filtered(rt, step, &input, &choice, &tiles, Ok(3))
 }
 
 /// A document whose features all come of line 1.
-fn document_is_filtered(rt: &(impl AllocGlobal + Eprint)) -> Result<bool, Fault> {
+fn document_is_filtered(rt: &(impl AllocGlobal + Eprint), step: usize) -> Result<bool, Fault> {
     let input = bytes_of(rt.alloc(), &[POINTS, A1])?;
-    is_filtered(rt, &input, 1, &[(1, X), (1, Y), (2, A1)], Ok(3))
+    is_filtered(rt, step, &input, 1, &[(1, X), (1, Y), (2, A1)], Ok(3))
 }
 
 /// Want of memory of this call at this line, or a wrong answer.
@@ -394,8 +405,8 @@ fn is_taken(
 fn tile_is_taken(rt: &(impl AllocGlobal + Eprint)) -> Result<bool, Fault> {
     let buildings = choice_of(rt.alloc(), false)?;
     let others = choice_of(rt.alloc(), true)?;
-    let in_parts = &mut tile_of(rt.alloc(), 50)?;
-    let whole = &mut tile_of(rt.alloc(), 4096)?;
+    let in_parts = &mut tile_of(rt.alloc(), IN_PARTS)?;
+    let whole = &mut tile_of(rt.alloc(), WHOLE)?;
     Ok(is_taken(rt, in_parts, &buildings, &others)? && is_taken(rt, whole, &buildings, &others)?)
 }
 
@@ -420,14 +431,14 @@ fn is_cat(
 
 fn document_becomes(rt: &(impl AllocGlobal + Eprint), text: &str) -> Result<bool, Fault> {
     let mut output = Bin::new(rt.alloc(), 4096, 100, false)?;
-    let reader = tape_of(rt.alloc(), text.as_bytes())?;
+    let reader = tape_of(rt.alloc(), text.as_bytes(), IN_PARTS)?;
     let answer = cat_document(rt.alloc(), reader, &mut output);
     is_cat(rt, Call("cat_document"), answer, output.bytes())
 }
 
 fn source_becomes(rt: &(impl AllocGlobal + Eprint), text: &str) -> Result<bool, Fault> {
     let mut output = Bin::new(rt.alloc(), 4096, 100, false)?;
-    let mut source = tape_of(rt.alloc(), text.as_bytes())?;
+    let mut source = tape_of(rt.alloc(), text.as_bytes(), IN_PARTS)?;
     let answer = cat_source(rt.alloc(), &mut source, &mut output);
     is_cat(rt, Call("cat_source"), answer, output.bytes())
 }
@@ -457,15 +468,28 @@ fn documents_are_refused(rt: &(impl AllocGlobal + Eprint)) -> Result<bool, Fault
 fn streams_are_read_filtered_and_made_of_documents(rt: HostRuntime) -> Result<(), Fault> {
     expect!(rt; whole_lines_come(&rt));
     expect!(rt; all_short_lines_come(&rt));
-    expect!(rt; no_header_is_found(&rt));
-    expect!(rt; wrong_vertices_are_refused(&rt));
-    expect!(rt; zero_has_no_sign(&rt));
-    expect!(rt; blanks_are_passed_over(&rt));
-    expect!(rt; first_is_filtered(&rt));
-    expect!(rt; features_are_chosen(&rt));
-    expect!(rt; document_is_filtered(&rt));
+    expect!(rt; no_header_is_found(&rt, IN_PARTS));
+    expect!(rt; wrong_vertices_are_refused(&rt, IN_PARTS));
+    expect!(rt; zero_has_no_sign(&rt, IN_PARTS));
+    expect!(rt; blanks_are_passed_over(&rt, IN_PARTS));
+    expect!(rt; first_is_filtered(&rt, IN_PARTS));
+    expect!(rt; features_are_chosen(&rt, IN_PARTS));
+    expect!(rt; document_is_filtered(&rt, IN_PARTS));
     expect!(rt; tile_is_taken(&rt));
     expect!(rt; document_is_cat(&rt));
     expect!(rt; documents_are_refused(&rt));
+    Ok(())
+}
+
+/// Lines that stand whole in one read.
+#[test]
+fn whole_lines_are_filtered(rt: HostRuntime) -> Result<(), Fault> {
+    expect!(rt; no_header_is_found(&rt, WHOLE));
+    expect!(rt; wrong_vertices_are_refused(&rt, WHOLE));
+    expect!(rt; zero_has_no_sign(&rt, WHOLE));
+    expect!(rt; blanks_are_passed_over(&rt, WHOLE));
+    expect!(rt; first_is_filtered(&rt, WHOLE));
+    expect!(rt; features_are_chosen(&rt, WHOLE));
+    expect!(rt; document_is_filtered(&rt, WHOLE));
     Ok(())
 }

@@ -39,9 +39,15 @@ pub(crate) fn bytes_of(alloc: Global, texts: &[&str]) -> Result<Vec<u8>, AllocEr
     Ok(stream)
 }
 
-/// A reader of these bytes, fifty of them a read.
-pub(crate) fn tape_of(alloc: Global, bytes: &[u8]) -> Result<Tape, AllocError> {
-    Ok(Tape::new(Line::from_vec(bytes.to_vec(alloc)?), 50, false))
+/// How many bytes a read gives, so that lines are put together of several reads.
+pub(crate) const IN_PARTS: usize = 50;
+
+/// How many bytes a read gives, so that all lines of a tile stand whole in one read.
+pub(crate) const WHOLE: usize = 4_096;
+
+/// A reader of these bytes, so many of them a read.
+pub(crate) fn tape_of(alloc: Global, bytes: &[u8], step: usize) -> Result<Tape, AllocError> {
+    Ok(Tape::new(Line::from_vec(bytes.to_vec(alloc)?), step.max(1), false))
 }
 
 /// What stands after a line.
