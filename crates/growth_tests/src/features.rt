@@ -374,10 +374,15 @@ fn lines_are_chosen(rt: &(impl AllocGlobal + Eprint)) -> Result<bool, Fault> {
     Ok(is_refused && line_is_appended(rt, SPACED, MOVED)?)
 }
 
-/// Whether a line that is its own compact text, or is written anew, is chosen, with this text.
-fn lends(rt: &(impl AllocGlobal + Eprint), bytes: &[u8], text: &[u8]) -> Result<bool, Fault> {
+/// Whether a line is chosen when it is moved by the shift, with this text, which may be lent or written anew.
+fn gives(
+    rt: &(impl AllocGlobal + Eprint),
+    bytes: &[u8],
+    shift: Option<Shift>,
+    text: &[u8],
+) -> Result<bool, Fault> {
     let choice = choice_of(rt.alloc())?;
-    let shift = Shift::new(0, 0, 0).ok_or(Fault::ShiftRange)?;
+    let shift = shift.ok_or(Fault::ShiftRange)?;
     match feature_text(rt.alloc(), bytes, shift, &choice, Line::new(rt.alloc())) {
         Ok(Some(given)) => Ok(given.bytes() == text),
         Ok(None) => Ok(false),
@@ -385,9 +390,11 @@ fn lends(rt: &(impl AllocGlobal + Eprint), bytes: &[u8], text: &[u8]) -> Result<
     }
 }
 
-fn texts_are_lent(rt: &(impl AllocGlobal + Eprint)) -> Result<bool, Fault> {
-    let is_refused = is_fault(lends(rt, FAULTY, b""), Fault::VertexNotInteger)?;
-    Ok(is_refused && lends(rt, MOVED, MOVED)?)
+fn texts_are_lent_or_written(rt: &(impl AllocGlobal + Eprint)) -> Result<bool, Fault> {
+    let none = Shift::new(0, 0, 0);
+    let is_refused = is_fault(gives(rt, FAULTY, none, b""), Fault::VertexNotInteger)?;
+    let is_lent = gives(rt, MOVED, none, MOVED)?;
+    Ok(is_refused && is_lent && gives(rt, SPACED, Shift::new(10, 20, 30), MOVED)?)
 }
 
 /// Whether so many names stand between the commas, none where one is empty.
@@ -532,7 +539,7 @@ fn vertices_headers_features_and_documents(rt: HostRuntime) -> Result<(), Fault>
     expect!(rt; features_are_moved(&rt));
     expect!(rt; features_are_refused(&rt));
     expect!(rt; lines_are_chosen(&rt));
-    expect!(rt; texts_are_lent(&rt));
+    expect!(rt; texts_are_lent_or_written(&rt));
     expect!(rt; types_are_read(&rt));
     expect!(rt; choices_are_copied(&rt));
     expect!(rt; documents_are_cut(&rt));
