@@ -274,6 +274,28 @@ fn a_compact_text_that_is_given_is_kept(rt: HostRuntime) {
     }
 }
 
+/// Whether the text comes back in the room that it had, no more than half of which is unused: a copy has room of its own.
+fn stays_in_its_room(alloc: Global, text: &[u8], room: usize) -> Result<bool, AllocError> {
+    let mut roomy = Vec::with_capacity(alloc, room)?;
+    roomy.extend_from_slice(text)?;
+    let before = roomy.capacity();
+    match given(alloc, roomy) {
+        Some(kept) => Ok(kept.capacity() == before),
+        None => Ok(false),
+    }
+}
+
+#[test]
+fn a_compact_text_that_is_given_is_not_copied(rt: HostRuntime) {
+    for (text, len) in GIVEN.iter() {
+        let twice = len.saturating_mul(2);
+        for room in [twice, twice.saturating_add(1)] {
+            let stays = stays_in_its_room(rt.alloc(), text, room);
+            expect(&rt, stays == Ok(true), text);
+        }
+    }
+}
+
 /// The same of a text with so many blanks at its end.
 fn are_kept(alloc: Global, pieces: Pieces<'_>, blanks: usize) -> Result<bool, AllocError> {
     let text = text_of(alloc, pieces)?;
