@@ -19,6 +19,8 @@ mod lines;
 #[cfg(test)]
 mod many_extensions;
 #[cfg(test)]
+mod measured;
+#[cfg(test)]
 mod texts;
 #[cfg(test)]
 mod tiles;

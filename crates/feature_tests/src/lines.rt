@@ -220,6 +220,49 @@ const FAR_ZEROS: &str = "
 10,20,30;;-9,-9,-8,-8 => [[-0,-0,-0],[-0,0,-0]] => none
 ";
 
+/// Vertices beside triples that are none, which stand before them, or after them.
+const BESIDE_TRIPLES: &str =
+    r#"{"type":"CityJSONFeature","x":[[20,30,0],[25,35,0]],"id":"a","CityObjects":{},"vertices":ROW}
+{"type":"CityJSONFeature","id":"a","CityObjects":{},"vertices":ROW,"x":[[20,30,0],[25,35,0]]}"#;
+
+/// None, and some with a zero that has a minus sign, with sixteen digits, and at fault.
+const BESIDE: &str = "
+all => [] => []
+10,20,30 => [] => []
+;;10,20,30,40 => [] => none
+10,20,30;;10,20,30,40 => [] => none
+;;10,20,30,40;others => [] => chosen
+all => [[-0,1,2],[5,5,5]] => [[0,1,2],[5,5,5]]
+10,20,30 => [[5,5,5],[-0,1,2]] => [[15,25,35],[10,21,32]]
+;;10,20,30,40 => [[-0,1,2],[5,5,5]] => none
+;;0,1,0,1 => [[-0,1,2]] => [[0,1,2]]
+10,20,30;;10,20,30,40 => [[-0,1,2]] => [[10,21,32]]
+10,20,30;;0,1,0,1 => [[-0,1,2]] => none
+all => [[1,2,9007199254740991]] => [[1,2,9007199254740991]]
+10,20,30 => [[1,2,9007199254740961]] => [[11,22,9007199254740991]]
+;;10,20,30,40 => [[1,2,9007199254740991]] => none
+;;1,2,1,2 => [[1,2,9007199254740991]] => chosen
+all => [[1,2]] => VertexShape
+10,20,30 => [[5,5,5],[1,2,3,4]] => VertexShape
+;;10,20,30,40 => [[1,2]] => VertexShape
+10,20,30;;10,20,30,40 => [[5,5,5],7] => VertexShape
+all => [[1,2,3.0]] => VertexNotInteger
+10,20,30 => [[5,5,5],[1e0,2,3]] => VertexNotInteger
+;;10,20,30,40 => [[5,5,5],[1,2.0,3]] => VertexNotInteger
+all => [[1,2,9007199254740992]] => VertexRange
+10,20,30 => [[1,2,9007199254740962]] => VertexRange
+;;10,20,30,40 => [[5,5,5],[1,2,9007199254740992]] => VertexRange
+;;10,20,30,40 => {} => NotAFeature
+10,20,30 => {} => NotAFeature
+";
+
+#[test]
+fn other_triples_are_no_vertices(rt: HostRuntime) {
+    for form in BESIDE_TRIPLES.lines() {
+        expect(&rt, form, BESIDE, false);
+    }
+}
+
 #[test]
 fn lines_are_answered_as_their_values_are(rt: HostRuntime) {
     expect(&rt, "ROW", TAKEN, true);
@@ -232,6 +275,22 @@ fn lines_are_answered_as_their_values_are(rt: HostRuntime) {
     expect(&rt, ZERO, ZEROS, false);
     expect(&rt, ZERO, ZEROS_IN_AREA, false);
     expect(&rt, ZERO, FAR_ZEROS, false);
+}
+
+/// Vertices that are triples, and are moved.
+const MOVED_TRIPLES: &str = "
+10,20,30;Building => [[1,2,3]] => [[11,22,33]]
+-1,0,0;Building => [[1,2,3],[4,-5,-6],[0,8,-9]] => [[0,2,3],[3,-5,-6],[-1,8,-9]]
+10,20,30;Building => [[100000,200000,300000],[123456789012345,-123456789012345,0]] => [[100010,200020,300030],[123456789012355,-123456789012325,30]]
+10,20,30;Building;0,0,100,100 => [[1,2,3],[4000,-5,-6]] => [[11,22,33],[4010,15,24]]
+10,20,30;Road;0,0,100,100;others => [[1,2,3],[4,-5,-6]] => [[11,22,33],[14,15,24]]
+";
+
+/// They are read where they stand: a line whose value is built has other room.
+#[test]
+fn triples_are_moved(rt: HostRuntime) {
+    expect(&rt, ZERO, MOVED_TRIPLES, false);
+    expect_room(&rt, MOVED_TRIPLES);
 }
 
 fn expect_room(rt: &(impl Abort + AllocGlobal), table: &str) {

@@ -14,7 +14,7 @@ ghost use Rattle.city_feature.specs.FeatureLine.{GivesFeature, SpellsMoved};
 ghost use Rattle.city_feature.specs.Quick.{HasOtherMembers, IsCompacted, IsLine, IsPartNamed, IsPlaceOf, SpellsVertices, no_steps};
 
 mod kept;
-mod measured;
+pub(crate) mod measured;
 mod types;
 
 use crate::choices::Choice;

@@ -63,7 +63,7 @@ fn triples_meet(area: &Area, text: &[u8], from: usize, end: usize) -> Option<boo
 }
 
 /// Whether the extent of a feature's vertices, which are triples, meets the area; `None`: undecided, or no such feature.
-pub(super) fn measured(line: &[u8], parts: &[Part], triples: Span, area: &Area) -> Option<bool>
+pub fn measured(line: &[u8], parts: &[Part], triples: Span, area: &Area) -> Option<bool>
     requires triples { HasTriples line.now triples }
     ensures { IfSome result (λ meets. IsMeasured line.now parts.now area.now meets) }
 {
