@@ -274,12 +274,42 @@ fn bin_is_filled(rt: &(impl AllocGlobal + Eprint)) -> Result<bool, Fault> {
     }
 }
 
+/// Two names and sixteen that begin and end alike, some with escapes, in the text alone and in the compact text, too; and
+/// one with an escape behind as many without as there is room for at first.
+const ESCAPED_NAMES: [(&str, &str); 3] = [
+    (
+        r#"{"\u0061ttribute 00 attribute":0,"attribute 01 attribute":1}"#,
+        r#"{"attribute 00 attribute":0,"attribute 01 attribute":1}"#,
+    ),
+    (
+        r#"{"attribute 00 attribute":0,"attribute 01 attribute":1,"attribute 02 attribute":2,"attribute 03 attribute":3,"attribute 04 attribute":4,"attribute 05 attribute":5,"attribute 06 attribute":6,"attribute 07 attribute":7,"attribute 08 attribute":8,"attribute 09 attribute":9,"attribute 10 attribute":0,"attribute 11 attribute":1,"attribute 12 attribute":2,"attribut\u0065\n13 attribute":3,"attribute 14 attribute":4,"attribute 15 attribut\u0065":5}"#,
+        r#"{"attribute 00 attribute":0,"attribute 01 attribute":1,"attribute 02 attribute":2,"attribute 03 attribute":3,"attribute 04 attribute":4,"attribute 05 attribute":5,"attribute 06 attribute":6,"attribute 07 attribute":7,"attribute 08 attribute":8,"attribute 09 attribute":9,"attribute 10 attribute":0,"attribute 11 attribute":1,"attribute 12 attribute":2,"attribute\n13 attribute":3,"attribute 14 attribute":4,"attribute 15 attribute":5}"#,
+    ),
+    (
+        r#"{"00":0,"01":1,"02":2,"03":3,"04":4,"05":5,"06":6,"07":7,"08":8,"09":9,"10":0,"11":1,"12":2,"13":3,"14":4,"15":5,"16":6,"17":7,"18":8,"19":9,"20":0,"21":1,"22":2,"23":3,"24":4,"25":5,"26":6,"27":7,"28":8,"29":9,"30":0,"31":1,"32":2,"33":3,"34":4,"35":5,"36":6,"37":7,"38":8,"39":9,"4\u0030":0}"#,
+        r#"{"00":0,"01":1,"02":2,"03":3,"04":4,"05":5,"06":6,"07":7,"08":8,"09":9,"10":0,"11":1,"12":2,"13":3,"14":4,"15":5,"16":6,"17":7,"18":8,"19":9,"20":0,"21":1,"22":2,"23":3,"24":4,"25":5,"26":6,"27":7,"28":8,"29":9,"30":0,"31":1,"32":2,"33":3,"34":4,"35":5,"36":6,"37":7,"38":8,"39":9,"40":0}"#,
+    ),
+];
+
 /// Of a text nothing is said where memory is wanted, and only there.
-fn text_is_compact(rt: &(impl AllocGlobal + Eprint)) -> Result<bool, Fault> {
-    match compact(rt.alloc(), TEXT, Line::new(rt.alloc())) {
-        Some(line) => Ok(line.items() == COMPACT),
+fn text_is_compact(
+    rt: &(impl AllocGlobal + Eprint),
+    text: &[u8],
+    wanted: &[u8],
+) -> Result<bool, Fault> {
+    match compact(rt.alloc(), text, Line::new(rt.alloc())) {
+        Some(line) => Ok(line.items() == wanted),
         None => refused(rt, Call("compact"), Fault::Memory),
     }
+}
+
+fn texts_are_compact(rt: &(impl AllocGlobal + Eprint)) -> Result<bool, Fault> {
+    for (text, compact) in ESCAPED_NAMES.iter() {
+        if !text_is_compact(rt, text.as_bytes(), compact.as_bytes())? {
+            return Ok(false);
+        }
+    }
+    text_is_compact(rt, TEXT, COMPACT)
 }
 
 /// Whether these parts stand beside one another between the braces of a text of this length.
@@ -369,7 +399,7 @@ fn bytes_values_and_texts(rt: HostRuntime) -> Result<(), Fault> {
     expect!(rt; numbers_are_read(&rt));
     expect!(rt; names_are_read(&rt));
     expect!(rt; bin_is_filled(&rt));
-    expect!(rt; text_is_compact(&rt));
+    expect!(rt; texts_are_compact(&rt));
     expect!(rt; text_is_compact_with_parts(&rt));
     expect!(rt; given_texts_are_compact(&rt));
     expect!(rt; lent_texts_are_compact(&rt));
