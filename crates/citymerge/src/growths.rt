@@ -117,8 +117,16 @@ const NO_CHILD: &str = "citymerge: tile 1: a child is missing\n";
 
 const CUT_SHORT: &str = "citymerge: tile 2 line 3: the line is not a JSON text\n";
 
-/// Runs, the tiles that they read, and what they write and say.
-const RUNS: [(Command, &str, &str, &str, &str); 6] = [
+/// A run, the tiles that it reads, and what it writes and says.
+type Row = (
+    Command,
+    &'static str,
+    &'static str,
+    &'static str,
+    &'static str,
+);
+
+const RUNS: [Row; 6] = [
     (Command::Filter, "", SPACED, COMPACT, ""),
     (Command::Filter, "", BLANKS, "", NO_HEADER),
     (Command::Cat, "", DOCUMENT, BUILDING, ""),
@@ -127,17 +135,34 @@ const RUNS: [(Command, &str, &str, &str, &str); 6] = [
     (Command::Threads, A1_A2, B1_CUT, A1_B1_A2, CUT_SHORT),
 ];
 
+/// Whether a run is right whose tiles give so many bytes at a read.
+fn is_right_by<H>(rt: &H, row: &Row, step: usize) -> Result<bool, Fault>
+where
+    H: Abort + AllocGlobal + Eprint + Threads + Wait + Copy + Send + 'static,
+{
+    let (command, first, last, stream, said) = *row;
+    let given = Given {
+        command,
+        first,
+        last,
+        step,
+        fails: false,
+    };
+    is_right(rt, &given, stream, said)
+}
+
 #[test]
 fn runs_are_right(rt: HostRuntime) -> Result<(), Fault> {
-    for (command, first, last, stream, said) in RUNS.iter() {
-        let given = Given {
-            command: *command,
-            first: *first,
-            last: *last,
-            step: 50,
-            fails: false,
-        };
-        expect!(rt; is_right(&rt, &given, stream, said));
+    for row in RUNS.iter() {
+        expect!(rt; is_right_by(&rt, row, 50));
+    }
+    Ok(())
+}
+
+#[test]
+fn runs_on_whole_lines_are_right(rt: HostRuntime) -> Result<(), Fault> {
+    for row in RUNS.iter() {
+        expect!(rt; is_right_by(&rt, row, 4096));
     }
     Ok(())
 }
