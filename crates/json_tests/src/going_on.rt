@@ -80,14 +80,15 @@ const ENDS: [(&[u8], bool); 6] = [
     (b",]}", false),
 ];
 
-/// Whether all this stands after so many triples of twelve bytes, and so many of thirteen.
-fn late_is_told(alloc: Global, few: usize, many: usize, late: &(&'static [u8], bool)) -> bool {
+/// Whether all this is told after a triple that begins with so many digits, and so many of twelve bytes.
+fn late_is_told(alloc: Global, digits: usize, count: usize, late: &(&'static [u8], bool)) -> bool {
     let (item, may_stand) = *late;
     for (end, may_end) in ENDS.iter() {
         let pieces: Pieces<'_> = &[
-            (b"{\"v\":[", 1),
-            (b"[10,-2,345],", few),
-            (b"[10,-2,3456],", many),
+            (b"{\"v\":[[", 1),
+            (b"7", digits),
+            (b",-2,345],", 1),
+            (b"[10,-2,345],", count),
             (item, 1),
             (end, 1),
         ];
@@ -98,22 +99,26 @@ fn late_is_told(alloc: Global, few: usize, many: usize, late: &(&'static [u8], b
     true
 }
 
-fn lates_are_told(alloc: Global, few: usize, late: &(&'static [u8], bool)) -> bool {
-    for many in 0..12 {
-        if !late_is_told(alloc, few, many, late) {
+fn lates_are_told(alloc: Global, digits: usize, late: &(&'static [u8], bool)) -> bool {
+    for count in 0..6 {
+        if !late_is_told(alloc, digits, count, late) {
             return false;
         }
     }
     true
 }
 
+/// It begins at any place of a block.
 #[test]
 fn what_stands_after_triples_is_taken_as_anywhere(rt: HostRuntime) {
     for late in LATE.iter() {
-        if !late.0.is_empty() {
-            for few in 1..7 {
-                expect_at(&rt, lates_are_told(rt.alloc(), few, late), few, late.0);
-            }
+        for digits in 1..13 {
+            expect_at(
+                &rt,
+                lates_are_told(rt.alloc(), digits, late),
+                digits,
+                late.0,
+            );
         }
     }
 }
