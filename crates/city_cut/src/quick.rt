@@ -16,7 +16,7 @@ mod overview;
 mod points;
 mod short_parts;
 mod texts;
-mod triples;
+pub(crate) mod triples;
 
 ghost use Rattle.std.specs.Prelude.{◌≡◌, ◌++◌, ◌∷◌, [], ℕ, List, Option, IfSome, OnSome, All, Some, Contains, codes, length, map};
 ghost use Rattle.std.specs.List.{AllZip};

@@ -5,9 +5,9 @@ ghost use Rattle.city_json.specs.Tree.{MemberTrees, object};
 ghost use Rattle.city_json.specs.Triples.{HasTriples};
 ghost use Rattle.city_cut.specs.Texts.{IsCompactOf};
 
-use crate::texts::{filled, put_texts, repeated, texts_are, with_repeated};
+use crate::texts::{expect, filled, put_texts, repeated, texts_are, with_repeated};
 use byte_streams::Line;
-use city_cut::{CutTexts, cut_compacted_triples, quick_cut};
+use city_cut::{CutTexts, cut_compacted, cut_compacted_triples, quick_cut, triples_text};
 use city_json::{CompactedFeature, compact_given};
 use std::alloc::{AllocError, AllocGlobal, Global};
 use std::process::Abort;
@@ -29,6 +29,12 @@ fn given(alloc: Global, document: &str) -> Option<CompactedFeature>
     }
 }
 
+/// The document, cut where its compact text is known.
+fn compacted_cut(alloc: Global, document: &str) -> Option<CutTexts> {
+    let feature = given(alloc, document)?;
+    cut_compacted(alloc, feature.found.line.items(), &feature.found.parts)
+}
+
 /// The document, cut where its triples are known.
 fn given_cut(alloc: Global, document: &str) -> Option<CutTexts> {
     let feature = given(alloc, document)?;
@@ -47,9 +53,11 @@ fn is_some_plain(alloc: Global, answer: Option<CutTexts>, document: &str) -> boo
     }
 }
 
-/// Whether the quick cut answers the document with the texts of the plain one, also where its triples are known.
+/// Whether the quick cut answers the document with the texts of the plain one, also where its compact text is known, and
+/// where its triples are.
 fn is_answered(alloc: Global, document: &str) -> bool {
     is_some_plain(alloc, quick_cut(alloc, document.as_bytes()), document)
+        && is_some_plain(alloc, compacted_cut(alloc, document), document)
         && is_some_plain(alloc, given_cut(alloc, document), document)
 }
 
@@ -248,6 +256,110 @@ fn vertices_of_all_counts_are_answered(rt: HostRuntime) {
             assert!(rt;
                 are_vertices_answered(rt.alloc(), vertices, count, count + 1) == Ok(true),
                 "{count} {vertices}"
+            );
+        }
+    }
+}
+
+/// City objects and triples that are no vertices, which stand before the vertices, or after them.
+const BESIDE_TRIPLES: &str =
+    r#"HEAD,"+b":[[1,2,3],[4,5,6]],"CityObjects":{"a":{"geometry":[{"boundaries":USES}]}},"vertices":ROW}
+HEAD,"CityObjects":{"a":{"geometry":[{"boundaries":USES}]}},"vertices":ROW,"+b":[[1,2,3],[4,5,6]]}
+HEAD,"vertices":ROW,"+b":[[1,2,3],[4,5,6]],"CityObjects":{"a":{"geometry":[{"boundaries":USES}]}}}"#;
+
+/// Vertices of which the two first are named: triples, and others.
+const TWO: &str = "[[7,8,9],[-10,11,12]]
+[[-0,8,9],[10,11,12]]
+[[7,8,9],[10,-0,12],[13,14,15]]
+[[7,8,9],[9007199254740991,11,-9007199254740991]]
+[ [ 7 , 8 , 9 ] , [ 10 , 11 , -0 ] ]";
+
+/// Vertices of which none is named.
+const UNNAMED: &str = "[]
+[ ]
+[[-0,-0,-0]]
+[[7,8,9]]";
+
+/// What are no vertices.
+const FAULTY: &str = "[[1,2]] => VertexShape
+[[7,8,9],[1,2,3,4]] => VertexShape
+[7,8,9] => VertexShape
+[[7,8,9],[]] => VertexShape
+[[7,8,9.0]] => VertexNotInteger
+[[7,8,9],[1e0,2,3]] => VertexNotInteger
+[[7,8,9],[1,2,9007199254740992]] => VertexRange
+{} => NotCityJson";
+
+/// Whether no cut on the text answers this document.
+fn is_left(alloc: Global, form: &str, row: &str) -> Result<bool, AllocError> {
+    let document = filled(alloc, form, split(row))?;
+    Ok(
+        quick_cut(alloc, document.as_bytes()).is_none()
+            && compacted_cut(alloc, &document).is_none()
+            && given_cut(alloc, &document).is_none(),
+    )
+}
+
+/// What stands before the arrow of a row.
+fn split(row: &str) -> &str {
+    match row.split_once(" => ") {
+        Some((given, _)) => given,
+        None => row,
+    }
+}
+
+fn expect_left(rt: &(impl Abort + AllocGlobal), form: &str) {
+    expect(rt, form, "ROW", FAULTY);
+    for row in FAULTY.lines() {
+        assert!(rt; is_left(rt.alloc(), form, row) == Ok(true), "{row}");
+    }
+}
+
+#[test]
+fn other_triples_are_no_vertices(rt: HostRuntime) -> Result<(), AllocError> {
+    for form in BESIDE_TRIPLES.lines() {
+        expect_answers(&rt, &form.replace(rt.alloc(), "USES", "[1,0]")?, TWO);
+        let form = form.replace(rt.alloc(), "USES", "[]")?;
+        expect_answers(&rt, &form, UNNAMED);
+        expect_left(&rt, &form);
+    }
+    Ok(())
+}
+
+/// Documents whose vertices are the last triples of them.
+const LAST_TRIPLES: &str = r#"HEAD,"CityObjects":{},"vertices":ROW}
+HEAD,"vertices":ROW,"CityObjects":{}}
+HEAD,"+b":[[1,2,3],[4,5,6]],"CityObjects":{"a":{}},"vertices":ROW,"+c":[1,2]}"#;
+
+/// Vertices that are triples, as they are written.
+const TRIPLES: &str = "[[1,2,3]]
+[[0,0,0],[-40,50,60]]
+[[123456789012345,-123456789012345,0],[1,2,3],[100000,200000,300000],[4,5,6]]";
+
+/// Whether the vertices of a document are told to be triples, and are this text.
+fn are_told(alloc: Global, document: &str, vertices: &str) -> Option<bool> {
+    let feature = given(alloc, document)?;
+    let found = triples_text(
+        feature.found.line.items(),
+        &feature.found.parts,
+        feature.triples,
+    )?;
+    Some(found == vertices.as_bytes())
+}
+
+fn are_vertices_told(alloc: Global, form: &str, vertices: &str) -> Result<bool, AllocError> {
+    let document = filled(alloc, form, vertices)?;
+    Ok(are_told(alloc, &document, vertices) == Some(true))
+}
+
+/// Else each document would be cut by the way that looks at each number.
+#[test]
+fn vertices_are_told_to_be_triples(rt: HostRuntime) {
+    for form in LAST_TRIPLES.lines() {
+        for vertices in TRIPLES.lines() {
+            assert!(rt;
+                are_vertices_told(rt.alloc(), form, vertices) == Ok(true),
+                "{form} {vertices}"
             );
         }
     }
