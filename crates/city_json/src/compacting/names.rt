@@ -150,6 +150,7 @@ fn held_before(listed: &[Name<'_>], count: usize) -> usize
 }
 
 /// Whether the names are pairwise different: each is compared with each.
+#[inline(always)]
 fn few_are_apart(listed: &[Name<'_>], held: &[Vec<u8>]) -> bool
     ensures { IsTrue result → (members : MemberTrees) → names members ≡ map (name_bytes held.now) listed.now
         → HasDistinctNames members }
@@ -165,6 +166,7 @@ fn few_are_apart(listed: &[Name<'_>], held: &[Vec<u8>]) -> bool
 }
 
 /// Whether the name is none of these.
+#[inline(always)]
 fn is_new(name: &[u8], listed: &[Name<'_>], held: &[Vec<u8>]) -> bool
     ensures { IsTrue result → (members : MemberTrees) → names members ≡ map (name_bytes held.now) listed.now
         → IsNewName name.now members }
