@@ -244,9 +244,9 @@ const GIVEN: [(&[u8], usize); 5] = [
 /// How much more room than it needs a text has.
 const ROOM: usize = 1_000;
 
-/// What a text that is given away becomes.
-fn given(alloc: Global, text: Vec<u8>) -> Option<Vec<u8>> {
-    match compact_given(alloc, Line::from_vec(text), Line::new(alloc)) {
+/// What a text that is given away becomes, with room to spare for a copy.
+fn given(alloc: Global, text: Vec<u8>, spare: Line) -> Option<Vec<u8>> {
+    match compact_given(alloc, Line::from_vec(text), spare) {
         Ok(feature) => {
             let found = feature.found;
             let line = found.line;
@@ -256,14 +256,19 @@ fn given(alloc: Global, text: Vec<u8>) -> Option<Vec<u8>> {
     }
 }
 
-/// Whether the text is kept up to this length, in no more than twice its room.
-fn is_kept(alloc: Global, text: &[u8], len: usize) -> Result<bool, AllocError> {
+/// The text in more room than it needs.
+fn roomy(alloc: Global, text: &[u8]) -> Result<Vec<u8>, AllocError> {
     let mut roomy = Vec::with_capacity(alloc, text.len().saturating_add(ROOM))?;
     roomy.extend_from_slice(text)?;
-    let Some(kept) = given(alloc, roomy) else {
+    Ok(roomy)
+}
+
+/// Whether the text is kept up to this length, with no more room than that.
+fn is_kept(alloc: Global, text: &[u8], len: usize) -> Result<bool, AllocError> {
+    let Some(kept) = given(alloc, roomy(alloc, text)?, Line::new(alloc)) else {
         return Ok(false);
     };
-    Ok(kept.capacity() / 2 <= len && Some(kept.as_slice()) == text.get(..len))
+    Ok(kept.capacity() == len && Some(kept.as_slice()) == text.get(..len))
 }
 
 #[test]
@@ -274,25 +279,31 @@ fn a_compact_text_that_is_given_is_kept(rt: HostRuntime) {
     }
 }
 
-/// Whether the text comes back in the room that it had, no more than half of which is unused: a copy has room of its own.
-fn stays_in_its_room(alloc: Global, text: &[u8], room: usize) -> Result<bool, AllocError> {
-    let mut roomy = Vec::with_capacity(alloc, room)?;
-    roomy.extend_from_slice(text)?;
-    let before = roomy.capacity();
-    match given(alloc, roomy) {
-        Some(kept) => Ok(kept.capacity() == before),
-        None => Ok(false),
+/// How much room what comes of the text has, where a copy has all the room of what is spare.
+fn room_of(alloc: Global, text: &[u8]) -> Result<usize, AllocError> {
+    let spare = Line::from_vec(roomy(alloc, text)?);
+    match given(alloc, roomy(alloc, text)?, spare) {
+        Some(kept) => Ok(kept.capacity()),
+        None => Ok(0),
     }
 }
 
 #[test]
 fn a_compact_text_that_is_given_is_not_copied(rt: HostRuntime) {
     for (text, len) in GIVEN.iter() {
-        let twice = len.saturating_mul(2);
-        for room in [twice, twice.saturating_add(1)] {
-            let stays = stays_in_its_room(rt.alloc(), text, room);
-            expect(&rt, stays == Ok(true), text);
-        }
+        let room = room_of(rt.alloc(), text);
+        expect(&rt, room == Ok(*len), text);
+    }
+}
+
+/// Texts that are not their own compact text, or have an escape.
+const WRITTEN: [&[u8]; 4] = [b" {}", b"{\"a\": 1}", b"{\"a\":[1 ,2]}", b"{\"\\u0061\":1}"];
+
+#[test]
+fn a_text_that_is_given_and_not_compact_is_copied(rt: HostRuntime) {
+    for text in WRITTEN.iter() {
+        let room = room_of(rt.alloc(), text);
+        expect(&rt, room.is_ok_and(|room| room >= ROOM), text);
     }
 }
 

@@ -118,8 +118,8 @@ pub(super) struct Passed {
     pub(super) triples: Span,
 }
 
-/// The text in which the pass wrote nothing: it is compact up to the end of the object. Where more than half of its room
-/// is behind that, the room is given back; else it stays, since its pages would be asked for anew.
+/// The text in which the pass wrote nothing: it is compact up to the end of the object. Room that it does not need is
+/// given back.
 fn kept(text: Line, passed: Passed) -> CompactedFeature
     ensures line { result.found.line ≡ take passed.end text }
     ensures parts { result.found.parts.items ≡ passed.parts.items }
@@ -127,9 +127,7 @@ fn kept(text: Line, passed: Passed) -> CompactedFeature
 {
     let mut bytes = text.into_vec();
     bytes.truncate(passed.end);
-    if bytes.capacity() / 2 > bytes.len() {
-        bytes.shrink_to_fit();
-    }
+    bytes.shrink_to_fit();
     let found = Compacted {
         line: Line::from_vec(bytes),
         parts: passed.parts,
