@@ -79,19 +79,7 @@ pub fn fault_between(limits: Limits, size: u64, start: u64, end: u64) -> Option<
     }
 }
 
-/// Most lines begin with a brace, so that a look at their first byte tells.
-#[inline]
 pub fn is_blank(line: &[u8]) -> bool
-    ensures { result ≡ is_blank line.now }
-{
-    match line {
-        [first, ..] if *first > b' ' => false,
-        _ => is_white(line),
-    }
-}
-
-/// Whether each byte is white space of a line.
-fn is_white(line: &[u8]) -> bool
     ensures { result ≡ is_blank line.now }
 {
     line.iter()
