@@ -50,14 +50,6 @@ impl Steps {
         }
     }
 
-    /// The steps of three components that are not above 2^53 - 1 in size.
-    pub(crate) fn near(axes: Axes<i64>) -> Steps
-        requires { IsInRange axes }
-        ensures { result ≡ axes }
-    {
-        Steps { axes }
-    }
-
     pub fn axes(&self) -> Axes<i64>
         ensures value { result ≡ self.now }
         ensures range { IsInRange result }

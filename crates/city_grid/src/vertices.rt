@@ -1,6 +1,5 @@
-ghost use Rattle.std.specs.Prelude.{◌≡◌, ◌≤◌, ◌↔◌, IsTrue, unsigned_abs, IfOk, IfErr};
+ghost use Rattle.std.specs.Prelude.{◌≡◌, IfOk, IfErr};
 ghost use Rattle.std.specs.Option.{SomeIff};
-ghost use Rattle.byte_streams.specs.Limits.{max_steps};
 ghost use Rattle.city_grid.specs.Axes.{IsInRange, sum, triple};
 
 mod digits;
@@ -15,7 +14,6 @@ use crate::axes::Axes;
 use crate::shifts::Shift;
 use crate::steps::Steps;
 use byte_streams::Fault;
-use byte_streams::limits::MAX_STEPS;
 use std::marker::Model;
 
 /// A vertex in steps of the grid, each component at most 2^53 - 1 in size (CityJSON 2.0,
@@ -40,12 +38,14 @@ impl Vertex {
     pub fn new(x: i64, y: i64, z: i64) -> Option<Vertex>
         ensures { SomeIff result (IsInRange (triple x y z)) (triple x y z) }
     {
-        if is_near(x) && is_near(y) && is_near(z) {
-            let steps = Steps::near(Axes { x, y, z });
-            Some(Vertex { steps })
-        } else {
-            None
-        }
+        let Some(steps) = Steps::new(Axes {
+            x: i128::from(x),
+            y: i128::from(y),
+            z: i128::from(z),
+        }) else {
+            return None;
+        };
+        Some(Vertex { steps })
     }
 
     pub fn steps(&self) -> Axes<i64>
@@ -54,14 +54,6 @@ impl Vertex {
     {
         self.steps.axes()
     }
-}
-
-/// Whether a component is at most 2^53 - 1 in size.
-#[inline(always)]
-fn is_near(steps: i64) -> bool
-    ensures { IsTrue result ↔ (unsigned_abs steps ≤ max_steps) }
-{
-    steps.unsigned_abs() <= MAX_STEPS
 }
 
 /// The vertex after the shift: the sum in each component; [`Fault::VertexRange`] where one is above

@@ -1,6 +1,6 @@
 //! Vertices in a text in which arrays of three short whole numbers are known to stand (CityJSON 2.0, CityJSONFeature):
 //! they are read, and not checked again. In any other text some vertices are found, or none.
-ghost use Rattle.std.specs.Prelude.{◌≡◌, ◌<◌, ◌≤◌, ◌+◌, ℕ, ℤ, List, drop, take, length, map, slice_range, unsigned_abs, IfSome};
+ghost use Rattle.std.specs.Prelude.{◌≡◌, ◌<◌, ◌≤◌, ◌+◌, ◌↔◌, IsTrue, ℕ, ℤ, List, drop, take, length, map, slice_range, unsigned_abs, IfSome};
 ghost use Rattle.std.specs.Fmt.{signed_decimal};
 ghost use Rattle.std.specs.Simd.Lanes.{mask_l};
 ghost use Rattle.std.specs.Str.Parse.{AllDigits, digits_value};
@@ -12,9 +12,10 @@ ghost use Rattle.city_grid.specs.Axes.{IsInRange, triple};
 ghost use Rattle.city_grid.specs.NumberEnds.{AreEnds, ends_number, number_len};
 ghost use Rattle.city_grid.specs.Vertex.{vertex_tree};
 
+use crate::vertices::Vertex;
 use crate::vertices::digits::digits_value_between;
 use crate::vertices::texts::PlacedVertex;
-use crate::vertices::{Vertex, is_near};
+use byte_streams::limits::MAX_STEPS;
 use std::simd::prelude::*;
 
 /// How many bytes are looked at at once: more than the text of most vertices has.
@@ -244,6 +245,14 @@ pub struct PlacedPlan {
     pub x: i64,
     pub y: i64,
     pub end: usize,
+}
+
+/// Whether a component is at most 2^53 - 1 in size.
+#[inline(always)]
+fn is_near(steps: i64) -> bool
+    ensures { IsTrue result ↔ (unsigned_abs steps ≤ max_steps) }
+{
+    steps.unsigned_abs() <= MAX_STEPS
 }
 
 /// The x and y of the vertex whose text begins at `at`, where the text of an array of three short whole numbers does; its
