@@ -10,9 +10,9 @@ Eleven parts, each of which can be left out:
   memory        the peak for 10 MB and for 100 MB of building tiles (1 GB with --giga), which must be the
                 same, and for one line of 64 MB
   instructions  executed for each input byte of these streams; they do not depend on the machine's load (valgrind)
-  merges        MB/s of `merge --in-turn` on four building tiles, beside `filter` on the same bytes, of which it
-                must have nine tenths; and its peak memory for tiles of 10 MB and of 100 MB each (1 GB with
-                --giga), which must be the same
+  merges        MB/s of `merge --in-turn` on four building tiles, beside `filter` on the same bytes; it must have no
+                less of the speed that the filter had at the start of the work on speed than it had then; and its
+                peak memory for tiles of 10 MB and of 100 MB each (1 GB with --giga), which must be the same
   threads       MB/s by the clock of `merge` beside `merge --in-turn`, of four even tiles, of a large one beside
                 three small ones and of 64, and its peak memory, also where a slow reader takes the output
   waiting       processor time while a tile gives nothing and while the output is read slowly; how soon a merge
