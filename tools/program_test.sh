@@ -82,17 +82,33 @@ is_quiet() {
     return 1
 }
 
-# A live tile: what has come of it is passed on while it gives nothing, and waiting takes no processor.
 mkfifo "$room/live" "$room/passed_on"
-for command in filter merge 'merge --in-turn'; do
-    if [ "$command" = filter ]; then
+
+# runs a command on the tile that is written to 3; what comes of it is read from 4
+begin_live() {
+    if [ "$1" = filter ]; then
         "$program" filter <"$room/live" >"$room/passed_on" 2>"$room/errors" &
     else
-        "$program" $command "$room/live" >"$room/passed_on" 2>"$room/errors" &
+        "$program" $1 "$room/live" >"$room/passed_on" 2>"$room/errors" &
     fi
     runs=$!
     exec 3<>"$room/live"
     exec 4<"$room/passed_on"
+}
+
+# ends the tile: nothing more comes, and the run ends well
+end_live() {
+    exec 3>&-
+    expect "the rest of $1" '' "$(timeout 20 cat <&4)"
+    exec 4<&-
+    end_late $runs
+    wait $runs
+    expect "the status of $1" 0 $?
+}
+
+# A live tile: what has come of it is passed on while it gives nothing, and waiting takes no processor.
+for command in filter merge 'merge --in-turn'; do
+    begin_live "$command"
     printf '%s\n%s\n' "$header" "$p" >&3
     expect "$command of a live tile" "$(printf '%s\n%s' "$header" "$p")" "$(timeout 20 head -n 2 <&4)"
     is_quiet $runs
@@ -100,12 +116,31 @@ for command in filter merge 'merge --in-turn'; do
     printf '%s\n' "$q" >&3
     expect "what comes later in $command of a live tile" "$q" "$(timeout 20 head -n 1 <&4)"
     sleep 1
-    exec 3>&-
-    expect "the rest of $command of a live tile" '' "$(timeout 20 cat <&4)"
-    exec 4<&-
-    end_late $runs
-    wait $runs
-    expect "the status of $command of a live tile" 0 $?
+    end_live "$command of a live tile"
+done
+
+# sends lines to a command, and bytes behind them: what comes of the lines, and then of the feature `q`, before the tile ends
+live_before() {
+    what="$1 of a live tile with '$2' behind $3 lines"
+    begin_live "$1"
+    printf '%s\n'"$2" "$4" >&3
+    expect "$what" "$5" "$(timeout 20 head -n "$3" <&4)"
+    printf '%s\n' "${q#"$6"}" >&3
+    expect "what comes later in $what" "$q" "$(timeout 20 head -n 1 <&4)"
+    end_live "$what"
+}
+
+# What has come is passed on behind blank lines, lines of white space, and the front of a line.
+d=$(feature d Building '')
+document="${header%\"CityObjects\"*}"'"CityObjects":{"d":{"type":"Building"}},"vertices":[]}'
+front=${q%Bridge*}
+for command in filter merge 'merge --in-turn'; do
+    for behind in '\n' ' \n' '\r\n\t\n\n' '\n \t'; do
+        live_before "$command" "$behind" 2 "$(printf '%s\n%s' "$header" "$p")" "$(printf '%s\n%s' "$header" "$p")" ''
+    done
+    live_before "$command" "\\n$front" 2 "$(printf '%s\n%s' "$header" "$p")" "$(printf '%s\n%s' "$header" "$p")" "$front"
+    live_before "$command" '\n' 1 "$header" "$header" ''
+    live_before "$command" '\n' 2 "$document" "$(printf '%s\n%s' "$header" "$d")" ''
 done
 
 # what is chosen

@@ -1,13 +1,14 @@
 //! In which order two tiles that are merged in turn are read, and what comes of them is written and passed on.
 ghost use Rattle.std.specs.Prelude.{◌≤◌, length};
 
-use crate::merging::{PLAIN, merges_in_turn, split_at_arrow, stream_of};
+use crate::merging::{PLAIN, choice_of, merges_in_turn, split_at_arrow, stream_of};
 use byte_streams::Device;
 use std::alloc::{AllocError, Global};
 use std::io::{self, ErrorKind, Read, Write};
 use std::process::Abort;
 use std::sync::atomic::AtomicUsize;
 use std::sync::atomic::Ordering::SeqCst;
+use tile_stream::filter_stream;
 
 /// Pipes, the stream that is to be written, and the calls that are to be made, in their order: `1` and `2` for a read of
 /// that tile, `w` for a line that is written, `f` where what was written is passed on. Beside them how many were made.
@@ -169,32 +170,72 @@ fn expect_order(rt: &(impl Abort + AllocGlobal), capacity: u32, table: &str) {
     }
 }
 
-/// Where a blank line ends what is held of a tile, it is read on before its next text is written: of two tiles that come
-/// through one pipe, so that the one takes what the other would; where a line has begun after it; before the end.
-const READ_ON: &str = "
-HEADER | HEADER | A1 EMPTY | B1 | C1 =>=> HEADER A1 C1 B1 => [2, 1] => 12wf11wf2wwf2f1f
-HEADER A1 EMPTY {\"type\":\"CityJSONFeature\",~ | \"id\":\"b1\",\"CityObjects\":{\"b1\":{\"type\":\"Building\"}},\"vertices\":[[1,2,3]]} => HEADER C1 => HEADER A1 C1 B1 => [2, 1] => 12w1wwwf2f1f
-HEADER A1 SPACE_RETURN EMPTY => HEADER B1 => HEADER A1 B1 => [1, 1] => 12w1wwf2f
-";
-
-/// Where no place is left for a text, or no blank line follows, the next text is written before more is read.
-const WRITTEN_FIRST: &str = "
-HEADER | HEADER | A1 EMPTY | B1 | C1 =>=> HEADER A1 B1 C1 => [2, 1] => 12wf1wf2w1wf2f1f
-HEADER A1 EMPTY {\"type\":\"CityJSONFeature\",~ | \"id\":\"b1\",\"CityObjects\":{\"b1\":{\"type\":\"Building\"}},\"vertices\":[[1,2,3]]} => HEADER C1 => HEADER A1 C1 B1 => [2, 1] => 12www1wf2f1f
-HEADER A1 SPACE_RETURN EMPTY => HEADER B1 => HEADER A1 B1 => [1, 1] => 12www1f2f
-";
-
-/// Where what is held ends in a line, it is the same for each capacity.
-const NO_BLANK: &str = "
+/// Before a tile is read, what was written is passed on, and its queued texts are written: of two tiles that come through
+/// one pipe, so that the one takes what the other would; where a line has begun after a blank one; before the end; with no
+/// blank line. Where a line stands behind blank ones, nothing is passed on at these.
+const IN_TURN: &str = "
+HEADER | HEADER | A1 EMPTY | B1 | C1 =>=> HEADER A1 B1 C1 => [2, 1] => 12wf1wf2wf1wf2f1f
+HEADER A1 EMPTY {\"type\":\"CityJSONFeature\",~ | \"id\":\"b1\",\"CityObjects\":{\"b1\":{\"type\":\"Building\"}},\"vertices\":[[1,2,3]]} => HEADER C1 => HEADER A1 C1 B1 => [2, 1] => 12wwwf1wf2f1f
+HEADER A1 SPACE_RETURN EMPTY => HEADER B1 => HEADER A1 B1 => [1, 1] => 12wwwf1f2f
 HEADER A1 | B1 => HEADER C1 => HEADER A1 C1 B1 => [2, 1] => 12wwwf1wf2f1f
+HEADER A1 EMPTY SPACE B1 TAB => HEADER C1 => HEADER A1 C1 B1 => [2, 1] => 12wwwwf2f1f
 ";
 
 #[test]
-fn a_tile_is_read_on_where_a_blank_line_ends_what_is_held(rt: HostRuntime) {
-    expect_order(&rt, 2, READ_ON);
-    expect_order(&rt, 64, READ_ON);
-    expect_order(&rt, 1, WRITTEN_FIRST);
+fn what_was_written_in_turn_is_passed_on_before_a_read(rt: HostRuntime) {
     for capacity in [1u32, 2, 64] {
-        expect_order(&rt, capacity, NO_BLANK);
+        expect_order(&rt, capacity, IN_TURN);
+    }
+}
+
+/// Whether what comes through the pipe is filtered, and so many features counted, by the calls that are wanted.
+fn filters(alloc: Global, scene: &Scene, count: usize) -> bool {
+    let reader = Device::new(PipeEnd {
+        scene,
+        place: 0,
+        call: b'1',
+    });
+    let mut output = Device::new(Taker { scene, taken: 0 });
+    let Ok(choice) = choice_of(alloc, &PLAIN) else {
+        return false;
+    };
+    match filter_stream(alloc, reader, &choice, &mut output) {
+        Ok(found) => found == count as u64 && scene.made.load(SeqCst) == scene.wanted.len(),
+        Err(_) => false,
+    }
+}
+
+/// Whether the line of a table holds: the pipe; what is written, a header and features; and the calls.
+fn is_filtered(alloc: Global, line: &str) -> Result<bool, AllocError> {
+    let (pipe, line) = split_at_arrow(line);
+    let (written, wanted) = split_at_arrow(line);
+    let scene = Scene {
+        pipes: pipes_of(alloc, pipe, "")?,
+        stream: stream_of(alloc, written)?.into_bytes(),
+        wanted: wanted.as_bytes().to_vec(alloc)?,
+        made: AtomicUsize::new(0),
+    };
+    let features = written.split_whitespace().skip(1);
+    Ok(filters(alloc, &scene, features.count()))
+}
+
+/// The same of a filter: blank lines and lines of white space, with a line behind them, with the front of one, with none;
+/// one by one; behind the header; behind a document.
+const FILTERED: &str = "
+HEADER | A1 | B1 => HEADER A1 B1 => 1wff1wf1wf1f
+HEADER A1 EMPTY | B1 => HEADER A1 B1 => 1wwf1wf1f
+HEADER A1 SPACE_RETURN EMPTY TAB | B1 => HEADER A1 B1 => 1wwf1wf1f
+HEADER A1 EMPTY SPACE B1 EMPTY TAB C1 => HEADER A1 B1 C1 => 1wwwwf1f
+HEADER A1 EMPTY {\"type\":\"CityJSONFeature\",~ | \"id\":\"b1\",\"CityObjects\":{\"b1\":{\"type\":\"Building\"}},\"vertices\":[[1,2,3]]} => HEADER A1 B1 => 1wwf1wf1f
+HEADER A1 | EMPTY | SPACE | B1 => HEADER A1 B1 => 1wwf111wf1f
+HEADER EMPTY | A1 => HEADER A1 => 1wff1wf1f
+POINTS EMPTY | A1 => HEADER X Y Z A1 => 1wfwwwf1wf1f
+";
+
+#[test]
+fn what_was_filtered_is_passed_on_before_a_read(rt: HostRuntime) {
+    for line in FILTERED.lines() {
+        let answer = is_filtered(rt.alloc(), line);
+        assert!(rt; line.is_empty() || answer == Ok(true), "{line}");
     }
 }

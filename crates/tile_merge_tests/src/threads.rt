@@ -101,6 +101,7 @@ struct Gated {
     waits_at: u64,
     seen: Arc<AtomicU64, Global>,
     least: u64,
+    behind: &'static str,
 }
 
 impl Gated {
@@ -136,13 +137,14 @@ impl Read for Gated {
         let Some(line) = self.line() else {
             return Ok(0);
         };
-        let length = line.len();
-        if to.len() <= length {
+        let (line, behind) = (line.as_bytes(), self.behind.as_bytes());
+        if to.len() < line.len() || to.len() - line.len() < behind.len() {
             return Err(io::Error::from(ErrorKind::Other));
         }
-        to[..length].copy_from_slice(line.as_bytes());
-        to[length] = b'\n';
-        Ok(length + 1)
+        let end = line.len() + behind.len();
+        to[..line.len()].copy_from_slice(line);
+        to[line.len()..end].copy_from_slice(behind);
+        Ok(end)
     }
 }
 
@@ -156,7 +158,17 @@ fn shared(alloc: Global) -> Result<Arc<AtomicU64, Global>, AllocError> {
 fn waiting(
     features: u64,
     begun: &Arc<AtomicU64, Global>,
+    gate: (u64, &Arc<AtomicU64, Global>, u64),
+) -> Result<Device<Gated>, AllocError> {
+    waiting_behind(features, begun, gate, "\n")
+}
+
+/// The same with these bytes behind each line.
+fn waiting_behind(
+    features: u64,
+    begun: &Arc<AtomicU64, Global>,
     (waits_at, seen, least): (u64, &Arc<AtomicU64, Global>, u64),
+    behind: &'static str,
 ) -> Result<Device<Gated>, AllocError> {
     Ok(Device::new(Gated {
         features,
@@ -165,6 +177,7 @@ fn waiting(
         waits_at,
         seen: Arc::try_clone(seen)?,
         least,
+        behind,
     }))
 }
 
@@ -227,6 +240,7 @@ fn three(
         waits_at: 0,
         seen: second,
         least: 0,
+        behind: "\n",
     }))?;
     readers.push(waiting(1, third, (0, third, 0))?)?;
     Ok(readers)
@@ -418,14 +432,19 @@ impl Write for Gathering {
     }
 }
 
-/// A tile that does not end before its first feature was passed on.
-fn passes_on<H>(rt: &H, in_turn: bool, capacity: u32) -> Result<bool, AllocError>
+/// A tile that does not end before its first feature was passed on, with these bytes behind each line.
+fn passes_on<H>(
+    rt: &H,
+    in_turn: bool,
+    capacity: u32,
+    behind: &'static str,
+) -> Result<bool, AllocError>
 where
     H: Abort + AllocGlobal + Threads + Wait + Copy + Send + 'static,
 {
     let (begun, passed_on) = (shared(rt.alloc())?, shared(rt.alloc())?);
     let mut readers = Vec::new(rt.alloc());
-    readers.push(waiting(1, &begun, (3, &passed_on, 130))?)?;
+    readers.push(waiting_behind(1, &begun, (3, &passed_on, 130), behind)?)?;
     let mut output = Device::new(Gathering {
         gathered: 0,
         passed_on,
@@ -435,7 +454,10 @@ where
 
 #[test]
 fn what_has_come_is_passed_on(rt: HostRuntime) {
-    for (in_turn, capacity) in [(false, 1u32), (false, 64), (true, 1), (true, 4), (true, 64)] {
-        assert!(rt; passes_on(&rt, in_turn, capacity) == Ok(true), "{capacity}");
+    for behind in ["\n", "\n\n", "\n \t\r\n\n"] {
+        for (in_turn, capacity) in [(false, 1u32), (false, 64), (true, 1), (true, 4), (true, 64)] {
+            let passes = passes_on(&rt, in_turn, capacity, behind);
+            assert!(rt; passes == Ok(true), "{capacity} {behind:?}");
+        }
     }
 }

@@ -172,3 +172,9 @@ pub something_left : {R : Type 0} (gives : R → List ℕ → Bool → Type 0)
     → ((reader : R) → (bytes : List ℕ) × ((fails : Bool) × gives reader bytes fails)) → (lines : Unread R)
     → EndsFrom lines.number lines.ended → (left : TileLines) × Leaves gives lines left × Begins lines.number left
 something_left gives some lines from = something_if gives some lines.ended lines refl from
+
+-- A line that is refused now was refused before, if what may be left now may have been left then.
+pub refused_back : (fault : Fault) (number : ℕ) (before now : TileLines → Type 0)
+    → ((left : TileLines) → now left → before left) → IsRefused fault number now → IsRefused fault number before
+refused_back Memory number before now back is = (is.0, back is.0 is.1, is.2)
+refused_back other number before now back is = back (only_fault number other) is

@@ -11,3 +11,4 @@ pub mod HeldFirst
 pub mod HeldTexts
 pub mod Leaving
 pub mod Steps
+pub mod StandingLines

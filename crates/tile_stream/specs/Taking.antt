@@ -1,5 +1,5 @@
 -- What the taking of one part from what is to come may answer.
-use Rattle.std.specs.Prelude.{◌≡◌, ◌+◌, ℕ, Bool, false, List, ◌∷◌, ◌++◌, None, length, Result, Ok, Err}
+use Rattle.std.specs.Prelude.{◌≡◌, ◌<◌, ◌+◌, ℕ, Bool, false, List, ◌∷◌, ◌++◌, None, length, slice_index, Result, Ok, Err, IfOk}
 use Rattle.std.specs.List.{All}
 use Rattle.city_json.specs.Bytes.{newline}
 use Rattle.byte_streams.specs.declared.fault.Fault.{Fault}
@@ -7,6 +7,7 @@ use Rattle.byte_streams.specs.declared.fault.Fault.TheVariants.{LineTooLong, Til
 use Rattle.tile_stream.specs.declared.limits.Limits.{Limits}
 use Rattle.tile_stream.specs.declared.lines.part.NextPart.{NextPart}
 use Rattle.tile_stream.specs.declared.lines.part.NextPart.TheVariants.{Ended, Last}
+use Rattle.tile_stream.specs.Ahead.{Ahead}
 use Rattle.tile_stream.specs.Unread.{failed_reads_after}
 use Rattle.tile_stream.specs.Tile.{is_newline, fault_between, lines_from, only_fault}
 
@@ -55,6 +56,20 @@ IsRefusal other limits start before = ⊥
 abbrev pub StandsWithin : (List ℕ → Bool → Type 0) → (List ℕ → Bool → Type 0) → Type 0
 StandsWithin before after =
     (front : List ℕ) × HasNoNewline front × ((bytes : List ℕ) (fails : Bool) → after bytes fails → before (front ++ bytes) fails)
+
+-- a newline stands among these bytes
+abbrev pub HoldsNewline : List ℕ → Type 0
+HoldsNewline bytes = (end : ℕ) × (end < length bytes) × (slice_index bytes end ≡ newline)
+
+-- The part and the newline that ends it are the first of these bytes, and the others those after.
+abbrev pub IsFirstOf : NextPart → List ℕ → List ℕ → Type 0
+IsFirstOf (Ended line) before after = before ≡ line ++ newline ∷ after
+IsFirstOf (Last line) before after = ⊥
+
+-- Nothing was read, and a part that was taken is the first of what was held.
+pub record TookHeld {R : Type 0} (result : Result NextPart Fault) (before after : Ahead R) : Type 0 where
+  pub reader : after.reader ≡ before.reader
+  pub part : IfOk result (λ part. IsFirstOf part before.held after.held)
 
 -- What was to come, as `before` says, is this part and then what is to come now, as `after` says.
 abbrev pub IsTaken : NextPart → Limits → ℕ → (List ℕ → Bool → Type 0) → (List ℕ → Bool → Type 0) → Type 0

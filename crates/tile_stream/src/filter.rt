@@ -1,4 +1,4 @@
-ghost use Rattle.std.specs.Prelude.{◌≡◌, ◌≢◌, ◌≤◌, ◌<◌, ◌+◌, ◌++◌, ℕ, List, [], length, take, false, Some, None, IfOk, IfErr, OnOk, OnErr};
+ghost use Rattle.std.specs.Prelude.{◌≡◌, ◌≢◌, ◌⊎◌, ◌≤◌, ◌<◌, ◌+◌, ◌++◌, ℕ, List, [], length, take, false, Some, None, IfOk, IfErr, OnOk, OnErr};
 ghost use Rattle.std.specs.Io.KnownBytes.{Appends, Keeps};
 ghost use Rattle.city_json.specs.Compact.{compact};
 ghost use Rattle.byte_streams.specs.Failures.{after_call};
@@ -14,6 +14,7 @@ ghost use Rattle.tile_stream.specs.Stream.{with_newline};
 ghost use Rattle.tile_stream.specs.Tile.{TileLines, stream_limits};
 ghost use Rattle.tile_stream.specs.TileState.{most_to_come, most_texts};
 ghost use Rattle.tile_stream.specs.Unread.{IsOfTile, Leaves, most_left, has_failed, is_read, failed_reads_between};
+ghost use Rattle.tile_stream.specs.Whole.{HoldsLine};
 
 use crate::spare::emptied;
 use crate::tile_reader::writing::write_next;
@@ -262,12 +263,13 @@ fn write_on<R: Source, W: Sink>(
     }
 }
 
-/// Passes on what was written where the tile's next line has to be read first, which may take long.
+/// Passes on what was written where the tile's next line that is not blank has to be read first, which may take long.
 ///
 /// # Errors
 ///
 /// [`Fault::Write`] where the flush failed.
 pub fn pass_on<R: Source, W: Sink>(tile: &TileReader<R>, output: &mut W) -> Result<(), Fault>
+    ensures passed { OnOk result (HoldsLine tile.now.lines.ahead.held ⊎ W.is_flushed output.new) }
     ensures bytes { Keeps (W.taken output.old) (W.taken output.new) }
     ensures failures { W.failures output.new ≡ after_call result (W.failures output.old) }
     ensures fault { IfErr result (λ fault. fault ≡ Fault.Write) }

@@ -1,9 +1,11 @@
-ghost use Rattle.std.specs.Prelude.{◌≡◌, ◌≤◌, ◌<◌, ◌+◌, ◌↔◌, false, length, take, Some, None, IfOk, IfErr, IfSome, IfNone};
+ghost use Rattle.std.specs.Prelude.{◌≡◌, ◌≤◌, ◌<◌, ◌+◌, ◌++◌, ◌∷◌, ◌↔◌, false, length, take, Some, None, IfOk, IfErr, IfSome, IfNone, IsTrue};
 ghost use Rattle.byte_streams.specs.Limits.{max_tile_bytes};
+ghost use Rattle.city_json.specs.Bytes.{newline};
 ghost use Rattle.tile_stream.specs.Ahead.{MayCome};
+ghost use Rattle.tile_stream.specs.Taking.{HoldsNewline};
 ghost use Rattle.tile_stream.specs.Tile.{TileLines, only_fault, limits_of, stream_limits};
 ghost use Rattle.tile_stream.specs.Unread.{Leaves, IsOfTile, GivesPart, GivesLine, MayBeOver, StandsAt, IsRefused, IsLineFault, IsAgain, BeginsFrom, EndsFrom, is_refused, most_left, has_failed, failed_reads_between};
-ghost use Rattle.tile_stream.specs.Whole.{IsWhole};
+ghost use Rattle.tile_stream.specs.Whole.{HoldsLine, IsWhole};
 
 mod part;
 mod read_ahead;
@@ -94,8 +96,8 @@ impl<R: Source> Lines<R> {
         }
     }
 
-    /// The next line that is not blank, or none after the last. It reads on only where no newline
-    /// that ends the line stands among the bytes that it holds.
+    /// The next line that is not blank, or none after the last. It reads on only where no such line
+    /// stands whole among the bytes that it holds.
     ///
     /// # Errors
     ///
@@ -127,6 +129,8 @@ impl<R: Source> Lines<R> {
         ensures ended { EndsFrom self.new.number self.new.ended }
         ensures had_not_failed { IfOk result (λ next. has_failed self.old ≡ false) }
         ensures not_failed { IfOk result (λ next. has_failed self.new ≡ false) }
+        ensures not_read { HoldsLine self.old.ahead.held
+            → self.new.ahead.reader ≡ self.old.ahead.reader }
         ensures failures { R.failures self.new.ahead.reader ≡ failed_reads_between
             (has_failed self.old) (has_failed self.new) (R.failures self.old.ahead.reader) }
     {
@@ -143,9 +147,11 @@ impl<R: Source> Lines<R> {
         }
     }
 
-    /// Whether the newline of the next line was read already.
-    pub fn holds_line(&self) -> bool {
-        self.ahead.holds_newline()
+    /// Whether the next line that is not blank was read already, and the newline that ends it.
+    pub fn holds_line(&self) -> bool
+        ensures { IsTrue result ↔ HoldsLine self.now.ahead.held }
+    {
+        self.ahead.holds_line()
     }
 
     /// How long the next line is, where the newline that ends it was read already, it is not blank and within the
@@ -156,7 +162,7 @@ impl<R: Source> Lines<R> {
         let State::Open = self.state else {
             return None;
         };
-        if !self.ahead.holds_newline() {
+        if !self.ahead.holds_line() {
             return None;
         }
         let held = self.ahead.held();
@@ -224,6 +230,10 @@ impl<R: Source> Lines<R> {
         ensures ended { EndsFrom self.new.number self.new.ended }
         ensures had_not_failed { IfOk result (λ next. has_failed self.old ≡ false) }
         ensures not_failed { IfOk result (λ next. has_failed self.new ≡ false) }
+        ensures not_read { HoldsNewline self.old.ahead.held
+            → self.new.ahead.reader ≡ self.old.ahead.reader }
+        ensures of_held { HoldsNewline self.old.ahead.held → IfOk result (λ next. IfSome next (λ line.
+            self.old.ahead.held ≡ line.bytes ++ newline ∷ self.new.ahead.held)) }
         ensures failures { R.failures self.new.ahead.reader ≡ failed_reads_between
             (has_failed self.old) (has_failed self.new) (R.failures self.old.ahead.reader) }
     {

@@ -1,4 +1,4 @@
-ghost use Rattle.std.specs.Prelude.{◌≡◌, ◌≢◌, ◌≤◌, ◌<◌, ◌↔◌, ℕ, List, [], true, false, Some, None, IfOk, IfErr, IfSome, IfNone, OnOk, OnErr, ◌+◌, length};
+ghost use Rattle.std.specs.Prelude.{◌≡◌, ◌≢◌, ◌≤◌, ◌<◌, ◌↔◌, ℕ, List, [], true, false, Some, None, IfOk, IfErr, IfSome, IfNone, IsTrue, OnOk, OnErr, ◌+◌, length};
 ghost use Rattle.city_feature.specs.Choice.{IsChosen};
 ghost use Rattle.city_feature.specs.Values.{header_value};
 ghost use Rattle.tile_stream.specs.Coming.{LinesMayComeTo, MayComeTo, MayLeave, GivesText, GivesTexts, ComesBack, SomethingComes};
@@ -6,7 +6,7 @@ ghost use Rattle.tile_stream.specs.Head.{HasNoHead, SomeTile, GivesHeld, RanOutA
 ghost use Rattle.tile_stream.specs.Tile.{TileLines, stream_limits};
 ghost use Rattle.tile_stream.specs.TileState.{most_to_come, most_texts};
 ghost use Rattle.tile_stream.specs.Unread.{Leaves, IsOfTile, most_left, has_failed, is_read, is_refused, failed_reads_between};
-ghost use Rattle.tile_stream.specs.Whole.{IsWhole};
+ghost use Rattle.tile_stream.specs.Whole.{HoldsLine, IsWhole};
 
 mod head;
 mod held;
@@ -286,9 +286,11 @@ impl<R: Source> TileReader<R> {
         Ok(Passed { is_chosen, text })
     }
 
-    /// Whether the next line was read already, so that taking it does not wait for the reader. It
+    /// Whether the next line that is not blank was read already, so that taking it does not wait for the reader. It
     /// may be false where the tile is over.
-    pub fn holds_line(&self) -> bool {
+    pub fn holds_line(&self) -> bool
+        ensures { IsTrue result ↔ HoldsLine self.now.lines.ahead.held }
+    {
         self.lines.holds_line()
     }
 }

@@ -1,7 +1,9 @@
-ghost use Rattle.std.specs.Prelude.{◌≡◌, ◌≤◌, true, false, [], length, drop, IfOk, IfErr};
+ghost use Rattle.std.specs.Prelude.{◌≡◌, ◌≤◌, ◌<◌, ◌-◌, ◌↔◌, ℕ, true, false, [], length, drop, slice_index, IfOk, IfErr, IsTrue};
 ghost use Rattle.byte_streams.specs.Source.{GivesFirst};
 ghost use Rattle.tile_stream.specs.Taking.{IsFillFault, failed_reads_after_call};
+ghost use Rattle.tile_stream.specs.Whole.{EndsTexts, HoldsLine, is_white};
 
+use crate::lines::taking::is_blank;
 use byte_streams::limits::MAX_PIECE_BYTES;
 use byte_streams::{Fault, Source};
 use memchr::memrchr;
@@ -15,13 +17,14 @@ pub struct ReadAhead<R> {
     piece: Vec<u8>,
     at: usize,
     filled: usize,
-    // behind the last newline of the piece
-    lines: usize,
+    // behind the last byte of a line that is not blank and ends in the piece
+    texts: usize,
 }
 
 impl<R> Model for ReadAhead<R> {
-    ghost use Rattle.std.specs.Prelude.{◌≤◌, slice_range, vec_len};
+    ghost use Rattle.std.specs.Prelude.{◌≤◌, slice_range, take, vec_len};
     ghost use Rattle.tile_stream.specs.Ahead.{Ahead};
+    ghost use Rattle.tile_stream.specs.Whole.{EndsTexts};
 
     ghost Value = { Ahead R };
 
@@ -30,7 +33,8 @@ impl<R> Model for ReadAhead<R> {
       held = slice_range a.piece.items a.at a.filled;
     } };
 
-    ghost invariant = { λ a. (a.at ≤ a.filled) × (a.filled ≤ vec_len a.piece) };
+    ghost invariant = { λ a. (a.at ≤ a.filled) × (a.filled ≤ vec_len a.piece)
+        × EndsTexts (take a.filled a.piece.items) a.texts };
 }
 
 impl<R: Source> ReadAhead<R> {
@@ -43,7 +47,7 @@ impl<R: Source> ReadAhead<R> {
             piece: Vec::new(alloc),
             at: 0,
             filled: 0,
-            lines: 0,
+            texts: 0,
         }
     }
 
@@ -54,9 +58,11 @@ impl<R: Source> ReadAhead<R> {
         &self.piece[self.at..self.filled]
     }
 
-    /// Whether a newline is among the bytes that are held.
-    pub fn holds_newline(&self) -> bool {
-        self.at < self.lines
+    /// Whether a line that is not blank ends among the bytes that are held.
+    pub fn holds_line(&self) -> bool
+        ensures { IsTrue result ↔ HoldsLine self.now.held }
+    {
+        self.at < self.texts
     }
 
     /// Takes the first of the bytes that are held.
@@ -90,17 +96,40 @@ impl<R: Source> ReadAhead<R> {
         }
         self.at = 0;
         self.filled = 0;
-        self.lines = 0;
+        self.texts = 0;
         self.filled = self.reader.read(&mut self.piece)?;
-        self.lines = lines_end(&self.piece[..self.filled]);
+        self.texts = texts_end(&self.piece[..self.filled]);
         Ok(self.filled)
     }
 }
 
-/// The place behind the last newline, or 0 where there is none.
-fn lines_end(bytes: &[u8]) -> usize {
+/// Whether a byte may stand in a blank line, or ends a line.
+fn is_white(byte: u8) -> bool
+    ensures { result ≡ is_white byte }
+{
+    byte == b'\n' || is_blank(&[byte])
+}
+
+/// The place behind the last byte before `end` that is not white, or 0 where there is none.
+fn full_end(bytes: &[u8], end: usize) -> usize
+    requires { end ≤ length bytes.now }
+    ensures within { result ≤ end }
+    ensures full { 0 < result → is_white (slice_index bytes.now (result - 1)) ≡ false }
+    ensures white { (i : ℕ) → result ≤ i → i < end → is_white (slice_index bytes.now i) ≡ true }
+{
+    let mut at = end;
+    'bytes: while at > 0 && is_white(bytes[at - 1]) {
+        at -= 1;
+    }
+    at
+}
+
+/// The place behind the last byte of a line that is not blank and that a newline ends, or 0 where there is none.
+fn texts_end(bytes: &[u8]) -> usize
+    ensures { EndsTexts bytes.now result }
+{
     match memrchr(b'\n', bytes) {
-        Some(at) => at + 1,
+        Some(last) => full_end(bytes, last),
         None => 0,
     }
 }

@@ -1,7 +1,7 @@
 ghost use Rattle.std.specs.Prelude.{◌≡◌, ◌≤◌, ◌+◌, false, IfOk, IfErr, IfSome};
 ghost use Rattle.byte_streams.specs.Limits.{max_tile_bytes};
 ghost use Rattle.tile_stream.specs.Ahead.{MayCome};
-ghost use Rattle.tile_stream.specs.Taking.{IsTaken, IsRefusal, IsLimitFault, StandsWithin, failed_reads_after_call};
+ghost use Rattle.tile_stream.specs.Taking.{HoldsNewline, IsTaken, IsRefusal, IsLimitFault, StandsWithin, TookHeld, failed_reads_after_call};
 ghost use Rattle.tile_stream.specs.Tile.{fault_between, is_blank};
 
 use crate::limits::Limits;
@@ -27,6 +27,7 @@ pub fn take_part<R: Source>(
         (MayCome R.gives ahead.old)) }
     ensures stands { IfErr result (λ fault. fault ≡ Fault.Memory
         → StandsWithin (MayCome R.gives ahead.old) (MayCome R.gives ahead.new)) }
+    ensures held { HoldsNewline ahead.old.held → TookHeld result ahead.old ahead.new }
     ensures failures { R.failures ahead.new.reader
         ≡ failed_reads_after_call result (R.failures ahead.old.reader) }
 {

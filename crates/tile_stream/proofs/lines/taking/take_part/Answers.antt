@@ -5,6 +5,7 @@ use Rattle.byte_streams.specs.declared.fault.Fault.TheVariants.{Read}
 use Rattle.tile_stream.specs.Ahead.{MayCome}
 use Rattle.tile_stream.specs.Taking.{IsRefusedLine}
 use Rattle.tile_stream.proofs.Coming.{all_taken, limit_refusal, fill_refusal, something, whole, whole_refused, part_refused, end_came, end_refused, ends, goes_on, no_newline, none_before, none_found, more_came}
+use Rattle.tile_stream.proofs.StandingLines.{first_taken, none_now, none_read}
 use Rattle.tile_stream.proofs.lines.taking.take_part.Goals as goal
 
 pub returns-in-Some-fault_between-clause-refused : goal.returns-in-Some-fault_between-clause-refused
@@ -81,6 +82,7 @@ pieces-preserved g c =
       fine = fine;
       follows = more_came g.R.Source.gives c.args.ahead.now now c.pieces.line.items c.pieces.invariant.follows
           c.skip-in-None.new.self c.fill.new.self reader c.in-Ok.ensures.more;
+      held = λ holds. absurd (none_now now c.args.ahead.now found (c.pieces.invariant.held holds).1 holds);
       none_failed = grind (arith, common_steps, c.in-Ok.ensures.failures);
     })
 
@@ -144,3 +146,42 @@ returns-in-Err-clause-stands g c memory =
       all_taken g.R.Source.gives c.args.ahead.now now c.pieces.line.items c.pieces.invariant.follows c.fill.new.self
           reader empty,
     )
+
+pub returns-in-Some-fault_between-clause-held : goal.returns-in-Some-fault_between-clause-held
+returns-in-Some-fault_between-clause-held g c holds =
+    none_read c.in-Some-fault_between.fault c.args.ahead.now c.pieces.ahead (c.pieces.invariant.held holds).1
+
+pub returns-in_err-extend_from_slice-in-Some-clause-held : goal.returns-in_err-extend_from_slice-in-Some-clause-held
+returns-in_err-extend_from_slice-in-Some-clause-held g c holds =
+    let refusal = err_from_is_err_and c.from_residual.result c.from_residual.ensures.1 in
+    rw (refusal.1, refusal.2) (none_read _ c.args.ahead.now c.pieces.ahead (c.pieces.invariant.held holds).1)
+
+pub returns-in-Some-clause-held : goal.returns-in-Some-clause-held
+returns-in-Some-clause-held g c holds =
+    let now = c.pieces.ahead in
+    let found = rw c.held-held.ensures at c.in-Some.ensures in
+    let is : c.from_vec.result ≡ c.pieces.line.items ++ take c.in-Some.count now.held =
+    grind (arith, common_steps, c.held-held.ensures) in
+    let begun = c.pieces.invariant.held holds in
+    first_taken c.args.ahead.now now c.skip.new.self c.pieces.line.items c.from_vec.result c.in-Some.count found
+    c.skip.ensures begun.1 begun.0 is
+
+pub returns-in-Some-fault_between-2-clause-held : goal.returns-in-Some-fault_between-2-clause-held
+returns-in-Some-fault_between-2-clause-held g c holds =
+    let found = rw c.held-held.ensures at c.in-None.ensures in
+    absurd (none_now c.pieces.ahead c.args.ahead.now found (c.pieces.invariant.held holds).1 holds)
+
+pub returns-in_err-extend_from_slice-in-None-clause-held : goal.returns-in_err-extend_from_slice-in-None-clause-held
+returns-in_err-extend_from_slice-in-None-clause-held g c holds =
+    let found = rw c.held-held.ensures at c.in-None.ensures in
+    absurd (none_now c.pieces.ahead c.args.ahead.now found (c.pieces.invariant.held holds).1 holds)
+
+pub returns-in-Ok-eq0-clause-held : goal.returns-in-Ok-eq0-clause-held
+returns-in-Ok-eq0-clause-held g c holds =
+    let found = rw c.held-held.ensures at c.in-None.ensures in
+    absurd (none_now c.pieces.ahead c.args.ahead.now found (c.pieces.invariant.held holds).1 holds)
+
+pub returns-in-Err-clause-held : goal.returns-in-Err-clause-held
+returns-in-Err-clause-held g c holds =
+    let found = rw c.held-held.ensures at c.in-None.ensures in
+    absurd (none_now c.pieces.ahead c.args.ahead.now found (c.pieces.invariant.held holds).1 holds)
