@@ -13,8 +13,8 @@ from speed import MEGA, best_processor, show
 from streams import HEADER, buildings
 
 TILES = 4
-# What a merge of tiles with one header had of the filter's speed before the work on speed, whose start docs/PERF.md names.
-# No less is wanted of it now, of the speed that the filter had then: the filter has since become faster by this factor.
+# What a merge of tiles with one header had of the filter's speed at the start of the work on speed, which docs/PERF.md
+# names. No less is wanted of it now, of the speed that the filter had then: it has since become faster by this factor.
 SHARE_AT_START = 0.96
 FILTER_GAIN = 1.65
 # By so much may the peak for longer tiles be above that for shorter ones: the texts that are held of each
@@ -97,10 +97,11 @@ def speed(bench, megabytes):
     for name in (MERGE, MOVING):
         share = best_processor(runs[FILTER]) / best_processor(runs[name])
         before = share * FILTER_GAIN
-        bench.say("    by processor time %s at %.2f of the filter's speed, %.2f of what that was" % (name, share, before))
+        told = (name, share, before)
+        bench.say("    by processor time %s at %.2f of the filter's speed, %.2f of that at the start" % told)
         if name == MERGE and before < SHARE_AT_START:
             wanted = (name, before, SHARE_AT_START)
-            bench.fail("%s: %.2f of the speed that the filter had, wanted: at least %.2f" % wanted)
+            bench.fail("%s: %.2f of the speed that the filter had at the start, wanted: at least %.2f" % wanted)
     for path in (stream, *near, *apart):
         os.remove(path)
 
