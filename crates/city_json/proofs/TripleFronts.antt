@@ -1,5 +1,5 @@
 -- Arrays of three whole numbers: from a block's bits to the triples at its front.
-use Rattle.std.proofs.Common.{◌≡◌, ◌≢◌, ◌∙◌, ◌++◌, ◌+◌, ◌-◌, ◌<◌, ◌≤◌, ◌==◌, ◌||◌, ℕ, zero, suc, max, min, Bool, true, false, not, cond, List, [], ◌∷◌, length, map, take, get_or, bit_and, bit_or, slice_range, refl, ap, sym, subst, arith, inl, inr}
+use Rattle.std.proofs.Common.{◌≡◌, ◌≢◌, ◌∙◌, ◌+◌, ◌-◌, ◌<◌, ◌≤◌, ◌==◌, ◌||◌, ℕ, zero, suc, max, min, Bool, true, false, not, cond, List, [], ◌∷◌, length, map, take, get_or, bit_and, bit_or, slice_range, refl, ap, sym, subst, arith, inl, inr}
 use Rattle.std.proofs.lemmas.Bool.{cases_Bool, cases_lt, eqb-true, false≢true}
 use Rattle.std.proofs.lemmas.Nat.Bits.{bit_at-lt, bit_at_or}
 use Rattle.std.proofs.lemmas.Simd.{bit_mask_l}
