@@ -3,13 +3,13 @@ use Rattle.std.proofs.Common.{◌≡◌, ◌≤◌, ◌<◌, ◌+◌, ◌++◌, 
 use Rattle.std.proofs.Math.Seq.{take-append-add, map-set_same}
 use Rattle.std.specs.Io.KnownBytes.{Appends, Keeps}
 use Rattle.std.proofs.KnownBytes.{Appends-trans}
-use Rattle.std.proofs.lemmas.List.{get_or-map, length-map, map-set, take_more, take-append-drop}
+use Rattle.std.proofs.lemmas.List.{get_or-map, get_or-set_same, length-map, length-set, map-set, set-get_or, set-set, take_more, take-append-drop}
 use Rattle.std.proofs.lemmas.Grind.{flat_map-append}
 use Rattle.byte_streams.specs.Failures.{after_call}
 use Rattle.byte_streams.specs.declared.fault.Fault.{Fault}
 use Rattle.byte_streams.specs.declared.fault.Fault.TheVariants.{Write}
 use Rattle.tile_merge.specs.Interleaves.{Interleaves}
-use Rattle.tile_merge.specs.Threads.{Begun, RunningState, AreFresh, AreUncancelled, LinesSoFar, WroteUnless, begun_of, first_texts, lines_taken}
+use Rattle.tile_merge.specs.Threads.{Begun, RunningState, AreFresh, AreUncancelled, LinesSoFar, TextsGoOn, TextsSoFar, WroteUnless, begun_of, first_texts, lines_taken}
 use Rattle.tile_stream.specs.Stream.{stream, with_newline}
 use Rattle.tile_stream.proofs.Steps.{Appends-kept, first_of_longer}
 use Rattle.tile_merge.proofs.Mixing.{flat, flat_mixed, one_mixed}
@@ -57,6 +57,35 @@ flushed (Err fault) bytes old mid new wrote keeps = (
   subst (Appends old new) (sym (take_all (length bytes) bytes (le_refl _)))
       (Appends-kept old mid new bytes wrote keeps),
 )
+
+-- a line more of the list of number i
+pub one_text : (lists : List (List (List ℕ))) (i : ℕ) → i < length lists → (before now : List (List ℕ)) (line : List ℕ)
+    → now ≡ before ++ line ∷ [] → (header : List ℕ) (old : Option (List ℕ)) (count : ℕ) (wrote result : Result (Unit {0}) Fault)
+    (mid newest : Option (List ℕ)) (newer after : ℕ)
+    → ((bytes : List ℕ) → WroteUnless wrote bytes old mid → WroteUnless result (bytes ++ with_newline line) old newest)
+    → (newer ≡ after_call wrote count → after ≡ after_call result count)
+    → (IfErr wrote (λ fault. fault ≡ Write) → IfErr result (λ fault. fault ≡ Write))
+    → TextsSoFar header (set lists i before) wrote old mid count newer
+    → TextsSoFar header (set lists i now) result old newest count after
+one_text lists i within before now line longer header old count wrote result mid newest newer after writes fails faults so_far =
+    let lines : List (List (List ℕ)) = set lists i before in
+    let grown : set lines i (get_or lines i [] ++ line ∷ []) ≡ set lists i now =
+    set-set lists i before (get_or lines i [] ++ line ∷ [])
+    ∙ ap (λ (ls : List (List ℕ)). set lists i ls)
+    (ap (λ (ls : List (List ℕ)). ls ++ line ∷ []) (get_or-set_same lists i before [] within) ∙ sym longer) in
+    let bytes : stream header so_far.out ++ with_newline line ≡ stream header (so_far.out ++ line ∷ []) =
+    append_assoc (with_newline header) (flat_map with_newline so_far.out) (with_newline line)
+    ∙ ap (λ (l : List ℕ). with_newline header ++ l)
+    (ap (λ (l : List ℕ). flat_map with_newline so_far.out ++ l) (sym (append-nil (with_newline line)))
+    ∙ sym (flat_map-append with_newline so_far.out (line ∷ []))) in
+    record {
+      out = so_far.out ++ line ∷ [];
+      mixes = subst (λ (ls : List (List (List ℕ))). Interleaves ls (so_far.out ++ line ∷ [])) grown
+          (one_mixed lines so_far.out i line (omega (arith, within, length-set lists i before)) so_far.mixes);
+      written = subst (λ (l : List ℕ). WroteUnless result l old newest) bytes (writes _ so_far.written);
+      failed = fails so_far.failed;
+      fault = faults so_far.fault;
+    }
 
 pub on_ok : (A : Type 0) (wrote : Done) → wrote ≡ Ok tt → OnOk wrote A → A
 on_ok A wrote is holds = subst (λ (r : Done). OnOk r A) is holds
@@ -186,23 +215,6 @@ module _ {R : Type 0} where
         → AreUncancelled (set tiles i new)
     unasked_since kept none = uncancelled_set tiles i default new kept none
 
-    -- the tile gave no line
-    pub no_line : new.cancels ≡ (get_or tiles i default).cancels → new.lines ≡ (get_or tiles i default).lines
-        → (wrote : Result (Unit {0}) Fault) (mid : Option (List ℕ)) (newer : ℕ)
-        → LinesSoFar begun header tiles wrote old mid count newer
-        → LinesSoFar begun header (set tiles i new) wrote old mid count newer
-    no_line kept none wrote mid newer so_far = record {
-      same = same_begun ∙ so_far.same;
-      out = so_far.out;
-      mixes = subst (λ (lists : List (List (List ℕ))). Interleaves lists so_far.out)
-          (sym (map-set_same lines_of_tile tiles i new default none)) so_far.mixes;
-      written = so_far.written;
-      failed = so_far.failed;
-      fault = so_far.fault;
-      uncancelled = both_ok (AreUncancelled tiles) (AreUncancelled (set tiles i new)) (unasked_since kept) wrote wrote
-          (same_ok wrote) so_far.uncancelled;
-    }
-
     -- the tile was asked to stop, where a write failed
     pub one_asked : new.lines ≡ (get_or tiles i default).lines → (wrote : Result (Unit {0}) Fault) → is_ok wrote ≡ false
         → (mid : Option (List ℕ)) (newer : ℕ) → LinesSoFar begun header tiles wrote old mid count newer
@@ -218,62 +230,38 @@ module _ {R : Type 0} where
       uncancelled = none_ok (AreUncancelled (set tiles i new)) wrote failing;
     }
 
-    -- the tile gave this line
-    pub one_line : new.cancels ≡ (get_or tiles i default).cancels → (line : List ℕ)
-        → new.lines ≡ (get_or tiles i default).lines ++ line ∷ []
+    -- a note of the tile was taken, and written where it is a line
+    pub one_note : new.cancels ≡ (get_or tiles i default).cancels
         → (wrote result : Result (Unit {0}) Fault) (mid newest : Option (List ℕ)) (newer after : ℕ)
-        → ((bytes : List ℕ) (first : Option (List ℕ)) → WroteUnless wrote bytes first mid
-        → WroteUnless result (bytes ++ with_newline line) first newest)
-        → ((n : ℕ) → newer ≡ after_call wrote n → after ≡ after_call result n)
-        → (IfErr wrote (λ fault. fault ≡ Write) → IfErr result (λ fault. fault ≡ Write))
+        → TextsGoOn (get_or tiles i default).lines new.lines wrote result mid newest newer after
         → OnOk result (IsOk wrote)
         → LinesSoFar begun header tiles wrote old mid count newer
         → LinesSoFar begun header (set tiles i new) result old newest count after
-    one_line kept line longer wrote result mid newest newer after writes fails faults later so_far =
+    one_note kept wrote result mid newest newer after goes_on later so_far =
         let lists = lines_taken tiles in
-        let here : get_or lists i [] ≡ (get_or tiles i default).lines =
-        get_or-map lines_of_tile tiles i default [] within in
-        let grown : lines_taken (set tiles i new) ≡ set lists i (get_or lists i [] ++ line ∷ []) =
-        map-set lines_of_tile tiles i new ∙ ap (λ (ls : List (List ℕ)). set lists i ls)
-        (longer ∙ ap (λ (ls : List (List ℕ)). ls ++ line ∷ []) (sym here)) in
-        let bytes : stream header so_far.out ++ with_newline line ≡ stream header (so_far.out ++ line ∷ []) =
-        append_assoc (with_newline header) (flat_map with_newline so_far.out) (with_newline line)
-        ∙ ap (λ (l : List ℕ). with_newline header ++ l)
-        (ap (λ (l : List ℕ). flat_map with_newline so_far.out ++ l) (sym (append-nil (with_newline line)))
-        ∙ sym (flat_map-append with_newline so_far.out (line ∷ []))) in
+        let here : set lists i (get_or tiles i default).lines ≡ lists =
+        ap (λ (ls : List (List ℕ)). set lists i ls) (sym (get_or-map lines_of_tile tiles i default [] within))
+        ∙ set-get_or lists i [] in
+        let before : TextsSoFar header lists wrote old mid count newer = record {
+          out = so_far.out;
+          mixes = so_far.mixes;
+          written = so_far.written;
+          failed = so_far.failed;
+          fault = so_far.fault;
+        } in
+        let now = goes_on lists i (omega (arith, within, length-map tiles lines_of_tile)) header old count
+        (subst (λ (ls : List (List (List ℕ))). TextsSoFar header ls wrote old mid count newer) (sym here) before) in
         record {
           same = same_begun ∙ so_far.same;
-          out = so_far.out ++ line ∷ [];
-          mixes = subst (λ (ls : List (List (List ℕ))). Interleaves ls (so_far.out ++ line ∷ [])) (sym grown)
-              (one_mixed lists so_far.out i line (omega (arith, within, length-map tiles lines_of_tile)) so_far.mixes);
-          written = subst (λ (l : List ℕ). WroteUnless result l old newest) bytes (writes _ old so_far.written);
-          failed = fails count so_far.failed;
-          fault = faults so_far.fault;
+          out = now.out;
+          mixes = subst (λ (ls : List (List (List ℕ))). Interleaves ls now.out) (sym (map-set lines_of_tile tiles i new))
+              now.mixes;
+          written = now.written;
+          failed = now.failed;
+          fault = now.fault;
           uncancelled = both_ok (AreUncancelled tiles) (AreUncancelled (set tiles i new)) (unasked_since kept) wrote
               result later so_far.uncancelled;
         }
-
-  -- a flush follows what was written so far
-  pub flushed_between : (begun : List (Begun R)) (header : List ℕ) (tiles : List (RunningState R))
-      (wrote result : Result (Unit {0}) Fault) (old mid new : Option (List ℕ)) (failures between newer : ℕ)
-      → ((bytes : List ℕ) (first : Option (List ℕ)) → WroteUnless wrote bytes first mid
-      → WroteUnless result bytes first new)
-      → ((n : ℕ) → between ≡ after_call wrote n → newer ≡ after_call result n)
-      → (IfErr wrote (λ fault. fault ≡ Write) → IfErr result (λ fault. fault ≡ Write))
-      → OnOk result (IsOk wrote)
-      → LinesSoFar begun header tiles wrote old mid failures between
-      → LinesSoFar begun header tiles result old new failures newer
-  flushed_between begun header tiles wrote result old mid new failures between newer writes fails faults later so_far =
-      record {
-        same = so_far.same;
-        out = so_far.out;
-        mixes = so_far.mixes;
-        written = writes _ old so_far.written;
-        failed = fails failures so_far.failed;
-        fault = faults so_far.fault;
-        uncancelled = both_ok (AreUncancelled tiles) (AreUncancelled tiles) (λ none. none) wrote result later
-            so_far.uncancelled;
-      }
 
   -- a flush follows all lines
   pub flushed_lines : (begun : List (Begun R)) (header : List ℕ) (tiles : List (RunningState R))

@@ -1,5 +1,5 @@
 -- Tiles whose texts threads of their own put into rings, and what the caller took out of these.
-use Rattle.std.specs.Prelude.{◌≡◌, ◌⊎◌, ◌≤◌, ◌<◌, ◌+◌, ◌++◌, ℕ, Bool, List, [], ◌∷◌, Option, Some, None, is_some, Result, Ok, Err, IfErr, OnOk, length, map, take, flat_map}
+use Rattle.std.specs.Prelude.{◌≡◌, ◌⊎◌, ◌≤◌, ◌<◌, ◌+◌, ◌++◌, ℕ, Bool, List, [], ◌∷◌, Option, Some, None, is_some, Result, Ok, Err, IfErr, OnOk, length, map, set, take, flat_map}
 use Rattle.std.specs.Io.KnownBytes.{Appends}
 use Rattle.std.specs.List.{AllZip, AllByRecursion, list_all}
 use Rattle.byte_streams.specs.Failures.{after_call}
@@ -150,6 +150,22 @@ HaveGiven gives tiles courses = AllZip (HasGiven gives) tiles courses
 abbrev pub WroteUnless : Result (Unit {0}) Fault → List ℕ → Option (List ℕ) → Option (List ℕ) → Type 0
 WroteUnless (Ok done) bytes old new = Appends old new bytes
 WroteUnless (Err fault) bytes old new = (count : ℕ) × Appends old new (take count bytes)
+
+-- The stream of the header and of all lines of these lists, each list in its own order, was written, up to the first write
+-- that failed.
+pub record TextsSoFar (header : List ℕ) (lists : List (List (List ℕ))) (wrote : Result (Unit {0}) Fault) (old new : Option (List ℕ)) (failures newer : ℕ) : Type 0 where
+  pub out : List (List ℕ)
+  pub mixes : Interleaves lists out
+  pub written : WroteUnless wrote (stream header out) old new
+  pub failed : newer ≡ after_call wrote failures
+  pub fault : IfErr wrote (λ fault. fault ≡ Write)
+
+-- among whatever lists these stand, what was written of the old one goes on to the new one
+abbrev pub TextsGoOn : List (List ℕ) → List (List ℕ) → Result (Unit {0}) Fault → Result (Unit {0}) Fault → Option (List ℕ) → Option (List ℕ) → ℕ → ℕ → Type 0
+TextsGoOn before now wrote result mid new failures newer =
+    (lists : List (List (List ℕ))) (i : ℕ) → i < length lists → (header : List ℕ) (old : Option (List ℕ)) (count : ℕ)
+    → TextsSoFar header (set lists i before) wrote old mid count failures
+    → TextsSoFar header (set lists i now) result old new count newer
 
 -- The stream of the header and of the texts that were taken, in the order in which they were, was
 -- written, up to the first write that failed. Before that nobody asked a thread to stop.

@@ -1,7 +1,7 @@
-ghost use Rattle.std.specs.Prelude.{◌≡◌, ◌≤◌, ◌<◌, ◌++◌, ℕ, List, Option, Some, None, true, [], IfOk, IfErr, OnOk, IsOk, IsTrue, filter_map};
+ghost use Rattle.std.specs.Prelude.{◌≡◌, ◌≤◌, ◌<◌, ◌++◌, ◌∷◌, ℕ, List, Option, Some, None, true, [], IfOk, IfErr, OnOk, IsOk, IsTrue, filter_map};
 ghost use Rattle.byte_streams.specs.Failures.{after_call};
-ghost use Rattle.tile_stream.specs.Stream.{stream, with_newline};
-ghost use Rattle.tile_merge.specs.Threads.{AreFresh, are_all_ended, GoesOn, GoesOnWriting, LinesSoFar, WroteUnless, begun_of, first_texts};
+ghost use Rattle.tile_stream.specs.Stream.{stream};
+ghost use Rattle.tile_merge.specs.Threads.{AreFresh, are_all_ended, GoesOn, GoesOnWriting, LinesSoFar, TextsGoOn, WroteUnless, begun_of, first_texts};
 
 use crate::merging::ends::Ending;
 use crate::merging::threaded::running::RunningTile;
@@ -85,13 +85,29 @@ fn write_round<R: Source + Drop, W: Sink>(
 {
     let mut wrote = wrote;
     'tiles: for tile in tiles.iter_mut() {
-        let Some(line) = tile.take() else {
-            continue;
-        };
-        patience.renew();
-        wrote = write_unless_failed(output, line, wrote);
+        wrote = write_note(tile, output, wrote, patience);
     }
     wrote
+}
+
+/// Takes a note of the tile, unless its end note was taken, and writes it where it is a line.
+fn write_note<R: Source + Drop, W: Sink>(
+    tile: &mut RunningTile<R>,
+    output: &mut W,
+    wrote: Result<(), Fault>,
+    patience: &mut Patience,
+) -> Result<(), Fault>
+    ensures begun { tile.new.begun ≡ tile.old.begun }
+    ensures cancels { tile.new.cancels ≡ tile.old.cancels }
+    ensures written { TextsGoOn tile.old.lines tile.new.lines wrote result
+        (W.taken output.old) (W.taken output.new) (W.failures output.old) (W.failures output.new) }
+    ensures after { OnOk result (IsOk wrote) }
+{
+    let Some(line) = tile.take() else {
+        return wrote;
+    };
+    patience.renew();
+    write_unless_failed(output, line, wrote)
 }
 
 /// Asks the threads to stop, where a write failed.
@@ -145,13 +161,9 @@ fn write_unless_failed<W: Sink>(
     line: Line,
     wrote: Result<(), Fault>,
 ) -> Result<(), Fault>
-    ensures written { (bytes : List ℕ) (old : Option (List ℕ))
-        → WroteUnless wrote bytes old (W.taken output.old)
-        → WroteUnless result (bytes ++ with_newline line) old (W.taken output.new) }
-    ensures failures { (count : ℕ) → W.failures output.old ≡ after_call wrote count
-        → W.failures output.new ≡ after_call result count }
-    ensures fault { IfErr wrote (λ fault. fault ≡ Fault.Write)
-        → IfErr result (λ fault. fault ≡ Fault.Write) }
+    ensures written { (before now : List (List ℕ)) → now ≡ before ++ line ∷ []
+        → TextsGoOn before now wrote result
+        (W.taken output.old) (W.taken output.new) (W.failures output.old) (W.failures output.new) }
     ensures after { OnOk result (IsOk wrote) }
 {
     wrote?;
