@@ -2,7 +2,7 @@
 """What the documents say of the code must be so.
 
 docs/DEFINITIONS.md tells each file of specs/ and each name in a public clause, and sets apart exactly the files that
-no public promise needs. The clauses that docs/PROVED.md names are there. docs/FAULTS.md has the table of faults of the
+no public promise needs. The clauses that docs/PROVED.md names are there, and the edits, which it counts. docs/FAULTS.md has the table of faults of the
 code. Version and day of the release are the same everywhere. Files and links that are named are there. README.md is
 short. And the sizes by which tests and the shim of tools/growths.sh speak are the same on either side.
 """
@@ -93,6 +93,20 @@ def named_clauses():
         yield from missing_clauses("docs/PROVED.md", call, clauses)
 
 
+def named_edits():
+    """The edits that docs/PROVED.md counts, and those that it names, or tests in their place."""
+    section = read("docs/PROVED.md").split("### How the contracts were tried")[1].split("\n## ")[0]
+    edits = [os.path.basename(path)[:-5] for path in glob.glob("crates/*/must-fail/*.edit")]
+    crates = {crate_of(path) for path in glob.glob("crates/*/must-fail/*.edit")}
+    if "holds %d edits in %d crates" % (len(edits), len(crates)) not in section:
+        yield "docs/PROVED.md does not say that there are %d edits in %d crates" % (len(edits), len(crates))
+    tests = " ".join(read(path) for path in glob.glob("crates/*_tests/src/*.rt"))
+    for row in re.findall(r"^- (.*)$", section, re.MULTILINE):
+        for name in re.findall(r"`([a-z_]+)`", row):
+            if name not in edits and "fn %s(" % name not in tests:
+                yield "docs/PROVED.md names %s, which is no edit and no test" % name
+
+
 def missing_clauses(document, calls, clauses):
     there = set()
     for call in re.findall(r"`([\w:]+)`", calls):
@@ -157,7 +171,7 @@ def shim():
 
 
 def main():
-    tests = (told_definitions, told_files, named_files, named_clauses, fault_table, release, links, short, shim)
+    tests = (told_definitions, told_files, named_files, named_clauses, named_edits, fault_table, release, links, short, shim)
     wrong = [line for test in tests for line in test()]
     for line in wrong:
         print("FAILED: " + line)

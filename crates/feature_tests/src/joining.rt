@@ -103,6 +103,18 @@ const LEAST_WHOLE: &str =
 {"translate":7,"type":"CityJSON","version":"2.0","transform":{"scale":[1,1,1],"translate":[1.0,2.0,3.0]}} => 0,0,0 => {"translate":7,"type":"CityJSON","version":"2.0","transform":{"scale":[1,1,1],"translate":[1.0,2.0,3.0]}}
 {"type":"CityJSON","version":"2.0","transform":{"note":[1.50],"translate":[3,-1,0.0],"scale":[0.001,0.001,0.001]},"vertices":[]} | {"transform":{"scale":[1e-3,0.0010,0.001],"translate":[2.0,7,-1.50]},"version":"2.0","type":"CityJSON","extra":{}} | {"type":"CityJSON","version":"2.0","transform":{"scale":[0.001,0.001,0.001],"translate":[2,-1.0,-1.5]},"vertices":[]} => .. => {"type":"CityJSON","version":"2.0","transform":{"note":[1.50],"translate":[2.0,-1,-1.50],"scale":[0.001,0.001,0.001]},"vertices":[]}"#;
 
+/// A header from its scale on, in micrometres.
+const CLASHING: &str =
+    r#"{"type":"CityJSON","version":"2.0","transform":{"scale":[0.000001,0.000001,ROW}"#;
+
+/// Two faults at once in the second tile, each beside the one that comes next in their order.
+const CLASHES: &str =
+    r#"0.000001],"translate":[0,0,0]} | 1],"translate":[0,0,0]},"metadata":{"referenceSystem":"https://www.opengis.net/def/crs/EPSG/0/7415"} => tile 2: ScaleDiffers
+0.000001],"translate":[0,0,0]} | 0.000001],"translate":[0.0000005,0,0]},"metadata":{"referenceSystem":"https://www.opengis.net/def/crs/EPSG/0/7415"} => tile 2: CrsDiffers
+0.000001],"translate":[0,0,0]} | 0.000001],"translate":[100000000000,0.0000005,0]} => tile 2: OffGrid
+0.000001],"translate":[0,0,0]},"extensions":{"A":{}} | 0.000001],"translate":[100000000000,0,0]},"extensions":{"A":[]} => tile 2: ShiftRange
+0.000001],"translate":[0,0,0]},"extensions":{"A":{}} | 0.000001],"translate":[0,0,0]},"extensions":{"A":[]},"geometry-templates":{"templates":[],"vertices-templates":[]} => tile 2: ExtensionClash"#;
+
 fn expect(rt: &(impl Abort + AllocGlobal), base: Base, form: &str, table: &str) {
     for row in table.lines() {
         assert!(rt; joins(rt.alloc(), base, form, row), "{row}");
@@ -115,6 +127,7 @@ fn tiles_join_to_one_header_or_are_refused(rt: HostRuntime) {
     expect(&rt, Base::Least, MOVED, LEAST_TRANSLATIONS);
     expect(&rt, Base::First, SCALED, SCALES);
     expect(&rt, Base::First, ENDED, ENDS);
+    expect(&rt, Base::First, CLASHING, CLASHES);
     expect(&rt, Base::First, "ROW", WHOLE);
     expect(&rt, Base::Least, "ROW", LEAST_WHOLE);
     expect(

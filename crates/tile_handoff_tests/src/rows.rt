@@ -123,6 +123,36 @@ fn two_tiles_share_a_row(rt: HostRuntime) -> Result<(), Fault> {
     Ok(())
 }
 
+fn of_equal_lines() -> [Step<'static>; 8] {
+    [
+        (0, "x", "Accepted"),
+        (0, "x", "Accepted"),
+        (0, "x", "Full"),
+        (0, "take", "Line x"),
+        (0, "x", "Accepted"),
+        (0, "take", "Line x"),
+        (0, "take", "Line x"),
+        (0, "take", "Empty"),
+    ]
+}
+
+fn marks_of_equal_lines() -> [Mark; 6] {
+    [
+        mark(0, Kind::Put, 0),
+        mark(0, Kind::Put, 1),
+        mark(0, Kind::Take, 0),
+        mark(0, Kind::Put, 2),
+        mark(0, Kind::Take, 1),
+        mark(0, Kind::Take, 2),
+    ]
+}
+
+#[test]
+fn equal_lines_are_all_kept(rt: HostRuntime) -> Result<(), Fault> {
+    assert!(rt; are_answered(rt.alloc(), 1, 2, &of_equal_lines(), &marks_of_equal_lines())?);
+    Ok(())
+}
+
 #[test]
 fn no_events_leave_nothing(rt: HostRuntime) -> Result<(), Fault> {
     assert!(rt; are_answered(rt.alloc(), 64, 1024, &[], &[])?);

@@ -344,3 +344,23 @@ fn a_line_may_have_several_megabytes(rt: HostRuntime) {
     assert!(rt; long_lines_are_taken(rt.alloc()) == Ok(true));
     assert!(rt; long_line_is_measured(rt.alloc()) == Ok(true));
 }
+
+/// Whether a tile of one line of so many bytes, which are made as they are read, gives it whole.
+fn is_given_whole(alloc: Global, count: u64) -> bool {
+    let mut lines = Lines::new(alloc, Device::new(io::repeat(b'a').take(count)));
+    match lines.next() {
+        Ok(Some(line)) => line.number == 1 && line.bytes.items().len() as u64 == count,
+        _ => false,
+    }
+}
+
+fn is_too_long(alloc: Global, count: u64) -> bool {
+    let lines = Lines::new(alloc, Device::new(io::repeat(b'a').take(count)));
+    are(alloc, lines, "", "1: LineTooLong")
+}
+
+#[test]
+fn a_line_of_a_stream_has_2_to_the_28_bytes_at_most(rt: HostRuntime) {
+    assert!(rt; is_given_whole(rt.alloc(), 1 << 28));
+    assert!(rt; is_too_long(rt.alloc(), (1 << 28) + 1));
+}
