@@ -1,8 +1,8 @@
 #!/bin/sh
 # All that has to hold. The documents come first, then the gate: every proof from nothing, the edits that must fail, the
 # tests; beside it what must not compile. The program that the gate built is then tried at its edges; beside that it is
-# installed, packed, given many tiles and the documents' commands, and held against its model. Ends in the gate's own last
-# line.
+# installed, packed, given many tiles and the documents' commands, and held against its model. Ends in when each crate was
+# proved, and the gate's own last line.
 set -u
 cd "$(dirname "$0")/.."
 tools/need.sh rt python3 cc || exit 1
@@ -28,12 +28,12 @@ lanes=$(nproc)
 [ "$lanes" -le "$room" ] || lanes=$room
 [ "$lanes" -ge 1 ] || lanes=1
 
-echo 'The gate: every proof from nothing, the edits that must fail, the tests.'
+tools/how_long.sh gate
 log=build/gate.log
 {
     RT_JOBS=${RT_JOBS:-$lanes} tools/at_work.sh 'the gate' rt ci
     echo $? >build/gate.status
-} | tee "$log"
+} | tee "$log" | python3 tools/times.py build/times.txt
 ended_well "$compiling" compile_test.log || exit 1
 [ "$(cat build/gate.status)" -eq 0 ] || exit 1
 cp crates/citymerge/out/citymerge build/citymerge.new
@@ -53,4 +53,5 @@ ended_well "$packing" packing.log || exit 1
 ended_well "$commanding" commands.log || exit 1
 ended_well "$torturing" torture.log || exit 1
 ended_well "$growing" growths.log || exit 1
+cat build/times.txt
 tail -n 1 "$log"
