@@ -8,6 +8,6 @@ build)
     echo "Proving and building citymerge, from nothing 25 to 40 minutes on four processors; $here, and $kept crates keep proofs."
     ;;
 gate)
-    echo "The gate, from nothing some 80 minutes on four processors; $here. What is kept from runs on this machine is told below."
+    echo "The gate, from nothing some 80 minutes (reckoned) on four processors; $here. What is kept from runs on this machine is told below."
     ;;
 esac

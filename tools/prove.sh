@@ -17,13 +17,13 @@ tar --exclude=out -cf - crates crates.txt HANDLES | tar -xf - -C "$beside" || ex
 prove_both() {
     (cd "$beside/crates/$2" && exec rt lib --jobs 1) >build/beside.log 2>&1 &
     other=$!
-    (cd "crates/$1" && exec rt lib --jobs "$(nproc)")
+    (cd "crates/$1" && exec rt lib)
     status=$?
     wait "$other"
     return "$status"
 }
 
-(cd crates/byte_streams && exec rt lib --jobs "$(nproc)") || exit
+(cd crates/byte_streams && exec rt lib) || exit
 prove_both city_feature tile_handoff || exit
 prove_both tile_stream command_line || exit
 prove_both tile_merge document_stream

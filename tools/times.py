@@ -57,6 +57,8 @@ def table(said, below):
 
 def main():
     since = time.monotonic()
+    for stream in (sys.stdin, sys.stdout):
+        stream.reconfigure(encoding="utf-8", errors="surrogateescape")
     said = listen(sys.stdin, since)
     with open(sys.argv[1], "w", encoding="utf-8") as out:
         print(f"When each crate was proved, in minutes; {len(said['kept'])} were kept from an earlier run on this machine:",
