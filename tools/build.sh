@@ -1,6 +1,6 @@
 #!/bin/sh
 # Proves the program, builds it, runs it once on its stored input, and leaves it at build/citymerge.
-# Words are passed on to rt, as --jobs 1; then one crate is proved after another.
+# Words are passed on to rt, as --jobs 1.
 set -u
 cd "$(dirname "$0")/.."
 tools/need.sh rt || exit 1
@@ -9,9 +9,6 @@ log=build/build.log
 : >"$log"
 
 tools/how_long.sh build
-if [ $# -eq 0 ] && [ ! -d crates/citymerge/out ]; then
-    tools/at_work.sh 'proving' sh -c 'exec tools/prove.sh >>build/build.log 2>&1'
-fi
 tools/at_work.sh 'proving and building' sh -c '
     cd crates/citymerge && exec rt run "$@" -- filter <stdin >../../build/first_output 2>>../../build/build.log
 ' rt "$@"
