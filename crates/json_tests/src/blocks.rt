@@ -73,18 +73,24 @@ const EDITS: [(&[u8], usize); 23] = [
     (b",[0", 1000),
 ];
 
-fn edited_has_one_answer(alloc: Global, at: usize, bytes: &'static [u8], count: usize) -> bool {
-    let front = TEXT.get(..at).unwrap_or(b"");
-    let back = TEXT.get(at.saturating_add(count)..).unwrap_or(b"");
+fn edited_has_one_answer(
+    alloc: Global,
+    text: &'static [u8],
+    at: usize,
+    bytes: &'static [u8],
+    count: usize,
+) -> bool {
+    let front = text.get(..at).unwrap_or(b"");
+    let back = text.get(at.saturating_add(count)..).unwrap_or(b"");
     match text_of(alloc, &[(front, 1), (bytes, 1), (back, 1)]) {
         Ok(text) => has_one_answer(alloc, &text),
         Err(_) => false,
     }
 }
 
-fn all_edited_have_one_answer(alloc: Global, at: usize) -> bool {
+fn all_edited_have_one_answer(alloc: Global, text: &'static [u8], at: usize) -> bool {
     for (bytes, count) in EDITS.iter() {
-        if !edited_has_one_answer(alloc, at, bytes, *count) {
+        if !edited_has_one_answer(alloc, text, at, bytes, *count) {
             return false;
         }
     }
@@ -93,9 +99,10 @@ fn all_edited_have_one_answer(alloc: Global, at: usize) -> bool {
 
 #[test]
 fn a_byte_is_wrong_at_the_same_places(rt: HostRuntime) {
-    for at in 0..TEXT.len() {
-        let holds = all_edited_have_one_answer(rt.alloc(), at);
-        expect_at(&rt, holds, at, TEXT);
+    let text: &'static [u8] = TEXT;
+    for at in 0..text.len() {
+        let holds = all_edited_have_one_answer(rt.alloc(), text, at);
+        expect_at(&rt, holds, at, text);
     }
 }
 

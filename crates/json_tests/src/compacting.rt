@@ -204,18 +204,23 @@ const PARTED: [Parted; 10] = [
     },
 ];
 
-fn has_parts(alloc: Global, text: &[u8], parts: &[Part]) -> bool {
-    let Some(found) = compact_parts(alloc, text, Line::new(alloc)) else {
-        return false;
-    };
-    let line = found.line.items();
-    let mut agree = found.parts.len() == parts.len();
-    for (part, (name, value)) in found.parts.iter().zip(parts.iter()) {
-        agree = agree
-            && line.get(part.at..part.value) == Some(*name)
-            && line.get(part.value..part.end) == Some(*value);
+fn is_part(line: &[u8], part: city_json::Part, name: &[u8], value: &[u8]) -> bool {
+    line.get(part.at..part.value) == Some(name) && line.get(part.value..part.end) == Some(value)
+}
+
+fn are_parts(line: &[u8], found: &[city_json::Part], parts: &[Part]) -> bool {
+    let mut agree = found.len() == parts.len();
+    for (part, (name, value)) in found.iter().zip(parts.iter()) {
+        agree = agree && is_part(line, *part, name, value);
     }
     agree
+}
+
+fn has_parts(alloc: Global, text: &[u8], parts: &[Part]) -> bool {
+    match compact_parts(alloc, text, Line::new(alloc)) {
+        Some(found) => are_parts(found.line.items(), found.parts.as_slice(), parts),
+        None => false,
+    }
 }
 
 fn is_parted(alloc: Global, row: &Parted) -> bool {
@@ -263,12 +268,16 @@ fn roomy(alloc: Global, text: &[u8]) -> Result<Vec<u8>, AllocError> {
     Ok(roomy)
 }
 
+fn is_front(front: &[u8], text: &[u8], len: usize) -> bool {
+    text.get(..len) == Some(front)
+}
+
 /// Whether the text is kept up to this length, with no more room than that.
 fn is_kept(alloc: Global, text: &[u8], len: usize) -> Result<bool, AllocError> {
-    let Some(kept) = given(alloc, roomy(alloc, text)?, Line::new(alloc)) else {
-        return Ok(false);
-    };
-    Ok(kept.capacity() == len && Some(kept.as_slice()) == text.get(..len))
+    Ok(match given(alloc, roomy(alloc, text)?, Line::new(alloc)) {
+        Some(kept) => kept.capacity() == len && is_front(&kept, text, len),
+        None => false,
+    })
 }
 
 #[test]

@@ -97,9 +97,13 @@ impl Drawn {
         before.push(number)?;
         self.put(if place == 0 { "\"" } else { ",\"" })?;
         self.put_spelling(&FIRST)?;
-        self.put(&middle(alloc, number)?)?;
+        self.put_middle(alloc, number)?;
         self.put_spelling(&LAST)?;
         self.put("\":")
+    }
+
+    fn put_middle(&mut self, alloc: Global, number: u64) -> Result<(), AllocError> {
+        self.put(&middle(alloc, number)?)
     }
 
     /// Puts an object of so many names.

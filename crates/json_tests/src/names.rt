@@ -65,20 +65,26 @@ enum Names {
     Lines,
 }
 
+/// What stands before the number in a name, how many digits that has at least, and what stands after it; of the fronts,
+/// which have no number, nothing.
+fn parts_of(names: Names) -> (&'static str, usize, &'static str) {
+    match names {
+        Names::Alike => ("a name that begins like each other ", 6, ""),
+        Names::Fronts => ("", 0, ""),
+        Names::Streets => ("stra\u{df}e ", 5, " of many"),
+        Names::OnePrint => ("attribute ", 4, " attribute"),
+        Names::OneHash => ("hi4iSqofOI1SdKlRPfC,#S Z", 8, "0123456789abcdef"),
+        Names::Lines => ("line\\n", 6, "\\n"),
+    }
+}
+
 /// The member of this number.
 fn member(alloc: Global, names: Names, number: usize) -> Result<String, AllocError> {
-    match names {
-        Names::Alike => format!(in alloc;
-            "\"a name that begins like each other {number:06}\":null"
-        ),
-        Names::Fronts => format!(in alloc; "\"{:n<number$}\":null", ""),
-        Names::Streets => format!(in alloc; "\"stra\u{df}e {number:05} of many\":null"),
-        Names::OnePrint => format!(in alloc; "\"attribute {number:04} attribute\":null"),
-        Names::OneHash => format!(in alloc;
-            "\"hi4iSqofOI1SdKlRPfC,#S Z{number:08}0123456789abcdef\":null"
-        ),
-        Names::Lines => format!(in alloc; "\"line\\n{number:06}\\n\":null"),
+    if matches!(names, Names::Fronts) {
+        return format!(in alloc; "\"{:n<number$}\":null", "");
     }
+    let (front, width, back) = parts_of(names);
+    format!(in alloc; "\"{front}{number:0width$}{back}\":null")
 }
 
 /// The same member, with more escapes in its name.

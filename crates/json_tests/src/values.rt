@@ -72,8 +72,11 @@ fn is_same(alloc: Global, one: &Json, other: &Json) -> bool {
 }
 
 fn same_of(alloc: Global, one: &[u8], other: &[u8]) -> Result<bool, Fault> {
-    let one = read(alloc, one)?;
-    Ok(is_same(alloc, &one, &read(alloc, other)?))
+    is_same_as(alloc, &read(alloc, one)?, other)
+}
+
+fn is_same_as(alloc: Global, one: &Json, other: &[u8]) -> Result<bool, Fault> {
+    Ok(is_same(alloc, one, &read(alloc, other)?))
 }
 
 /// Two values that are not the same.
