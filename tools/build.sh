@@ -1,8 +1,9 @@
 #!/bin/sh
 # Proves the program, builds it, runs it once on its stored input, and leaves it at build/citymerge.
-# Words are passed on to rt, as --jobs 1.
+# Words are passed on to rt, as --jobs 1; with none it gets the jobs that tools/lanes.sh prints.
 set -u
 cd "$(dirname "$0")/.."
+[ $# -gt 0 ] || set -- --jobs "$(tools/lanes.sh)"
 tools/need.sh rt || exit 1
 mkdir -p build
 log=build/build.log

@@ -21,17 +21,11 @@ ended_well() {
 python3 tools/must_not_compile.py >build/compile_test.log 2>&1 &
 compiling=$!
 
-# Left to itself, rt reckons with more memory than checks take, and the longest of them finds no room beside smaller ones
-# until these have ended. So it gets as many checks side by side as there are processors, and 5 GB of memory for each.
-room=$(($(awk '/^MemAvailable/ { print $2 }' /proc/meminfo) / 5000000))
-lanes=$(nproc)
-[ "$lanes" -le "$room" ] || lanes=$room
-[ "$lanes" -ge 1 ] || lanes=1
-
 tools/how_long.sh gate
 log=build/gate.log
 {
-    RT_JOBS=${RT_JOBS:-$lanes} tools/at_work.sh 'the gate' rt ci
+    # left to itself, rt finds no room for the longest checks beside smaller ones until these have ended
+    RT_JOBS=${RT_JOBS:-$(tools/lanes.sh)} tools/at_work.sh 'the gate' rt ci
     echo $? >build/gate.status
 } | tee "$log" | python3 tools/times.py build/times.txt
 ended_well "$compiling" compile_test.log || exit 1

@@ -5,9 +5,9 @@ here="here are $(nproc) processors"
 case $1 in
 build)
     kept=$(find crates -mindepth 2 -maxdepth 2 -name out | wc -l)
-    echo "Proving and building citymerge, from nothing 25 to 40 minutes on four processors; $here, and $kept crates keep proofs."
+    echo "Proving and building citymerge, from nothing some 30 minutes on four processors; $here, and $kept crates keep proofs."
     ;;
 gate)
-    echo "The gate, from nothing some 80 minutes (reckoned) on four processors; $here. What is kept from runs on this machine is told below."
+    echo "The gate, some 80 minutes (reckoned) on four processors; $here. Where the kit keeps what an earlier run proved, it says so below."
     ;;
 esac
