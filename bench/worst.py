@@ -1,5 +1,13 @@
-"""How much memory do the worst inputs take, in times of their size? Valid ones and refused ones apart: a valid document is
-cut on its text, and one at fault by its value, up to the fault."""
+"""How much memory and time do the worst inputs take, and how do both grow?
+
+Each shape is made in four sizes. Told are the peak memory, less what the program takes for a header alone, in times of
+the input, the most of the four; how that grows from the smallest to the largest, where 1 is as the size; the processor
+seconds of the largest, and how these grow from a half of it. Valid and refused ones stand apart: a valid document is cut
+on its text, and one at fault by its value, up to the fault.
+
+Where features share city objects, the stream that `cat` writes may grow as the square of its document, and so may what it
+holds: such shapes are measured in times of what is read and written.
+"""
 
 import os
 import typing
@@ -8,17 +16,31 @@ from documents import (
     apart, deep_boundaries, document, listed, one_child, one_line_down, one_vertex, points, vertices, wide_boundary,
 )
 from running import Run
-from shapes import holding, joined, vertices as feature_of_vertices
 from streams import HEADER
 
 MEGA = 1_000_000
+SIZES = tuple(int(size * MEGA) for size in (0.5, 1, 2, 4))
+# Those whose stream grows as the square of the document.
+SMALL_SIZES = tuple(int(size * MEGA) for size in (0.025, 0.05, 0.1, 0.2))
+
+# Peak memory in times of the input, as README.md states it: of a valid line and one at fault, of a valid document and one
+# at fault, of the headers of a merge; and in times of what is read and written, where features share objects.
+LINE, REFUSED_LINE, DOCUMENT, REFUSED_DOCUMENT, HEADERS, SHARED = 13, 26, 37, 37, 26, 2
+
+# The peak, in times of the input, grows at most so much from the smallest size to the largest: tables that double give
+# up to 2, the square of the size would give 8.
+MAX_GROWTH = 2.5
+# Twice the size takes at most so many times as long, where it takes so many seconds.
+MAX_SLOWER, LEAST_SECONDS = 3.0, 0.1
+# A run gets so many kilobytes of memory, so that one which takes the square of its input is told and does not stop the
+# machine.
+MOST_KILOBYTES = 6_000_000
 
 
 class Worst(typing.NamedTuple):
     name: str
     command: str
-    # how many items there are, and the bytes of an input of so many
-    count: int
+    # the bytes of an input of so many items
     make: typing.Callable
     # the peak memory is at most so many times the input
     most: float
@@ -26,35 +48,95 @@ class Worst(typing.NamedTuple):
     fault: str = ""
 
 
-def escaped(pieces):
-    """A feature with a name in a spelling that is rare, so that its line is read as a value."""
+def many(piece, count):
+    """The piece so many times, with a comma between."""
+    block = b",".join([piece] * 1000)
+    for at in range(count // 1000):
+        yield (b"," if at else b"") + block
+    if count % 1000:
+        yield (b"," if count >= 1000 else b"") + b",".join([piece] * (count % 1000))
+
+
+def line(*pieces):
+    """A stream of one feature; a number among the pieces is a piece and how often it comes."""
     yield HEADER
-    yield b'{"type":"CityJSONFeature","i\\u0064":"a","CityObjects":{},"vertices":[],"holds":['
-    yield from pieces
-    yield b"]}\n"
+    for piece in pieces:
+        if isinstance(piece, bytes):
+            yield piece
+        else:
+            yield from many(*piece)
+    yield b"\n"
 
 
-def items(piece, count):
-    return joined(b"", piece, count, b"")
+DEEP = b"[" * 100 + b"0" + b"]" * 100
+FEATURE = b'{"type":"CityJSONFeature","id":"a","CityObjects":{'
+TYPED = FEATURE + b'"a":{"type":"Building"}},"vertices":[]'
 
 
-def minus_zeros(count):
-    yield HEADER
-    yield b'{"type":"CityJSONFeature","id":"a","CityObjects":{},"vertices":['
-    yield from items(b"[-0,-0,-0]", count)
-    yield b"]}\n"
+def feature(before, piece, count, after=b"]}"):
+    return line(before, (piece, count), after)
+
+
+def holding(piece, count):
+    """A valid feature with an array of so many pieces."""
+    return feature(TYPED + b',"holds":[', piece, count)
+
+
+def escaped(piece, count):
+    """The same with a name in a spelling that is rare."""
+    return feature(b'{"type":"CityJSONFeature","i\\u0064":"a","CityObjects":{},"vertices":[],"holds":[', piece, count)
 
 
 def refused(piece, count):
-    """A line of such items whose last bracket is missing."""
-    return holding(b"[" + b",".join([piece] * count))
+    """The same whose last bracket is missing."""
+    return feature(TYPED + b',"holds":[[', piece, count)
 
 
-def with_appearance(count, size):
-    """A document of so many buildings, and an appearance of so many bytes."""
+def typed(object_text, piece, count):
+    """A feature of that city object beside so many pieces."""
+    return feature(FEATURE + object_text + b'},"vertices":[],"holds":[', piece, count)
+
+
+def of_one_print(name):
+    """An object with two names of one print, of which one has an escape."""
+    return b'{"\\u0061%s":1,"b%s":1}' % (name, name)
+
+
+def whole(objects, table):
+    return b"".join(document(listed(objects), table)).rstrip()
+
+
+def with_member(objects, table, name, value, piece, count):
+    """A document with a member that holds so many pieces."""
+    yield whole(objects, table)[:-1]
+    yield b',"%s":%s[' % (name, value)
+    yield from many(piece, count)
+    yield b"]}}\n"
+
+
+def textured(piece, count):
+    """A document of one building with an appearance of so many pieces."""
+    return with_member(('"a":{%s}' % points(0),), vertices(1), b"appearance", b'{"vertices-texture":', piece, count)
+
+
+def with_metadata(piece, count):
+    """A document with so many pieces in its header."""
+    return with_member(('"a":{}',), vertices(1), b"metadata", b'{"own":', piece, count)
+
+
+def header_with(name, value, piece, count):
+    """A tile of a header alone, with a member that holds so many pieces."""
+    yield HEADER.rstrip()[:-1].replace(b'"metadata"', b'"was"')
+    yield b',"%s":%s[' % (name, value)
+    yield from many(piece, count)
+    yield b"]}}}\n" if value.count(b"{") == 2 else b"]}}\n"
+
+
+def with_appearance(count):
+    """A document of so many buildings, and an appearance of 400 bytes for each."""
     objects = ('"%d":{"type":"Building",%s}' % (at, points(at)) for at in range(count))
-    whole = b"".join(document(listed(objects), vertices(count))).rstrip()
-    yield whole[:-1] + b',"appearance":{"textures":["' + b"a" * size + b'"]}}\n'
+    yield whole(objects, vertices(count))[:-1]
+    yield b',"appearance":{"textures":["' + b"a" * (400 * count) + b'"]}}\n'
 
 
 def nested_leaf(count):
@@ -66,8 +148,8 @@ def orphan(make):
     """The document with an object of no feature at its front."""
 
     def made(count):
-        whole = b"".join(make(count))
-        return iter((whole.replace(b'"CityObjects":{', b'"CityObjects":{"none":{"parents":["x"]},', 1),))
+        text = b"".join(make(count))
+        return iter((text.replace(b'"CityObjects":{', b'"CityObjects":{"none":{"parents":["x"]},', 1),))
 
     return made
 
@@ -76,9 +158,9 @@ def refused_late(make):
     """The document with an object at its end whose boundary names no vertex: it is cut up to there by its value."""
 
     def made(count):
-        whole = b"".join(make(count))
+        text = b"".join(make(count))
         last = b',"late":{"geometry":[{"boundaries":[999999999]}]}},"vertices":['
-        return iter((whole.replace(b'},"vertices":[', last, 1),))
+        return iter((text.replace(b'},"vertices":[', last, 1),))
 
     return made
 
@@ -98,75 +180,204 @@ def with_child(count):
     return document(listed(objects), vertices(1))
 
 
-def with_metadata(piece, count):
-    """A document with so many such items in its header."""
-    whole = b"".join(document(listed(('"a":{}',)), vertices(1))).rstrip()
-    yield whole[:-1] + b',"metadata":{"own":[' + b",".join([piece] * count) + b"]}}\n"
+def chain(count):
+    """So many objects, each with the next one as its child, none of which names a parent."""
+    objects = ('"%x":{"children":["%x"]}' % (at, min(at + 1, count - 1)) for at in range(count))
+    return document(listed(objects), vertices(1))
+
+
+def heavy_child(count):
+    """So many objects that name one child, which is as long as they are together."""
+    objects = ('"%x":{"children":["c"]}' % (at + 0x10000) for at in range(count))
+    heavy = ('"c":{"parents":["x"],"holds":"%s"}' % ("a" * (28 * count)),)
+    return document(listed(piece for group in (objects, heavy) for piece in group), vertices(1))
+
+
+def groups(count):
+    """Buildings, each in two of a fiftieth as many groups."""
+    wanted = max(2, count // 50)
+    members = [[] for _ in range(wanted)]
+    for at in range(count):
+        members[at % wanted].append(at)
+        members[(at * 7 + 1) % wanted].append(at)
+    objects = ('"%d":{"type":"Building","parents":["g0"],"attributes":{"year":%d},%s}' % (at, at % 200, points(at)) for at in range(count))
+    unions = (
+        '"g%d":{"type":"CityObjectGroup","children":[%s]}' % (at, ",".join(['"%d"' % each for each in sorted(set(found))]))
+        for at, found in enumerate(members)
+    )
+    return document(listed(piece for group in (objects, unions) for piece in group), vertices(count))
+
+
+def long_vertices(count):
+    """A hundred long vertices, all of which each of so many objects names."""
+    names = points(",".join([str(at) for at in range(100)]))
+    objects = ('"%d":{%s}' % (at, names) for at in range(count))
+    return document(listed(objects), listed("[%d,%d,%d]" % ((2**53 - 1 - at,) * 3) for at in range(100)))
 
 
 ORPHAN = "a city object belongs to no feature"
 BOUNDARY = "a boundary index is wrong"
+NO_JSON = "not a JSON text"
+NOT_WHOLE = "not written as a whole"
+BY_TYPE = "filter --cotype=Building"
+NONE = "filter --cotype=Nothing"
 
-WORST = (
-    Worst("a line of vertices of -0", "filter", 400_000, minus_zeros, 6),
-    Worst("a line in a rare spelling: arrays of one item", "filter", 5_000_000, lambda n: escaped(items(b"[1]", n)), 6),
-    Worst("a line in a rare spelling: short texts", "filter", 5_000_000, lambda n: escaped(items(b'"a"', n)), 6),
-    Worst("a line in a rare spelling: numbers", "filter", 5_000_000, lambda n: escaped(items(b"1", n)), 6),
-    Worst("a refused line: arrays of one item", "filter", 1_000_000, lambda n: refused(b"[1]", n), 23, "not a JSON text"),
-    Worst("a refused line: empty objects", "filter", 1_000_000, lambda n: refused(b"{}", n), 23, "not a JSON text"),
-    Worst("a refused line: short texts", "filter", 1_000_000, lambda n: refused(b'"a"', n), 23, "not a JSON text"),
-    Worst("a refused line: vertices", "filter", 400_000, lambda n: feature_of_vertices(n, b",[0.5,0,0]]"), 23, "not written as a whole"),
-    Worst("cat: small objects", "cat", 60_000, apart, 9),
-    Worst("cat: boundaries 100 deep", "cat", 20_000, deep_boundaries, 9),
-    Worst("cat: an index named often", "cat", 1_000_000, one_vertex, 9),
-    Worst("cat: arrays of one index", "cat", 1_000_000, nested_leaf, 9),
-    Worst("cat: a child named often", "cat", 1_000_000, one_child, 9),
-    Worst("cat: objects, each the child of another", "cat", 100_000, one_line_down, 9),
-    Worst("cat: indices and vertices", "cat", 200_000, wide_boundary, 9),
-    Worst("cat: vertices that none names", "cat", 400_000, lambda n: document(listed(('"a":{}',)), vertices(n)), 9),
-    Worst("cat: 200 buildings with a large appearance", "cat", 200, lambda n: with_appearance(n, MEGA), 9),
-    Worst("cat: vertices of -0", "cat", 400_000, minus_zero_vertices, 9),
-    Worst("cat: empty objects", "cat", 300_000, bare, 33),
-    Worst("cat: objects that name one child", "cat", 200_000, with_child, 16),
-    Worst("cat: a header of arrays of one item", "cat", 1_000_000, lambda n: with_metadata(b"[1]", n), 25),
-    Worst("cat: a header of numbers", "cat", 2_000_000, lambda n: with_metadata(b"1", n), 25),
-    Worst("cat refused late: small objects", "cat", 60_000, refused_late(apart), 23, BOUNDARY),
-    Worst("cat refused late: boundaries 100 deep", "cat", 20_000, refused_late(deep_boundaries), 23, BOUNDARY),
-    Worst("cat refused late: arrays of one index", "cat", 1_000_000, refused_late(nested_leaf), 23, BOUNDARY),
-    Worst("cat refused late: a child named often", "cat", 1_000_000, refused_late(one_child), 23, BOUNDARY),
-    Worst("cat refused late: empty objects", "cat", 300_000, refused_late(bare), 33, BOUNDARY),
-    Worst("cat refused: arrays of one index", "cat", 1_000_000, orphan(nested_leaf), 23, ORPHAN),
-    Worst("cat refused: small objects", "cat", 60_000, orphan(apart), 23, ORPHAN),
-    Worst("a document on the first line: small objects", "filter", 60_000, apart, 9),
-    Worst("a document on the first line: arrays of one index", "filter", 1_000_000, nested_leaf, 9),
-    Worst("a document on the first line: empty objects", "filter", 300_000, bare, 33),
-    Worst("a document on the first line, refused late: arrays of one index", "filter", 1_000_000, refused_late(nested_leaf), 23, BOUNDARY),
-    Worst("a document on the first line: 200 buildings, a large appearance", "filter", 200, lambda n: with_appearance(n, MEGA), 9),
-    Worst("a document on the first line of a merged tile: 200 buildings, a large appearance", "merge", 200, lambda n: with_appearance(n, MEGA), 9),
-    Worst("a document on the first line of a tile merged in turn: the same", "merge --in-turn", 200, lambda n: with_appearance(n, MEGA), 9),
-    Worst("a document on the first line of a merged tile: small objects", "merge", 60_000, apart, 9),
-    Worst("a document on the first line of a merged tile: empty objects", "merge", 300_000, bare, 33),
-    Worst("a document on the first line of a merged tile: objects that name one child", "merge", 200_000, with_child, 17),
-    Worst("a document on the first line, refused: small objects", "filter", 60_000, orphan(apart), 23, ORPHAN),
+LINES = (
+    Worst("a line: vertices of -0", "filter", lambda n: feature(FEATURE + b'},"vertices":[', b"[-0,-0,-0]", n), 6),
+    Worst("a line: arrays of one item", "filter", lambda n: holding(b"[1]", n), 6),
+    Worst("a line: arrays 100 deep", "filter", lambda n: holding(DEEP, n), 6),
+    Worst("a line in a rare spelling: arrays of one item", "filter", lambda n: escaped(b"[1]", n), 6),
+    Worst("a line in a rare spelling: short texts", "filter", lambda n: escaped(b'"a"', n), 6),
+    Worst("a line in a rare spelling: numbers", "filter", lambda n: escaped(b"1", n), 6),
+    Worst("a line: objects with two names of one print, one escaped", "filter", lambda n: holding(of_one_print(b"bcdefghijklmnop"), n), LINE),
+    Worst("a line of a type: small arrays", BY_TYPE, lambda n: typed(b'"a":{"type":"Building"}', b"[1]", n), 6),
+    Worst("a line whose id names no object", BY_TYPE, lambda n: typed(b'"b":{"type":"Building"}', b"[1]", n), 6),
+    Worst("a line whose object has no type", BY_TYPE, lambda n: typed(b'"a":{}', b"[1]", n), 6),
+    Worst("a line whose type is a number", BY_TYPE, lambda n: typed(b'"a":{"type":1}', b"[1]", n), 6),
+    Worst("a line whose type is an array", BY_TYPE, lambda n: feature(FEATURE + b'"a":{"type":[', b"[1]", n, b']}},"vertices":[]}'), 6),
+    Worst("a line whose object is an array", BY_TYPE, lambda n: feature(FEATURE + b'"a":[', b"[1]", n, b']},"vertices":[]}'), 6),
+    Worst("a line: a type behind small arrays", BY_TYPE, lambda n: feature(FEATURE + b'"a":{"holds":[', b"[1]", n, b'],"type":"Road"}},"vertices":[]}'), 6),
+    Worst("a line: a type behind objects of one member", BY_TYPE, lambda n: feature(FEATURE + b'"a":{"holds":[', b'{"a":1}', n, b'],"type":"Road"}},"vertices":[]}'), 6),
+    Worst("a refused line: arrays of one item", "filter", lambda n: refused(b"[1]", n), REFUSED_LINE, NO_JSON),
+    Worst("a refused line: arrays 100 deep", "filter", lambda n: refused(DEEP, n), REFUSED_LINE, NO_JSON),
+    Worst("a refused line: empty objects", "filter", lambda n: refused(b"{}", n), REFUSED_LINE, NO_JSON),
+    Worst("a refused line: short texts", "filter", lambda n: refused(b'"a"', n), REFUSED_LINE, NO_JSON),
+    Worst("a refused line: numbers", "filter", lambda n: refused(b"1", n), REFUSED_LINE, NO_JSON),
+    Worst("a refused line: vertices", "filter", lambda n: feature(FEATURE + b'},"vertices":[', b"[12,-33,2100]", n, b",[0.5,0,0]]}"), REFUSED_LINE, NOT_WHOLE),
+)
+
+DOCUMENTS = (
+    Worst("cat: small objects", "cat", apart, 9),
+    Worst("cat: boundaries 100 deep", "cat", deep_boundaries, 9),
+    Worst("cat: an index named often", "cat", one_vertex, 9),
+    Worst("cat: arrays of one index", "cat", nested_leaf, 9),
+    Worst("cat: a child named often", "cat", one_child, 9),
+    Worst("cat: objects, each the child of another", "cat", one_line_down, 9),
+    Worst("cat: indices and vertices", "cat", wide_boundary, 9),
+    Worst("cat: vertices that none names", "cat", lambda n: document(listed(('"a":{}',)), vertices(n)), 9),
+    Worst("cat: vertices of -0", "cat", minus_zero_vertices, 9),
+    Worst("cat: long vertices that each object names", "cat", long_vertices, DOCUMENT),
+    Worst("cat: empty objects", "cat", bare, DOCUMENT),
+    Worst("cat: objects that name one child", "cat", with_child, 17),
+    Worst("cat: buildings with a large appearance", "cat", with_appearance, 9),
+    Worst("cat: an appearance of arrays 100 deep", "cat", lambda n: textured(DEEP, n), 9),
+    Worst("cat: an appearance of arrays of one item", "cat", lambda n: textured(b"[0]", n), 9),
+    Worst("cat: an appearance of pairs", "cat", lambda n: textured(b"[0.25,0.75]", n), 9),
+    Worst("cat: an appearance of numbers", "cat", lambda n: textured(b"0", n), 9),
+    Worst("cat: a header of arrays 100 deep", "cat", lambda n: with_metadata(DEEP, n), DOCUMENT),
+    Worst("cat: a header of arrays of one item", "cat", lambda n: with_metadata(b"[1]", n), DOCUMENT),
+    Worst("cat: a header of numbers", "cat", lambda n: with_metadata(b"1", n), DOCUMENT),
+    Worst("cat refused late: small objects", "cat", refused_late(apart), REFUSED_DOCUMENT, BOUNDARY),
+    Worst("cat refused late: boundaries 100 deep", "cat", refused_late(deep_boundaries), REFUSED_DOCUMENT, BOUNDARY),
+    Worst("cat refused late: arrays of one index", "cat", refused_late(nested_leaf), REFUSED_DOCUMENT, BOUNDARY),
+    Worst("cat refused late: a child named often", "cat", refused_late(one_child), REFUSED_DOCUMENT, BOUNDARY),
+    Worst("cat refused late: empty objects", "cat", refused_late(bare), REFUSED_DOCUMENT, BOUNDARY),
+    Worst("cat refused late: a chain of objects", "cat", refused_late(chain), REFUSED_DOCUMENT, BOUNDARY),
+    Worst("cat refused: arrays of one index", "cat", orphan(nested_leaf), REFUSED_DOCUMENT, ORPHAN),
+    Worst("cat refused: small objects", "cat", orphan(apart), REFUSED_DOCUMENT, ORPHAN),
+    Worst("cat refused: a chain of objects", "cat", orphan(chain), REFUSED_DOCUMENT, ORPHAN),
+    Worst("a first line: small objects", "filter", apart, 9),
+    Worst("a first line: arrays of one index", "filter", nested_leaf, 9),
+    Worst("a first line: empty objects", "filter", bare, DOCUMENT),
+    Worst("a first line: long vertices that each object names", "filter", long_vertices, DOCUMENT),
+    Worst("a first line: buildings with a large appearance", "filter", with_appearance, 9),
+    Worst("a first line: the same, none of them chosen", NONE, with_appearance, 9),
+    Worst("a first line: an appearance of arrays 100 deep", "filter", lambda n: textured(DEEP, n), 9),
+    Worst("a first line: an appearance of pairs", "filter", lambda n: textured(b"[0.25,0.75]", n), 9),
+    Worst("a first line, refused late: arrays of one index", "filter", refused_late(nested_leaf), REFUSED_DOCUMENT, BOUNDARY),
+    Worst("a first line, refused late: a chain of objects", "filter", refused_late(chain), REFUSED_DOCUMENT, BOUNDARY),
+    Worst("a first line, refused: small objects", "filter", orphan(apart), REFUSED_DOCUMENT, ORPHAN),
+    Worst("a first line of a merged tile: small objects", "merge", apart, 9),
+    Worst("a first line of a merged tile: empty objects", "merge", bare, DOCUMENT),
+    Worst("a first line of a merged tile: objects that name one child", "merge", with_child, 17),
+    Worst("a first line of a merged tile: buildings with a large appearance", "merge", with_appearance, 9),
+    Worst("a first line of a tile merged in turn: the same", "merge --in-turn", with_appearance, 9),
+)
+
+JOINED = (
+    Worst("a merged header: metadata of arrays 100 deep", "merge", lambda n: header_with(b"metadata", b'{"own":', DEEP, n), HEADERS),
+    Worst("a merged header: metadata of arrays of one item", "merge", lambda n: header_with(b"metadata", b'{"own":', b"[1]", n), HEADERS),
+    Worst("a merged header: one extension of arrays 100 deep", "merge", lambda n: header_with(b"extensions", b'{"one":{"own":', DEEP, n), HEADERS),
+    Worst("a merged header: one extension of arrays of one item", "merge", lambda n: header_with(b"extensions", b'{"one":{"own":', b"[1]", n), HEADERS),
+)
+
+OVERLAPPING = (
+    Worst("cat: a chain of objects, each the child of the one before", "cat", chain, SHARED),
+    Worst("cat: objects that name one long child", "cat", heavy_child, SHARED),
+    Worst("cat: buildings in two groups each", "cat", groups, SHARED),
+    Worst("a first line: objects that name one long child", "filter", heavy_child, SHARED),
 )
 
 
-def measure(bench, worst):
-    path = bench.write("worst", worst.make(worst.count))
-    size = os.path.getsize(path)
+def count_of(worst, size):
+    """How many items an input of about this size has."""
+    small, large = (sum(map(len, worst.make(count))) for count in (1000, 2000))
+    each = (large - small) / 1000
+    return max(1, int((size - (small - 1000 * each)) / each))
+
+
+class Measured(typing.NamedTuple):
+    read: int
+    written: int
+    peak: int
+    seconds: float
+
+
+def measured(bench, worst, size, idle):
+    """A run on an input of this size, or None where it ended in another way than it should."""
+    path, target = bench.write("worst", worst.make(count_of(worst, size))), bench.path("worst_output")
     words, given = ([path], os.devnull) if "merge" in worst.command else ([], path)
-    run = Run([bench.program, *worst.command.split(), *words], given)
+    limited = ("sh", "-c", 'ulimit -v %d && exec "$0" "$@"' % MOST_KILOBYTES)
+    run = Run([*limited, bench.program, *worst.command.split(), *words], given, target)
+    read, written = os.path.getsize(path), os.path.getsize(target)
     os.remove(path)
+    os.remove(target)
     if (run.status, worst.fault in run.errors) != (1 if worst.fault else 0, True):
         bench.fail("%s: %s" % (worst.name, run.trouble()))
+        return None
+    return Measured(read, written, max(0, run.peak - idle), run.processor)
+
+
+def tell(bench, worst, runs, times):
+    growth, slower = times[-1] / max(times[0], 1), runs[-1].seconds / max(runs[-2].seconds, 0.001)
+    bench.say(
+        "  %-72s %6.2f MB: %7.1f times (grows %4.1f), %6.2f s (grows %4.1f)"
+        % (worst.name, runs[-1].read / MEGA, max(times), growth, runs[-1].seconds, slower)
+    )
+    if max(times) > worst.most:
+        bench.fail("%s: %.1f times, at most %g are wanted" % (worst.name, max(times), worst.most))
+    if growth > MAX_GROWTH:
+        bench.fail("%s: from %.1f to %.1f times, so memory grows faster than the size" % (worst.name, times[0], times[-1]))
+    if slower > MAX_SLOWER and runs[-1].seconds > LEAST_SECONDS:
+        bench.fail("%s: twice the size takes %.1f times as long" % (worst.name, slower))
+
+
+def measure(bench, worst, idle):
+    """Told in times of what is read."""
+    runs = [measured(bench, worst, size, idle) for size in SIZES]
+    if None not in runs:
+        tell(bench, worst, runs, [run.peak / run.read for run in runs])
+
+
+def measure_overlapping(bench, worst, idle):
+    """Told in times of what is read and written."""
+    runs = [measured(bench, worst, size, idle) for size in SMALL_SIZES]
+    if None in runs:
         return
-    times = run.peak / size
-    bench.say("  %-82s %6.1f MB: peak memory %7.1f MB, %5.1f times" % (worst.name, size / MEGA, run.peak / MEGA, times))
-    if times > worst.most:
-        bench.fail("%s: %.1f times its size, at most %g are wanted" % (worst.name, times, worst.most))
+    times = [run.peak / (run.read + run.written) for run in runs]
+    bench.say(
+        "  %-72s %6.2f MB: %7.1f times what is read and written, %8.1f MB written"
+        % (worst.name, runs[-1].read / MEGA, max(times), runs[-1].written / MEGA)
+    )
+    if times[-1] > worst.most:
+        bench.fail("%s: %.1f times, at most %g are wanted" % (worst.name, times[-1], worst.most))
 
 
 def worst_memory(bench):
-    bench.say("How much memory do the worst inputs take?")
-    for worst in WORST:
-        measure(bench, worst)
+    bench.say("How much memory do the worst inputs take, and how does it grow? (0.5, 1, 2 and 4 MB)")
+    idle = Run(bench.filter, bench.write("idle", (HEADER,))).peak
+    for worst in (*LINES, *DOCUMENTS, *JOINED):
+        measure(bench, worst, idle)
+    bench.say("Where features share objects (25, 50, 100 and 200 kB)")
+    for worst in OVERLAPPING:
+        measure_overlapping(bench, worst, idle)

@@ -12,9 +12,12 @@ It needs Linux and Python's standard library. No file is written but those that 
 from __future__ import annotations
 
 import argparse
+import collections
 import contextlib
 import ctypes
 import decimal
+import difflib
+import hashlib
 import json
 import os
 import re
@@ -28,7 +31,7 @@ import subprocess
 import sys
 from collections.abc import Iterator, Sequence
 from dataclasses import dataclass, field
-from typing import NamedTuple, Optional
+from typing import NamedTuple, NoReturn, Optional
 
 NAME = "citymerge-many"
 VERSION = "0.1.0"
@@ -37,6 +40,7 @@ LONGEST_LINE = 2**28  # bytes, as `citymerge` takes them
 OFF_THE_GRID = "the translation is off the grid"
 NOT_WRITTEN = "the output could not be written"
 PR_SET_PDEATHSIG = 1  # of prctl(2)
+PACKED = {b"\x1f\x8b": "gzip", b"\x28\xb5\x2f\xfd": "zstd", b"\xfd7zXZ": "xz", b"PK\x03\x04": "zip"}  # by their first bytes
 ENDING_SIGNALS = (signal.SIGINT, signal.SIGTERM, signal.SIGHUP)
 FAULT_LINE = re.compile(r"citymerge: (?:tile (?P<tile>\d+)(?: line (?P<line>\d+))?: )?(?P<text>.*)")
 
@@ -54,7 +58,8 @@ one thread). Where the limits of the machine are too low for that, nothing is st
     """\
 With --plan=FOLDER nothing is merged. FOLDER is made, with a Makefile of one rule for each
 merge and links to the tiles; `make -C FOLDER -j8` then writes FOLDER/merged.city.jsonl.
-Where it is broken off, it goes on with what is missing when it is started again.""",
+Where it is broken off, it goes on with what is missing when it is started again. A line
+at fault ends the plan at the merge of its tile: mend the tile, and start it again.""",
 )
 STATUSES = (
     "0  done: the stream or the plan is whole, or help was asked for",
@@ -122,10 +127,25 @@ class Terminal:
 # Words
 
 
+class Parser(argparse.ArgumentParser):
+    """A parser that says more of some wrong words."""
+
+    def error(self, message: str) -> NoReturn:
+        needs = re.fullmatch(r"argument (--\w+): expected one argument", message)
+        if needs:
+            value = next(action.metavar for action in self._actions if needs[1] in action.option_strings)
+            message = f"{needs[1]} wants a value: {needs[1]}={value}"
+        unknown = re.match(r"unrecognized arguments: (-[^ =]*)", message)
+        names = [name for action in self._actions for name in action.option_strings]
+        for near in difflib.get_close_matches(unknown[1], names, 1) if unknown else ():
+            message += f" (is {near} meant?)"
+        super().error(message)
+
+
 def argument_parser() -> argparse.ArgumentParser:
     end = ["Status:", *("  " + line for line in STATUSES), "", "Environment:", "  " + ENVIRONMENT, ""]
     end += ["Examples:", *("  " + line for line in EXAMPLES)]
-    parser = argparse.ArgumentParser(
+    parser = Parser(
         prog=NAME, usage=f"{NAME} [OPTIONS] [--] [TILE]...", description="\n\n".join((ABOUT, *DESCRIPTION)),
         epilog="\n".join(end), add_help=False, allow_abbrev=False, formatter_class=help_formatter)
     own = parser.add_argument_group("Arguments and options")
@@ -245,9 +265,13 @@ def read_head(name: str) -> Head:
     mode = os.stat(name).st_mode
     if stat.S_ISDIR(mode):
         raise ValueError("it is a folder")
-    if not stat.S_ISREG(mode):
+    if not stat.S_ISREG(mode) or os.path.abspath(name).startswith(("/dev/", "/proc/")):
         raise ValueError("it is a pipe or a device; a file is needed, since its header is read twice")
     with open(name, "rb") as tile:
+        for front, packer in PACKED.items():
+            if tile.read(len(front)) == front:
+                raise ValueError(f"it is packed with {packer}; unpack it first")
+            tile.seek(0)
         number = 1
         text = tile.readline(LONGEST_LINE + 2)
         while text.endswith(b"\n") and not text.strip(b" \t\r\n"):
@@ -356,6 +380,58 @@ def steps_off(base: bytes, tile: bytes) -> list[decimal.Decimal]:
 def distance_text(off: Sequence[decimal.Decimal]) -> str:
     parts = [f"{axis} by {float(distance):.3g} steps" for axis, distance in zip("xyz", off) if distance]
     return ", " + " and ".join(parts)
+
+
+def named_twice(names: Sequence[str]) -> Iterator[str]:
+    """A line for each tile that the list names a second time, by whatever name."""
+    first: dict[tuple[int, int], str] = {}
+    for name in names:
+        with contextlib.suppress(OSError):  # told when its header is read
+            about = os.stat(name)
+            known = first.setdefault((about.st_dev, about.st_ino), name)
+            if known is not name:
+                other = "" if known == name else f", as {shown(known)}, too"
+                yield f"{shown(name)}: the tile is named twice{other}; its features would be written twice"
+
+
+def first_identifier(name: str) -> Optional[str]:
+    """The identifier of the first feature that has a line of its own, where that can be told."""
+    with contextlib.suppress(OSError, ValueError, TypeError, AttributeError):
+        with open(name, "rb") as tile:
+            lines = (line for line in iter(lambda: tile.readline(LONGEST_LINE + 2), b"") if line.strip(b" \t\r\n"))
+            next(lines, None)
+            found = json.loads(next(lines, b"null"))
+            return found.get("id") if isinstance(found.get("id"), str) else None
+    return None
+
+
+def digest(name: str) -> Optional[bytes]:
+    with contextlib.suppress(OSError):
+        with open(name, "rb") as tile:
+            hashed = hashlib.sha256()
+            for piece in iter(lambda: tile.read(1 << 20), b""):
+                hashed.update(piece)
+            return hashed.digest()
+    return None
+
+
+def alike(names: Sequence[str]) -> Iterator[str]:
+    """A line for each tile that has all bytes, or the identifier of its first feature, of one before it. Bytes are looked
+    at only where sizes are the same."""
+    sizes: dict[int, dict[Optional[bytes], str]] = {}
+    same_size = collections.Counter(os.path.getsize(name) for name in names)
+    identifiers: dict[str, str] = {}
+    for name in names:
+        size = os.path.getsize(name)
+        if same_size[size] > 1:
+            known = sizes.setdefault(size, {}).setdefault(digest(name), name)
+            if known is not name:
+                yield f"{shown(name)}: it has the same bytes as {shown(known)}; the features of both are written"
+                continue
+        identifier = first_identifier(name)
+        known = identifiers.setdefault(identifier, name) if identifier is not None else name
+        if known is not name:
+            yield f"{shown(name)}: its first feature is {shown(identifier)}, as in {shown(known)}; both are written"
 
 
 def compared(program: str, names: Sequence[str], is_least: bool, terminal: Terminal) -> bytes:
@@ -736,6 +812,8 @@ def in_makefile(words: Sequence[str]) -> str:
 
 def new_folder(path: str) -> None:
     try:
+        if os.path.exists(path) and not os.path.isdir(path):
+            raise Refusal(f"{shown(path)}: it is a file; --plan wants a folder, which it makes")
         os.makedirs(path, exist_ok=True)
         if os.listdir(path):
             raise Refusal(f"{shown(path)}: the folder is not empty; a plan that is there goes on with `make -C`")
@@ -799,15 +877,29 @@ def run(words: Sequence[str], terminal: Terminal) -> None:
     asked = parsed(words)
     program = find_program()
     check_options(program, [*asked.choice, *asked.order, *asked.base])
+    twice = list(named_twice(asked.tiles))
+    if twice:
+        raise Refusal(*twice)
     levels = tree(asked.tiles, asked.group)
     if asked.plan is not None:
         new_folder(asked.plan)
-        write_plan(program, asked, levels, compared(program, asked.tiles, bool(asked.base), terminal))
+        header = compared(program, asked.tiles, bool(asked.base), terminal)
+        tell_alike(asked.tiles, terminal)
+        write_plan(program, asked, levels, header)
+        terminal.tell(f"{shown(asked.plan)}: merges of {len(asked.tiles)} tiles, {sum(map(len, levels))} in all; "
+                      f"`make -C {shown(shlex.quote(asked.plan))} -j8` writes {LAST} there")
         return
     check_limits([merge for level in levels for merge in level], bool(asked.order))
     with output_to(asked.output, asked.tiles) as output:
         header = compared(program, asked.tiles, bool(asked.base), terminal)
+        tell_alike(asked.tiles, terminal)
         merge_at_once(program, asked, levels, header, output, terminal)
+
+
+def tell_alike(names: Sequence[str], terminal: Terminal) -> None:
+    """Tells of tiles that seem to be given twice; all are written."""
+    for line in alike(names):
+        terminal.tell(line)
 
 
 def stop(number: int, _frame: object) -> None:

@@ -57,11 +57,12 @@ tools/install.sh install "$deb/usr" >/dev/null
 documents=$deb/usr/share/doc/citymerge
 sed -i '1s#.*#\#!/usr/bin/python3#' "$deb/usr/bin/citymerge-many"
 mkdir -p "$deb/usr/share/zsh/vendor-completions"
-mv "$deb/usr/share/zsh/site-functions/_citymerge" "$deb/usr/share/zsh/vendor-completions/_citymerge"
+mv "$deb"/usr/share/zsh/site-functions/_citymerge* "$deb/usr/share/zsh/vendor-completions"
 rmdir "$deb/usr/share/zsh/site-functions"
 gzip -9n "$deb"/usr/share/man/man1/*.1
-cp README.md "$documents"
-cp CHANGELOG.md "$documents"
+# Debian has the license in `copyright`
+rm "$documents/LICENSE"
+sed -i 's/(LICENSE)/(copyright)/' "$documents/README.md"
 {
     printf 'citymerge (%s) stable; urgency=low\n\n  * The changes of this release are in CHANGELOG.md.\n\n' "$version"
     printf ' -- %s  %s\n' "$maintainer" "$(date -u -R -d "@$SOURCE_DATE_EPOCH")"

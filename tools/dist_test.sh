@@ -52,10 +52,13 @@ expect 'the programs of the archive' "$wanted" "$(tried "$folder/bin" 2>&1)"
 mkdir "$room/empty"
 dpkg-deb -x "$room/here"/*.deb "$room/empty"
 expect 'the programs of the package' "$wanted" "$(tried "$room/empty/usr/bin" 2>&1)"
+expect 'the commands of its documents, in an empty folder with no clone' 'The commands of the installed documents: N right, 0 wrong' \
+    "$(python3 tools/commands_test.py --package "$room/empty" | sed 's/: [1-9][0-9]* right/: N right/')"
 expect 'the version of the package' "$version" "$(dpkg-deb -f "$room/here"/*.deb Version)"
 for file in man/man1/citymerge.1.gz man/man1/citymerge-many.1.gz bash-completion/completions/citymerge \
     zsh/vendor-completions/_citymerge fish/vendor_completions.d/citymerge.fish \
-    doc/citymerge/README.md doc/citymerge/GUIDE.md doc/citymerge/FAULTS.md doc/citymerge/copyright; do
+    doc/citymerge/README.md doc/citymerge/GUIDE.md doc/citymerge/FAULTS.md doc/citymerge/copyright \
+    doc/citymerge/examples/town.city.json; do
     expect "$file" there "$([ -s "$room/empty/usr/share/$file" ] && echo there)"
 done
 expect 'the sums of the package' 0 "$(dpkg-deb -e "$room/here"/*.deb "$room/control"; cd "$room/empty" && md5sum -c --quiet "$room/control/md5sums" >&2; echo $?)"

@@ -20,12 +20,25 @@ offered_by_bash() {
     )
 }
 
+offered_of_many() {
+    (
+        cd "$room" || exit
+        compopt() { :; }
+        . "$share/bash-completion/completions/citymerge-many"
+        COMP_WORDS=("$@")
+        COMP_CWORD=$(($# - 1))
+        _citymerge_many
+        echo "${COMPREPLY[*]}"
+    )
+}
+
 # bash, typed at a terminal: the line as the tab key leaves it
 cat >"$room/.bashrc" <<'END'
 PS1=
 bind 'set bell-style none'
 bind -x '"\C-xp": printf "LINE<%s>END" "$READLINE_LINE"'
 . share/bash-completion/completions/citymerge
+. share/bash-completion/completions/citymerge-many
 echo READY
 END
 cat >"$room/type.py" <<'END'
@@ -47,7 +60,7 @@ typed_in_bash() {
 }
 
 offered_by_fish() {
-    (cd "$room" && fish --no-config -c "source $share/fish/vendor_completions.d/citymerge.fish; complete -C '$*'" | cut -f 1 | sort | tr '\n' ' ')
+    (cd "$room" && fish --no-config -c "source $share/fish/vendor_completions.d/citymerge.fish; source $share/fish/vendor_completions.d/citymerge-many.fish; complete -C '$*'" | cut -f 1 | sort | tr '\n' ' ')
 }
 
 # zsh, typed at a terminal: the line as the tab key leaves it; a comma that is left there goes with the next blank
@@ -78,7 +91,8 @@ expect 'the program' 'citymerge 0.1.0' "$("$room/bin/citymerge" --version)"
 expect 'citymerge-many' 'citymerge-many 0.1.0' "$("$room/bin/citymerge-many" --version)"
 expect 'citymerge-many finds the program beside it' same \
     "$(env -u CITYMERGE PATH=/usr/bin:/bin "$room/bin/citymerge-many" examples/west.city.jsonl | cmp - examples/west.expected.city.jsonl && echo same)"
-expect 'the documents' 'FAULTS.md GUIDE.md ' "$(ls "$share/doc/citymerge" | tr '\n' ' ')"
+expect 'the documents' "$( (ls docs; printf 'CHANGELOG.md\nLICENSE\nREADME.md\nexamples\n') | sort)" "$(ls "$share/doc/citymerge" | sort)"
+expect 'no words' 'use: tools/install.sh install|uninstall PREFIX 2' "$(tools/install.sh 2>&1 | tr '\n' ' '; tools/install.sh >/dev/null 2>&1; echo $?)"
 if command -v man >/dev/null; then
     for page in citymerge citymerge-many; do
         MANWIDTH=80 man --warnings -l "$share/man/man1/$page.1" 2>&1 | col -bx >"$room/$page"
@@ -112,7 +126,11 @@ for words in 'filter < ' 'cat <' 'filter --exclude > ' 'merge --in-turn w 2>'; d
     expect "bash: a file after $words" "citymerge ${words}west.city.jsonl " "$(typed_in_bash "citymerge ${words}w")"
 done
 expect 'bash: an option after a file that is read' 'citymerge filter < w --exclude ' "$(typed_in_bash 'citymerge filter < w --ex')"
+expect 'bash: an option of citymerge-many' '--output=' "$(offered_of_many citymerge-many --o)"
+expect 'bash: options of citymerge-many' '--in-turn --least' "$(offered_of_many citymerge-many --in) $(offered_of_many citymerge-many --l)"
+expect 'bash: a tile of citymerge-many, typed' 'citymerge-many a\ b.city.jsonl ' "$(typed_in_bash 'citymerge-many a')"
 if command -v fish >/dev/null; then
+    expect 'fish: an option of citymerge-many' '--output= ' "$(offered_by_fish citymerge-many --outp)"
     expect 'fish: the commands' 'merge ' "$(offered_by_fish citymerge me)"
     expect 'fish: an option with a value' '--cotype ' "$(offered_by_fish citymerge filter --c)"
     expect 'fish: no option of another command' '' "$(offered_by_fish citymerge filter --l)"
@@ -128,6 +146,8 @@ else
     echo 'fish is not installed: its completions were not tried'
 fi
 if command -v zsh >/dev/null; then
+    expect 'zsh: an option of citymerge-many' 'citymerge-many --output=' "$(typed_in_zsh 'citymerge-many --outp')"
+    expect 'zsh: a tile of citymerge-many' 'citymerge-many west.city.jsonl ' "$(typed_in_zsh 'citymerge-many w')"
     expect 'zsh: the commands' 'citymerge merge ' "$(typed_in_zsh 'citymerge me')"
     expect 'zsh: an option with a value' 'citymerge filter --cotype=' "$(typed_in_zsh 'citymerge filter --c')"
     expect 'zsh: a tile' 'citymerge merge west.city.jsonl ' "$(typed_in_zsh 'citymerge merge w')"

@@ -1,5 +1,6 @@
 #!/usr/bin/env python3
-"""Writes the manual page of citymerge-many, made of its own help, to standard output.
+"""Writes the manual page and the completions of citymerge-many, made of its own help, to standard output: a line
+`==> NAME` begins each file.
 
 Use: tools/many_manual.py
 """
@@ -61,5 +62,53 @@ def page() -> list[str]:
     return lines
 
 
+BASH = """\
+_citymerge_many() {
+    COMPREPLY=()
+    [[ ${COMP_WORDS[COMP_CWORD]} == -* ]] || return
+    COMPREPLY=($(compgen -W '%s' -- "${COMP_WORDS[COMP_CWORD]}"))
+    [[ ${COMPREPLY[*]} == *= ]] && compopt -o nospace
+}
+complete -o default -F _citymerge_many citymerge-many"""
+
+
+def options() -> list[argparse.Action]:
+    return [action for action in many_tiles.argument_parser()._actions if action.option_strings]
+
+
+def is_name(action: argparse.Action) -> bool:
+    return action.metavar in ("FILE", "FOLDER")
+
+
+def told(action: argparse.Action) -> str:
+    """What an option does, as the first sentence of its help."""
+    return re.match(r"[^.]*", action.help)[0].replace("`", "").replace("'", "")
+
+
+def bash() -> list[str]:
+    return [BASH % " ".join([action.option_strings[-1] + ("=" if action.metavar else "") for action in options()])]
+
+
+def zsh() -> list[str]:
+    lines = ["#compdef citymerge-many", "_arguments -s \\"]
+    for action in options():
+        value = ":%s:%s" % (action.metavar.lower(), "_files" if is_name(action) else "") if action.metavar else ""
+        for name in action.option_strings:
+            lines.append("    '%s%s[%s]%s' \\" % (name, "=" if action.metavar else "", told(action), value))
+    return lines + ["    '*:tile:_files'"]
+
+
+def fish() -> list[str]:
+    lines = []
+    for action in options():
+        names = "".join([" -l %s" % name[2:] if name.startswith("--") else " -s %s" % name[1:] for name in action.option_strings])
+        value = (" -r -F" if is_name(action) else " -x") if action.metavar else ""
+        lines.append("complete -c citymerge-many%s%s -d '%s'" % (names, value, told(action)))
+    return lines
+
+
+FILES = {"citymerge-many.1": page, "citymerge-many.bash": bash, "_citymerge-many": zsh, "citymerge-many.fish": fish}
+
 if __name__ == "__main__":
-    print("\n".join(page()))
+    for name, lines in FILES.items():
+        print("\n".join(["==> " + name, *lines()]))

@@ -5,6 +5,7 @@ Use: tools/many_tiles_test.py PROGRAM
 """
 
 import collections
+import gzip
 import json
 import os
 import pty
@@ -276,7 +277,69 @@ class Headers(InFolder):
                             "4 of 5 tiles do not fit, and nothing was written")
 
 
+class Twice(InFolder):
+    def test_a_tile_that_is_named_twice(self):
+        self.write("a", header() + feature("a", 1))
+        os.link("a", "linked")
+        os.symlink("a", "link")
+        for words in ([], ["--output=city"], ["--plan=plan"]):
+            self.expect_refusal(many("a", *words, "./a", "linked", "a", "link"),
+                                "./a: the tile is named twice, as a, too; its features would be written twice",
+                                "linked: the tile is named twice, as a, too; its features would be written twice",
+                                "a: the tile is named twice; its features would be written twice",
+                                "link: the tile is named twice, as a, too; its features would be written twice")
+        self.assertEqual(["a", "link", "linked"], sorted(os.listdir(".")))
+
+    def test_tiles_that_are_alike(self):
+        self.write("a", header() + feature("a", 1) + feature("b", 1))
+        self.write("b", self.read("a"))
+        self.write("c", header() + "\n" + feature("a", 2))
+        self.write("d", header() + feature("b", 2))
+        self.write("none", header())
+        self.write("none2", header("[1,0,0]"))
+        ended = many("--in-turn", "a", "b", "c", "d", "none", "none2")
+        self.assertEqual((0, 6), (ended.status, ended.out.count("CityJSONFeature")))
+        told = [SAID + "b: it has the same bytes as a; the features of both are written",
+                SAID + "c: its first feature is a, as in a; both are written"]
+        self.assertEqual(told, ended.errors.splitlines())
+        self.assertEqual(told, many("--plan=plan", "a", "b", "c", "d").errors.splitlines()[:2])
+
+    def test_an_output_of_before_among_the_tiles(self):
+        self.write("a", header() + feature("a", 1))
+        self.write("b", header() + feature("b", 1))
+        self.assertEqual((0, "", ""), many("a", "b", "--in-turn", "--output=all"))
+        ended = many("a", "all", "b", "--output=all2")
+        self.assertEqual((0, SAID + "all: its first feature is a, as in a; both are written\n"), (ended.status, ended.errors))
+
+
 class Refusals(InFolder):
+    def test_hints(self):
+        self.write("a", header())
+        for words, hint in ((["--outptu=x", "a"], "unrecognized arguments: --outptu=x (is --output meant?)"),
+                            (["--in-trun", "a"], "unrecognized arguments: --in-trun (is --in-turn meant?)"),
+                            (["--zzz", "a"], "unrecognized arguments: --zzz"),
+                            (["a", "--plan"], "--plan wants a value: --plan=FOLDER"),
+                            (["a", "--group"], "--group wants a value: --group=N")):
+            self.assertEqual((2, "citymerge-many: error: " + hint), (many(*words).status, many(*words).errors.splitlines()[-1]))
+
+    def test_packed_tiles_and_standard_input(self):
+        self.write("a", header())
+        with open("packed", "wb") as packed:
+            packed.write(gzip.compress(header().encode()))
+        with open("other", "wb") as packed:
+            packed.write(b"\x28\xb5\x2f\xfd..")
+        self.write("empty", "")
+        self.write("b", header())
+        with open("b", encoding="utf-8") as given:
+            ended = subprocess.run([*MANY, "a", "packed", "other", "/dev/stdin", "empty"], stdin=given, check=False,
+                                   capture_output=True, text=True)
+        self.expect_refusal(Ended(ended.returncode, ended.stdout, ended.stderr),
+                            "packed: the tile could not be read: it is packed with gzip; unpack it first",
+                            "other: the tile could not be read: it is packed with zstd; unpack it first",
+                            "/dev/stdin: the tile could not be read: it is a pipe or a device; a file is needed, since its header is read twice",
+                            "empty: the stream has no header line",
+                            "4 of 5 tiles do not fit, and nothing was written")
+
     def test_wrong_words(self):
         self.write("a", header())
         for words in (["--group=0", "a"], ["--group=1", "a"], ["--group=64", "a"], ["--group=", "a"], ["--grou=5", "a"], [],
@@ -320,9 +383,10 @@ class Refusals(InFolder):
         self.assertEqual(["a", "link", "new", "old"], sorted(os.listdir(".")))
 
     def test_an_output_that_takes_nothing(self):
-        self.write("a", header() + feature("a", 1))
+        for name in "abc":
+            self.write(name, header() + feature(name, 1))
         with open("/dev/full", "w", encoding="utf-8") as full:
-            run = subprocess.run([*MANY, "a", "a", "a", "--group=2"], stdout=full, stderr=subprocess.PIPE, check=False)
+            run = subprocess.run([*MANY, "a", "b", "c", "--group=2"], stdout=full, stderr=subprocess.PIPE, check=False)
         self.assertEqual((1, b"citymerge-many: the output could not be written\n"), (run.returncode, run.stderr))
 
     def test_no_folder_for_temporary_files_is_wanted(self):
@@ -376,9 +440,8 @@ class Endings(InFolder):
 
     def setUp(self):
         super().setUp()
-        features = "".join(feature("f%d" % line, line) for line in range(4000))
         for number in range(12):
-            self.write("t%02d" % number, header() + features)
+            self.write("t%02d" % number, header() + "".join(feature("f%d-%d" % (number, line), line) for line in range(4000)))
 
     def begun(self, *words):
         names = ["t%02d" % number for number in range(12)]
@@ -410,7 +473,9 @@ class Endings(InFolder):
             self.assertEqual([], [child for child in children if os.path.exists("/proc/%d" % child)])
 
     def test_all_of_it_is_ended_while_it_starts(self):
-        names = ["t%02d" % number for number in range(12)] * 10
+        names = ["u%03d" % number for number in range(120)]
+        for name in names:
+            self.write(name, header() + "".join(feature("%s-%d" % (name, line), line) for line in range(400)))
         for number in range(12):
             run = subprocess.Popen([*MANY, "--group=2", *names], stdout=subprocess.DEVNULL, stderr=subprocess.PIPE,
                                    start_new_session=True)
@@ -470,7 +535,8 @@ class Plans(InFolder):
                    'kill -9 $PPID $$\nexec "%s" "$@"\n' % os.environ["CITYMERGE"])
         os.chmod("once", 0o755)
         ended = many("--plan=plan", "--group=6", names=NAMES, env={**os.environ, "CITYMERGE": os.path.abspath("once")})
-        self.assertEqual((0, "", ""), ended)
+        self.assertEqual((0, "", SAID + "plan: merges of 300 tiles, 61 in all; `make -C plan -j8` writes merged.city.jsonl there\n"),
+                         ended)
         self.write("plan/stop", "")
         self.assertNotEqual(0, self.make("-j2").returncode)
         finished = {name: os.stat("plan/level1/" + name).st_mtime_ns for name in os.listdir("plan/level1") if name.endswith(".jsonl")}
@@ -591,7 +657,7 @@ class Plans(InFolder):
         self.assertEqual(0, many("--plan=plan", "a").status)
         self.assertEqual((0, header()), (self.make().returncode, self.read("plan/merged.city.jsonl")))
         self.expect_refusal(many("--plan=plan", "a"), "plan: the folder is not empty; a plan that is there goes on with `make -C`")
-        self.expect_refusal(many("--plan=a", "a"), "a: File exists")
+        self.expect_refusal(many("--plan=a", "a"), "a: it is a file; --plan wants a folder, which it makes")
         self.expect_refusal(many("--plan=p", "--cotype=a\nb", "a"), "--plan: a Makefile cannot hold an option with a newline")
 
 
