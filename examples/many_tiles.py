@@ -384,13 +384,13 @@ def distance_text(off: Sequence[decimal.Decimal]) -> str:
 
 def named_twice(names: Sequence[str]) -> Iterator[str]:
     """A line for each tile that the list names a second time, by whatever name."""
-    first: dict[tuple[int, int], str] = {}
-    for name in names:
+    first: dict[tuple[int, int], int] = {}
+    for place, name in enumerate(names):
         with contextlib.suppress(OSError):  # told when its header is read
             about = os.stat(name)
-            known = first.setdefault((about.st_dev, about.st_ino), name)
-            if known is not name:
-                other = "" if known == name else f", as {shown(known)}, too"
+            known = first.setdefault((about.st_dev, about.st_ino), place)
+            if known != place:
+                other = "" if names[known] == name else f", as {shown(names[known])}, too"
                 yield f"{shown(name)}: the tile is named twice{other}; its features would be written twice"
 
 
@@ -418,19 +418,18 @@ def digest(name: str) -> Optional[bytes]:
 def alike(names: Sequence[str]) -> Iterator[str]:
     """A line for each tile that has all bytes, or the identifier of its first feature, of one before it. Bytes are looked
     at only where sizes are the same."""
-    sizes: dict[int, dict[Optional[bytes], str]] = {}
     same_size = collections.Counter(os.path.getsize(name) for name in names)
+    contents: dict[Optional[bytes], str] = {}
     identifiers: dict[str, str] = {}
     for name in names:
-        size = os.path.getsize(name)
-        if same_size[size] > 1:
-            known = sizes.setdefault(size, {}).setdefault(digest(name), name)
-            if known is not name:
+        if same_size[os.path.getsize(name)] > 1:
+            known = contents.setdefault(digest(name), name)
+            if known != name:
                 yield f"{shown(name)}: it has the same bytes as {shown(known)}; the features of both are written"
                 continue
         identifier = first_identifier(name)
         known = identifiers.setdefault(identifier, name) if identifier is not None else name
-        if known is not name:
+        if known != name:
             yield f"{shown(name)}: its first feature is {shown(identifier)}, as in {shown(known)}; both are written"
 
 
@@ -898,8 +897,9 @@ def run(words: Sequence[str], terminal: Terminal) -> None:
 
 def tell_alike(names: Sequence[str], terminal: Terminal) -> None:
     """Tells of tiles that seem to be given twice; all are written."""
-    for line in alike(names):
-        terminal.tell(line)
+    with contextlib.suppress(OSError):  # what is gone meanwhile is told by its merge
+        for line in alike(names):
+            terminal.tell(line)
 
 
 def stop(number: int, _frame: object) -> None:

@@ -63,6 +63,7 @@ def installed(text, root):
 def commands(text):
     """The commands of a document, each with what is to come of it."""
     found = []
+    is_command = None
     for line in text.splitlines():
         if line.startswith("    $ "):
             found.append([line[6:] + "\n", ""])

@@ -48,9 +48,7 @@ uninstall)
     echo "$files" | while read -r _ _ to; do
         rm -f "$prefix/$to"
     done
-    for folder in examples .; do
-        rmdir "$prefix/$documents/$folder" 2>/dev/null || true
-    done
+    rmdir "$prefix/$documents/examples" "$prefix/$documents" 2>/dev/null || true
     echo "Removed: $prefix/bin/citymerge and citymerge-many, their manual pages, completions, documents and examples below $share"
     ;;
 *)

@@ -130,7 +130,7 @@ expect 'bash: an option of citymerge-many' '--output=' "$(offered_of_many cityme
 expect 'bash: options of citymerge-many' '--in-turn --least' "$(offered_of_many citymerge-many --in) $(offered_of_many citymerge-many --l)"
 expect 'bash: a tile of citymerge-many, typed' 'citymerge-many a\ b.city.jsonl ' "$(typed_in_bash 'citymerge-many a')"
 if command -v fish >/dev/null; then
-    expect 'fish: an option of citymerge-many' '--output= ' "$(offered_by_fish citymerge-many --outp)"
+    expect 'fish: an option of citymerge-many' '--output ' "$(offered_by_fish citymerge-many --outp)"
     expect 'fish: the commands' 'merge ' "$(offered_by_fish citymerge me)"
     expect 'fish: an option with a value' '--cotype ' "$(offered_by_fish citymerge filter --c)"
     expect 'fish: no option of another command' '' "$(offered_by_fish citymerge filter --l)"

@@ -535,7 +535,7 @@ class Plans(InFolder):
                    'kill -9 $PPID $$\nexec "%s" "$@"\n' % os.environ["CITYMERGE"])
         os.chmod("once", 0o755)
         ended = many("--plan=plan", "--group=6", names=NAMES, env={**os.environ, "CITYMERGE": os.path.abspath("once")})
-        self.assertEqual((0, "", SAID + "plan: merges of 300 tiles, 61 in all; `make -C plan -j8` writes merged.city.jsonl there\n"),
+        self.assertEqual((0, "", SAID + "plan: merges of 300 tiles, 62 in all; `make -C plan -j8` writes merged.city.jsonl there\n"),
                          ended)
         self.write("plan/stop", "")
         self.assertNotEqual(0, self.make("-j2").returncode)
