@@ -1,6 +1,6 @@
 -- Borrowed names and values as the members of an object: how a name is found among them, and what one more of them
 -- adds.
-use Rattle.std.proofs.Common.{◌≡◌, ◌++◌, ◌∙◌, ℕ, Bool, true, false, cond, List, [], ◌∷◌, Option, Some, None, Bor, option_map, option_copied, bytes_eq, refl, ap, sym, subst, append_assoc, append-nil}
+use Rattle.std.proofs.Common.{◌≡◌, ◌↔◌, ◌++◌, ◌∙◌, ℕ, IsTrue, length, not, if◌then◌else◌, arith, Bool, true, false, cond, List, [], ◌∷◌, Option, Some, None, Bor, option_map, option_copied, bytes_eq, refl, ap, sym, subst, append_assoc, append-nil}
 use Rattle.std.proofs.lemmas.Cmp.{nat_list_eq_equiv}
 use Rattle.std.proofs.lemmas.Slice.Eq.{bytes_eq-Decides}
 use Rattle.std.specs.Map.{lookup}
@@ -9,7 +9,9 @@ use Rattle.city_json.specs.Members.{first_named}
 use Rattle.city_json.specs.Tree.{Tree, tree, member}
 use Rattle.city_json.specs.declared.json.Json.{Json}
 use Rattle.city_feature.specs.Joined.{with_last}
+use Rattle.city_feature.specs.JoinedMembers.{has_members}
 use Rattle.city_feature.specs.Values.{lent_members}
+use Rattle.city_feature.proofs.MemberPieces.{is_nil}
 
 abbrev Pairs : Type 0
 Pairs = List (Bor (List ℕ) × Bor Json)
@@ -120,3 +122,22 @@ module _ (pairs : Pairs) (name : Bor (List ℕ)) (value : Bor Json) (other : Lis
       ∙ (ap (λ same. option_or (value_of other pairs) (cond same (Some value) None))
       (nat_list_eq_equiv.symm name.now other)
       ∙ sym (value_of_both other pairs ((name, value) ∷ [])))
+
+-- ---- whether there are any ----
+
+pub nil_by_length : {X : Type 0} (b : Bool) (xs : List X) → IsTrue b ↔ (length xs ≡ 0) → b ≡ is_nil xs
+nil_by_length true [] same = refl
+nil_by_length false [] same = same.1 refl
+nil_by_length true (x ∷ xs) same = let none = same.0 refl in absurd (omega arith)
+nil_by_length false (x ∷ xs) same = refl
+
+pub nil_by_equation : {X : Type 0} (b : Bool) (xs : List X) → IsTrue b ↔ (xs ≡ []) → b ≡ is_nil xs
+nil_by_equation true xs same = sym (ap is_nil (same.0 refl))
+nil_by_equation false [] same = same.1 refl
+nil_by_equation false (x ∷ xs) same = refl
+
+pub some_of_both : (first later : Pairs)
+    → has_members (lent_members (first ++ later)) ≡ (if is_nil first then not (is_nil later) else true)
+some_of_both [] [] = refl
+some_of_both [] (pair ∷ later) = refl
+some_of_both (pair ∷ first) later = refl

@@ -1,9 +1,10 @@
 -- Members of which the first of a name is dropped or changed, or one is added.
-use Rattle.std.proofs.Common.{◌≡◌, ◌++◌, ◌∙◌, ◌<◌, ◌+◌, ℕ, zero, suc, List, [], ◌∷◌, Some, None, Result, Ok, Err, OnOk, Bool, true, false, length, take, drop, get_or, set, map, refl, ap, sym, arith, bytes_eq, if◌then◌else◌}
+use Rattle.std.proofs.Common.{◌≡◌, ◌++◌, ◌∙◌, ◌<◌, ◌+◌, ℕ, zero, suc, List, [], ◌∷◌, Some, None, Result, Ok, Err, OnOk, Bool, true, false, length, take, drop, get_or, set, map, refl, ap, sym, arith, add-one, bytes_eq, if◌then◌else◌}
 use Rattle.std.specs.List.{position, position_from, remove}
 use Rattle.std.proofs.lemmas.Iterator.Adapters.{position_from-zero}
 use Rattle.std.proofs.lemmas.List.Quantifiers.{position-Some}
 use Rattle.std.proofs.lemmas.List.{map-append}
+use Rattle.std.proofs.lemmas.Slice.Eq.{bytes_eq-Decides}
 use Rattle.city_json.specs.Tree.{Tree, member, named_tree, members_tree, member_trees}
 use Rattle.city_json.specs.declared.json.Member.{Member}
 use Rattle.city_feature.specs.Changes.{with_named, without_named, changed_named}
@@ -98,16 +99,6 @@ module _ (name : List ℕ) where
       ∙ ap (λ t. if t then members_tree ms else member (named_tree m).0 (named_tree m).1
       (without_named name (members_tree ms))) (sym (not_here (has_name name) i m ms none))
 
-  changed_nowhere : (change : Tree → Tree) (i : ℕ) (ms : List Member) → position_from (has_name name) i ms ≡ None
-      → members_tree ms ≡ changed_named name change (members_tree ms)
-  changed_nowhere change i [] none = refl
-  changed_nowhere change i (m ∷ ms) none =
-      ap (member (named_tree m).0 (named_tree m).1)
-      (changed_nowhere change (i + 1) ms (not_later (has_name name) i m ms none))
-      ∙ ap (λ t. if t then member (named_tree m).0 (change (named_tree m).1) (members_tree ms) else member
-      (named_tree m).0 (named_tree m).1 (changed_named name change (members_tree ms)))
-      (sym (not_here (has_name name) i m ms none))
-
   with_nowhere : (value : Tree) (i : ℕ) (ms : List Member) → position_from (has_name name) i ms ≡ None
       → member_trees (map named_tree ms ++ (name, value) ∷ []) ≡ with_named name value (members_tree ms)
   with_nowhere value i [] none = refl
@@ -120,10 +111,6 @@ module _ (name : List ℕ) where
   pub without_absent : (ms : List Member) → position (has_name name) ms ≡ None
       → members_tree ms ≡ without_named name (members_tree ms)
   without_absent ms none = without_nowhere 0 ms (nowhere_from (has_name name) ms none)
-
-  pub changed_absent : (change : Tree → Tree) (ms : List Member) → position (has_name name) ms ≡ None
-      → members_tree ms ≡ changed_named name change (members_tree ms)
-  changed_absent change ms none = changed_nowhere change 0 ms (nowhere_from (has_name name) ms none)
 
   pub with_absent : (value : Tree) (ms : List Member) → position (has_name name) ms ≡ None
       → member_trees (map named_tree ms ++ (name, value) ∷ []) ≡ with_named name value (members_tree ms)
@@ -152,3 +139,39 @@ module _ (name : List ℕ) where
       → members_tree (set ms k new) ≡ with_named name value (members_tree ms)
   with_found value d new ms k found new_is = let at = first ms d k found in
       changed_found (λ old. value) d new ms k found new_is ∙ sym (with_first name d value ms k at.0 at.1 at.2)
+
+-- before and after the first of the name
+module _ (name : List ℕ) (d : Member) where
+  set_between : (value : Tree) (ms : List Member) (k : ℕ) → k < length ms → has_name name (get_or ms k d) ≡ true
+      → ((j : ℕ) → j < k → has_name name (get_or ms j d) ≡ false)
+      → with_named name value (members_tree ms)
+      ≡ member_trees (map named_tree (take k ms) ++ (name, value) ∷ map named_tree (drop (suc k) ms))
+  set_between value [] k within here before = absurd (omega arith)
+  set_between value (m ∷ ms) zero within here before =
+      ap (λ t. if t then member (named_tree m).0 value (members_tree ms) else member (named_tree m).0 (named_tree m).1
+      (with_named name value (members_tree ms))) here
+      ∙ ap (λ l. member l value (members_tree ms)) ((bytes_eq-Decides (named_tree m).0 name).0 here)
+  set_between value (m ∷ ms) (suc k) within here before =
+      ap (λ t. if t then member (named_tree m).0 value (members_tree ms) else member (named_tree m).0 (named_tree m).1
+      (with_named name value (members_tree ms))) (before 0 (omega arith))
+      ∙ ap (member (named_tree m).0 (named_tree m).1)
+      (set_between value ms k (omega arith) here (λ j lt. before (suc j) (omega arith)))
+
+module _ (name : List ℕ) (ms : List Member) where
+  pub dropped_around : (k : ℕ) → position (has_name name) ms ≡ Some k → without_named name (members_tree ms)
+      ≡ member_trees (map named_tree (take k ms) ++ map named_tree (drop (k + 1) ms))
+  dropped_around k found =
+      sym (without_found name ms k found) ∙ (ap member_trees (map-append named_tree (take k ms) (drop (suc k) ms))
+      ∙ ap (λ n. member_trees (map named_tree (take k ms) ++ map named_tree (drop n ms))) (sym (add-one k)))
+
+  pub set_around : (value : Tree) (k : ℕ) → position (has_name name) ms ≡ Some k
+      → with_named name value (members_tree ms)
+      ≡ member_trees (map named_tree (take k ms) ++ (name, value) ∷ map named_tree (drop (k + 1) ms))
+  set_around value k found = by ms found
+      ∙ ap (λ n. member_trees (map named_tree (take k ms) ++ (name, value) ∷ map named_tree (drop n ms))) (sym (add-one k))
+    where
+      by : (all : List Member) → position (has_name name) all ≡ Some k → with_named name value (members_tree all)
+          ≡ member_trees (map named_tree (take k all) ++ (name, value) ∷ map named_tree (drop (suc k) all))
+      by [] found = absurd (some_is_something k (sym found))
+      by (d ∷ all) found = let at = first name (d ∷ all) d k found in
+          set_between name d value (d ∷ all) k at.0 at.1 at.2

@@ -6,7 +6,9 @@ pub mod Feature
 pub mod FeatureLine
 pub mod Header
 pub mod Joined
+pub mod JoinedMembers
 pub mod Origin
+pub mod Pieces
 pub mod Quick
 pub mod Shapes
 pub mod Values

@@ -1,8 +1,8 @@
 //! Objects of which one member is changed.
 ghost use Rattle.std.specs.Prelude.{◌≡◌, ◌++◌, [], ◌∷◌, IfOk, IfErr, OnOk, bytes_eq, map, position};
 ghost use Rattle.city_json.specs.Tree.{tree, named_tree, members_tree};
-ghost use Rattle.city_feature.specs.Changes.{with_named, without_named, changed_named};
-ghost use Rattle.city_feature.specs.Changes.{with_member, without_member, changed_member};
+ghost use Rattle.city_feature.specs.Changes.{with_named, without_named};
+ghost use Rattle.city_feature.specs.Changes.{with_member, without_member};
 
 use byte_streams::Fault;
 use city_json::{Json, Member, Members, Str};
@@ -15,7 +15,7 @@ fn has_name(member: &Member, name: &str) -> bool
 }
 
 /// Where the first member of this name stands.
-fn place_of(members: &[Member], name: &str) -> Option<usize>
+pub(crate) fn place_of(members: &[Member], name: &str) -> Option<usize>
     ensures { result ≡ position (λ member. bytes_eq (named_tree member).0 name.now) members.now }
 {
     members.iter().position(|member| has_name(member, name))
@@ -86,78 +86,4 @@ pub fn set_member(alloc: Global, object: &mut Json, name: &str, value: Json) -> 
         Json::Map(members) => set_named(alloc, members, name, value),
         _ => Ok(()),
     }
-}
-
-/// Drops a member of the object that is the first member of the outer name.
-pub(crate) fn drop_inner_member(object: &mut Json, outer: &str, inner: &str)
-    ensures { tree object.new
-        ≡ changed_member outer.now (without_member inner.now) (tree object.old) }
-{
-    if let Json::Map(members) = object {
-        drop_named_in(members, outer, inner);
-    }
-}
-
-fn drop_named_in(members: &mut Members, outer: &str, inner: &str)
-    ensures { members_tree members.new.items
-        ≡ changed_named outer.now (without_member inner.now) (members_tree members.old.items) }
-{
-    if let Some(place) = place_of(members, outer) {
-        drop_in(&mut members[place], inner);
-    }
-}
-
-fn drop_in(member: &mut Member, name: &str)
-    ensures { named_tree member.new
-        ≡ ((named_tree member.old).0, without_member name.now (named_tree member.old).1) }
-{
-    drop_member(&mut member.value, name);
-}
-
-/// Sets a member of the object that is the first member of the outer name, as [`set_member`] does.
-/// The only fault is [`Fault::Memory`].
-pub(crate) fn set_inner_member(
-    alloc: Global,
-    object: &mut Json,
-    outer: &str,
-    inner: &str,
-    value: Json,
-) -> Result<(), Fault>
-    ensures ok { OnOk result (tree object.new
-        ≡ changed_member outer.now (with_member inner.now (tree value)) (tree object.old)) }
-    ensures fault { IfErr result (λ fault. fault ≡ Fault.Memory) }
-{
-    match object {
-        Json::Map(members) => set_named_in(alloc, members, outer, inner, value),
-        _ => Ok(()),
-    }
-}
-
-fn set_named_in(
-    alloc: Global,
-    members: &mut Members,
-    outer: &str,
-    inner: &str,
-    value: Json,
-) -> Result<(), Fault>
-    ensures ok { OnOk result (members_tree members.new.items
-        ≡ changed_named outer.now (with_member inner.now (tree value))
-        (members_tree members.old.items)) }
-    ensures fault { IfErr result (λ fault. fault ≡ Fault.Memory) }
-{
-    if let Some(place) = place_of(members, outer) {
-        return set_in(alloc, &mut members[place], inner, value);
-    }
-    Ok(())
-}
-
-fn set_in(alloc: Global, member: &mut Member, name: &str, value: Json) -> Result<(), Fault>
-    ensures ok { OnOk result (named_tree member.new
-        ≡ (
-          (named_tree member.old).0,
-          with_member name.now (tree value) (named_tree member.old).1,
-        )) }
-    ensures fault { IfErr result (λ fault. fault ≡ Fault.Memory) }
-{
-    set_member(alloc, &mut member.value, name, value)
 }

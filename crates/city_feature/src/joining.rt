@@ -1,12 +1,10 @@
 ghost use Rattle.std.specs.Prelude.{◌≡◌, ◌<◌, ◌^◌, All, length, map, IfOk, IfErr};
-ghost use Rattle.city_json.specs.Compact.{compact};
-ghost use Rattle.city_json.specs.Tree.{tree};
-ghost use Rattle.city_grid.specs.Axes.{number_texts};
-ghost use Rattle.city_feature.specs.Joined.{IsForward, IsJoined, RefusesJoin, joined_value};
-ghost use Rattle.city_feature.specs.Values.{header_value, lent_members};
+ghost use Rattle.city_feature.specs.Joined.{IsForward, IsJoined, RefusesJoin};
+ghost use Rattle.city_feature.specs.Values.{header_value};
 
 pub(crate) mod extensions;
 pub(crate) mod line;
+pub(crate) mod members;
 pub(crate) mod origin;
 pub(crate) mod tiles;
 
@@ -14,7 +12,7 @@ use crate::base::Base;
 use crate::headers::Header;
 use crate::joining::extensions::Extensions;
 use crate::joining::line::joined_line;
-use crate::joining::origin::{Origin, origin_of};
+use crate::joining::origin::origin_of;
 use crate::joining::tiles::shifts_of_tiles;
 use byte_streams::{Fault, Line, Sequence};
 use city_grid::Shift;
@@ -69,22 +67,8 @@ pub fn join_headers(alloc: Global, headers: &[Header], base: Base) -> Result<Joi
     let origin = origin_of(headers, base);
     let mut extensions = Extensions::new(alloc);
     let shifts = shifts_of_tiles(alloc, first, &origin.transform, &mut extensions, headers)?;
-    let Ok(line) = line_of(alloc, first, &extensions, &origin) else {
+    let Ok(line) = joined_line(alloc, first, &extensions, &origin.translation) else {
         return Err(OUT_OF_MEMORY);
     };
     Ok(Joined { line, shifts })
-}
-
-/// The line of the joined header. The only fault is [`Fault::Memory`].
-fn line_of(
-    alloc: Global,
-    first: &Header,
-    extensions: &Extensions<'_>,
-    origin: &Origin<'_>,
-) -> Result<Line, Fault>
-    ensures ok { IfOk result (λ line. line ≡ compact (joined_value (tree first.now.json)
-        (lent_members extensions.now) (number_texts origin.now.translation))) }
-    ensures fault { IfErr result (λ fault. fault ≡ Fault.Memory) }
-{
-    joined_line(alloc, first, extensions.copy(alloc)?, &origin.translation)
 }

@@ -1,16 +1,20 @@
 //! The extensions of headers, each name with the value that it has where it first appears.
-ghost use Rattle.std.specs.Prelude.{◌≡◌, [], ◌∷◌, None, IfOk, OnOk, IfErr, ◌++◌, map, option_map, option_copied};
+ghost use Rattle.std.specs.Prelude.{◌≡◌, ◌++◌, [], ◌∷◌, None, OnOk, IfErr, option_map, option_copied};
+ghost use Rattle.city_json.specs.Compact.{compact, compact_members};
 ghost use Rattle.city_json.specs.Members.{first_named};
-ghost use Rattle.city_json.specs.Tree.{tree, named_tree, members_tree, no_members};
+ghost use Rattle.city_json.specs.Tree.{tree, members_tree, no_members, object};
 ghost use Rattle.city_feature.specs.Joined.{RefusesExtensions, TakesIn, extensions_of, with_last};
-ghost use Rattle.city_feature.specs.Values.{header_value, lent, lent_members};
+ghost use Rattle.city_feature.specs.JoinedMembers.{has_members};
+ghost use Rattle.city_feature.specs.Pieces.{members_text};
+ghost use Rattle.city_feature.specs.Values.{header_value, lent_members};
 
 mod ordered;
 
 use crate::headers::Header;
 use crate::joining::extensions::ordered::Ordered;
-use byte_streams::Fault;
-use city_json::{Json, Member, Members, Str, same};
+use crate::joining::members::append_member;
+use byte_streams::{Fault, Line};
+use city_json::{Json, Member, same};
 use indexmap::IndexMap;
 use std::alloc::Global;
 use std::marker::Model;
@@ -50,37 +54,34 @@ fn extensions_of(header: &Header) -> &[Member]
     }
 }
 
-/// A member of its own with this name and an equal value.
-fn copy_member(alloc: Global, name: &str, value: &Json) -> Result<Member, Fault>
-    ensures ok { IfOk result (λ copy. named_tree copy ≡ (name.now, tree value.now)) }
+/// Appends extensions that are found by the hash of their names, the first of them as the first members.
+fn append_hashed(alloc: Global, line: &mut Line, known: &IndexMap<&str, &Json>) -> Result<(), Fault>
+    ensures ok { OnOk result (line.new
+        ≡ line.old ++ compact_members (lent_members known.now.entries)) }
     ensures fault { IfErr result (λ fault. fault ≡ Fault.Memory) }
 {
-    Ok(Member {
-        name: Str::read(alloc, name)?,
-        value: value.copy(alloc)?,
-    })
-}
-
-fn copies(alloc: Global, known: &IndexMap<&str, &Json>) -> Result<Members, Fault>
-    ensures ok { IfOk result (λ members.
-        map named_tree members.items ≡ map lent known.now.entries) }
-    ensures fault { IfErr result (λ fault. fault ≡ Fault.Memory) }
-{
-    let mut members = Vec::with_capacity(alloc, known.len())?;
+    let mut is_first = true;
     for (name, value) in known.iter() {
-        members.push(copy_member(alloc, *name, *value)?)?;
+        append_member(alloc, line, *name, *value, is_first)?;
+        is_first = false;
     }
-    Ok(members)
+    Ok(())
 }
 
-fn append_copies(alloc: Global, members: &mut Members, pairs: &[(&str, &Json)]) -> Result<(), Fault>
-    ensures ok { OnOk result (map named_tree members.new.items
-        ≡ map named_tree members.old.items ++ map lent pairs.now) }
+fn append_pairs(
+    alloc: Global,
+    line: &mut Line,
+    pairs: &[(&str, &Json)],
+    are_first: bool,
+) -> Result<(), Fault>
+    ensures ok { OnOk result (line.new
+        ≡ line.old ++ members_text are_first (lent_members pairs.now)) }
     ensures fault { IfErr result (λ fault. fault ≡ Fault.Memory) }
 {
-    members.reserve(pairs.len())?;
+    let mut is_first = are_first;
     for (name, value) in pairs {
-        members.push(copy_member(alloc, *name, *value)?)?;
+        append_member(alloc, line, *name, *value, is_first)?;
+        is_first = false;
     }
     Ok(())
 }
@@ -156,13 +157,27 @@ impl<'a> Extensions<'a> {
         Ok(())
     }
 
-    /// The extensions as members of their own. The only fault is [`Fault::Memory`].
-    pub(crate) fn copy(&self, alloc: Global) -> Result<Members, Fault>
-        ensures ok { IfOk result (λ members. members_tree members.items ≡ lent_members self.now) }
+    /// Whether there are any.
+    pub(crate) fn has_some(&self) -> bool
+        ensures { result ≡ has_members (lent_members self.now) }
+    {
+        if self.first.is_empty() {
+            return !self.later.is_empty();
+        }
+        true
+    }
+
+    /// Appends the compact text of an object of them, with no copy of a value. The only fault is
+    /// [`Fault::Memory`].
+    pub(crate) fn append_to(&self, alloc: Global, line: &mut Line) -> Result<(), Fault>
+        ensures ok { OnOk result (line.new
+            ≡ line.old ++ compact (object (lent_members self.now))) }
         ensures fault { IfErr result (λ fault. fault ≡ Fault.Memory) }
     {
-        let mut members = copies(alloc, &self.first)?;
-        append_copies(alloc, &mut members, self.later.pairs())?;
-        Ok(members)
+        line.append(b"{")?;
+        append_hashed(alloc, line, &self.first)?;
+        append_pairs(alloc, line, self.later.pairs(), self.first.is_empty())?;
+        line.append(b"}")?;
+        Ok(())
     }
 }

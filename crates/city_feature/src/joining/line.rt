@@ -1,98 +1,153 @@
-//! The header of joined tiles.
-ghost use Rattle.std.specs.Prelude.{◌≡◌, ◌++◌, ◌∷◌, [], map, IfOk, IfErr, OnOk};
-ghost use Rattle.city_json.specs.Compact.{compact};
-ghost use Rattle.city_json.specs.Tree.{tree, members_tree, number, object};
-ghost use Rattle.city_grid.specs.Axes.{number_texts, three};
-ghost use Rattle.city_feature.specs.Joined.{joined_value, with_extensions, with_translation, without_extent};
+//! The header of joined tiles, which is printed from the headers as they are.
+ghost use Rattle.std.specs.Prelude.{◌≡◌, ◌++◌, IfOk, IfErr, OnOk};
+ghost use Rattle.city_json.specs.Compact.{compact, compact_members};
+ghost use Rattle.city_json.specs.Tree.{tree, named_tree, members_tree, object};
+ghost use Rattle.city_grid.specs.Axes.{number_texts};
+ghost use Rattle.city_feature.specs.Joined.{joined_value};
+ghost use Rattle.city_feature.specs.JoinedMembers.{all_changes, changes_after, is_later, is_next, joined_member, joined_members, last_members};
+ghost use Rattle.city_feature.specs.Pieces.{members_text};
+ghost use Rattle.city_feature.specs.Values.{lent_members};
 
-use crate::changes::{drop_inner_member, set_inner_member, set_member};
 use crate::headers::Header;
+use crate::joining::extensions::Extensions;
+use crate::joining::members::{append_with, append_without, begin_member};
 use byte_streams::{Fault, Line};
 use city_grid::Axes;
-use city_json::{Items, Json, Members, NumText, print};
+use city_json::{Json, Member, NumText, print};
 use std::alloc::Global;
 
-fn number_json(alloc: Global, written: &NumText) -> Result<Json, Fault>
-    ensures ok { IfOk result (λ json. tree json ≡ number written.now) }
-    ensures fault { IfErr result (λ fault. fault ≡ Fault.Memory) }
-{
-    Ok(Json::Num(NumText::read(alloc, written.as_bytes())?))
+/// Which members of a header are still to be changed, each the first of its name.
+#[derive(Clone, Copy)]
+struct Changes {
+    metadata: bool,
+    extensions: bool,
+    transform: bool,
 }
 
-fn push_number(alloc: Global, numbers: &mut Items, written: &NumText) -> Result<(), Fault>
-    ensures ok { OnOk result (map tree numbers.new.items
-        ≡ map tree numbers.old.items ++ number written.now ∷ []) }
-    ensures fault { IfErr result (λ fault. fault ≡ Fault.Memory) }
+/// Whether the first member of the wanted name is still to come, and is the one of this name.
+fn is_next(to_come: bool, wanted: &str, name: &str) -> bool
+    ensures { result ≡ is_next to_come wanted.now name.now }
 {
-    let number = number_json(alloc, written)?;
-    numbers.push(number)?;
-    Ok(())
+    to_come && name == wanted
 }
 
-/// The array of three numbers, as they are written.
-fn three_json(alloc: Global, numbers: &Axes<&NumText>) -> Result<Json, Fault>
-    ensures ok { IfOk result (λ json. tree json ≡ three (number_texts numbers.now)) }
-    ensures fault { IfErr result (λ fault. fault ≡ Fault.Memory) }
+/// Whether it is still to come after the one of this name.
+fn is_later(to_come: bool, wanted: &str, name: &str) -> bool
+    ensures { result ≡ is_later to_come wanted.now name.now }
 {
-    let mut written = Vec::with_capacity(alloc, 3)?;
-    push_number(alloc, &mut written, numbers.x)?;
-    push_number(alloc, &mut written, numbers.y)?;
-    push_number(alloc, &mut written, numbers.z)?;
-    Ok(Json::List(written))
-}
-
-fn object_json(members: Members) -> Json
-    ensures { tree result ≡ object (members_tree members.items) }
-{
-    Json::Map(members)
-}
-
-/// Gives a header the extensions, where there are any.
-fn set_extensions(alloc: Global, header: &mut Json, extensions: Members) -> Result<(), Fault>
-    ensures ok { OnOk result (tree header.new
-        ≡ with_extensions (members_tree extensions.items) (tree header.old)) }
-    ensures fault { IfErr result (λ fault. fault ≡ Fault.Memory) }
-{
-    if extensions.is_empty() {
-        return Ok(());
+    if name == wanted {
+        return false;
     }
-    set_member(alloc, header, "extensions", object_json(extensions))
+    to_come
 }
 
-/// The value of a header, without the extent of its metadata, and with these extensions where there are any.
-fn extended_header(alloc: Global, first: &Header, extensions: Members) -> Result<Json, Fault>
-    ensures ok { IfOk result (λ header. tree header
-        ≡ with_extensions (members_tree extensions.items) (without_extent (tree first.now.json))) }
-    ensures fault { IfErr result (λ fault. fault ≡ Fault.Memory) }
+/// The changes that are still to come after a member of this name.
+fn changes_after(changes: Changes, name: &str) -> Changes
+    ensures { result ≡ changes_after changes name.now }
 {
-    let mut header = first.json().copy(alloc)?;
-    drop_inner_member(&mut header, "metadata", "geographicalExtent");
-    set_extensions(alloc, &mut header, extensions)?;
-    Ok(header)
+    Changes {
+        metadata: is_later(changes.metadata, "metadata", name),
+        extensions: is_later(changes.extensions, "extensions", name),
+        transform: is_later(changes.transform, "transform", name),
+    }
 }
 
-/// Gives a header the translation, as it is written.
-fn set_translation(
+/// All changes: extensions are set where there are any.
+fn all_changes(extensions: &Extensions<'_>) -> Changes
+    ensures { result ≡ all_changes (lent_members extensions.now) }
+{
+    Changes {
+        metadata: true,
+        extensions: extensions.has_some(),
+        transform: true,
+    }
+}
+
+fn name_of(member: &Member) -> &str
+    ensures { result.now ≡ (named_tree member.now).0 }
+{
+    member.name.as_str()
+}
+
+/// Appends the value of a member of the first header, as it is in the joined header.
+fn append_value(
     alloc: Global,
-    header: &mut Json,
+    line: &mut Line,
+    member: &Member,
+    changes: Changes,
+    extensions: &Extensions<'_>,
     translation: &Axes<&NumText>,
 ) -> Result<(), Fault>
-    ensures ok { OnOk result (tree header.new
-        ≡ with_translation (number_texts translation.now) (tree header.old)) }
+    ensures ok { OnOk result (line.new ≡ line.old ++ compact (joined_member changes
+        (lent_members extensions.now) (number_texts translation.now)
+        (named_tree member.now).0 (named_tree member.now).1)) }
     ensures fault { IfErr result (λ fault. fault ≡ Fault.Memory) }
 {
-    let written = three_json(alloc, translation)?;
-    set_inner_member(alloc, header, "transform", "translate", written)?;
-    Ok(())
+    let (name, value) = (member.name.as_str(), &member.value);
+    if is_next(changes.metadata, "metadata", name) {
+        return append_without(alloc, line, value, "geographicalExtent");
+    }
+    if is_next(changes.extensions, "extensions", name) {
+        return extensions.append_to(alloc, line);
+    }
+    if is_next(changes.transform, "transform", name) {
+        return append_with(alloc, line, value, "translate", translation);
+    }
+    print(value, line)
 }
 
-fn printed(alloc: Global, value: &Json) -> Result<Line, Fault>
-    ensures ok { IfOk result (λ line. line ≡ compact (tree value.now)) }
+/// Appends the extensions as the last member, where they are still to come.
+fn append_last(
+    alloc: Global,
+    line: &mut Line,
+    changes: Changes,
+    extensions: &Extensions<'_>,
+    is_first: bool,
+) -> Result<(), Fault>
+    ensures ok { OnOk result (line.new
+        ≡ line.old ++ members_text is_first (last_members changes (lent_members extensions.now))) }
     ensures fault { IfErr result (λ fault. fault ≡ Fault.Memory) }
 {
-    let mut line = Line::new(alloc);
-    print(value, &mut line)?;
-    Ok(line)
+    if !changes.extensions {
+        return Ok(());
+    }
+    begin_member(alloc, line, "extensions", is_first)?;
+    extensions.append_to(alloc, line)
+}
+
+/// Appends the members of the joined header.
+fn append_header(
+    alloc: Global,
+    line: &mut Line,
+    members: &[Member],
+    extensions: &Extensions<'_>,
+    translation: &Axes<&NumText>,
+) -> Result<(), Fault>
+    ensures ok { OnOk result (line.new ≡ line.old ++ compact_members (joined_members
+        (all_changes (lent_members extensions.now)) (lent_members extensions.now)
+        (number_texts translation.now) (members_tree members.now))) }
+    ensures fault { IfErr result (λ fault. fault ≡ Fault.Memory) }
+{
+    let mut changes = all_changes(extensions);
+    let mut is_first = true;
+    for member in members {
+        let name = name_of(member);
+        begin_member(alloc, line, name, is_first)?;
+        append_value(alloc, line, member, changes, extensions, translation)?;
+        changes = changes_after(changes, name);
+        is_first = false;
+    }
+    append_last(alloc, line, changes, extensions, is_first)
+}
+
+/// The members of a header.
+fn members_of(header: &Header) -> &[Member]
+    ensures { tree header.now.json ≡ object (members_tree result.now) }
+{
+    let Json::Map(members) = header.json() else {
+        unreachable!();
+    };
+    members
 }
 
 /// The line of the header of joined tiles, with no newline: that of the first tile's header,
@@ -102,15 +157,17 @@ fn printed(alloc: Global, value: &Json) -> Result<Line, Fault>
 pub(crate) fn joined_line(
     alloc: Global,
     first: &Header,
-    extensions: Members,
+    extensions: &Extensions<'_>,
     translation: &Axes<&NumText>,
 ) -> Result<Line, Fault>
     ensures ok { IfOk result (λ line. line
-        ≡ compact (joined_value (tree first.now.json) (members_tree extensions.items)
+        ≡ compact (joined_value (tree first.now.json) (lent_members extensions.now)
         (number_texts translation.now))) }
     ensures fault { IfErr result (λ fault. fault ≡ Fault.Memory) }
 {
-    let mut header = extended_header(alloc, first, extensions)?;
-    set_translation(alloc, &mut header, translation)?;
-    printed(alloc, &header)
+    let mut line = Line::new(alloc);
+    line.append(b"{")?;
+    append_header(alloc, &mut line, members_of(first), extensions, translation)?;
+    line.append(b"}")?;
+    Ok(line)
 }
