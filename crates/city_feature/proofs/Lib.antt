@@ -5,4 +5,5 @@ pub mod JoinedTiles
 pub mod LentMembers
 pub mod MemberPieces
 pub mod NamedMembers
+pub mod NamedTexts
 pub mod QuickLines

@@ -11,4 +11,5 @@ pub mod Origin
 pub mod Pieces
 pub mod Quick
 pub mod Shapes
+pub mod Texts
 pub mod Values

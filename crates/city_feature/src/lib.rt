@@ -24,7 +24,7 @@ pub use features::Feature;
 pub use features::lines::{feature_line, feature_text};
 pub use features::moving::shifted;
 pub use features::quick::measured::measured;
-pub use features::quick::{between, is_between, part_named};
+pub use features::quick::{between, is_absent, is_between, member_or, part_named};
 pub use features::reader::feature;
 pub use features::texts::{SpelledVertices, append_vertices, vertices_of};
 pub use features::writer::line;

@@ -1,11 +1,12 @@
 -- The type of a feature whose city object stands first among its objects, and its type first in it.
-use Rattle.std.proofs.Common.{◌≡◌, ◌∙◌, ◌++◌, ◌+◌, ◌<◌, ℕ, zero, suc, true, false, if◌then◌else◌, List, [], ◌∷◌, Option, Some, None, IsUtf8, codes, length, take, get_or, slice_range, refl, sym, ap, subst, arith, append_assoc, append-nil}
+use Rattle.std.proofs.Common.{◌≡◌, ◌∙◌, ◌++◌, ◌+◌, ◌<◌, ℕ, zero, suc, true, false, if◌then◌else◌, List, [], ◌∷◌, Option, Some, None, IsUtf8, codes, length, take, drop, get_or, slice_range, refl, sym, ap, subst, arith, append_assoc, append-nil}
 use Rattle.std.proofs.lemmas.Bool.Decides.{nat_tests}
 use Rattle.std.proofs.lemmas.List.{take_more}
 use Rattle.std.proofs.lemmas.Str.{IsUtf8-from_ascii}
 use Rattle.std.specs.List.{flat_map, list_all}
 use Rattle.std.specs.Option.{IfSome}
 use Rattle.city_json.proofs.CompactText.{quoted-spells}
+use Rattle.city_json.proofs.Places.{drop_one}
 use Rattle.city_json.proofs.ReadString.{decoded-run, decoded-quote, string_at-some, checked-some}
 use Rattle.city_json.proofs.SpelledString.{string_at-complete}
 use Rattle.city_json.specs.Bytes.{colon, quotation_mark, open_brace, close_brace}
@@ -173,6 +174,19 @@ type_at line parts all part id name objects first object_text value more is here
     ∙ ap (λ l. colon ∷ (open_brace ∷ (quoted (codes "type") ++ (colon ∷ (quotation_mark ∷ l))))) value_is)) in
     ap (λ o. member_in (codes "type") (member_in id o)) found.is
     ∙ type_in_text found.value id name more found.writable id_utf8 letters begins
+
+-- letters between the marks of a text
+pub letters_spelled : (text name more : List ℕ) (value : Tree) → IsWritable value → text ≡ compact value
+    → 0 < length text → get_or text 0 0 ≡ quotation_mark → AreLetters name
+    → drop 1 text ≡ name ++ quotation_mark ∷ more → value ≡ string name
+letters_spelled text name more value writable is within marked letters rest_is =
+    let begins : compact value ≡ quotation_mark ∷ (name ++ quotation_mark ∷ more) =
+    sym is ∙ drop_one text 0 quotation_mark within marked ∙ ap (λ l. quotation_mark ∷ l) rest_is in
+    let (spelled, value_is, utf8_is, text_is) =
+    string_front [] (name ++ quotation_mark ∷ more) value writable (append-nil (compact value) ∙ begins) in
+    let same : spelled ≡ name = (same_reads spelled name [] more (sym (read_quoted spelled [] utf8_is)
+    ∙ ap (λ l. string_at (rest_of l)) text_is ∙ read_letters name more letters)).0 in
+    value_is ∙ ap string same
 
 -- what is told of a name that is found
 pub if_some_type : {B : Type 0} (now : B → List ℕ) (found : Option B) (text : List ℕ) (P : List ℕ → Type 0)

@@ -1,13 +1,9 @@
 -- The type of a feature that is found on the compact text of its line.
-use Rattle.std.proofs.Common.{◌≡◌, ◌∙◌, ◌++◌, ◌↔◌, ℕ, sym, ap, subst, List, [], ◌∷◌, slice_range, Bool, Option, Some, None, codes, IsTrue, IfSome, IsUtf8, refl}
-use Rattle.city_json.proofs.SpelledWritable.{read_of_compact, spelled_writable}
-use Rattle.city_json.specs.Bytes.{colon}
+use Rattle.std.proofs.Common.{◌≡◌, ◌∙◌, ◌++◌, ◌<◌, ◌↔◌, ℕ, sym, ap, subst, List, [], ◌∷◌, slice_range, Bool, Option, Some, None, Contains, codes, IsTrue, IfSome, IsUtf8, refl, length, get_or, unwrap_or, arith}
+use Rattle.city_json.specs.Bytes.{colon, quotation_mark}
 use Rattle.city_json.specs.Compact.{quoted, compact}
-use Rattle.city_json.specs.Fits.{Fits}
-use Rattle.city_json.specs.Grammar.{Spells}
 use Rattle.city_json.specs.Members.{first_named, member_of}
-use Rattle.city_json.specs.Parts.{AreParts}
-use Rattle.city_json.specs.Tree.{Tree, string, object, MemberTrees}
+use Rattle.city_json.specs.Tree.{Tree, null, string, object, MemberTrees}
 use Rattle.city_json.specs.Writable.{IsWritable}
 use Rattle.city_json.specs.declared.compacting.parts.Part.{Part}
 use Rattle.city_feature.proofs.QuickLines.{found_at}
@@ -15,32 +11,8 @@ use Rattle.city_feature.proofs.features.StillFeature.{other_member}
 use Rattle.city_feature.specs.Changes.{with_member}
 use Rattle.city_feature.specs.Choice.{HasType}
 use Rattle.city_feature.specs.Quick.{IsLine, IsPartNamed}
-use Rattle.city_feature.specs.Shapes.{member_in}
-
--- the value of the member that is found, by what its text spells
-pub value_there : (line : List ℕ) (parts : List Part) (all : MemberTrees) (name given : List ℕ) (part : Part)
-    (text : List ℕ) (value : Tree) → IsUtf8 name → given ≡ quoted name ++ colon ∷ [] → IsLine line parts all
-    → IsPartNamed line parts given part → text ≡ slice_range line part.value part.end → Spells text value
-    → first_named name all ≡ Some value
-value_there line parts all name given part text value utf8 named is here lies spells =
-    let found = found_at line parts all name part utf8 is (subst (λ n. IsPartNamed line parts n part) named here) in
-    found.is ∙ ap Some (read_of_compact text found.value value found.writable (lies ∙ found.valued) spells)
-
--- an object that is read is a line of its own
-pub line_of : (text inner : List ℕ) (places : List Part) (members : MemberTrees) → Spells text (object members)
-    → Fits (object members) → inner ≡ compact (object members) → AreParts 1 places members → IsLine inner places members
-line_of text inner places members spells fits written are_parts = record {
-  written = written;
-  are_parts = are_parts;
-  names_differ = fits.1.0;
-  writable = spelled_writable text (object members) spells;
-}
-
--- and so is what is lent of it
-pub lent_line : (line given : List ℕ) (parts passed : List Part) (members : MemberTrees) → given ≡ line → passed ≡ parts
-    → IsLine line parts members → IsLine given passed members
-lent_line line given parts passed members same_line same_parts is =
-    subst (λ l. IsLine l passed members) (sym same_line) (subst (λ p. IsLine line p members) (sym same_parts) is)
+use Rattle.city_feature.specs.Shapes.{IsText, IsThere, member_in}
+use Rattle.city_feature.specs.Texts.{IsCompactOf}
 
 -- the text of a member that is a text
 pub text_there : (line : List ℕ) (parts : List Part) (all : MemberTrees) (name text : List ℕ) (part : Part)
@@ -54,13 +26,68 @@ text_there line parts all name text part utf8 is here says =
     some_same : {a b : Tree} → Some a ≡ Some b → a ≡ b
     some_same same = cc
 
--- through three objects
-pub type_there : (all objects object_members : MemberTrees) (id : List ℕ) (value : Tree)
-    → first_named (codes "CityObjects") all ≡ Some (object objects)
-    → first_named id objects ≡ Some (object object_members) → first_named (codes "type") object_members ≡ Some value
-    → member_in (codes "type") (member_in id (first_named (codes "CityObjects") all)) ≡ Some value
-type_there all objects object_members id value first second third =
-    ap (λ v. member_in (codes "type") (member_in id v)) first ∙ ap (member_in (codes "type")) second ∙ third
+-- from a value to its member, and from there to a member of that
+pub in_members : (outer inner : List ℕ) (o : Option Tree)
+    → member_of inner (unwrap_or (member_of outer (unwrap_or o null)) null) ≡ member_in inner (member_in outer o)
+in_members outer inner None = refl
+in_members outer inner (Some v) = in_value (member_of outer v)
+  where
+    in_value : (o : Option Tree) → member_of inner (unwrap_or o null) ≡ member_in inner o
+    in_value None = refl
+    in_value (Some v) = refl
+
+-- a text begins with its mark
+pub no_text : (text : List ℕ) (value : Tree) (name : List ℕ)
+    → (0 < length text → get_or text 0 0 ≡ quotation_mark → ⊥) → text ≡ compact value → value ≡ string name → ⊥
+no_text text value name other is same =
+    let written : text ≡ quoted name = is ∙ ap compact same in
+    other (omega (arith, ap length written)) (ap (λ l. get_or l 0 0) written)
+
+-- whether a text is one of the names
+pub one_of : (names : List (List ℕ)) (value : Tree) (name given : List ℕ) (is : Bool) → value ≡ string name
+    → given ≡ name → IsTrue is ↔ Contains names given
+    → IsTrue is ↔ ((other : List ℕ) × (value ≡ string other) × Contains names other)
+one_of names value name given is same given_is iff = (
+  λ holds. (name, same, subst (Contains names) given_is (iff.0 holds)),
+  λ has. iff.1 (subst (Contains names) (same_text (sym has.1 ∙ same) ∙ sym given_is) has.2),
+)
+  where
+    content : Tree → List ℕ
+    content (string text) = text
+    content other = []
+
+    same_text : {a b : List ℕ} → string a ≡ string b → a ≡ b
+    same_text same = ap content same
+
+-- whether a feature has one of the types, by the text of its type
+pub typed_there : (names : List (List ℕ)) (all : MemberTrees) (text : List ℕ) (has : Bool)
+    → ((id : List ℕ) → first_named (codes "id") all ≡ Some (string id) → IsCompactOf text
+    (unwrap_or (member_in (codes "type") (member_in id (first_named (codes "CityObjects") all))) null))
+    → ((value : Tree) → IsCompactOf text value → IsTrue has
+    ↔ ((name : List ℕ) × (value ≡ string name) × Contains names name))
+    → IsThere IsText (first_named (codes "id") all) → IsTrue has ↔ HasType names (object all)
+typed_there names all text has of told there = (
+  λ holds. onward (id_there (first_named (codes "id") all) there) holds,
+  λ typed. back typed,
+)
+  where
+    id_there : (o : Option Tree) → IsThere IsText o → (id : List ℕ) × (o ≡ Some (string id))
+    id_there None there = absurd there
+    id_there (Some (string id)) there = (id, refl)
+    id_there (Some other) there = absurd there
+
+    said : (o : Option Tree) (name : List ℕ) → unwrap_or o null ≡ string name → o ≡ Some (string name)
+    said None name same = cc
+    said (Some v) name same = ap Some same
+
+    onward : (id : List ℕ) × (first_named (codes "id") all ≡ Some (string id)) → IsTrue has
+        → HasType names (object all)
+    onward (id, says) holds =
+        let (name, is, among) = (told _ (of id says)).0 holds in (name, (id, says, said _ name is), among)
+
+    back : HasType names (object all) → IsTrue has
+    back (name, (id, says, typed), among) =
+        (told _ (of id says)).1 (name, ap (λ o. unwrap_or o null) typed, among)
 
 same_types : (names : List (List ℕ)) (v w : Tree) → member_of (codes "id") v ≡ member_of (codes "id") w
     → member_of (codes "CityObjects") v ≡ member_of (codes "CityObjects") w → HasType names v → HasType names w

@@ -1,17 +1,20 @@
 //! The line of a feature with no tree: checked, moved and written on its compact text.
 //!
 //! It decides only lines in the common spellings that have no fault.
-ghost use Rattle.std.specs.Prelude.{◌≡◌, ◌<◌, ◌≤◌, ◌++◌, [], ℕ, List, All, Option, codes, slice_range, ◌↔◌, is_some, option_map, unwrap_or, IfSome, IfNone, IsTrue, OnOk, OnSome};
-ghost use Rattle.city_json.specs.Compact.{compact};
+ghost use Rattle.std.specs.Prelude.{◌≡◌, ◌<◌, ◌≤◌, ◌++◌, ◌∷◌, [], ℕ, List, All, Option, None, codes, slice_range, ◌↔◌, is_some, option_map, unwrap_or, IfSome, IfNone, IsTrue, IsUtf8, OnOk, OnSome};
+ghost use Rattle.city_json.specs.Bytes.{colon};
+ghost use Rattle.city_json.specs.Compact.{compact, quoted};
 ghost use Rattle.city_json.specs.Lent.{lent_bytes};
-ghost use Rattle.city_json.specs.Parts.{with_value};
+ghost use Rattle.city_json.specs.Members.{first_named};
+ghost use Rattle.city_json.specs.Parts.{AreParts, with_value};
 ghost use Rattle.city_json.specs.Triples.{HasTriples};
-ghost use Rattle.city_json.specs.Tree.{MemberTrees, object};
+ghost use Rattle.city_json.specs.Tree.{Tree, MemberTrees, object};
 ghost use Rattle.city_grid.specs.Axes.{IsInRange};
 ghost use Rattle.city_feature.specs.Choice.{HasType, IsChosen};
 ghost use Rattle.city_feature.specs.Feature.{FeatureValue, IsFeature, moved_vertices, vertices_tree};
 ghost use Rattle.city_feature.specs.FeatureLine.{GivesFeature, SpellsMoved};
 ghost use Rattle.city_feature.specs.Quick.{HasOtherMembers, IsCompacted, IsLine, IsPartNamed, IsPlaceOf, SpellsVertices, no_steps};
+ghost use Rattle.city_feature.specs.Texts.{IsCompactOf};
 
 mod kept;
 pub(crate) mod measured;
@@ -84,6 +87,52 @@ pub fn part_named(line: &[u8], parts: &[Part], name: &[u8]) -> Option<Part>
         }
     }
     None
+}
+
+/// Whether this text may stand between two places: no means that it does not.
+fn may_stand(text: &[u8], from: usize, to: usize, other: &[u8]) -> bool
+    ensures { slice_range text.now from to ≡ other.now → IsTrue result }
+{
+    let Some(found) = between(text, from, to) else {
+        return true;
+    };
+    found == other
+}
+
+/// Whether no member of the object whose compact text this is has this name, which is given as in [`part_named`].
+pub fn is_absent(text: &[u8], parts: &[Part], name: &[u8]) -> bool
+    ensures { IsTrue result → (members : MemberTrees) → IsCompactOf text.now (object members)
+        → AreParts 1 parts.now members → (other : List ℕ) → name.now ≡ quoted other ++ colon ∷ []
+        → first_named other members ≡ None }
+{
+    for part in parts {
+        if may_stand(text, part.at, part.value, name) {
+            return false;
+        }
+    }
+    true
+}
+
+/// The compact text of the value of a member; another one, where there is no member of this name, which is given in the
+/// same way.
+pub fn member_or<'a>(
+    text: &'a [u8],
+    parts: &[Part],
+    name: &[u8],
+    other: &'a [u8],
+) -> Option<&'a [u8]>
+    ensures { IfSome result (λ found. (members : MemberTrees) → IsCompactOf text.now (object members)
+        → AreParts 1 parts.now members → (named : List ℕ) → IsUtf8 named → name.now ≡ quoted named ++ colon ∷ []
+        → (value : Tree) → IsCompactOf other.now value
+        → IsCompactOf found.now (unwrap_or (first_named named members) value)) }
+{
+    let Some(part) = part_named(text, parts, name) else {
+        if !is_absent(text, parts, name) {
+            return None;
+        }
+        return Some(other);
+    };
+    between(text, part.value, part.end)
 }
 
 /// Whether the line has the type of a feature, an identifier and city objects.

@@ -1,45 +1,34 @@
 //! The type of a feature, found on the compact text of its line.
-ghost use Rattle.std.specs.Prelude.{◌≡◌, ◌≤◌, ◌++◌, ◌∷◌, [], ◌↔◌, List, ℕ, length, take, Contains, Some, codes, IsUtf8, IfSome, IsTrue};
+ghost use Rattle.std.specs.Prelude.{◌≡◌, ◌≤◌, ◌++◌, ◌∷◌, [], ◌↔◌, List, ℕ, length, take, Contains, Some, codes, unwrap_or, IsUtf8, IfSome, IsTrue};
 ghost use Rattle.city_json.specs.Bytes.{colon, quotation_mark};
 ghost use Rattle.city_json.specs.Compact.{quoted};
-ghost use Rattle.city_json.specs.Members.{first_named};
-ghost use Rattle.city_json.specs.Tree.{MemberTrees, object, string, tree};
+ghost use Rattle.city_json.specs.Fits.{Fits};
+ghost use Rattle.city_json.specs.Members.{first_named, member_of};
+ghost use Rattle.city_json.specs.Tree.{Tree, MemberTrees, null, object, string};
 ghost use Rattle.city_feature.specs.Choice.{HasType};
 ghost use Rattle.city_feature.specs.Quick.{AreLetters, IsLetter, IsLine};
 ghost use Rattle.city_feature.specs.Shapes.{IsText, IsThere, member_in};
+ghost use Rattle.city_feature.specs.Texts.{IsCompactOf};
 
-use super::{between, part_named};
+use super::{between, member_or, part_named};
 use crate::choices::types::Types;
 use byte_streams::Line;
-use city_json::{Compacted, Json, Part, compact_parts, read};
+use city_grid::byte_is;
+use city_json::{Json, Part, members_of_compact, read};
 use std::alloc::Global;
 
-/// The members of an object that is the value of a member. The name is given as it stands in the line, with its marks
-/// and its colon.
-fn members_of(alloc: Global, line: &[u8], parts: &[Part], name: &[u8]) -> Option<Compacted>
-    ensures { IfSome result (λ found. (all : MemberTrees) → IsLine line.now parts.now all
-        → (text : List ℕ) → IsUtf8 text → name.now ≡ quoted text ++ colon ∷ []
-        → (members : MemberTrees) × (first_named text all ≡ Some (object members))
-        × IsLine found.line found.parts.items members) }
+/// The compact text of a member of the value whose compact text this is; that of `null`, where there is none. The name is
+/// given as it stands in the text, with its marks and its colon.
+fn member_text<'a>(alloc: Global, text: &'a [u8], name: &[u8]) -> Option<&'a [u8]>
+    ensures { IfSome result (λ found. (value : Tree) → IsCompactOf text.now value
+        → (named : List ℕ) → IsUtf8 named → name.now ≡ quoted named ++ colon ∷ []
+        → IsCompactOf found.now (unwrap_or (member_of named value) null)) }
 {
-    let part = part_named(line, parts, name)?;
-    let value = between(line, part.value, part.end)?;
-    let found = compact_parts(alloc, value, Line::new(alloc))?;
-    Some(found)
-}
-
-/// The value of a member, whose name is given in the same way.
-fn value_of(alloc: Global, line: &[u8], parts: &[Part], name: &[u8]) -> Option<Json>
-    ensures { IfSome result (λ json. (all : MemberTrees) → IsLine line.now parts.now all
-        → (text : List ℕ) → IsUtf8 text → name.now ≡ quoted text ++ colon ∷ []
-        → first_named text all ≡ Some (tree json)) }
-{
-    let part = part_named(line, parts, name)?;
-    let value = between(line, part.value, part.end)?;
-    let Ok(json) = read(alloc, value) else {
-        return None;
-    };
-    Some(json)
+    if !byte_is(text, 0, b'{') {
+        return Some(b"null");
+    }
+    let parts = members_of_compact(alloc, text)?;
+    member_or(text, &parts, name, b"null")
 }
 
 /// The text that is the line's `id`, with its marks, and a colon after it.
@@ -60,18 +49,19 @@ fn id_and_colon(alloc: Global, line: &[u8], parts: &[Part]) -> Option<Line>
     Some(name)
 }
 
-/// The value of the member `type` of the city object that the line's `id` names.
-fn type_of(alloc: Global, line: &[u8], parts: &[Part]) -> Option<Json>
-    ensures { IfSome result (λ json. (all : MemberTrees) → IsLine line.now parts.now all
+/// The compact text of the member `type` of the city object that the line's `id` names; that of `null`, where there is
+/// none.
+#[inline(never)]
+fn type_text<'a>(alloc: Global, line: &'a [u8], parts: &[Part]) -> Option<&'a [u8]>
+    ensures { IfSome result (λ found. (all : MemberTrees) → Fits (object all) → IsLine line.now parts.now all
         → (id : List ℕ) → first_named (codes "id") all ≡ Some (string id)
-        → member_in (codes "type") (member_in id (first_named (codes "CityObjects") all))
-        ≡ Some (tree json)) }
+        → IsCompactOf found.now (unwrap_or
+        (member_in (codes "type") (member_in id (first_named (codes "CityObjects") all))) null)) }
 {
     let id = id_and_colon(alloc, line, parts)?;
-    let objects = members_of(alloc, line, parts, b"\"CityObjects\":")?;
-    let object = members_of(alloc, objects.line.items(), &objects.parts, id.items())?;
-    let value = value_of(alloc, object.line.items(), &object.parts, b"\"type\":")?;
-    Some(value)
+    let objects = member_or(line, parts, b"\"CityObjects\":", b"null")?;
+    let object = member_text(alloc, objects, id.items())?;
+    member_text(alloc, object, b"\"type\":")
 }
 
 /// What stands in a text after these first bytes. None: it does not begin with them.
@@ -144,14 +134,36 @@ fn is_one_of(types: &Types, name: &[u8]) -> bool
         .any(|each| each.as_str().as_bytes() == name)
 }
 
-/// Whether the feature of a line has one of the types, where there are any; `None`: undecided.
+/// Whether the value whose compact text this is is one of the types; one that is no text is none. `None`: undecided.
+#[inline(never)]
+fn spells_one_of(alloc: Global, types: &Types, text: &[u8]) -> Option<bool>
+    ensures { IfSome result (λ is. (value : Tree) → IsCompactOf text.now value
+        → (IsTrue is ↔ ((name : List ℕ) × (value ≡ string name) × Contains types.now name))) }
+{
+    if !byte_is(text, 0, b'"') {
+        return Some(false);
+    }
+    if let Some(name) = letters_of(&text[1..]) {
+        return Some(is_one_of(types, name));
+    }
+    let Ok(value) = read(alloc, text) else {
+        return None;
+    };
+    let Json::Text(name) = &value else {
+        return None;
+    };
+    Some(is_one_of(types, name.as_str().as_bytes()))
+}
+
+/// Whether the feature of a line has one of the types, where there are any. `None`: undecided, which a line that fits is
+/// only where memory ran out.
 pub fn has_given_type(
     alloc: Global,
     types: &Option<Types>,
     line: &[u8],
     parts: &[Part],
 ) -> Option<bool>
-    ensures { IfSome result (λ has. (all : MemberTrees) → IsLine line.now parts.now all
+    ensures { IfSome result (λ has. (all : MemberTrees) → Fits (object all) → IsLine line.now parts.now all
         → IsThere IsText (first_named (codes "id") all)
         → (IsTrue has ↔ IfSome types.now (λ types. HasType types (object all)))) }
 {
@@ -161,9 +173,6 @@ pub fn has_given_type(
     if let Some(name) = first_type(line, parts) {
         return Some(is_one_of(types, name));
     }
-    let value = type_of(alloc, line, parts)?;
-    let Json::Text(name) = &value else {
-        return None;
-    };
-    Some(is_one_of(types, name.as_str().as_bytes()))
+    let text = type_text(alloc, line, parts)?;
+    spells_one_of(alloc, types, text)
 }

@@ -11,7 +11,7 @@ returns-clause-there c = λ bytes compacted.
     moved_there bytes (lent_bytes found.text) c.bytes-line.result.now found.parts.items c.as_slice-parts.result.now members
     placed.part placed.vertices.items c.in_ok-vertices.vertices.items c.args.shift c.args.types.now
     c.in_ok-has_type.has_type spells fits written are_parts c.bytes-line.ensures c.as_slice-parts.ensures.value
-    (c.in_ok-placed.ensures.feature members) (c.in_ok-has_type.ensures members) moved.0 moved.1
+    (c.in_ok-placed.ensures.feature members) (c.in_ok-has_type.ensures members fits) moved.0 moved.1
 
 pub returns-clause-same : goal.returns-clause-same
 returns-clause-same c = λ stay.

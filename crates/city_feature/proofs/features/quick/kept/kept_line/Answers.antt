@@ -17,5 +17,5 @@ returns c = λ bytes compacted.
     let (there, moved_is, vertices, text, typed) =
     measured_there bytes (lent_bytes found.text) line found.parts.items parts members part ps c.args.types.now c.in_ok-has_type.has_type
     spells fits written are_parts c.bytes.ensures c.as_slice.ensures.value (placed members)
-    (c.in_ok-has_type.ensures members) range stays in
+    (c.in_ok-has_type.ensures members fits) range stays in
     (there, moved_is, text, typed)

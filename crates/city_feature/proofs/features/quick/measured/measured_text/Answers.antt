@@ -21,7 +21,7 @@ returns-then-not-selects_measured c = λ bytes compacted.
     let (there, moved_is, vertices, text, typed) =
     measured_there bytes (lent_bytes found.text) line found.parts.items parts members part ps choice.types
     c.in_ok-has_type.has_type spells fits written are_parts c.bytes-line.ensures c.as_slice-parts.ensures.value
-    (placed members) (c.in_ok-has_type.ensures members) range stays in
+    (placed members) (c.in_ok-has_type.ensures members fits) range stays in
     let asked = subst (λ a. IsTrue c.args.meets ↔ IfSome a (λ one. Meets one ps)) (sym given) met in (
       there,
       moved_is,
@@ -45,7 +45,7 @@ returns c = λ bytes compacted.
     let (there, moved_is, vertices, text, typed) =
     measured_there bytes (lent_bytes found.text) line found.parts.items parts members part ps choice.types
     c.in_ok-has_type.has_type spells fits written are_parts c.bytes-line.ensures c.as_slice-parts.ensures.value
-    (placed members) (c.in_ok-has_type.ensures members) range stays in
+    (placed members) (c.in_ok-has_type.ensures members fits) range stays in
     let asked = subst (λ a. IsTrue c.args.meets ↔ IfSome a (λ one. Meets one ps)) (sym given) met in (
       there,
       moved_is,
