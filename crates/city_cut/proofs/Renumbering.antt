@@ -6,9 +6,10 @@ use Rattle.std.proofs.lemmas.Fmt.{decimal_is_IsNumeral}
 use Rattle.std.specs.Fmt.{decimal}
 use Rattle.std.specs.List.{AllByRecursion, slice_index}
 use Rattle.std.specs.Str.Parse.{digits_value}
-use Rattle.city_json.specs.Fits.{AreDistinctItems, AreDistinctMembers, HasDistinctNames, IsDistinct, IsNewName}
+use Rattle.city_json.specs.Fits.{AreDistinctItems, HasDistinctNames, IsDistinct, IsNewName}
 use Rattle.city_json.specs.Members.{first_named, member_of}
 use Rattle.city_json.specs.Tree.{Tree, null, boolean, number, string, array, object, ItemTrees, no_items, item, MemberTrees, no_members, member}
+use Rattle.city_feature.proofs.NamedTexts.{distinct_named}
 use Rattle.city_cut.specs.Boundaries.{IsAddress, IsBounded, IsGeometry, changed_items, changed_members, in_member, own_boundary, relabelled_addresses, relabelled_boundary, relabelled_geometries, relabelled_object, relabelled_objects}
 use Rattle.city_cut.specs.Items.{item_list, items_of}
 use Rattle.city_cut.specs.Leaves.{AreNested, IsBoundary, IsIndex, IsNested, relabelled, relabelled_items, renumbered}
@@ -95,19 +96,6 @@ items_same f g no_items agree = refl
 items_same f g (item value others) agree = cons_item _ _ _ _ agree.0 (items_same f g others agree.1)
 
 -- ---- what is in a distinct value is distinct
-distinct_named : (name : List ℕ) (ms : MemberTrees) (value : Tree) → AreDistinctMembers ms
-    → first_named name ms ≡ Some value → IsDistinct value
-distinct_named name no_members value all is = cc
-distinct_named name (member other v os) value all is =
-    by (bytes_eq other name) refl (λ later. distinct_named name os value all.1 later)
-  where
-    some_same : Some v ≡ Some value → v ≡ value
-    some_same e = cc
-
-    by : (b : Bool) → bytes_eq other name ≡ b → (first_named name os ≡ Some value → IsDistinct value) → IsDistinct value
-    by true e later = subst IsDistinct (some_same (rw e at is)) all.0
-    by false e later = later (rw e at is)
-
 pub distinct_member : (name : List ℕ) (value inner : Tree) → IsDistinct value → member_of name value ≡ Some inner
     → IsDistinct inner
 distinct_member name (object members) inner distinct is = distinct_named name members inner distinct.1 is
