@@ -427,10 +427,29 @@ const OBJECT: &str = r#"{"type":"CityJSONFeature","id":"a","CityObjects":ROW,"ve
 const OTHER_TYPES: &str = r#"
 ;Road => {"a":{"type":1}} => none
 ;Road => {"a":{"type":["Road"]}} => none
+;Road => {"a":{"type":{"type":"Road"}}} => none
 ;Road => {"a":{}} => none
+;Road => {"a":{"Type":"Road","type ":"Road","typ":"Road"}} => none
+;Road => {"a":{"a":{"type":"Road"}}} => none
 ;Road => {"a":[]} => none
+;Road => {"a":[{"type":"Road"}]} => none
 ;Road => {"a":"Road"} => none
+;Road => {"a":7} => none
 ;Road => {"a":null} => none
+;Road => {"b":{"type":"Road"},"type":"Road"} => none
+;null,true,7,[],{} => {"a":{"type":null}} => none
+;null,true,7,[],{} => {"a":{"type":true}} => none
+;null,true,7,[],{} => {"a":{"type":[]}} => none
+;null,true,7,[],{} => {} => none
+;null,true,7,[],{} => {"a":{"type":"7"}} => chosen
+;Road => {"b":[1,{"a":2}],"a":{"x":{"type":"Bridge"},"type":"Road","y":[]}} => chosen
+;Road => {"a":{"x":1,"type":"R\u006fad"}} => chosen
+;"Road" => {"a":{"type":"Road"}} => none
+;Ro"ad => {"a":{"type":"Ro\"ad"}} => chosen
+;Ro\"ad => {"a":{"type":"Ro\"ad"}} => none
+;Bridge,Ro\ad => {"a":{"type":"Ro\\ad"}} => chosen
+;Road => {"a":{"type":"Road\u0000"}} => none
+;Road => {"a":{"type":"\tRoad"}} => none
 ;Bridge,Gebäude => {"b":{"type":"Gebäude"},"a":{"type":"Road"}} => none
 ;Bridge,Gebäude => {"b":{"type":"Road"},"a":{"type":"Gebäude"}} => chosen
 ;Bridge,Gebäude => {"b":{"type":"Gebäude"},"a":{}} => none
@@ -440,11 +459,58 @@ const OTHER_TYPES: &str = r#"
 ;Bridge,Gebäude => {"A":{"type":"Gebäude"}} => none
 ;Bridge,Gebäude => {} => none
 ;Bridge,Gebäude => {"\u0061":{"type":"Geb\u00e4ude"}} => chosen
+;Road;;others => {"a":{"type":1}} => chosen
+;Road;;others => {"a":{"type":["Road"]}} => chosen
+;Road;;others => {"a":{}} => chosen
+;Road;;others => {"a":[{"type":"Road"}]} => chosen
+;Road;;others => {"a":7} => chosen
+;Road;;others => {} => chosen
+;Road;;others => {"b":{"type":"Road"}} => chosen
+;Road;;others => {"a":{"x":1,"type":"R\u006fad"}} => none
+;Ro"ad;;others => {"a":{"type":"Ro\"ad"}} => none
+10,20,30;Road;;others => {"b":{"type":"Road"}} => chosen
 "#;
 
+/// No value is built of such a line.
 #[test]
 fn a_type_that_is_no_text_is_none_of_the_types(rt: HostRuntime) {
-    expect(&rt, OBJECT, OTHER_TYPES, false);
+    expect(&rt, OBJECT, OTHER_TYPES, true);
+}
+
+/// Members of a feature whose identifier names no object that has a type.
+const UNTYPED: &str = r#"
+"id":"a\"","CityObjects":{"a":{"type":"Road"}}
+"id":"a","CityObjects":{"a\"":{"type":"Road"}}
+"id":"a\\","CityObjects":{"a\\\\":{"type":"Road"},"a":{"type":"Road"}}
+"id":"\n","CityObjects":{"n":{"type":"Road"},"\\n":{"type":"Road"}}
+"id":"\u00e9","CityObjects":{"e\u0301":{"type":"Road"}}
+"id":"\u0000","CityObjects":{"":{"type":"Road"},"\\u0000":{"type":"Road"}}
+"id":"","CityObjects":{"id":{"type":"Road"},"a":{"type":"Road"}}
+"id":"type","CityObjects":{"a":{"type":"Road"}},"x":{"type":{"type":"Road"}}
+"CityObjects":{"a":{"type":"Road","b":{"type":"Road"}}},"id":"b"
+"b":{"type":"Road"},"id":"b","CityObjects":{}
+"#;
+
+/// It is among all features but those of some types.
+const UNASKED: &str = "
+;Road => it => none
+;Road;;others => it => chosen
+;Bridge,Road;;others => it => chosen
+10,20,30;Road => it => none
+10,20,30;Road;;others => it => chosen
+;Road;0,-10,10,10 => it => none
+;Road;0,-10,10,10;others => it => chosen
+";
+
+/// Nor is one built of these.
+#[test]
+fn a_feature_without_a_type_is_among_all_others(rt: HostRuntime) -> Result<(), AllocError> {
+    for members in UNTYPED.lines() {
+        if !members.is_empty() {
+            expect_filled(&rt, (MEMBERS, members), (UNASKED, ""), true)?;
+        }
+    }
+    Ok(())
 }
 
 /// Lines that are their own compact text, of a building.
