@@ -8,3 +8,5 @@ pub mod QuickMoves
 pub mod FirstTypes
 pub mod TriplesAreVertices
 pub mod TripleVertices
+pub mod AbsentNames
+pub mod EndedTexts

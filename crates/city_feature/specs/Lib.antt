@@ -1,6 +1,7 @@
 pub mod Area
 pub mod Changes
 pub mod Choice
+pub mod Ended
 pub mod Extent
 pub mod Feature
 pub mod FeatureLine

@@ -2,6 +2,7 @@ ghost use Rattle.std.specs.Prelude.{◌≡◌};
 ghost use Rattle.city_json.specs.Tree.{tree};
 ghost use Rattle.city_feature.specs.Feature.{IsFeature};
 
+pub(crate) mod ended;
 pub(crate) mod lines;
 pub(crate) mod moving;
 pub(crate) mod quick;

@@ -21,6 +21,7 @@ pub use choices::area::reader::area;
 pub use choices::selecting::selects;
 pub use choices::types::{Types, types};
 pub use features::Feature;
+pub use features::ended::{is_appearance_end, own_text};
 pub use features::lines::{feature_line, feature_text};
 pub use features::moving::shifted;
 pub use features::quick::measured::measured;

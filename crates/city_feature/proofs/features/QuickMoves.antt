@@ -137,14 +137,15 @@ measured_there bytes line items parts passed members part ps types has spells fi
     same_line same_parts placed typed stay range in
     (there, moved_is, vertices, text ∙ kept_line line items part ps ps no_steps same_line stays stay refl, typed_there)
 
-pub still_given : (IsWanted : FeatureValue → Type 0) (shift : Triple) (bytes line : List ℕ) (parts : List Part)
-    (found : Option (Option LentText)) → shift ≡ no_steps → IsCompacted bytes line parts
-    → IfSome found (λ given. (from : List ℕ) → IsCompacted from line parts
-    → GivesFeature IsWanted no_steps from (option_map lent_bytes given))
-    → IfSome found (λ given. GivesFeature IsWanted shift bytes (option_map lent_bytes given))
-still_given IsWanted shift bytes line parts None still is told = tt
-still_given IsWanted shift bytes line parts (Some given) still is told =
-    subst (λ k. GivesFeature IsWanted k bytes (option_map lent_bytes given)) (sym still) (told bytes is)
+pub still_given : (IsWanted : FeatureValue → Type 0) (shift : Triple) (line : List ℕ) (parts : List Part)
+    (found : Option (Option LentText)) → shift ≡ no_steps
+    → IfSome found (λ given. (bytes : List ℕ) → IsCompacted bytes line parts
+    → GivesFeature IsWanted no_steps bytes (option_map lent_bytes given))
+    → IfSome found (λ given. (bytes : List ℕ) → IsCompacted bytes line parts
+    → GivesFeature IsWanted shift bytes (option_map lent_bytes given))
+still_given IsWanted shift line parts found still told =
+    subst (λ k. IfSome found (λ given. (bytes : List ℕ) → IsCompacted bytes line parts
+    → GivesFeature IsWanted k bytes (option_map lent_bytes given))) (sym still) told
 
 pub compacted : (bytes line : List ℕ) (parts : List Part) → (members : MemberTrees) × Spells bytes (object members)
     × Fits (object members) × (¬ IsDeep bytes) × (line ≡ compact (object members)) × AreParts 1 parts members

@@ -340,19 +340,19 @@ fn put_after(given: LentText<'_>, to: &mut Line) -> Option<()>
     Some(())
 }
 
-/// The compact text of the feature that a line spells, moved by the shift, where it is chosen then. What `spare` held is
-/// dropped; it is taken for its memory. `None`: undecided.
-pub fn quick_text<'a>(
+/// The text of the feature that was found in a line, moved by the shift, where it is chosen then. `None`: undecided.
+#[inline(always)]
+pub(super) fn compacted_text<'a>(
     alloc: Global,
-    bytes: &'a [u8],
+    found: LentFeature<'a>,
     shift: Shift,
     choice: &Choice,
-    spare: Line,
 ) -> Option<Option<LentText<'a>>>
-    ensures { IfSome result (λ given.
-        GivesFeature (IsChosen choice.now) shift bytes.now (option_map lent_bytes given)) }
+    requires triples { HasTriples (lent_bytes found.text) found.triples }
+    ensures { IfSome result (λ given. (bytes : List ℕ)
+        → IsCompacted bytes (lent_bytes found.entry.text) found.entry.parts.items
+        → GivesFeature (IsChosen choice.now) shift bytes (option_map lent_bytes given)) }
 {
-    let found = compact_lent(alloc, bytes, spare)?;
     if is_still(shift) {
         if choice.area.is_none() {
             if has_vertices(found.text.bytes(), &found.parts, found.triples) {
@@ -372,6 +372,23 @@ pub fn quick_text<'a>(
     }
     let given = written(alloc, moved)?;
     Some(Some(given))
+}
+
+/// The compact text of the feature that a line spells, moved by the shift, where it is chosen then. What `spare` held is
+/// dropped; it is taken for its memory. `None`: undecided.
+pub fn quick_text<'a>(
+    alloc: Global,
+    bytes: &'a [u8],
+    shift: Shift,
+    choice: &Choice,
+    spare: Line,
+) -> Option<Option<LentText<'a>>>
+    ensures { IfSome result (λ given.
+        GivesFeature (IsChosen choice.now) shift bytes.now (option_map lent_bytes given)) }
+{
+    let found = compact_lent(alloc, bytes, spare)?;
+    let given = compacted_text(alloc, found, shift, choice)?;
+    Some(given)
 }
 
 /// Appends the compact text of the feature that a line spells, moved by the shift, where it is chosen then, and says

@@ -1,4 +1,4 @@
-use Rattle.std.proofs.Common.{◌+◌, ◌++◌, ◌∷◌, ◌<◌, ◌≤◌, [], All, arith, refl, subst, sym}
+use Rattle.std.proofs.Common.{◌+◌, ◌++◌, ◌∷◌, ◌<◌, ◌≤◌, [], arith, refl, subst, sym}
 use Rattle.std.proofs.lemmas.List.Elements.{All-nil, All-push}
 use Rattle.city_grid.specs.Axes.{IsInRange, triple}
 use Rattle.city_feature.proofs.features.TripleVertices.{GoesTo, Remain, all_remain, first_here, next, next_within, read_last, read_next}

@@ -1,0 +1,378 @@
+-- A feature with an appearance after its other members.
+use Rattle.std.proofs.Common.{◌≡◌, ◌≢◌, ◌∙◌, ◌++◌, ◌≤◌, ℕ, sym, ap, refl, subst, Bool, true, false, List, [], ◌∷◌, append_assoc, Option, Some, None, codes, bytes_eq, length, drop, arith, IfSome, MatchBool, Contains, IsUtf8}
+use Rattle.std.proofs.lemmas.List.{append_cancel_right}
+use Rattle.std.proofs.lemmas.Slice.Eq.{bytes_eq-Decides}
+use Rattle.city_json.proofs.CompactLaws.{compact-spells}
+use Rattle.city_json.proofs.Complete.{one_meaning}
+use Rattle.city_json.proofs.SpelledWritable.{spelled_writable}
+use Rattle.city_json.specs.Bytes.{colon, comma, open_brace, close_brace}
+use Rattle.city_json.specs.Compact.{quoted, compact, compact_members, compact_more_members}
+use Rattle.city_json.specs.Fits.{AreDistinctMembers, Fits, HasDistinctNames, IsDistinct, IsNewName, depth, members_depth}
+use Rattle.city_json.specs.Grammar.{Spells}
+use Rattle.city_json.specs.Members.{first_named, member_of}
+use Rattle.city_json.specs.Parts.{AreParts}
+use Rattle.city_json.specs.Tree.{Tree, object, string, MemberTrees, no_members, member}
+use Rattle.city_json.specs.Writable.{AreWritableMembers, IsWritable}
+use Rattle.city_json.specs.declared.compacting.parts.Part.{Part}
+use Rattle.city_grid.specs.Axes.{Triple}
+use Rattle.city_feature.proofs.QuickLines.{found_at, utf8}
+use Rattle.city_feature.proofs.features.StillFeature.{other_member}
+use Rattle.city_feature.specs.Area.{Meets}
+use Rattle.city_feature.specs.Changes.{with_named}
+use Rattle.city_feature.specs.Choice.{IsChosen}
+use Rattle.city_feature.specs.declared.choices.Choice.{Choice}
+use Rattle.city_feature.specs.Ended.{IsAppearanceEnd, appearance_alone}
+use Rattle.city_feature.specs.Feature.{FeatureValue, IsFeature, moved, moved_vertices, vertices_tree}
+use Rattle.city_feature.specs.FeatureLine.{GivesFeature, SpellsFeature, SpellsMoved}
+use Rattle.city_feature.specs.Quick.{IsLine, IsPartNamed}
+use Rattle.city_feature.specs.Shapes.{IsArray, IsObject, IsText, IsThere, member_in}
+
+-- ---- a member that comes last
+some_is_none : (v : Tree) → Some v ≡ None → ⊥
+some_is_none v e = cc
+
+module _ (name : List ℕ) (x : Tree) where
+  more_text : (members : MemberTrees) → first_named name members ≡ None
+      → compact_more_members (with_named name x members)
+      ≡ compact_more_members members ++ compact_more_members (member name x no_members)
+  more_text no_members none = refl
+  more_text (member other v others) none = by (bytes_eq other name) refl (more_text others)
+    where
+      by : (b : Bool) → bytes_eq other name ≡ b
+          → (first_named name others ≡ None → compact_more_members (with_named name x others)
+          ≡ compact_more_members others ++ compact_more_members (member name x no_members))
+          → compact_more_members (with_named name x (member other v others))
+          ≡ compact_more_members (member other v others) ++ compact_more_members (member name x no_members)
+      by true e later = absurd (some_is_none v (rw e at none))
+      by false e later =
+          let front = quoted other ++ colon ∷ compact v in
+          rw e (ap (λ l. comma ∷ front ++ l) (later (rw e at none))
+          ∙ ap (λ l. comma ∷ l) (sym (append_assoc front (compact_more_members others)
+          (compact_more_members (member name x no_members)))))
+
+  first_text : (other : List ℕ) (v : Tree) (others : MemberTrees) → first_named name (member other v others) ≡ None
+      → compact_members (with_named name x (member other v others))
+      ≡ compact_members (member other v others) ++ compact_more_members (member name x no_members)
+  first_text other v others none = by (bytes_eq other name) refl
+    where
+      by : (b : Bool) → bytes_eq other name ≡ b → compact_members (with_named name x (member other v others))
+          ≡ compact_members (member other v others) ++ compact_more_members (member name x no_members)
+      by true e = absurd (some_is_none v (rw e at none))
+      by false e =
+          let front = quoted other ++ colon ∷ compact v in
+          rw e (ap (λ l. front ++ l) (more_text others (rw e at none))
+          ∙ sym (append_assoc front (compact_more_members others) (compact_more_members (member name x no_members))))
+
+  -- the text of the object goes on where that without the member ends
+  last_text : (members : MemberTrees) (own another : List ℕ) (there : Tree)
+      → first_named another members ≡ Some there → first_named name members ≡ None
+      → own ++ close_brace ∷ [] ≡ compact (object members)
+      → own ++ (compact_more_members (member name x no_members) ++ close_brace ∷ [])
+      ≡ compact (object (with_named name x members))
+  last_text no_members own another there some none is = cc some
+  last_text (member other v others) own another there some none is =
+      let front : own ≡ open_brace ∷ compact_members (member other v others) =
+      append_cancel_right own (open_brace ∷ compact_members (member other v others)) (close_brace ∷ []) is in
+      ap (λ l. l ++ (compact_more_members (member name x no_members) ++ close_brace ∷ [])) front
+      ∙ (sym (append_assoc (open_brace ∷ compact_members (member other v others))
+      (compact_more_members (member name x no_members)) (close_brace ∷ []))
+      ∙ ap (λ l. (open_brace ∷ l) ++ close_brace ∷ []) (sym (first_text other v others none)))
+
+  apart_by : (other : List ℕ) → bytes_eq other name ≡ false → other ≢ name
+  apart_by other differ same = cc (sym ((bytes_eq-Decides other name).1 same) ∙ differ)
+
+  within : (members : MemberTrees) (k : ℕ) → members_depth members ≤ k → depth x ≤ k
+      → members_depth (with_named name x members) ≤ k
+  within no_members k all one = omega (arith, one)
+  within (member other v others) k all one = by (bytes_eq other name) refl (within others k)
+    where
+      by : (b : Bool) → bytes_eq other name ≡ b
+          → (members_depth others ≤ k → depth x ≤ k → members_depth (with_named name x others) ≤ k)
+          → members_depth (with_named name x (member other v others)) ≤ k
+      by true e later = rw e (omega (arith, all, one))
+      by false e later = rw e (let more = later (omega (arith, all)) one in omega (arith, all, more))
+
+  new_named : (other : List ℕ) (members : MemberTrees) → other ≢ name → IsNewName other members
+      → IsNewName other (with_named name x members)
+  new_named other no_members apart new = (apart, tt)
+  new_named other (member n v others) apart new = by (bytes_eq n name) refl (new_named other others apart)
+    where
+      by : (b : Bool) → bytes_eq n name ≡ b → (IsNewName other others → IsNewName other (with_named name x others))
+          → IsNewName other (with_named name x (member n v others))
+      by true e later = rw e new
+      by false e later = rw e (new.0, later new.1)
+
+  names_differ : (members : MemberTrees) → HasDistinctNames members → HasDistinctNames (with_named name x members)
+  names_differ no_members differ = (tt, tt)
+  names_differ (member n v others) differ = by (bytes_eq n name) refl (names_differ others)
+    where
+      by : (b : Bool) → bytes_eq n name ≡ b
+          → (HasDistinctNames others → HasDistinctNames (with_named name x others))
+          → HasDistinctNames (with_named name x (member n v others))
+      by true e later = rw e differ
+      by false e later = rw e (new_named n others (apart_by n e) differ.0, later differ.1)
+
+  all_distinct : (members : MemberTrees) → AreDistinctMembers members → IsDistinct x
+      → AreDistinctMembers (with_named name x members)
+  all_distinct no_members all one = (one, tt)
+  all_distinct (member n v others) all one = by (bytes_eq n name) refl (all_distinct others)
+    where
+      by : (b : Bool) → bytes_eq n name ≡ b
+          → (AreDistinctMembers others → IsDistinct x → AreDistinctMembers (with_named name x others))
+          → AreDistinctMembers (with_named name x (member n v others))
+      by true e later = rw e (one, all.1)
+      by false e later = rw e (all.0, later all.1 one)
+
+  all_writable : IsUtf8 name → IsWritable x → (members : MemberTrees) → AreWritableMembers members
+      → AreWritableMembers (with_named name x members)
+  all_writable utf8 one no_members all = (utf8, one, tt)
+  all_writable utf8 one (member n v others) all = by (bytes_eq n name) refl (all_writable utf8 one others)
+    where
+      by : (b : Bool) → bytes_eq n name ≡ b
+          → (AreWritableMembers others → AreWritableMembers (with_named name x others))
+          → AreWritableMembers (with_named name x (member n v others))
+      by true e later = rw e (all.0, one, all.2)
+      by false e later = rw e (all.0, all.1, later all.2)
+
+-- two members are set in either order, where the one is there
+exchanged : (name other : List ℕ) (x y old : Tree) → bytes_eq other name ≡ false → (members : MemberTrees)
+    → first_named other members ≡ Some old
+    → with_named other y (with_named name x members) ≡ with_named name x (with_named other y members)
+exchanged name other x y old apart no_members is = cc is
+exchanged name other x y old apart (member n v others) is =
+    by (bytes_eq n other) (bytes_eq n name) refl refl (exchanged name other x y old apart others)
+  where
+    by : (b d : Bool) → bytes_eq n other ≡ b → bytes_eq n name ≡ d
+        → (first_named other others ≡ Some old
+        → with_named other y (with_named name x others) ≡ with_named name x (with_named other y others))
+        → with_named other y (with_named name x (member n v others))
+        ≡ with_named name x (with_named other y (member n v others))
+    by true d e f later =
+        let no : bytes_eq n name ≡ false =
+        ap (λ l. bytes_eq l name) ((bytes_eq-Decides n other).0 e) ∙ apart in rw (no, e, no) refl
+    by false true e f later = rw (f, e, f) refl
+    by false false e f later = rw (f, e, f) (ap (member n v) (later (rw e at is)))
+
+-- ---- what is asked of a feature
+abbrev TypeFrom : List ℕ → Option Tree → Option Tree → Type 0
+TypeFrom name id_value objects =
+    (id : List ℕ)
+    × (id_value ≡ Some (string id))
+    × (member_in (codes "type") (member_in id objects) ≡ Some (string name))
+
+abbrev TypesFrom : List (List ℕ) → Option Tree → Option Tree → Type 0
+TypesFrom names id_value objects = (name : List ℕ) × TypeFrom name id_value objects × Contains names name
+
+abbrev MatchFrom : Choice → List Triple → Option Tree → Option Tree → Type 0
+MatchFrom choice ps id_value objects =
+    IfSome choice.types (λ types. TypesFrom types id_value objects) × IfSome choice.area (λ area. Meets area ps)
+
+abbrev ChosenFrom : Choice → List Triple → Option Tree → Option Tree → Type 0
+ChosenFrom choice ps id_value objects =
+    MatchBool choice.exclude (¬ MatchFrom choice ps id_value objects) (MatchFrom choice ps id_value objects)
+
+chosen_from : (choice : Choice) (v w : Tree) (ps : List Triple) → member_of (codes "id") v ≡ member_of (codes "id") w
+    → member_of (codes "CityObjects") v ≡ member_of (codes "CityObjects") w
+    → IsChosen choice (record { value = v; vertices = ps }) → IsChosen choice (record { value = w; vertices = ps })
+chosen_from choice v w ps ids objects chosen =
+    subst (ChosenFrom choice ps (member_of (codes "id") w)) objects
+    (subst (λ i. ChosenFrom choice ps i (member_of (codes "CityObjects") v)) ids chosen)
+
+-- ---- a feature with an appearance
+module _ (a : Tree) where
+  abbrev ended : MemberTrees → MemberTrees
+  ended members = with_named (codes "appearance") a members
+
+  kept : (name : List ℕ) → bytes_eq (codes "appearance") name ≡ false → (members : MemberTrees)
+      → first_named name (ended members) ≡ first_named name members
+  kept name apart members = other_member (codes "appearance") a name apart (object members)
+
+  is_feature : (members : MemberTrees) (ps : List Triple) → IsFeature (object members) ps
+      → IsFeature (object (ended members)) ps
+  is_feature members ps ((type_is, id_is, objects_are, vertices_are), (items, there, vertices)) = (
+    (
+      kept (codes "type") refl members ∙ type_is,
+      subst (IsThere IsText) (sym (kept (codes "id") refl members)) id_is,
+      subst (IsThere IsObject) (sym (kept (codes "CityObjects") refl members)) objects_are,
+      subst (IsThere IsArray) (sym (kept (codes "vertices") refl members)) vertices_are,
+    ),
+    (items, kept (codes "vertices") refl members ∙ there, vertices),
+  )
+
+  fits : (members : MemberTrees) → Fits (object members) → Fits (object (appearance_alone a))
+      → Fits (object (ended members))
+  fits members all one =
+      let deep = within (codes "appearance") a members 127 (omega (arith, all.0)) (omega (arith, one.0)) in (
+        omega (arith, deep),
+        (
+          names_differ (codes "appearance") a members all.1.0,
+          all_distinct (codes "appearance") a members all.1.1 one.1.1.0,
+        ),
+      )
+
+module _ (members : MemberTrees) (own closed end : List ℕ) (ends : IsAppearanceEnd end)
+    (none : first_named (codes "appearance") members ≡ None) (same : closed ≡ own ++ close_brace ∷ [])
+    (written : closed ≡ compact (object members)) (spells : Spells closed (object members)) where
+  spells_ended : (ps : List Triple) → Fits (object members) → IsFeature (object members) ps
+      → SpellsFeature (own ++ end) (record { value = object (ended ends.appearance members); vertices = ps })
+  spells_ended ps all feature =
+      let value : Tree = object (ended ends.appearance members) in
+      let text : own ++ end ≡ compact value =
+      ap (λ l. own ++ l) ends.is
+      ∙ last_text (codes "appearance") ends.appearance members own (codes "type") (string (codes "CityJSONFeature"))
+      feature.0.0 none (sym same ∙ written) in
+      let writable : IsWritable value =
+      all_writable (codes "appearance") ends.appearance (utf8 (codes "appearance") refl) ends.writable members
+      (spelled_writable closed (object members) spells) in (
+        subst (λ l. Spells l value) (sym text) (compact-spells value writable),
+        fits ends.appearance members all ends.fits,
+        is_feature ends.appearance members ps feature,
+      )
+
+  -- the same feature, moved
+  abbrev plain : List Triple → FeatureValue
+  plain ps = record { value = object members; vertices = ps }
+
+  abbrev whole : List Triple → FeatureValue
+  whole ps = record { value = object (ended ends.appearance members); vertices = ps }
+
+  -- the members of the feature with its vertices moved
+  abbrev placed : List Triple → Triple → MemberTrees
+  placed ps k = with_named (codes "vertices") (vertices_tree (moved_vertices ps k)) members
+
+  whole_moved : (ps : List Triple) (k : Triple) → IsFeature (object members) ps
+      → (moved (whole ps) k).value ≡ object (ended ends.appearance (placed ps k))
+  whole_moved ps k feature =
+      ap object (exchanged (codes "appearance") (codes "vertices") ends.appearance
+      (vertices_tree (moved_vertices ps k)) _ refl members feature.1.1)
+
+  feature_is : (feature : FeatureValue) → SpellsFeature closed feature → feature ≡ plain feature.vertices
+  feature_is feature is =
+      let made : Tree → FeatureValue = λ v. record { value = v; vertices = feature.vertices } in
+      ap made (one_meaning closed feature.value (object members) is.0.1 spells.1)
+
+  module _ (k : Triple) (there : FeatureValue) (gives : SpellsMoved k closed there) where
+    ps : List Triple
+    ps = gives.0.vertices
+
+    plain_feature : SpellsFeature closed (plain gives.0.vertices)
+    plain_feature = subst (SpellsFeature closed) (feature_is gives.0 gives.1) gives.1
+
+    there_is : there ≡ moved (plain gives.0.vertices) k
+    there_is = gives.3 ∙ ap (λ f. moved f k) (feature_is gives.0 gives.1)
+
+    whole_spells : SpellsMoved k (own ++ end) (moved (whole gives.0.vertices) k)
+    whole_spells = (
+      whole gives.0.vertices,
+      spells_ended gives.0.vertices plain_feature.1 plain_feature.2,
+      gives.2,
+      refl,
+    )
+
+    -- whether it is chosen does not depend on the appearance
+    ids : member_of (codes "id") (moved (plain gives.0.vertices) k).value
+        ≡ member_of (codes "id") (moved (whole gives.0.vertices) k).value
+    ids = sym (ap (member_of (codes "id")) (whole_moved gives.0.vertices k plain_feature.2)
+        ∙ kept ends.appearance (codes "id") refl (placed gives.0.vertices k))
+
+    objects : member_of (codes "CityObjects") (moved (plain gives.0.vertices) k).value
+        ≡ member_of (codes "CityObjects") (moved (whole gives.0.vertices) k).value
+    objects = sym (ap (member_of (codes "CityObjects")) (whole_moved gives.0.vertices k plain_feature.2)
+        ∙ kept ends.appearance (codes "CityObjects") refl (placed gives.0.vertices k))
+
+    pub gives_none : (choice : Choice) → ¬ IsChosen choice there
+        → GivesFeature (IsChosen choice) k (own ++ end) None
+    gives_none choice unwanted = (
+      moved (whole gives.0.vertices) k,
+      whole_spells,
+      λ wanted. unwanted (subst (IsChosen choice) (sym there_is)
+          (chosen_from choice (moved (whole gives.0.vertices) k).value (moved (plain gives.0.vertices) k).value
+          (moved_vertices gives.0.vertices k) (sym ids) (sym objects) wanted)),
+    )
+
+    pub gives_some : (choice : Choice) (text front : List ℕ) → IsChosen choice there → text ≡ compact there.value
+        → text ≡ front ++ close_brace ∷ [] → GivesFeature (IsChosen choice) k (own ++ end) (Some (front ++ end))
+    gives_some choice text front wanted is split = (
+      moved (whole gives.0.vertices) k,
+      whole_spells,
+      (
+        chosen_from choice (moved (plain gives.0.vertices) k).value (moved (whole gives.0.vertices) k).value
+            (moved_vertices gives.0.vertices k) ids objects (subst (IsChosen choice) there_is wanted),
+        ap (λ l. front ++ l) ends.is
+            ∙ (last_text (codes "appearance") ends.appearance (placed gives.0.vertices k) front (codes "type")
+            (string (codes "CityJSONFeature"))
+            (other_member (codes "vertices") (vertices_tree (moved_vertices gives.0.vertices k)) (codes "type") refl
+            (object members) ∙ plain_feature.2.0.0)
+            (other_member (codes "vertices") (vertices_tree (moved_vertices gives.0.vertices k)) (codes "appearance") refl
+            (object members) ∙ none)
+            (sym split ∙ (is ∙ ap (λ f. compact f.value) there_is))
+            ∙ ap compact (sym (whole_moved gives.0.vertices k plain_feature.2))),
+      ),
+    )
+
+-- ---- of what is given
+pub ended_none : (choice : Choice) (k : Triple) (members : MemberTrees) (own closed end : List ℕ) → IsAppearanceEnd end
+    → first_named (codes "appearance") members ≡ None → closed ≡ own ++ close_brace ∷ []
+    → closed ≡ compact (object members) → Spells closed (object members)
+    → GivesFeature (IsChosen choice) k closed None → GivesFeature (IsChosen choice) k (own ++ end) None
+ended_none choice k members own closed end ends none same written spells (there, gives, unwanted) =
+    gives_none members own closed end ends none same written spells k there gives choice unwanted
+
+pub ended_some : (choice : Choice) (k : Triple) (members : MemberTrees) (own closed end text front : List ℕ)
+    → IsAppearanceEnd end → first_named (codes "appearance") members ≡ None → closed ≡ own ++ close_brace ∷ []
+    → closed ≡ compact (object members) → Spells closed (object members)
+    → GivesFeature (IsChosen choice) k closed (Some text) → text ≡ front ++ close_brace ∷ []
+    → GivesFeature (IsChosen choice) k (own ++ end) (Some (front ++ end))
+ended_some choice k members own closed end text front ends none same written spells (there, gives, (wanted, is)) split =
+    gives_some members own closed end ends none same written spells k there gives choice text front wanted is split
+
+-- ---- an appearance alone
+pub alone : (members : MemberTrees) (parts : List Part) (at : ℕ) (value : Tree) → AreParts at parts members
+    → length parts ≡ 1 → first_named (codes "appearance") members ≡ Some value
+    → (appearance : Tree) × (members ≡ appearance_alone appearance)
+alone no_members parts at value are one is = cc is
+alone (member n v no_members) parts at value are one is = by (bytes_eq n (codes "appearance")) refl
+  where
+    none_is_some : None ≡ Some value → ⊥
+    none_is_some e = cc
+
+    by : (b : Bool) → bytes_eq n (codes "appearance") ≡ b
+        → (appearance : Tree) × (member n v no_members ≡ appearance_alone appearance)
+    by true e = (v, ap (λ m. member m v no_members) ((bytes_eq-Decides n (codes "appearance")).0 e))
+    by false e = absurd (none_is_some (rw e at is))
+alone (member n v (member n' v' others)) [] at value are one is = absurd are
+alone (member n v (member n' v' others)) (p ∷ []) at value are one is = absurd are.1
+alone (member n v (member n' v' others)) (p ∷ q ∷ parts) at value are one is = absurd (omega (arith, one))
+
+pub end_there : (end rest text : List ℕ) (a : Tree) → end ≡ comma ∷ rest
+    → text ≡ [] ++ open_brace ∷ rest → text ≡ compact (object (appearance_alone a)) → IsWritable a
+    → Fits (object (appearance_alone a)) → IsAppearanceEnd end
+end_there end rest text a begins opened is writable fits = record {
+  appearance = a;
+  is = begins ∙ ap (λ l. comma ∷ l) (ap (λ l. drop 1 l) (sym opened ∙ is));
+  writable = writable;
+  fits = fits;
+}
+
+pub alone_there : (text line shown : List ℕ) (parts passed : List Part) (members : MemberTrees) (part : Part)
+    → Spells text (object members) → Fits (object members) → line ≡ compact (object members) → AreParts 1 parts members
+    → shown ≡ line → passed ≡ parts → length parts ≡ 1
+    → IsPartNamed shown passed (quoted (codes "appearance") ++ colon ∷ []) part → text ≡ shown
+    → (a : Tree) × (text ≡ compact (object (appearance_alone a))) × IsWritable a × Fits (object (appearance_alone a))
+alone_there text line shown parts passed members part spells fits written are same_line same_parts one named same =
+    let writable = spelled_writable text (object members) spells in
+    let is : IsLine shown passed members =
+    record {
+      written = same_line ∙ written;
+      are_parts = subst (λ l. AreParts 1 l members) (sym same_parts) are;
+      names_differ = fits.1.0;
+      writable = writable;
+    } in
+    let found = found_at shown passed members (codes "appearance") part (utf8 (codes "appearance") refl) is named in
+    let (a, here) = alone members parts 1 found.value are one found.is in
+    let can : AreWritableMembers (appearance_alone a) = subst AreWritableMembers here writable in (
+      a,
+      same ∙ (same_line ∙ (written ∙ ap (λ m. compact (object m)) here)),
+      can.1,
+      subst (λ m. Fits (object m)) here fits,
+    )

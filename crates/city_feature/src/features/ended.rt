@@ -1,0 +1,158 @@
+//! The texts of a document's features, which end in its appearance: the end is looked at once, and not with each of them.
+ghost use Rattle.std.specs.Prelude.{◌≡◌, ◌++◌, ◌∷◌, [], ℕ, List, None, codes, option_map, slice_range, IfSome, IsTrue, OnSome};
+ghost use Rattle.city_json.specs.Bytes.{close_brace, colon, comma, open_brace};
+ghost use Rattle.city_json.specs.Compact.{compact, quoted};
+ghost use Rattle.city_json.specs.Fits.{Fits};
+ghost use Rattle.city_json.specs.Grammar.{Spells};
+ghost use Rattle.city_json.specs.Lent.{lent_bytes};
+ghost use Rattle.city_json.specs.Members.{first_named};
+ghost use Rattle.city_json.specs.Tree.{MemberTrees, Tree, object};
+ghost use Rattle.city_json.specs.Writable.{IsWritable};
+ghost use Rattle.city_feature.specs.Choice.{IsChosen};
+ghost use Rattle.city_feature.specs.Ended.{IsAppearanceEnd, appearance_alone};
+ghost use Rattle.city_feature.specs.FeatureLine.{GivesFeature};
+ghost use Rattle.city_feature.specs.Quick.{IsLine};
+
+use crate::choices::Choice;
+use crate::features::quick::{between, compacted_text, part_named};
+use byte_streams::Line;
+use city_grid::Shift;
+use city_json::{LentText, Part, compact_lent};
+use std::alloc::Global;
+
+fn are_same(text: &[u8], other: &[u8]) -> bool
+    ensures { IsTrue result → text.now ≡ other.now }
+{
+    text == other
+}
+
+/// Appends an object's text, which is the end with a brace in place of its comma.
+fn append_opened(end: &[u8], text: &mut Line) -> Option<()>
+    ensures { OnSome result ((rest : List ℕ) × (end.now ≡ comma ∷ rest)
+        × (text.new ≡ text.old ++ open_brace ∷ rest)) }
+{
+    let [b',', rest @ ..] = end else {
+        return None;
+    };
+    text.append(b"{").ok()?;
+    text.append(rest).ok()
+}
+
+/// Whether the text is that of an object of an appearance alone, with no white space.
+fn is_appearance_alone(alloc: Global, text: &[u8]) -> bool
+    ensures { IsTrue result → (appearance : Tree)
+        × (text.now ≡ compact (object (appearance_alone appearance)))
+        × IsWritable appearance
+        × Fits (object (appearance_alone appearance)) }
+{
+    let Some(found) = compact_lent(alloc, text, Line::new(alloc)) else {
+        return false;
+    };
+    if found.parts.len() != 1 {
+        return false;
+    }
+    let line = found.text.bytes();
+    let Some(_part) = part_named(line, &found.parts, b"\"appearance\":") else {
+        return false;
+    };
+    are_same(text, line)
+}
+
+/// Whether this may come after the vertices of a feature, up to its end: a comma, a member `appearance` and the brace that
+/// closes the feature, in compact text. `false`: undecided, or out of memory.
+pub fn is_appearance_end(alloc: Global, end: &[u8]) -> bool
+    ensures { IsTrue result → IsAppearanceEnd end.now }
+{
+    let mut text = Line::new(alloc);
+    let Some(()) = append_opened(end, &mut text) else {
+        return false;
+    };
+    is_appearance_alone(alloc, text.items())
+}
+
+/// Whether this text may stand between two places: no means that it does not.
+fn may_stand(text: &[u8], from: usize, to: usize, other: &[u8]) -> bool
+    ensures { slice_range text.now from to ≡ other.now → IsTrue result }
+{
+    let Some(found) = between(text, from, to) else {
+        return true;
+    };
+    found == other
+}
+
+/// Whether no member of a line has this name, which is given as it stands there, with its marks and its colon.
+fn lacks(line: &[u8], parts: &[Part], name: &[u8]) -> bool
+    ensures { IsTrue result → (members : MemberTrees) → IsLine line.now parts.now members → (other : List ℕ)
+        → name.now ≡ quoted other ++ colon ∷ [] → first_named other members ≡ None }
+{
+    for part in parts {
+        if may_stand(line, part.at, part.value, name) {
+            return false;
+        }
+    }
+    true
+}
+
+/// The compact text of the feature of a line that is compact and has no appearance, moved by the shift, where it is chosen
+/// then. `None`: undecided.
+fn closed_text<'a>(
+    alloc: Global,
+    line: &'a [u8],
+    shift: Shift,
+    choice: &Choice,
+) -> Option<Option<LentText<'a>>>
+    ensures { IfSome result (λ given. (members : MemberTrees) × Spells line.now (object members)
+        × (line.now ≡ compact (object members))
+        × (first_named (codes "appearance") members ≡ None)
+        × GivesFeature (IsChosen choice.now) shift line.now (option_map lent_bytes given)) }
+{
+    let found = compact_lent(alloc, line, Line::new(alloc))?;
+    let text = found.text.bytes();
+    if !are_same(line, text) || !lacks(text, &found.parts, b"\"appearance\":") {
+        return None;
+    }
+    let given = compacted_text(alloc, found, shift, choice)?;
+    Some(given)
+}
+
+/// Makes of a feature's own part the text of an object.
+fn close(own: &[u8], text: &mut Line) -> Option<()>
+    ensures { OnSome result (text.new ≡ own.now ++ close_brace ∷ []) }
+{
+    text.truncate(0);
+    text.append(own).ok()?;
+    text.append(b"}").ok()
+}
+
+/// What stands before the brace at the end, in memory of its own.
+fn before_brace(alloc: Global, text: &[u8]) -> Option<Line>
+    ensures { IfSome result (λ front. text.now ≡ front ++ close_brace ∷ []) }
+{
+    let [front @ .., b'}'] = text else {
+        return None;
+    };
+    let mut line = Line::from_vec(Vec::with_capacity(alloc, front.len()).ok()?);
+    line.append(front).ok()?;
+    Some(line)
+}
+
+/// What the compact text of a feature has of its own, moved by the shift, where it is chosen then: all up to its appearance.
+/// `own` is that of the text that is read, whatever appearance ends it as [`is_appearance_end`] says. What `buffer` held is
+/// lost. `None`: undecided; [`feature_line`](super::lines::feature_line) of the whole text decides.
+pub fn own_text(
+    alloc: Global,
+    own: &[u8],
+    shift: Shift,
+    choice: &Choice,
+    buffer: &mut Line,
+) -> Option<Option<Line>>
+    ensures { IfSome result (λ given. (end : List ℕ) → IsAppearanceEnd end
+        → GivesFeature (IsChosen choice.now) shift (own.now ++ end) (option_map (λ front. front ++ end) given)) }
+{
+    close(own, buffer)?;
+    let Some(text) = closed_text(alloc, buffer.items(), shift, choice)? else {
+        return Some(None);
+    };
+    let front = before_brace(alloc, text.bytes())?;
+    Some(Some(front))
+}
