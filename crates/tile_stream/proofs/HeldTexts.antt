@@ -1,7 +1,7 @@
 -- The texts of the features that a first line holds, made one after another.
-use Rattle.std.proofs.Common.{◌≡◌, ◌≢◌, ◌≤◌, ◌<◌, ◌+◌, ◌++◌, ◌⊎◌, inl, inr, ℕ, List, [], ◌∷◌, Option, Some, None, length, length-append, get_or, take, take_all, option_to_list, refl, sym, ap, subst, ◌∙◌, arith, append_assoc, append-nil}
+use Rattle.std.proofs.Common.{◌≡◌, ◌≢◌, ◌≤◌, ◌<◌, ◌+◌, ◌++◌, ◌⊎◌, inl, inr, ℕ, List, [], ◌∷◌, Option, Some, None, length, length-append, get_or, take, take_all, option_to_list, option_map, map, refl, sym, ap, subst, ◌∙◌, arith, append_assoc, append-nil}
 use Rattle.std.proofs.Math.ListN.{get_or-map}
-use Rattle.std.proofs.lemmas.List.{get_or_default, length-map, take_more}
+use Rattle.std.proofs.lemmas.List.{get_or_default, length-map, map-append, take_more}
 use Rattle.byte_streams.specs.declared.fault.Fault.{Fault}
 use Rattle.byte_streams.specs.declared.fault.Fault.TheVariants.{Memory}
 use Rattle.city_cut.specs.HeldTexts.{HeldTexts, texts_in}
@@ -82,9 +82,20 @@ refuses_all k fault all at within (inr refused) =
 pub texts_long : (held : HeldTexts) → length (texts_in held) ≡ length held.own
 texts_long held = length-map held.own (λ own. own ++ held.common)
 
+pub text_there : (held : HeldTexts) (at : ℕ) → at < length held.own
+    → get_or (texts_in held) at [] ≡ get_or held.own at [] ++ held.common
+text_there held at within =
+    get_or_default (texts_in held) at [] ([] ++ held.common) (omega (arith, within, texts_long held))
+    ∙ get_or-map (λ own. own ++ held.common) held.own at []
+
 pub text_held : (held : HeldTexts) (at : ℕ) → at < length held.own → (old line shown : List ℕ) → old ≡ []
     → line ≡ old ++ (get_or held.own at [] ++ held.common) → shown ≡ line → get_or (texts_in held) at [] ≡ shown
 text_held held at within old line shown empty appended same =
-    get_or_default (texts_in held) at [] ([] ++ held.common) (omega (arith, within, texts_long held))
-    ∙ (get_or-map (λ own. own ++ held.common) held.own at []
-    ∙ sym (same ∙ (appended ∙ ap (λ front. front ++ (get_or held.own at [] ++ held.common)) empty)))
+    text_there held at within
+    ∙ sym (same ∙ (appended ∙ ap (λ front. front ++ (get_or held.own at [] ++ held.common)) empty))
+
+-- one more, where there is one
+pub more_mapped : {A B : Type 0} (f : A → B) (xs : List A) (given : Option A)
+    → map f (xs ++ option_to_list given) ≡ map f xs ++ option_to_list (option_map f given)
+more_mapped f xs None = map-append f xs []
+more_mapped f xs (Some x) = map-append f xs (x ∷ [])

@@ -5,6 +5,7 @@ pub mod Head
 pub mod Held
 pub mod Progress
 pub mod Ready
+pub mod Shared
 pub mod Stream
 pub mod Taking
 pub mod TapeLines

@@ -1,14 +1,15 @@
-ghost use Rattle.std.specs.Prelude.{◌≡◌, ◌≤◌, ◌<◌, ◌⊎◌, ◌++◌, ◌∷◌, [], List, ℕ, Option, IfOk, IfErr, OnOk, length, get_or, option_to_list};
+ghost use Rattle.std.specs.Prelude.{◌≡◌, ◌≤◌, ◌<◌, ◌⊎◌, ◌++◌, [], ℕ, List, IfOk, IfErr, IsTrue, OnOk, length, get_or, option_map, option_to_list};
 ghost use Rattle.city_cut.specs.HeldTexts.{texts_in};
 ghost use Rattle.city_feature.specs.Choice.{IsChosen};
+ghost use Rattle.city_feature.specs.Ended.{IsAppearanceEnd};
 ghost use Rattle.city_feature.specs.FeatureLine.{GivesFeature, RefusesFeatureLine};
 ghost use Rattle.tile_stream.specs.Held.{LinesGive, RefusesLines};
+ghost use Rattle.tile_stream.specs.Shared.{text_ready};
 
-use crate::spare::emptied;
-use crate::tile_reader::ready::ReadyTexts;
+use crate::tile_reader::ready::{ReadyText, ReadyTexts, ready_text};
 use byte_streams::{Fault, Line};
 use city_cut::FeatureTexts;
-use city_feature::{Choice, feature_line};
+use city_feature::{Choice, feature_line, is_appearance_end, own_text};
 use city_grid::Shift;
 use std::alloc::Global;
 
@@ -37,58 +38,103 @@ pub(crate) fn texts_of(
     ensures fewer { IfOk result (λ texts. length texts ≤ length (texts_in held.now)) }
     ensures refused { IfErr result (λ fault. RefusesLines shift fault (texts_in held.now)) }
 {
-    let mut texts = ReadyTexts::that_end_in(alloc, held.common())?;
-    let mut spare = Line::new(alloc);
+    let shares = is_appearance_end(alloc, held.common());
+    let mut texts = Vec::new(alloc);
+    let mut buffer = Line::new(alloc);
     let mut at = 0usize;
     'held: while at < held.len() {
-        spare = add_text(alloc, held, at, shift, choice, spare, &mut texts)?;
+        let given = text_at(alloc, held, at, shares, shift, choice, &mut buffer)?;
+        push_given(given, &mut texts)?;
         at += 1;
     }
-    Ok(texts)
+    let ready = ReadyTexts::that_end_in(alloc, texts, held.common())?;
+    Ok(ready)
 }
 
-/// Adds the text of the feature at a place, where it is chosen when it is moved by the shift. `spare`
-/// is a buffer to reuse, and comes back.
-fn add_text(
+/// Puts a text, where there is one, after the others.
+fn push_given(given: Option<ReadyText>, texts: &mut Vec<ReadyText>) -> Result<(), Fault>
+    ensures ok { OnOk result (texts.new.items ≡ texts.old.items ++ option_to_list given) }
+    ensures fault { IfErr result (λ fault. fault ≡ Fault.Memory) }
+{
+    let Some(text) = given else {
+        return Ok(());
+    };
+    texts.push(text)?;
+    Ok(())
+}
+
+/// The text of which this comes before the end that it shares, if there is one.
+fn sharing(own: Option<Line>) -> Option<ReadyText>
+    ensures { (common : List ℕ) → option_map (text_ready common) result ≡ option_map (λ front. front ++ common) own }
+{
+    let own = own?;
+    Some(ReadyText { own, shares: true })
+}
+
+/// The text of the feature at a place, where it is chosen when it is moved by the shift. Where all end in an appearance, as
+/// `shares` says, it is mostly found with no look at that. What `buffer` held is lost.
+fn text_at(
+    alloc: Global,
+    held: &FeatureTexts,
+    at: usize,
+    shares: bool,
+    shift: Shift,
+    choice: &Choice,
+    buffer: &mut Line,
+) -> Result<Option<ReadyText>, Fault>
+    requires within { at < length held.now.own }
+    requires shares { IsTrue shares → IsAppearanceEnd held.now.common }
+    ensures ok { IfOk result (λ given. GivesFeature (IsChosen choice.now) shift (get_or (texts_in held.now) at [])
+        (option_map (text_ready held.now.common) given)) }
+    ensures refused { IfErr result (λ fault. (fault ≡ Fault.Memory)
+        ⊎ RefusesFeatureLine shift fault (get_or (texts_in held.now) at [])) }
+{
+    if shares {
+        if let Some(own) = own_text(alloc, held.own(at), shift, choice, buffer) {
+            return Ok(sharing(own));
+        }
+    }
+    whole_at(alloc, held, at, shift, choice, buffer)
+}
+
+/// The same of the whole text, put together in the buffer.
+fn whole_at(
     alloc: Global,
     held: &FeatureTexts,
     at: usize,
     shift: Shift,
     choice: &Choice,
-    spare: Line,
-    texts: &mut ReadyTexts,
-) -> Result<Line, Fault>
+    buffer: &mut Line,
+) -> Result<Option<ReadyText>, Fault>
     requires { at < length held.now.own }
-    ensures ok { OnOk result ((given : Option (List ℕ))
-        × GivesFeature (IsChosen choice.now) shift (get_or (texts_in held.now) at []) given
-        × (texts.new ≡ texts.old ++ option_to_list given)) }
+    ensures ok { IfOk result (λ given. GivesFeature (IsChosen choice.now) shift (get_or (texts_in held.now) at [])
+        (option_map (text_ready held.now.common) given)) }
     ensures refused { IfErr result (λ fault. (fault ≡ Fault.Memory)
         ⊎ RefusesFeatureLine shift fault (get_or (texts_in held.now) at [])) }
 {
-    let mut line = emptied(spare);
-    held.append_to(at, &mut line)?;
-    add_line(alloc, line.items(), shift, choice, texts)?;
-    Ok(line)
+    buffer.truncate(0);
+    held.append_to(at, buffer)?;
+    line_text(alloc, buffer.items(), shift, choice, held.common())
 }
 
-/// Adds the text of the feature that a line spells, where it is chosen when it is moved by the shift.
-fn add_line(
+/// The text of the feature that a line spells, where it is chosen when it is moved by the shift. It may end in `common`.
+fn line_text(
     alloc: Global,
     line: &[u8],
     shift: Shift,
     choice: &Choice,
-    texts: &mut ReadyTexts,
-) -> Result<(), Fault>
-    ensures ok { OnOk result ((given : Option (List ℕ))
-        × GivesFeature (IsChosen choice.now) shift line.now given
-        × (texts.new ≡ texts.old ++ option_to_list given)) }
+    common: &[u8],
+) -> Result<Option<ReadyText>, Fault>
+    ensures ok { IfOk result (λ given. GivesFeature (IsChosen choice.now) shift line.now
+        (option_map (text_ready common.now) given)) }
     ensures refused { IfErr result (λ fault. (fault ≡ Fault.Memory)
         ⊎ RefusesFeatureLine shift fault line.now) }
 {
     let mut text = Line::new(alloc);
     let is_chosen = feature_line(alloc, line, shift, choice, &mut text)?;
-    if is_chosen {
-        texts.push(alloc, text)?;
+    if !is_chosen {
+        return Ok(None);
     }
-    Ok(())
+    let one = ready_text(alloc, text, common)?;
+    Ok(Some(one))
 }

@@ -1,8 +1,9 @@
 //! The texts of the features that a first line holds, moved and chosen, before they are given.
-ghost use Rattle.std.specs.Prelude.{◌≡◌, ◌<◌, ◌^◌, ◌++◌, ◌∷◌, [], ℕ, flat_map, get_or, length, take, IfOk, IfErr, IfSome, OnOk, OnErr};
+ghost use Rattle.std.specs.Prelude.{◌≡◌, ◌<◌, ◌^◌, ◌++◌, [], ℕ, flat_map, get_or, length, map, take, IfOk, IfErr, IfSome, OnOk, OnErr};
 ghost use Rattle.std.specs.Io.KnownBytes.{Appends};
 ghost use Rattle.byte_streams.specs.Failures.{after_call};
 ghost use Rattle.tile_stream.specs.Ready.{whole_text};
+ghost use Rattle.tile_stream.specs.Shared.{text_ready};
 ghost use Rattle.tile_stream.specs.Stream.{with_newline};
 
 use crate::filter::write_parts;
@@ -12,9 +13,9 @@ use std::marker::Model;
 
 /// A text without the end that it shares with the others, or whole.
 #[derive(Debug, Drop)]
-struct ReadyText {
-    own: Line,
-    shares: bool,
+pub(super) struct ReadyText {
+    pub(super) own: Line,
+    pub(super) shares: bool,
 }
 
 /// The texts of those features of a first line that are chosen, moved, in their order. The end that they have in common
@@ -57,7 +58,7 @@ fn own_part<'a>(text: &'a [u8], common: &[u8]) -> Option<&'a [u8]>
 }
 
 /// The text, without the end that it shares, if it does.
-fn ready_text(alloc: Global, text: Line, common: &[u8]) -> Result<ReadyText, AllocError>
+pub(super) fn ready_text(alloc: Global, text: Line, common: &[u8]) -> Result<ReadyText, AllocError>
     ensures { IfOk result (λ one. whole_text common.now one.shares one.own ≡ text) }
 {
     let Some(own) = own_part(text.items(), common) else {
@@ -73,13 +74,17 @@ fn ready_text(alloc: Global, text: Line, common: &[u8]) -> Result<ReadyText, All
 }
 
 impl ReadyTexts {
-    /// No texts, which will mostly end so.
-    pub(crate) fn that_end_in(alloc: Global, common: &[u8]) -> Result<ReadyTexts, Fault>
-        ensures none { IfOk result (λ ready. ready ≡ []) }
+    /// These texts, of which some leave out the end that they share.
+    pub(super) fn that_end_in(
+        alloc: Global,
+        texts: Vec<ReadyText>,
+        common: &[u8],
+    ) -> Result<ReadyTexts, Fault>
+        ensures texts { IfOk result (λ ready. ready ≡ map (text_ready common.now) texts.items) }
         ensures fault { IfErr result (λ fault. fault ≡ Fault.Memory) }
     {
         Ok(ReadyTexts {
-            texts: Vec::new(alloc),
+            texts,
             common: copied(alloc, common)?,
         })
     }
@@ -100,16 +105,6 @@ impl ReadyTexts {
         ensures few { result < 2 ^ 63 }
     {
         self.texts.len()
-    }
-
-    /// Puts a text after the others.
-    pub(crate) fn push(&mut self, alloc: Global, text: Line) -> Result<(), Fault>
-        ensures ok { OnOk result (self.new ≡ self.old ++ text ∷ []) }
-        ensures fault { IfErr result (λ fault. fault ≡ Fault.Memory) }
-    {
-        let one = ready_text(alloc, text, self.common.items())?;
-        self.texts.push(one)?;
-        Ok(())
     }
 
     /// What the text at a place has of its own, and what stands after that.

@@ -1,6 +1,7 @@
-use Rattle.std.proofs.Common.{◌≤◌, ◌-◌, length, take}
+use Rattle.std.proofs.Common.{◌≤◌, ◌-◌, length, map, take}
 use Rattle.city_cut.specs.HeldTexts.{texts_in}
 use Rattle.city_feature.specs.Choice.{IsChosen}
+use Rattle.tile_stream.specs.Shared.{text_ready}
 use Rattle.tile_stream.proofs.HeldTexts.{MadeSoFar}
 use Rattle.tile_stream.proofs.tile_reader.held.texts_of.Given as goal
 
@@ -9,7 +10,8 @@ abbrev pub invariant-held : goal.invariant-held
 invariant-held l =
     record {
       within : l.at ≤ length (texts_in l.held);
-      made : MadeSoFar (IsChosen l.choice) l.shift (take l.at (texts_in l.held)) l.texts;
+      made : MadeSoFar (IsChosen l.choice) l.shift (take l.at (texts_in l.held))
+          (map (text_ready l.held.common) l.texts.items);
     }
 
 abbrev pub decreases-held : goal.decreases-held
