@@ -19,7 +19,7 @@ use Rattle.city_feature.specs.Header.{IsHeader}
 use Rattle.city_feature.specs.Quick.{IsPartNamed}
 use Rattle.city_cut.specs.Boundaries.{changed_members}
 use Rattle.city_cut.specs.Cut.{without_appearance}
-use Rattle.city_cut.specs.HeaderText.{HasHeader, IsEmptied}
+use Rattle.city_cut.specs.HeaderText.{HasHeader, IsBare, IsBareText, emptied}
 use Rattle.city_cut.specs.Items.{members_in}
 use Rattle.city_cut.specs.Texts.{IsCompactOf}
 use Rattle.city_cut.proofs.MemberChanges.{kept, none_is_unchanged, set_is_changed}
@@ -126,26 +126,33 @@ exchanged_absent text none line name members value of absent empty is =
     is ∙ (ap (λ l. l ++ text) empty ∙ (of.is
     ∙ ap compact (sym (none_is_unchanged name (λ old. value) (object members) (ap is_some absent)))))
 
-pub emptied_is : (text bare given empty again : List ℕ) (parts passed : List Part) (members : MemberTrees)
-    (value : Tree) → IsCompactOf text (object members)
-    → bare ≡ compact (object (changed_named (codes "CityObjects") (λ old. object no_members) members)) → given ≡ bare
-    → ((of : Tree) → IsCompactOf given of → (members₂ : MemberTrees) × (of ≡ object members₂)
+-- where it was not known in which parts the members lie
+pub exchanged_anew : (text line name : List ℕ) (parts passed : List Part) (members : MemberTrees) (new : Tree)
+    → IsCompactOf text (object members)
+    → ((of : Tree) → IsCompactOf text of → (members₂ : MemberTrees) × (of ≡ object members₂)
     × AreParts 1 parts members₂) → passed ≡ parts
-    → ((members₂ : MemberTrees) → IsCompactOf given (object members₂) → AreParts 1 passed members₂
-    → empty ≡ compact (object (changed_named (codes "vertices") (λ old. array no_items) members₂)))
-    → again ≡ empty → Spells again value → IsEmptied members value
-emptied_is text bare given empty again parts passed members value of bare_is given_is others passed_is emptied again_is
-    read_is =
-    let bare_members = changed_named (codes "CityObjects") (λ old. object no_members) members in
-    let of₂ : IsCompactOf given (object bare_members) = compact_changed text given (codes "CityObjects")
-    (object no_members) members of tt (tt, tt) (omega arith) (given_is ∙ bare_is) in
-    let (members₂, same, are₂) = others (object bare_members) of₂ in
-    let of₃ : IsCompactOf given (object members₂) = subst (IsCompactOf given) same of₂ in
-    let empty_is = emptied members₂ of₃ (subst (λ p. AreParts 1 p members₂) (sym passed_is) are₂) in
-    let empty_members = changed_named (codes "vertices") (λ old. array no_items) members₂ in
-    let found : object empty_members ≡ value = read_of_compact again (object empty_members) value
-    (writable_changed (codes "vertices") (array no_items) members₂ tt of₃.writable) (again_is ∙ empty_is) read_is in
-    sym found ∙ ap (changed_member (codes "vertices") (λ old. array no_items)) (sym same)
+    → ((members₂ : MemberTrees) → IsCompactOf text (object members₂) → AreParts 1 passed members₂
+    → line ≡ compact (object (changed_named name (λ old. new) members₂)))
+    → line ≡ compact (object (changed_named name (λ old. new) members))
+exchanged_anew text line name parts passed members new of listed passed_is exchanged =
+    let (members₂, same, are) = listed (object members) of in
+    exchanged members₂ (subst (IsCompactOf text) same of)
+    (subst (λ p. AreParts 1 p members₂) (sym passed_is) are)
+    ∙ ap (λ v. compact (changed_member name (λ old. new) v)) (sym same)
+
+pub bare_objects : (text bare given : List ℕ) (members : MemberTrees) → IsCompactOf text (object members)
+    → bare ≡ compact (object (changed_named (codes "CityObjects") (λ old. object no_members) members)) → given ≡ bare
+    → IsCompactOf given (object (changed_named (codes "CityObjects") (λ old. object no_members) members))
+bare_objects text bare given members of bare_is given_is =
+    compact_changed text given (codes "CityObjects") (object no_members) members of tt (tt, tt) (omega arith)
+    (given_is ∙ bare_is)
+
+pub emptied_fits : (text line : List ℕ) (members : MemberTrees) → IsCompactOf text (object members)
+    → line ≡ compact (object (emptied members)) → IsCompactOf line (object (emptied members))
+emptied_fits text line members of line_is =
+    let bare = changed_named (codes "CityObjects") (λ old. object no_members) members in
+    compact_changed (compact (object bare)) line (codes "vertices") (array no_items) bare
+    (bare_objects text (compact (object bare)) (compact (object bare)) members of refl refl) tt tt (omega arith) line_is
 
 -- two members are changed in either order
 commute_changed : (m n : List ℕ) (f g : Tree → Tree) (members : MemberTrees) → bytes_eq m n ≡ false
@@ -233,17 +240,6 @@ emptied_in_order line members is = is ∙ ap (λ m. compact (object m))
     (sym (commute_changed (codes "CityObjects") (codes "vertices") (λ old. object no_members) (λ old. array no_items)
     members refl))
 
-pub emptied_at_once : (text empty again : List ℕ) (members : MemberTrees) (value : Tree)
-    → IsCompactOf text (object members)
-    → empty ≡ compact (object (changed_named (codes "vertices") (λ old. array no_items)
-    (changed_named (codes "CityObjects") (λ old. object no_members) members)))
-    → again ≡ empty → Spells again value → IsEmptied members value
-emptied_at_once text empty again members value of empty_is again_is read_is =
-    let bare = changed_named (codes "CityObjects") (λ old. object no_members) members in
-    sym (read_of_compact again (object (changed_named (codes "vertices") (λ old. array no_items) bare)) value
-    (writable_changed (codes "vertices") (array no_items) bare tt
-    (writable_changed (codes "CityObjects") (object no_members) members tt of.writable)) (again_is ∙ empty_is) read_is)
-
 -- ---- what is left is the header
 commute_named : (m n : List ℕ) (f : Tree → Tree) (members : MemberTrees) → bytes_eq m n ≡ false
     → without_named m (changed_named n f members) ≡ changed_named n f (without_named m members)
@@ -279,7 +275,8 @@ header_left members None =
     ∙ ap (changed_named (codes "CityObjects") (λ o. object no_members))
     (commute_named (codes "appearance") (codes "vertices") (λ v. array no_items) members refl))
 
-pub has_header : (members : MemberTrees) (before after : Tree) (grid : Grid) → IsEmptied members before
+pub has_header : (members : MemberTrees) (before after : Tree) (grid : Grid)
+    → before ≡ object (emptied members)
     → after ≡ without_appearance (member_of (codes "geometry-templates") before) before → IsHeader after grid
     → HasHeader (object members) after grid
 has_header members before after grid emptied dropped header =
@@ -303,9 +300,67 @@ has_header members before after grid emptied dropped header =
       header,
     )
 
-pub has_header_again : (members : MemberTrees) (before after value : Tree) (grid : Grid) → IsEmptied members before
+-- ---- the appearance is another
+templates_kept : (members : MemberTrees) → member_of (codes "geometry-templates") (object (emptied members))
+    ≡ first_named (codes "geometry-templates") members
+templates_kept members =
+    kept (codes "vertices") (codes "geometry-templates") (λ v. array no_items)
+    (object (changed_named (codes "CityObjects") (λ o. object no_members) members)) refl
+    ∙ kept (codes "CityObjects") (codes "geometry-templates") (λ o. object no_members) (object members) refl
+
+dropped_changed : (m : List ℕ) (f : Tree → Tree) (members : MemberTrees)
+    → without_named m (changed_named m f members) ≡ without_named m members
+dropped_changed m f no_members = refl
+dropped_changed m f (member other v others) = by (bytes_eq other m) refl (dropped_changed m f others)
+  where
+    by : (b : Bool) → bytes_eq other m ≡ b → without_named m (changed_named m f others) ≡ without_named m others
+        → without_named m (changed_named m f (member other v others)) ≡ without_named m (member other v others)
+    by true e later = rw (e, e) refl
+    by false e later = rw (e, e) (ap (member other v) later)
+
+pub bare_kept : (text line : List ℕ) (members : MemberTrees) → IsCompactOf text (object members)
+    → line ≡ compact (object (emptied members)) → IsBareText members line
+bare_kept text line members of line_is = (
+  object (emptied members),
+  line_is,
+  (emptied_fits text line members of line_is).writable,
+  record { templates = templates_kept members; rest = refl },
+)
+
+pub bare_exchanged : (text line given after : List ℕ) (members : MemberTrees) → IsCompactOf text (object members)
+    → line ≡ compact (object (emptied members)) → given ≡ line
+    → first_named (codes "geometry-templates") members ≡ None
+    → (IsCompactOf given (object (emptied members))
+    → after ≡ compact (object (changed_named (codes "appearance") (λ old. object no_members) (emptied members))))
+    → IsBareText members after
+bare_exchanged text line given after members of line_is given_is none exchanged =
+    let fits : IsCompactOf given (object (emptied members)) =
+    emptied_fits text given members of (given_is ∙ line_is) in
+    let value : Tree = object (changed_named (codes "appearance") (λ old. object no_members) (emptied members)) in
+    let dropped : without_appearance None value ≡ without_appearance None (object (emptied members)) =
+    ap object (dropped_changed (codes "appearance") (λ old. object no_members) (emptied members)) in (
+      value,
+      exchanged fits,
+      writable_changed (codes "appearance") (object no_members) (emptied members) tt fits.writable,
+      record {
+        templates = kept (codes "appearance") (codes "geometry-templates") (λ old. object no_members)
+            (object (emptied members)) refl ∙ templates_kept members;
+        rest = subst (λ t. without_appearance t value ≡ without_appearance t (object (emptied members))) (sym none)
+            dropped;
+      },
+    )
+
+pub bare_read : (line given : List ℕ) (members : MemberTrees) (value : Tree) → IsBareText members line → given ≡ line
+    → Spells given value → IsBare members value
+bare_read line given members value bare given_is spells =
+    subst (IsBare members) (read_of_compact given bare.0 value bare.2 (given_is ∙ bare.1) spells) bare.3
+
+pub has_bare_header : (members : MemberTrees) (before after value : Tree) (grid : Grid) → IsBare members before
     → after ≡ without_appearance (member_of (codes "geometry-templates") before) before → value ≡ after
     → IsHeader after grid → HasHeader (object members) value grid
-has_header_again members before after value grid emptied dropped same header =
-    subst (λ v. HasHeader (object members) v grid) (sym same)
-    (has_header members before after grid emptied dropped header)
+has_bare_header members before after value grid bare dropped same header =
+    let rest : Tree = object (emptied members) in
+    let left : after ≡ without_appearance (member_of (codes "geometry-templates") rest) rest =
+    dropped ∙ (ap (λ t. without_appearance t before) bare.templates
+    ∙ (bare.rest ∙ ap (λ t. without_appearance t rest) (sym (templates_kept members)))) in
+    subst (λ v. HasHeader (object members) v grid) (sym same) (has_header members rest after grid refl left header)

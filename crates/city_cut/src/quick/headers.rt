@@ -1,14 +1,15 @@
 //! The header of a document, read from the compact text of what is no city object and no vertex.
-ghost use Rattle.std.specs.Prelude.{◌≡◌, ◌++◌, ◌∷◌, [], ℕ, List, IfSome, IsUtf8, bytes_eq, codes, false};
+ghost use Rattle.std.specs.Prelude.{◌≡◌, ◌++◌, ◌∷◌, [], ℕ, List, None, IfSome, IsTrue, IsUtf8, bytes_eq, codes, false};
 ghost use Rattle.city_json.specs.Bytes.{colon};
 ghost use Rattle.city_json.specs.Compact.{compact, quoted};
+ghost use Rattle.city_json.specs.Members.{first_named};
 ghost use Rattle.city_json.specs.Parts.{AreParts};
-ghost use Rattle.city_json.specs.Tree.{MemberTrees, Tree, array, no_items, no_members, object, tree};
+ghost use Rattle.city_json.specs.Tree.{MemberTrees, Tree, object, tree};
 ghost use Rattle.city_json.specs.declared.compacting.parts.Part.{Part};
 ghost use Rattle.city_feature.specs.Changes.{changed_named};
 ghost use Rattle.city_feature.specs.Header.{IsHeader};
 ghost use Rattle.city_feature.specs.Quick.{IsPartNamed};
-ghost use Rattle.city_cut.specs.HeaderText.{HasHeader, IsEmptied};
+ghost use Rattle.city_cut.specs.HeaderText.{HasHeader, IsBare, IsBareText, emptied};
 ghost use Rattle.city_cut.specs.Texts.{IsCompactOf};
 
 use super::texts::{append_back, append_front, append_text, is_absent, parts_of};
@@ -72,12 +73,21 @@ fn exchange_two(
     Some(line)
 }
 
-/// The text of the document with no city objects and no vertices, where it has both. `None`: undecided.
-fn emptied_text(alloc: Global, text: &[u8], parts: &[Part]) -> Option<Line>
+/// The same, where it is not known yet in which parts the members lie.
+fn exchange_anew(alloc: Global, text: &[u8], name: &[u8], value: &[u8]) -> Option<Line>
     ensures { IfSome result (λ line. (members : MemberTrees) → IsCompactOf text.now (object members)
-        → AreParts 1 parts.now members
-        → line ≡ compact (object (changed_named (codes "vertices") (λ old. array no_items)
-        (changed_named (codes "CityObjects") (λ old. object no_members) members)))) }
+        → (named : List ℕ) → IsUtf8 named → name.now ≡ quoted named ++ colon ∷ []
+        → (new : Tree) → value.now ≡ compact new
+        → line ≡ compact (object (changed_named named (λ old. new) members))) }
+{
+    let parts = parts_of(alloc, text)?;
+    exchange_value(alloc, text, &parts, name, value)
+}
+
+/// The text of the document with no city objects and no vertices, where it has both. `None`: undecided.
+fn emptied_at_once(alloc: Global, text: &[u8], parts: &[Part]) -> Option<Line>
+    ensures { IfSome result (λ line. (members : MemberTrees) → IsCompactOf text.now (object members)
+        → AreParts 1 parts.now members → line ≡ compact (object (emptied members))) }
 {
     let objects = part_named(text, parts, b"\"CityObjects\":")?;
     let vertices = part_named(text, parts, b"\"vertices\":")?;
@@ -87,31 +97,57 @@ fn emptied_text(alloc: Global, text: &[u8], parts: &[Part]) -> Option<Line>
     exchange_two(alloc, text, &vertices, b"[]", &objects, b"{}")
 }
 
-/// Reads the document with no city objects and no vertices, which it need not have.
-fn read_exchanged(alloc: Global, text: &[u8], parts: &[Part]) -> Option<Json>
-    ensures { IfSome result (λ json. (members : MemberTrees)
-        → IsCompactOf text.now (object members) → AreParts 1 parts.now members
-        → IsEmptied members (tree json)) }
+/// The same, where it need not have them.
+fn emptied_in_turn(alloc: Global, text: &[u8], parts: &[Part]) -> Option<Line>
+    ensures { IfSome result (λ line. (members : MemberTrees) → IsCompactOf text.now (object members)
+        → AreParts 1 parts.now members → line ≡ compact (object (emptied members))) }
 {
     let bare = exchange_value(alloc, text, parts, b"\"CityObjects\":", b"{}")?;
-    let others = parts_of(alloc, bare.items())?;
-    let empty = exchange_value(alloc, bare.items(), &others, b"\"vertices\":", b"[]")?;
-    let Ok(json) = read(alloc, empty.items()) else {
-        return None;
-    };
-    Some(json)
+    exchange_anew(alloc, bare.items(), b"\"vertices\":", b"[]")
 }
 
-/// Reads the document with no city objects and no vertices.
-fn read_emptied(alloc: Global, text: &[u8], parts: &[Part]) -> Option<Json>
-    ensures { IfSome result (λ json. (members : MemberTrees)
-        → IsCompactOf text.now (object members) → AreParts 1 parts.now members
-        → IsEmptied members (tree json)) }
+/// The text of the document with no city objects and no vertices.
+fn emptied_text(alloc: Global, text: &[u8], parts: &[Part]) -> Option<Line>
+    ensures { IfSome result (λ line. (members : MemberTrees) → IsCompactOf text.now (object members)
+        → AreParts 1 parts.now members → line ≡ compact (object (emptied members))) }
 {
-    let Some(empty) = emptied_text(alloc, text, parts) else {
-        return read_exchanged(alloc, text, parts);
+    let Some(line) = emptied_at_once(alloc, text, parts) else {
+        return emptied_in_turn(alloc, text, parts);
     };
-    let Ok(json) = read(alloc, empty.items()) else {
+    Some(line)
+}
+
+/// Whether the document has an appearance that no geometry templates may refer to.
+fn has_idle_appearance(text: &[u8], parts: &[Part]) -> bool
+    ensures { IsTrue result → (members : MemberTrees) → IsCompactOf text.now (object members)
+        → AreParts 1 parts.now members → first_named (codes "geometry-templates") members ≡ None }
+{
+    if part_named(text, parts, b"\"appearance\":").is_none() {
+        return false;
+    }
+    is_absent(text, parts, b"\"geometry-templates\":")
+}
+
+/// The text of the document with no city objects and no vertices, and with an empty appearance, if its header has
+/// none: so no tree of an appearance is made only to be dropped.
+fn bare_text(alloc: Global, text: &[u8], parts: &[Part]) -> Option<Line>
+    ensures { IfSome result (λ line. (members : MemberTrees) → IsCompactOf text.now (object members)
+        → AreParts 1 parts.now members → IsBareText members line) }
+{
+    let line = emptied_text(alloc, text, parts)?;
+    if has_idle_appearance(text, parts) {
+        return exchange_anew(alloc, line.items(), b"\"appearance\":", b"{}");
+    }
+    Some(line)
+}
+
+/// Reads what [`bare_text`] leaves of the document.
+fn read_bare(alloc: Global, text: &[u8], parts: &[Part]) -> Option<Json>
+    ensures { IfSome result (λ json. (members : MemberTrees) → IsCompactOf text.now (object members)
+        → AreParts 1 parts.now members → IsBare members (tree json)) }
+{
+    let line = bare_text(alloc, text, parts)?;
+    let Ok(json) = read(alloc, line.items()) else {
         return None;
     };
     Some(json)
@@ -133,7 +169,7 @@ pub(super) fn header_of(alloc: Global, text: &[u8], parts: &[Part]) -> Option<He
         → IsCompactOf text.now (object members) → AreParts 1 parts.now members
         → HasHeader (object members) (tree header.json) header.grid) }
 {
-    let mut json = read_emptied(alloc, text, parts)?;
+    let mut json = read_bare(alloc, text, parts)?;
     drop_appearance(&mut json);
     checked(json)
 }

@@ -3,7 +3,7 @@ use Rattle.city_json.specs.Tree.{array, no_items, no_members, object}
 use Rattle.city_feature.proofs.QuickLines.{utf8}
 use Rattle.city_cut.proofs.QuickHeaders.{emptied_in_order}
 use Rattle.city_cut.proofs.QuickTexts.{if_some_more}
-use Rattle.city_cut.proofs.quick.headers.emptied_text.Goals as goal
+use Rattle.city_cut.proofs.quick.headers.emptied_at_once.Goals as goal
 
 pub returns-then-objects-vertices : goal.returns-then-objects-vertices
 returns-then-objects-vertices c = if_some_more c.exchange_two.result (λ line made members of are.
