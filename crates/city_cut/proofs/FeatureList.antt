@@ -1,7 +1,6 @@
--- The features, family by family.
-use Rattle.std.proofs.Common.{◌≡◌, ◌<◌, ◌≤◌, ◌+◌, ◌++◌, ℕ, zero, suc, Bool, true, false, List, [], ◌∷◌, Option, Some, length, get_or, take, take_all, sym, refl, ap, subst, ◌∙◌, arith, ◌==◌, bytes_eq}
-use Rattle.std.proofs.lemmas.Bool.{eqb-true, eqb-false}
-use Rattle.std.proofs.lemmas.List.{get_or_default, take_more}
+-- The features, object by object.
+use Rattle.std.proofs.Common.{◌≡◌, ◌<◌, ◌≤◌, ◌+◌, ◌++◌, inl, inr, ℕ, zero, suc, Bool, true, false, List, [], ◌∷◌, Option, Some, None, length, get_or, take, take_all, sym, refl, subst, arith, bytes_eq}
+use Rattle.std.proofs.lemmas.List.Elements.{Contains-push_cases}
 use Rattle.std.proofs.lemmas.Slice.Eq.{bytes_eq-Decides}
 use Rattle.std.specs.List.{AllByRecursion, AllZip, Contains}
 use Rattle.city_json.specs.Members.{first_named, names}
@@ -12,12 +11,12 @@ use Rattle.city_cut.specs.Boundaries.{IsBounded}
 use Rattle.city_cut.specs.Chosen.{named_at}
 use Rattle.city_cut.specs.CityObjects.{AllBelong, IsReached, roots}
 use Rattle.city_cut.specs.Cut.{IsFeatureOf}
-use Rattle.city_cut.specs.Families.{Begins}
+use Rattle.city_cut.specs.Families.{IsBegun}
 use Rattle.city_cut.specs.Items.{values}
 use Rattle.city_cut.specs.Places.{IsFamily, name_at}
 use Rattle.city_cut.specs.declared.families.Family.{Family}
 use Rattle.city_cut.proofs.Kinship.{names_pairs}
-use Rattle.city_cut.proofs.Seeking.{zip_push}
+use Rattle.city_cut.proofs.Seeking.{root_more, root_same, zip_push}
 
 pub zip_long : {A B : Type 0} (R : A → B → Type 0) (xs : List A) (ys : List B) → AllZip R xs ys → length xs ≡ length ys
 zip_long R [] [] all = refl
@@ -33,62 +32,57 @@ zip_at R (x ∷ xs) [] i d e all within = absurd all
 zip_at R (x ∷ xs) (y ∷ ys) zero d e all within = all.0
 zip_at R (x ∷ xs) (y ∷ ys) (suc i) d e all within = zip_at R xs ys i d e all.1 (omega (arith, within))
 
--- the family at this place, and the object that it begins with
-pub family_at : (objects : MemberTrees) (families : List Family) (i : ℕ) (family : Family)
-    → AllZip (Begins objects) (roots objects) families → i < length families → family ≡ get_or families i family
-    → IsFamily objects family.root family.places.items
-family_at objects families i family all within is =
-    subst (λ (f : Family). IsFamily objects f.root f.places.items) (sym is)
-    (zip_at (Begins objects) (roots objects) families i [] family all within).1
+-- ---- the features of the objects before a place
+pub features_on : (pairs : List (List ℕ × Tree)) (appearance : Option Tree) (points : List Triple) (at : ℕ)
+    (features : List FeatureValue) → IsBegun pairs at None → at < length pairs
+    → AllZip (IsFeatureOf (member_trees pairs) appearance points) (roots (member_trees (take at pairs))) features
+    → AllZip (IsFeatureOf (member_trees pairs) appearance points) (roots (member_trees (take (at + 1) pairs))) features
+features_on pairs appearance points at features none within all =
+    subst (λ ids. AllZip (IsFeatureOf (member_trees pairs) appearance points) ids features)
+    (sym (root_same pairs at within none)) all
 
-pub features_more : (objects : MemberTrees) (appearance : Option Tree) (points : List Triple) (families : List Family)
-    (i : ℕ) (family : Family) (features : List FeatureValue) (feature : FeatureValue)
-    → AllZip (Begins objects) (roots objects) families
-    → AllZip (IsFeatureOf objects appearance points) (take i (roots objects)) features
-    → i < length families
-    → family ≡ get_or families i family
-    → IsFeatureOf objects appearance points (name_at objects family.root) feature
-    → AllZip (IsFeatureOf objects appearance points) (take (i + 1) (roots objects)) (features ++ feature ∷ [])
-features_more objects appearance points families i family features feature begun all within is one =
-    rw (take_more (roots objects) i [] (omega
-    (arith, within, zip_long (Begins objects) (roots objects) families begun)))
-    (zip_push (IsFeatureOf objects appearance points) (take i (roots objects)) features (get_or (roots objects) i [])
-    feature all (subst (λ id. IsFeatureOf objects appearance points id feature) name one))
-  where
-    name : name_at objects family.root ≡ get_or (roots objects) i []
-    name = ap (λ (f : Family). name_at objects f.root) is
-        ∙ (zip_at (Begins objects) (roots objects) families i [] family begun within).0
+pub features_more : (pairs : List (List ℕ × Tree)) (appearance : Option Tree) (points : List Triple) (at : ℕ)
+    (family : Family) (features : List FeatureValue) (feature : FeatureValue) → IsBegun pairs at (Some family)
+    → at < length pairs
+    → AllZip (IsFeatureOf (member_trees pairs) appearance points) (roots (member_trees (take at pairs))) features
+    → IsFeatureOf (member_trees pairs) appearance points (name_at (member_trees pairs) family.root) feature
+    → AllZip (IsFeatureOf (member_trees pairs) appearance points) (roots (member_trees (take (at + 1) pairs)))
+    (features ++ feature ∷ [])
+features_more pairs appearance points at family features feature begun within all one =
+    subst (λ ids. AllZip (IsFeatureOf (member_trees pairs) appearance points) ids (features ++ feature ∷ []))
+    (sym (root_more pairs at within begun.0))
+    (zip_push (IsFeatureOf (member_trees pairs) appearance points) (roots (member_trees (take at pairs))) features
+    (name_at (member_trees pairs) at) feature all
+    (subst (λ k. IsFeatureOf (member_trees pairs) appearance points (name_at (member_trees pairs) k) feature) begun.1
+    one))
 
-pub features_all : (objects : MemberTrees) (appearance : Option Tree) (points : List Triple) (families : List Family)
-    (i : ℕ) (features : List FeatureValue)
-    → AllZip (Begins objects) (roots objects) families
-    → AllZip (IsFeatureOf objects appearance points) (take i (roots objects)) features
-    → length families ≤ i
-    → AllZip (IsFeatureOf objects appearance points) (roots objects) features
-features_all objects appearance points families i features begun all past =
-    subst (λ ids. AllZip (IsFeatureOf objects appearance points) ids features)
-    (take_all i (roots objects) (omega (arith, past, zip_long (Begins objects) (roots objects) families begun))) all
+pub features_all : (pairs : List (List ℕ × Tree)) (appearance : Option Tree) (points : List Triple) (at : ℕ)
+    (features : List FeatureValue) → length pairs ≤ at
+    → AllZip (IsFeatureOf (member_trees pairs) appearance points) (roots (member_trees (take at pairs))) features
+    → AllZip (IsFeatureOf (member_trees pairs) appearance points) (roots (member_trees pairs)) features
+features_all pairs appearance points at features past all =
+    subst (λ l. AllZip (IsFeatureOf (member_trees pairs) appearance points) (roots (member_trees l)) features)
+    (take_all at pairs past) all
 
--- ---- the boundaries of the families before a place
-abbrev pub BoundedBefore : ℕ → List (List ℕ × Tree) → List Family → ℕ → Type 0
-BoundedBefore count objects families i = (j : ℕ) (d : Family) → j < i → j < length families → (k : ℕ)
-    → Contains (get_or families j d).places.items k → IsBounded count (named_at objects k).1
+-- the family as of its own root
+pub family_begun : (pairs : List (List ℕ × Tree)) (at : ℕ) (family : Family) → IsBegun pairs at (Some family)
+    → IsFamily (member_trees pairs) family.root family.places.items
+family_begun pairs at family begun =
+    subst (λ k. IsFamily (member_trees pairs) k family.places.items) (sym begun.1) begun.2
 
-pub bounded_more : (count : ℕ) (objects : List (List ℕ × Tree)) (families : List Family) (i : ℕ) (family : Family)
-    → BoundedBefore count objects families i → i < length families → family ≡ get_or families i family
-    → ((k : ℕ) → Contains family.places.items k → IsBounded count (named_at objects k).1)
-    → BoundedBefore count objects families (i + 1)
-bounded_more count objects families i family all within is one =
-    λ j d below inside k c. by j d below inside k c (j == i) refl
-  where
-    by : (j : ℕ) (d : Family) → j < i + 1 → j < length families → (k : ℕ)
-        → Contains (get_or families j d).places.items k → (b : Bool) → (j == i) ≡ b
-        → IsBounded count (named_at objects k).1
-    by j d below inside k c true e =
-        let same : get_or families j d ≡ family =
-        ap (λ n. get_or families n d) (eqb-true j i e) ∙ (get_or_default families i d family within ∙ sym is) in
-        one k (subst (λ (f : Family). Contains f.places.items k) same c)
-    by j d below inside k c false e = all j d (omega (arith, below, eqb-false j i e)) inside k c
+-- ---- the boundaries of what is reached from objects of these names
+abbrev pub BoundedFrom : ℕ → MemberTrees → List (List ℕ) → Type 0
+BoundedFrom count objects ids = (id name : List ℕ) (value : Tree) → Contains ids id → IsReached objects id name
+    → first_named name objects ≡ Some value → IsBounded count value
+
+pub bounded_none : (count : ℕ) (objects : MemberTrees) → BoundedFrom count objects []
+bounded_none count objects = λ id name value c far is. absurd (omega (arith, c.1))
+
+pub bounded_on : (count : ℕ) (pairs : List (List ℕ × Tree)) (at : ℕ) → IsBegun pairs at None → at < length pairs
+    → BoundedFrom count (member_trees pairs) (roots (member_trees (take at pairs)))
+    → BoundedFrom count (member_trees pairs) (roots (member_trees (take (at + 1) pairs)))
+bounded_on count pairs at none within all =
+    subst (BoundedFrom count (member_trees pairs)) (sym (root_same pairs at within none)) all
 
 -- where the object of a name stands
 first_place : (objects : List (List ℕ × Tree)) (name : List ℕ) (value : Tree)
@@ -106,36 +100,35 @@ first_place (m ∷ ms) name value is = by (bytes_eq m.0 name) refl (λ later. fi
     by true e later = (0, omega arith, (bytes_eq-Decides m.0 name).0 e, some_same (rw e at is))
     by false e later = let there = later (rw e at is) in (suc there.0, omega (arith, there.1), there.2, there.3)
 
-pub bounded_all : (count : ℕ) (objects : List (List ℕ × Tree)) (families : List Family) (i : ℕ)
-    → AllZip (Begins (member_trees objects)) (roots (member_trees objects)) families
-    → BoundedBefore count objects families i → length families ≤ i → (id name : List ℕ) (value : Tree)
-    → Contains (roots (member_trees objects)) id → IsReached (member_trees objects) id name
-    → first_named name (member_trees objects) ≡ Some value → IsBounded count value
-bounded_all count objects families i begun all past id name value c far is =
-    let long = zip_long (Begins (member_trees objects)) (roots (member_trees objects)) families begun in
-    let inside : c.0 < length families = omega (arith, c.1, long) in
-    of_family (get_or families c.0 nobody) (zip_at (Begins (member_trees objects)) (roots (member_trees objects))
-    families c.0 id nobody begun inside) (all c.0 nobody (omega (arith, inside, past)) inside)
+pub bounded_more : (count : ℕ) (pairs : List (List ℕ × Tree)) (at : ℕ) (family : Family)
+    → IsBegun pairs at (Some family) → at < length pairs
+    → BoundedFrom count (member_trees pairs) (roots (member_trees (take at pairs)))
+    → ((k : ℕ) → Contains family.places.items k → IsBounded count (named_at pairs k).1)
+    → BoundedFrom count (member_trees pairs) (roots (member_trees (take (at + 1) pairs)))
+bounded_more count pairs at family begun within all one =
+    subst (BoundedFrom count (member_trees pairs)) (sym (root_more pairs at within begun.0))
+    (λ id name value c far is.
+    elim (Contains-push_cases (roots (member_trees (take at pairs))) (name_at (member_trees pairs) at) id c) [
+      | inl before ↦ all id name value before far is
+      | inr own ↦ of_family name value
+          (subst (λ i. IsReached (member_trees pairs) i name) (sym own) far) is
+    ])
   where
-    nobody : Family
-    nobody = first_family families c.0 (omega
-        (arith, c.1, zip_long (Begins (member_trees objects)) (roots (member_trees objects)) families begun))
-      where
-        first_family : (families : List Family) (k : ℕ) → k < length families → Family
-        first_family [] k below = absurd (omega (arith, below))
-        first_family (f ∷ fs) k below = f
+    of_family : (name : List ℕ) (value : Tree) → IsReached (member_trees pairs) (name_at (member_trees pairs) at) name
+        → first_named name (member_trees pairs) ≡ Some value → IsBounded count value
+    of_family name value far is =
+        let there = first_place pairs name value is in
+        let reached : IsReached (member_trees pairs) (name_at (member_trees pairs) at)
+        (name_at (member_trees pairs) there.0) =
+        subst (λ n. IsReached (member_trees pairs) (name_at (member_trees pairs) at) n) (sym there.2) far in
+        subst (IsBounded count) there.3 (one there.0
+        ((begun.2.reached there.0 (omega (arith, there.1, names_pairs pairs))).1 reached))
 
-    of_family : (family : Family) → Begins (member_trees objects) (get_or (roots (member_trees objects)) c.0 id) family
-        → ((k : ℕ) → Contains family.places.items k → IsBounded count (named_at objects k).1) → IsBounded count value
-    of_family family begins bounded =
-        let there = first_place objects name value is in
-        let root : id ≡ name_at (member_trees objects) family.root = sym (begins.0 ∙ c.2) in
-        let reached : IsReached (member_trees objects) (name_at (member_trees objects) family.root)
-        (name_at (member_trees objects) there.0) =
-        subst (λ n. IsReached (member_trees objects) (name_at (member_trees objects) family.root) n) (sym there.2)
-        (subst (λ i. IsReached (member_trees objects) i name) root far) in
-        subst (IsBounded count) there.3 (bounded there.0
-        ((begins.1.reached there.0 (omega (arith, there.1, names_pairs objects))).1 reached))
+pub bounded_all : (count : ℕ) (pairs : List (List ℕ × Tree)) (at : ℕ) → length pairs ≤ at
+    → BoundedFrom count (member_trees pairs) (roots (member_trees (take at pairs)))
+    → BoundedFrom count (member_trees pairs) (roots (member_trees pairs))
+bounded_all count pairs at past all =
+    subst (λ l. BoundedFrom count (member_trees pairs) (roots (member_trees l))) (take_all at pairs past) all
 
 -- every object is bounded, where each that is reached is
 pub all_bounded : (count : ℕ) (objects : MemberTrees) → AllBelong objects

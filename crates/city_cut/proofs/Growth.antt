@@ -1,5 +1,5 @@
 -- How marks and found things grow.
-use Rattle.std.proofs.Common.{◌≡◌, Some, ◌≢◌, ◌<◌, ◌≤◌, ◌+◌, ◌++◌, ◌⊎◌, inl, inr, ℕ, Bool, true, false, ◌==◌, List, [], ◌∷◌, length, get_or, if◌then◌else◌, take, sym, refl, ap, subst, ◌∙◌, arith, append_assoc, length-append, length-set}
+use Rattle.std.proofs.Common.{◌≡◌, Some, ◌≢◌, ◌<◌, ◌≤◌, ◌+◌, ◌++◌, ◌⊎◌, ◌↔◌, inl, inr, ℕ, Bool, true, false, ◌==◌, List, [], ◌∷◌, length, get_or, if◌then◌else◌, take, sym, refl, ap, subst, ◌∙◌, arith, append_assoc, length-append, length-set}
 use Rattle.std.proofs.lemmas.Bool.{eq-eqb, eqb-true, eqb-false}
 use Rattle.std.proofs.lemmas.List.{append-nil, take_more, get_or_default, get_or_append_left, get_or-set_same, get_or-set_other}
 use Rattle.std.proofs.lemmas.List.Elements.{Contains-append_left, Contains-append_right, Contains-push, Contains-push_cases, Contains-append_cases}
@@ -9,7 +9,7 @@ use Rattle.std.specs.List.{Contains, All, slice_get, slice_index, slice_set}
 use Rattle.std.specs.Global.{Global}
 use Rattle.std.specs.Prelude.{Vec}
 use Rattle.city_cut.specs.Reach.{Reached, itself, onward}
-use Rattle.city_cut.specs.Search.{After, InRange, IsMarked, unmarked, Grows, Searches}
+use Rattle.city_cut.specs.Search.{After, InRange, IsMarked, IsReachedFrom, unmarked, Grows, Searches}
 
 nothing : (k : ℕ) → Contains [] k → ⊥
 nothing k c = omega (arith, c.1)
@@ -62,7 +62,7 @@ at_set marks k root j within = by (j == k) refl
     )
     by false e = inr (eqb-false j k e, get_or-set_other marks k j root 0 (eqb-false j k e))
 
-marked_after : (root : ℕ) (marks : List ℕ) (k j : ℕ) → k < length marks → IsMarked marks root j
+pub marked_after : (root : ℕ) (marks : List ℕ) (k j : ℕ) → k < length marks → IsMarked marks root j
     → IsMarked (slice_set marks k root) root j
 unfolding At
 marked_after root marks k j within m = (
@@ -70,14 +70,20 @@ marked_after root marks k j within m = (
   elim (at_set marks k root j within) [ inl here ↦ here.1 | inr there ↦ there.1 ∙ m.1 ],
 )
 
-marked_there : (root : ℕ) (marks : List ℕ) (k : ℕ) → k < length marks → IsMarked (slice_set marks k root) root k
+pub marked_there : (root : ℕ) (marks : List ℕ) (k : ℕ) → k < length marks → IsMarked (slice_set marks k root) root k
 marked_there root marks k within = (omega (arith, length-set {A = ℕ}), get_or-set_same marks k root 0 within)
 
-marked_before : (root : ℕ) (marks : List ℕ) (k j : ℕ) → k < length marks → IsMarked (slice_set marks k root) root j
+pub marked_before : (root : ℕ) (marks : List ℕ) (k j : ℕ) → k < length marks → IsMarked (slice_set marks k root) root j
     → (j ≡ k) ⊎ IsMarked marks root j
 unfolding At
 marked_before root marks k j within m = elim (at_set marks k root j within)
     [ inl here ↦ inl here.0 | inr there ↦ inr (omega (arith, m.0, length-set {A = ℕ}), sym there.1 ∙ m.1) ]
+
+pub other_after : (root : ℕ) (marks : List ℕ) (k j : ℕ) → k < length marks
+    → slice_index (slice_set marks k root) j ≢ root → slice_index (slice_set marks k root) j ≡ slice_index marks j
+unfolding At
+other_after root marks k j within other = elim (at_set marks k root j within)
+    [ inl here ↦ absurd (other here.1) | inr there ↦ there.1 ]
 
 one_fewer : (root : ℕ) (marks : List ℕ) (k : ℕ) → k < length marks → slice_index marks k ≢ root
     → unmarked root (slice_set marks k root) + 1 ≡ unmarked root marks
@@ -161,41 +167,79 @@ grows_more root new marks marks' marks'' found found' found'' i g within inside 
 some_same : {A : Type 0} (x y : A) → Some x ≡ Some y → y ≡ x
 some_same x y e = cc
 
-pub searches_none : (graph : List (Vec ℕ Global)) (root : ℕ) (marks marks' found : List ℕ)
-    → Grows root (root ∷ []) marks marks' [] found → All (λ mark. mark ≢ root) marks
-    → Searches graph root marks marks' found 0
-searches_none graph root marks marks' found g fresh = record {
-  long = g.long;
-  within = omega arith;
-  begins = rw is (elim (g.only_found root (g.all_new root (0, omega arith, refl)))
-      [ inl old ↦ absurd (unmarked_before root old) | inr new ↦ new ]);
-  sound = λ k c. subst (λ n. Reached (After graph) root n) (one_only k (g.only_new k (rw is at c))) itself;
-  marked = λ k c. g.marked k (rw is at c);
-  only = λ k m. rw is (elim (g.only_found k m) [ inl old ↦ absurd (unmarked_before k old) | inr new ↦ new ]);
-  others = g.others;
-  closed = λ i below. absurd (omega arith);
-}
+-- what one thing grows to is that thing, where nothing had the mark
+pub begun_with : (mark one : ℕ) (marks marks' found : List ℕ) → Grows mark (one ∷ []) marks marks' [] found
+    → All (λ m. m ≢ mark) marks → (k : ℕ) → Contains found k ↔ IsMarked marks' mark k
+begun_with mark one marks marks' found g fresh k = (
+  λ c. g.marked k (rw is at c),
+  λ m. rw is (elim (g.only_found k m) [ inl old ↦ absurd (fresh k 0 old.0 old.1) | inr new ↦ new ]),
+)
   where
     is : found ≡ g.more
     is = g.found_is
 
-    unmarked_before : (k : ℕ) → IsMarked marks root k → ⊥
-    unmarked_before k m = fresh k 0 m.0 m.1
+-- the first thing was noted, where nothing had the mark
+pub noted_once : (one : ℕ) (marks marks' before found : List ℕ) → one < length marks → All (λ m. m ≢ one) marks
+    → before ≡ []
+    → (slice_index marks one ≢ one → (marks' ≡ slice_set marks one one) × (found ≡ before ++ one ∷ []))
+    → Grows one (one ∷ []) marks marks' [] found × (found ≡ one ∷ [])
+noted_once one marks marks' before found within fresh none first =
+    let apart : slice_index marks one ≢ one = fresh one 0 within in
+    let new = first apart in
+    let is : found ≡ one ∷ [] = new.1 ∙ ap (λ l. l ++ one ∷ []) none in (
+      rw (new.0, is) (grows_first one [] marks marks [] [] one (grows_none one marks []) within apart),
+      is,
+    )
 
-    one_only : (k : ℕ) → Contains (root ∷ []) k → root ≡ k
-    one_only k c = elim (Contains-push_cases [] root k c) [ inl never ↦ absurd (nothing k never) | inr e ↦ e ]
+-- all else has kept its mark from the first thing on
+pub kept_others : (mark : ℕ) (new marks marks' marks'' found : List ℕ) → Grows mark new marks marks' [] found
+    → ((k : ℕ) → k < length marks' → slice_index marks'' k ≢ mark → slice_index marks'' k ≡ slice_index marks' k)
+    → (k : ℕ) → k < length marks → slice_index marks'' k ≢ mark → slice_index marks'' k ≡ slice_index marks k
+kept_others mark new marks marks' marks'' found g later k inside other =
+    let same = later k (omega (arith, inside, g.long)) other in
+    same ∙ g.others k inside (λ e. other (same ∙ e))
 
-pub searches_on : (graph : List (Vec ℕ Global)) (root : ℕ) (marks marks' marks'' found found' : List ℕ) (at : ℕ)
-    (row : Vec ℕ Global) → Searches graph root marks marks' found at → at < length found
-    → slice_get graph (slice_index found at) ≡ Some row → Grows root row.items marks' marks'' found found'
-    → Searches graph root marks marks'' found' (at + 1)
-searches_on graph root marks marks' marks'' found found' at row s within is g = record {
+from_one : (graph : List (Vec ℕ Global)) (root k : ℕ) → IsReachedFrom graph (root ∷ []) k
+    ↔ Reached (After graph) root k
+from_one graph root k = (
+  λ far. elim (Contains-push_cases [] root far.0 far.1) [
+    | inl never ↦ absurd (nothing far.0 never)
+    | inr e ↦ subst (λ n. Reached (After graph) n k) (sym e) far.2
+  ],
+  λ far. (root, (0, omega arith, refl), far),
+)
+
+pub reached_from_one : {P : Type 0} (graph : List (Vec ℕ Global)) (starts : List ℕ) (root k : ℕ) → starts ≡ root ∷ []
+    → P ↔ IsReachedFrom graph starts k → P ↔ Reached (After graph) root k
+reached_from_one graph starts root k is both =
+    let there = subst (λ l. IsReachedFrom graph l k ↔ Reached (After graph) root k) (sym is) (from_one graph root k) in
+    (λ p. there.0 (both.0 p), λ far. both.1 (there.1 far))
+
+pub searches_start : (graph : List (Vec ℕ Global)) (starts : List ℕ) (mark : ℕ) (marks : List ℕ)
+    → ((k : ℕ) → Contains starts k ↔ IsMarked marks mark k) → Searches graph starts mark marks marks starts 0
+searches_start graph starts mark marks both = record {
+  long = refl;
+  within = omega arith;
+  begins = λ k c. c;
+  sound = λ k c. (k, c, itself);
+  marked = λ k c. (both k).0 c;
+  only = λ k m. (both k).1 m;
+  others = λ k _ _. refl;
+  closed = λ i below. absurd (omega arith);
+}
+
+pub searches_on : (graph : List (Vec ℕ Global)) (starts : List ℕ) (mark : ℕ) (marks marks' marks'' found found' : List ℕ) (at : ℕ)
+    (row : Vec ℕ Global) → Searches graph starts mark marks marks' found at → at < length found
+    → slice_get graph (slice_index found at) ≡ Some row → Grows mark row.items marks' marks'' found found'
+    → Searches graph starts mark marks marks'' found' (at + 1)
+searches_on graph starts mark marks marks' marks'' found found' at row s within is g = record {
   long = g.long ∙ s.long;
   within = let e = length-append found g.more in omega (arith, e, ap length g.found_is);
-  begins = onwards root s.begins;
+  begins = λ k c. onwards k (s.begins k c);
   sound = λ k c. elim (Contains-append_cases found g.more k (rw (g.found_is) at c)) [
     | inl old ↦ s.sound k old
-    | inr new ↦ onward (slice_index found at) k (s.sound _ here) (row, is, g.only_new k new)
+    | inr new ↦ let far = s.sound (slice_index found at) here in
+        (far.0, far.1, onward (slice_index found at) k far.2 (row, is, g.only_new k new))
   ];
   marked = λ k c. elim (Contains-append_cases found g.more k (rw (g.found_is) at c))
       [ inl old ↦ g.kept k (s.marked k old) | inr new ↦ g.marked k new ];
@@ -233,18 +277,36 @@ searches_on graph root marks marks' marks'' found found' at row s within is g = 
         onwards b (s.closed i (omega (arith, apart)) b
         (subst (λ n. After graph n b) (stays i (omega (arith, apart))) after))
 
-pub searches_end : (graph : List (Vec ℕ Global)) (root : ℕ) (marks marks' found : List ℕ) (at k : ℕ)
-    → Searches graph root marks marks' found at → length found ≤ at → Reached (After graph) root k → Contains found k
-searches_end graph root marks marks' found at k s done itself = s.begins
-searches_end graph root marks marks' found at k s done (onward a b r after) =
-    let there = searches_end graph root marks marks' found at a s done r in
+pub searches_end : (graph : List (Vec ℕ Global)) (starts : List ℕ) (mark : ℕ) (marks marks' found : List ℕ)
+    (at start k : ℕ) → Searches graph starts mark marks marks' found at → length found ≤ at → Contains starts start
+    → Reached (After graph) start k → Contains found k
+searches_end graph starts mark marks marks' found at start k s done c itself = s.begins start c
+searches_end graph starts mark marks marks' found at start k s done c (onward a b r after) =
+    let there = searches_end graph starts mark marks marks' found at start a s done c r in
     s.closed there.0 (omega (arith, there.1)) b
     (subst (λ n. After graph n b) (sym there.2 ∙ get_or_default found there.0 a 0 there.1) after)
 
+-- all was found
+pub searches_all : (graph : List (Vec ℕ Global)) (starts : List ℕ) (mark : ℕ) (marks marks' found : List ℕ)
+    (at k : ℕ) → Searches graph starts mark marks marks' found at → length found ≤ at
+    → Contains found k ↔ IsReachedFrom graph starts k
+searches_all graph starts mark marks marks' found at k s done = (
+  s.sound k,
+  λ far. searches_end graph starts mark marks marks' found at far.0 k s done far.1 far.2,
+)
+
+pub searches_marked : (graph : List (Vec ℕ Global)) (starts : List ℕ) (mark : ℕ) (marks marks' found : List ℕ)
+    (at k : ℕ) → Searches graph starts mark marks marks' found at → length found ≤ at
+    → IsMarked marks' mark k ↔ IsReachedFrom graph starts k
+searches_marked graph starts mark marks marks' found at k s done = (
+  λ m. s.sound k (s.only k m),
+  λ far. s.marked k (searches_end graph starts mark marks marks' found at far.0 k s done far.1 far.2),
+)
+
 -- what is found stands in the table
-pub found_within : (graph : List (Vec ℕ Global)) (root : ℕ) (marks marks' found : List ℕ) (at x : ℕ)
-    → Searches graph root marks marks' found at → at < length found → x ≡ get_or found at x → x < length marks
-found_within graph root marks marks' found at x s within is = let m = s.marked x (at, within, sym is) in
+pub found_within : (graph : List (Vec ℕ Global)) (starts : List ℕ) (mark : ℕ) (marks marks' found : List ℕ) (at x : ℕ)
+    → Searches graph starts mark marks marks' found at → at < length found → x ≡ get_or found at x → x < length marks
+found_within graph starts mark marks marks' found at x s within is = let m = s.marked x (at, within, sym is) in
     omega (arith, m.0, s.long)
 
 pub rows_within : (graph : List (Vec ℕ Global)) (n x : ℕ) (row : Vec ℕ Global) → InRange graph n
@@ -252,19 +314,20 @@ pub rows_within : (graph : List (Vec ℕ Global)) (n x : ℕ) (row : Vec ℕ Glo
 rows_within graph n x row all is = rw (get_or_from_slice_get graph x row row is) at
     (all x row (slice_get_within graph x row is))
 
-pub searches_step : (graph : List (Vec ℕ Global)) (root : ℕ) (marks marks' marks'' found found' items : List ℕ)
+pub searches_step : (graph : List (Vec ℕ Global)) (starts : List ℕ) (mark : ℕ)
+    (marks marks' marks'' found found' items : List ℕ)
     (at x : ℕ) (row : Vec ℕ Global)
-    → Searches graph root marks marks' found at → at < length found → length marks ≡ length graph
+    → Searches graph starts mark marks marks' found at → at < length found → length marks ≡ length graph
     → x ≡ get_or found at x → row ≡ get_or graph x row → items ≡ row.items
-    → Grows root items marks' marks'' found found'
-    → Searches graph root marks marks'' found' (at + 1)
-searches_step graph root marks marks' marks'' found found' items at x row s within long is there same g =
-    searches_on graph root marks marks' marks'' found found' at row s within
+    → Grows mark items marks' marks'' found found'
+    → Searches graph starts mark marks marks'' found' (at + 1)
+searches_step graph starts mark marks marks' marks'' found found' items at x row s within long is there same g =
+    searches_on graph starts mark marks marks' marks'' found found' at row s within
     (subst (λ n. slice_get graph n ≡ Some row) (is ∙ get_or_default found at x 0 within) got)
-    (subst (λ new. Grows root new marks' marks'' found found') same g)
+    (subst (λ new. Grows mark new marks' marks'' found found') same g)
   where
     below : x < length graph
-    below = let b = found_within graph root marks marks' found at x s within is in omega (arith, b, long)
+    below = let b = found_within graph starts mark marks marks' found at x s within is in omega (arith, b, long)
 
     got : slice_get graph x ≡ Some row
     got = slice_get_read graph (length graph) x row refl below there

@@ -1,10 +1,10 @@
--- The search for the families, object by object.
-use Rattle.std.proofs.Common.{◌≡◌, ◌≢◌, ◌<◌, ◌≤◌, ◌+◌, ◌++◌, ◌⊎◌, ◌↔◌, inl, inr, ℕ, zero, suc, Bool, true, false, List, [], ◌∷◌, length, get_or, map, take, drop, take_all, sym, refl, ap, subst, ◌∙◌, arith, ◌==◌, if◌then◌else◌, Result, Ok, Err}
+-- The families, object by object, and the search for what is in none.
+use Rattle.std.proofs.Common.{◌≡◌, ◌≢◌, ◌<◌, ◌+◌, ◌++◌, ◌⊎◌, ◌↔◌, inl, inr, ℕ, zero, suc, Bool, true, false, List, [], ◌∷◌, length, get_or, map, take, drop, take_all, sym, refl, ap, subst, ◌∙◌, arith, ◌==◌, if◌then◌else◌, length-set, Result, Ok, Err}
 use Rattle.std.proofs.lemmas.Bool.{eqb-true, eqb-false}
 use Rattle.std.proofs.Math.ListN.{get_or-map, replicate}
 use Rattle.std.proofs.lemmas.List.{append-nil, drop_all, get_or_default, length-map, length-replicate, take_more}
 use Rattle.std.proofs.lemmas.List.Elements.{Contains-append_left, Contains-push, Contains-push_cases}
-use Rattle.std.specs.List.{All, AllZip, Contains, list_any, slice_index}
+use Rattle.std.specs.List.{All, AllZip, Contains, list_any, slice_index, slice_set}
 use Rattle.std.specs.Prelude.{nat_eq, IfErr, OnOk, Vec}
 use Rattle.std.specs.Global.{Global}
 use Rattle.city_json.specs.Members.{names}
@@ -14,11 +14,12 @@ use Rattle.city_cut.specs.Chosen.{named_at}
 use Rattle.byte_streams.specs.declared.fault.Fault.{Fault}
 use Rattle.byte_streams.specs.declared.fault.Fault.TheVariants.{Memory, Orphan}
 use Rattle.city_cut.specs.CityObjects.{AllBelong, HasOrphan, LacksChild, IsReached, has_parents, roots}
-use Rattle.city_cut.specs.Families.{AreRelated, AreSought, Begins, HasSought, IsMarkedSoFar, RefusesFamilies}
-use Rattle.city_cut.specs.Places.{IsFamily, IsGraph, ReachesPlace, name_at}
-use Rattle.city_cut.proofs.Kinship.{names_long, names_pairs}
+use Rattle.city_cut.specs.Families.{AreListed, AreRelated, IsBeginner, IsInFamily, IsMarkedSoFar, RefusesFamilies}
+use Rattle.city_cut.specs.Places.{IsGraph, ReachesPlace, name_at}
+use Rattle.city_cut.specs.Search.{IsMarked, IsReachedFrom}
+use Rattle.city_cut.proofs.Growth.{marked_after, marked_before, marked_there, other_after}
+use Rattle.city_cut.proofs.Kinship.{names_long, names_pairs, reached_at}
 use Rattle.city_cut.proofs.Tables.{names_map}
-use Rattle.city_cut.specs.declared.families.Family.{Family}
 
 pub zip_push : {A B : Type 0} (R : A → B → Type 0) (xs : List A) (ys : List B) (x : A) (y : B) → AllZip R xs ys → R x y
     → AllZip R (xs ++ x ∷ []) (ys ++ y ∷ [])
@@ -61,49 +62,6 @@ unmarked_at n at marks s inside =
       | inl none ↦ omega (arith, none, e, inside)
       | inr less ↦ omega (arith, less, e)
     ]
-
-pub sought_more : (objects : MemberTrees) (ids : List (List ℕ)) (at : ℕ) (marks marks' : List ℕ)
-    (families families' : List Family) (family : Family)
-    → HasSought objects ids marks families
-    → at < length (names objects)
-    → family.root ≡ at
-    → IsFamily objects at family.places.items
-    → length marks' ≡ length marks
-    → ((k : ℕ) → k < length marks → (slice_index marks' k ≡ at) ↔ ReachesPlace objects at k)
-    → ((k : ℕ) → k < length marks → slice_index marks' k ≢ at → slice_index marks' k ≡ slice_index marks k)
-    → families' ≡ families ++ family ∷ []
-    → HasSought objects (ids ++ name_at objects at ∷ []) marks' families'
-sought_more objects ids at marks marks' families families' family s inside root is long marked others pushed = record {
-  long = long ∙ s.long;
-  begun = rw pushed (zip_push (Begins objects) ids families (name_at objects at) family s.begun
-      (ap (name_at objects) root, subst (λ k. IsFamily objects k family.places.items) (sym root) is));
-  found = λ k below isnt. found k below isnt (slice_index marks' k == at) refl;
-  missed = missed;
-}
-  where
-    found : (k : ℕ) → k < length (names objects) → slice_index marks' k ≢ length (names objects) → (b : Bool)
-        → (slice_index marks' k == at) ≡ b → (id : List ℕ) × Contains (ids ++ name_at objects at ∷ []) id
-        × IsReached objects id (name_at objects k)
-    found k below isnt true e = (
-      name_at objects at,
-      Contains-push ids (name_at objects at),
-      (marked k (omega (arith, below, s.long))).0 (eqb-true _ _ e),
-    )
-    found k below isnt false e =
-        let old = others k (omega (arith, below, s.long)) (eqb-false _ _ e) in
-        let there = s.found k below (λ none. isnt (old ∙ none)) in
-        (there.0, Contains-append_left ids (name_at objects at ∷ []) there.0 there.1, there.2)
-
-    missed : (k : ℕ) → k < length (names objects) → slice_index marks' k ≡ length (names objects) → (id : List ℕ)
-        → Contains (ids ++ name_at objects at ∷ []) id → IsReached objects id (name_at objects k) → ⊥
-    missed k below none id there far =
-        let apart : slice_index marks' k ≢ at = (λ e. omega (arith, e, none, inside)) in
-        let old = others k (omega (arith, below, s.long)) apart in
-        elim (Contains-push_cases ids (name_at objects at) id there) [
-          | inl before ↦ s.missed k below (sym old ∙ none) id before far
-          | inr own ↦ apart ((marked k (omega (arith, below, s.long))).1
-              (subst (λ i. IsReached objects i (name_at objects k)) (sym own) far))
-        ]
 
 -- ---- the objects that begin a feature
 abbrev pub begun_by : List ℕ × Tree → List (List ℕ)
@@ -158,52 +116,203 @@ pub root_more : (pairs : List (List ℕ × Tree)) (i : ℕ) → i < length pairs
 root_more pairs i within has = rw (roots_more pairs i within, has)
     (ap (λ n. roots (member_trees (take i pairs)) ++ n ∷ []) (sym (name_of_pair pairs i within)))
 
-pub sought_on : (graph : List (Vec ℕ Global)) (parents : List Bool) (at : ℕ) (d : Bool) (marks : List ℕ)
-    (families : List Family) → length parents ≡ length graph → at < length graph → get_or parents at d ≡ true
-    → AreSought graph parents at marks families → AreSought graph parents (at + 1) marks families
-sought_on graph parents at d marks families many within here sought = λ pairs rel.
-    let all = rel.linked.long ∙ names_pairs pairs in
-    subst (λ ids. HasSought (member_trees pairs) ids marks families)
-    (sym (root_same pairs at (omega (arith, within, all))
-    (parted_here pairs parents at true d rel.parted (omega (arith, many, within)) here))) (sought pairs rel)
-
--- ---- before the first object, and after the last
-pub sought_none : (objects : MemberTrees) (marks : List ℕ) → length marks ≡ length (names objects)
-    → All (λ mark. mark ≡ length (names objects)) marks → HasSought objects [] marks []
-sought_none objects marks long unmarked = record {
-  long = long;
-  begun = tt;
-  found = λ k below isnt. absurd (isnt (unmarked k 0 (omega (arith, below, long))));
-  missed = λ k below none id c. absurd (omega (arith, c.1));
+-- ---- the objects without parents, listed
+pub listed_none : (parents : List Bool) (marks found : List ℕ) → length marks ≡ length parents
+    → All (λ mark. mark ≡ 0) marks → found ≡ [] → AreListed parents 0 marks found
+listed_none parents marks found long unmarked none = record {
+  as_many = long;
+  listed = λ k. (λ c. absurd (nowhere k c), λ before. absurd (omega (arith, before.0)));
+  marked = λ k. (λ c. absurd (nowhere k c), λ m. absurd (omega (arith, m.1, unmarked k 0 m.0)));
+  others = λ k inside _. unmarked k 0 inside;
 }
+  where
+    nowhere : (k : ℕ) → Contains found k → ⊥
+    nowhere k c = omega (arith, c.1, ap length none)
+
+true_not_false : true ≡ false → ⊥
+true_not_false e = cc
+
+pub listed_on : (parents : List Bool) (at : ℕ) (d : Bool) (marks found : List ℕ) → AreListed parents at marks found
+    → at < length parents → get_or parents at d ≡ true → AreListed parents (at + 1) marks found
+listed_on parents at d marks found l within has = record {
+  as_many = l.as_many;
+  listed = λ k. (
+    λ c. let there = (l.listed k).0 c in (omega (arith, there.0), there.1),
+    λ before. (l.listed k).1 (earlier k before.0 before.1 (k == at) refl, before.1),
+  );
+  marked = l.marked;
+  others = l.others;
+}
+  where
+    earlier : (k : ℕ) → k < at + 1 → IsBeginner parents k → (b : Bool) → (k == at) ≡ b → k < at
+    earlier k below begins true e =
+        let here : get_or parents at true ≡ false = subst (IsBeginner parents) (eqb-true k at e) begins in
+        absurd (true_not_false (sym has ∙ (get_or_default parents at d true within ∙ here)))
+    earlier k below begins false e = omega (arith, below, eqb-false k at e)
+
+pub listed_more : (parents : List Bool) (at : ℕ) (d : Bool) (marks marks' found found' : List ℕ)
+    → AreListed parents at marks found → at < length parents → get_or parents at d ≡ false
+    → (slice_index marks at ≢ 1 → (marks' ≡ slice_set marks at 1) × (found' ≡ found ++ at ∷ []))
+    → AreListed parents (at + 1) marks' found'
+listed_more parents at d marks marks' found found' l within none noted =
+    rw ((noted new).0, (noted new).1) (record {
+      as_many = length-set marks at 1 ∙ l.as_many;
+      listed = λ k. (
+        λ c. elim (Contains-push_cases found at k c) [
+          | inl old ↦ let there = (l.listed k).0 old in (omega (arith, there.0), there.1)
+          | inr e ↦ subst (λ n. (n < at + 1) × IsBeginner parents n) e (omega arith, begins)
+        ],
+        λ before. placed k before.0 before.1 (k == at) refl,
+      );
+      marked = λ k. (
+        λ c. elim (Contains-push_cases found at k c) [
+          | inl old ↦ marked_after 1 marks at k inside ((l.marked k).0 old)
+          | inr e ↦ subst (λ n. IsMarked (slice_set marks at 1) 1 n) e (marked_there 1 marks at inside)
+        ],
+        λ m. elim (marked_before 1 marks at k inside m) [
+          | inl e ↦ subst (λ n. Contains (found ++ at ∷ []) n) (sym e) (Contains-push found at)
+          | inr old ↦ Contains-append_left found (at ∷ []) k ((l.marked k).1 old)
+        ],
+      );
+      others = λ k below other.
+          let same = other_after 1 marks at k inside other in
+          same ∙ l.others k (omega (arith, below, length-set marks at 1)) (λ e. other (same ∙ e));
+    })
+  where
+    inside : at < length marks
+    inside = omega (arith, within, l.as_many)
+
+    begins : IsBeginner parents at
+    begins = sym (get_or_default parents at d true within) ∙ none
+
+    new : slice_index marks at ≢ 1
+    new e = let there = (l.listed at).0 ((l.marked at).1 (inside, e)) in omega (arith, there.0)
+
+    placed : (k : ℕ) → k < at + 1 → IsBeginner parents k → (b : Bool) → (k == at) ≡ b → Contains (found ++ at ∷ []) k
+    placed k below is true e =
+        subst (λ n. Contains (found ++ at ∷ []) n) (sym (eqb-true k at e)) (Contains-push found at)
+    placed k below is false e = Contains-append_left found (at ∷ []) k
+        ((l.listed k).1 (omega (arith, below, eqb-false k at e), is))
+
+beginner_within : (parents : List Bool) (k : ℕ) → IsBeginner parents k → k < length parents
+beginner_within [] k is = absurd (true_not_false is)
+beginner_within (p ∷ ps) zero is = omega arith
+beginner_within (p ∷ ps) (suc k) is = let more = beginner_within ps k is in omega (arith, more)
+
+-- what was listed is what begins a family
+pub from_beginners : (graph : List (Vec ℕ Global)) (parents : List Bool) (marks found : List ℕ)
+    → AreListed parents (length parents) marks found → {P : Type 0} (k : ℕ) → P ↔ IsReachedFrom graph found k
+    → P ↔ IsInFamily graph parents k
+from_beginners graph parents marks found l k both = (
+  λ p. let far = both.0 p in (far.0, ((l.listed far.0).0 far.1).1, far.2),
+  λ is. both.1 (is.0, (l.listed is.0).1 (beginner_within parents is.0 is.1, is.1), is.2),
+)
+
+-- what had another mark before still has it
+pub unmarked_still : (marks marks' : List ℕ) → length marks' ≡ length marks
+    → ((k : ℕ) → k < length marks → slice_index marks k ≢ 1 → slice_index marks k ≡ 0)
+    → ((k : ℕ) → k < length marks → slice_index marks' k ≢ 1 → slice_index marks' k ≡ slice_index marks k)
+    → (k : ℕ) → k < length marks' → slice_index marks' k ≢ 1 → slice_index marks' k ≡ 0
+unmarked_still marks marks' long before kept k inside other =
+    let same = kept k (omega (arith, inside, long)) other in
+    same ∙ before k (omega (arith, inside, long)) (λ e. other (same ∙ e))
+
+-- ---- the objects without parents, by their names
+root_there : (pairs : List (List ℕ × Tree)) (k : ℕ) → k < length pairs → has_parents (named_at pairs k).1 ≡ false
+    → Contains (roots (member_trees pairs)) (name_at (member_trees pairs) k)
+root_there [] k within none = absurd (omega (arith, within))
+root_there (p ∷ ps) zero within none = rw none (0, omega arith, refl)
+root_there (p ∷ ps) (suc k) within none = by (has_parents p.1) refl (root_there ps k (omega (arith, within)) none)
+  where
+    by : (b : Bool) → has_parents p.1 ≡ b
+        → Contains (roots (member_trees ps)) (name_at (member_trees ps) k)
+        → Contains (roots (member_trees (p ∷ ps))) (name_at (member_trees ps) k)
+    by true e later = rw e later
+    by false e later = rw e (suc later.0, omega (arith, later.1), later.2)
+
+abbrev RootPlace : List (List ℕ × Tree) → List ℕ → Type 0
+RootPlace pairs id = (k : ℕ) × (k < length pairs) × (has_parents (named_at pairs k).1 ≡ false)
+    × (name_at (member_trees pairs) k ≡ id)
+
+root_place : (pairs : List (List ℕ × Tree)) (id : List ℕ) → Contains (roots (member_trees pairs)) id
+    → RootPlace pairs id
+root_place [] id c = absurd (omega (arith, c.1))
+root_place (p ∷ ps) id c = by (has_parents p.1) refl (λ later. root_place ps id later)
+  where
+    onward : RootPlace ps id → RootPlace (p ∷ ps) id
+    onward there = (suc there.0, omega (arith, there.1), there.2, there.3)
+
+    pick : has_parents p.1 ≡ false → (i : ℕ) → i < length (p.0 ∷ roots (member_trees ps))
+        → get_or (p.0 ∷ roots (member_trees ps)) i id ≡ id
+        → (Contains (roots (member_trees ps)) id → RootPlace ps id) → RootPlace (p ∷ ps) id
+    pick none zero below is later = (0, omega arith, none, is)
+    pick none (suc i) below is later = onward (later (i, omega (arith, below), is))
+
+    by : (b : Bool) → has_parents p.1 ≡ b → (Contains (roots (member_trees ps)) id → RootPlace ps id)
+        → RootPlace (p ∷ ps) id
+    by true e later = onward (later (rw e at c))
+    by false e later = let there = rw e at c in pick e there.0 there.1 there.2 later
 
 name_of_index : (objects : MemberTrees) (name : List ℕ) (c : Contains (names objects) name) → name_at objects c.0 ≡ name
 name_of_index objects name c = get_or_default (names objects) c.0 [] name c.1 ∙ c.2
 
-pub all_belong : (objects : MemberTrees) (ids : List (List ℕ)) (marks : List ℕ) (families : List Family)
-    → HasSought objects ids marks families → ids ≡ roots objects
-    → ((k : ℕ) → k < length marks → slice_index marks k ≢ length (names objects)) → AllBelong objects
-all_belong objects ids marks families s whole none = λ name c.
-    let there = s.found c.0 c.1 (none c.0 (omega (arith, c.1, s.long))) in (
-      there.0,
-      subst (λ l. Contains l there.0) whole there.1,
-      subst (IsReached objects there.0) (name_of_index objects name c) there.2,
-    )
+module _ (pairs : List (List ℕ × Tree)) (graph : List (Vec ℕ Global)) (parents : List Bool) (marks : List ℕ)
+    (rel : AreRelated pairs graph parents) (long : length marks ≡ length graph)
+    (both : (k : ℕ) → IsMarked marks 1 k ↔ IsInFamily graph parents k) where
+  parented : (k : ℕ) → k < length parents → (has : Bool) → get_or parents k true ≡ has
+      → has_parents (named_at pairs k).1 ≡ has
+  parented k within has is = parted_here pairs parents k has true rel.parted within is
 
-pub has_orphan : (objects : MemberTrees) (ids : List (List ℕ)) (marks : List ℕ) (families : List Family) (k : ℕ)
-    → HasSought objects ids marks families → ids ≡ roots objects → k < length marks
-    → slice_index marks k ≡ length (names objects) → HasOrphan objects
-has_orphan objects ids marks families k s whole below is = (
-  name_at objects k,
-  (
-    k,
-    omega (arith, below, s.long),
-    get_or_default (names objects) k (name_at objects k) []
-        (omega (arith, below, s.long)),
-  ),
-  λ id c. s.missed k (omega (arith, below, s.long)) is id (subst (λ l. Contains l id) (sym whole) c),
-)
+  many : length parents ≡ length pairs
+  many = ap length rel.parted ∙ length-map pairs (λ (pair : List ℕ × Tree). has_parents pair.1)
 
+  named : length (names (member_trees pairs)) ≡ length pairs
+  named = names_pairs pairs
+
+  pub belongs : ((k : ℕ) → k < length marks → slice_index marks k ≢ 1 → slice_index marks k ≡ 0)
+      → ((k : ℕ) → k < length marks → slice_index marks k ≢ 0) → AllBelong (member_trees pairs)
+  belongs others none name c =
+      let inside : c.0 < length marks = omega (arith, c.1, long, rel.linked.long) in
+      let far = (both c.0).0 (inside, marked c.0 inside (slice_index marks c.0 == 1) refl) in
+      let within : far.0 < length parents = beginner_within parents far.0 far.1 in
+      let reached = (reached_at (member_trees pairs) graph rel.differ rel.linked far.0 c.0
+      (omega (arith, within, many, named)) c.1).0 far.2 in (
+        name_at (member_trees pairs) far.0,
+        root_there pairs far.0 (omega (arith, within, many)) (parented far.0 within false far.1),
+        subst (IsReached (member_trees pairs) (name_at (member_trees pairs) far.0))
+            (name_of_index (member_trees pairs) name c) reached,
+      )
+    where
+      marked : (k : ℕ) → k < length marks → (b : Bool) → (slice_index marks k == 1) ≡ b → slice_index marks k ≡ 1
+      marked k inside true e = eqb-true _ _ e
+      marked k inside false e = absurd (none k inside (others k inside (eqb-false _ _ e)))
+
+  pub is_orphan : (k : ℕ) → k < length marks → slice_index marks k ≡ 0 → HasOrphan (member_trees pairs)
+  is_orphan k inside is =
+      let below : k < length (names (member_trees pairs)) = omega (arith, inside, long, rel.linked.long) in (
+        name_at (member_trees pairs) k,
+        (k, below, get_or_default (names (member_trees pairs)) k (name_at (member_trees pairs) k) [] below),
+        λ id c far. unreached id (root_place pairs id c) far,
+      )
+    where
+      unreached : (id : List ℕ) → RootPlace pairs id
+          → IsReached (member_trees pairs) id (name_at (member_trees pairs) k) → ⊥
+      unreached id place far =
+          let from : ReachesPlace (member_trees pairs) place.0 k =
+          subst (λ i. IsReached (member_trees pairs) i (name_at (member_trees pairs) k)) (sym place.3) far in
+          let steps = (reached_at (member_trees pairs) graph rel.differ rel.linked place.0 k
+          (omega (arith, place.1, named)) (omega (arith, inside, long, rel.linked.long))).1 from in
+          let begins : IsBeginner parents place.0 =
+          by (get_or parents place.0 true) refl (omega (arith, place.1, many)) place.2 in
+          let mark = (both k).1 (place.0, begins, steps) in
+          omega (arith, mark.1, is)
+        where
+          by : (b : Bool) → get_or parents place.0 true ≡ b → place.0 < length parents
+              → has_parents (named_at pairs place.0).1 ≡ false → get_or parents place.0 true ≡ false
+          by true e within none = absurd (true_not_false (sym (parented place.0 within true e) ∙ none))
+          by false e within none = e
+
+-- ---- before the first object
 replicated : (n x i d : ℕ) → i < n → get_or (replicate n x) i d ≡ x
 replicated zero x i d below = absurd (omega (arith, below))
 replicated (suc n) x zero d below = refl
@@ -215,26 +324,6 @@ marked_start n marks all = record {
   before = λ i d below. inl (ap (λ l. get_or l i d) all
       ∙ replicated n n i d (omega (arith, below, ap length all, length-replicate n n)));
 }
-
-pub sought_start : (graph : List (Vec ℕ Global)) (parents : List Bool) (n : ℕ) (marks : List ℕ)
-    (families : List Family) → n ≡ length graph → marks ≡ replicate n n → families ≡ []
-    → AreSought graph parents 0 marks families
-sought_start graph parents n marks families count all none = λ pairs rel.
-    let long : length marks ≡ n = ap length all ∙ length-replicate n n in
-    let many : length graph ≡ length (names (member_trees pairs)) = rel.linked.long in
-    rw none (sought_none (member_trees pairs) marks (omega (arith, long, count, many))
-    (λ i d below. ap (λ l. get_or l i d) all
-    ∙ (replicated n n i d (omega (arith, below, long)) ∙ omega (arith, count, many))))
-
--- all objects were looked at
-pub sought_all : (graph : List (Vec ℕ Global)) (parents : List Bool) (at : ℕ) (marks : List ℕ) (families : List Family)
-    (pairs : List (List ℕ × Tree)) → AreSought graph parents at marks families → length graph ≤ at
-    → AreRelated pairs graph parents
-    → HasSought (member_trees pairs) (roots (member_trees pairs)) marks families
-sought_all graph parents at marks families pairs sought past rel =
-    let all = rel.linked.long ∙ names_pairs pairs in
-    subst (λ l. HasSought (member_trees pairs) (roots (member_trees l)) marks families)
-    (take_all at pairs (omega (arith, past, all))) (sought pairs rel)
 
 -- what is written back to the marks is all of them
 pub written_back : (len : ℕ) (new old : List ℕ) → len ≡ length old → length new ≡ length old
@@ -268,6 +357,10 @@ none_marked n (m ∷ ms) none k below = by (nat_eq m n) refl k below (λ later j
         clash is = cc
     by false e zero below later = eqb-false m n e
     by false e (suc k) below later = later (rw e at none) k (omega (arith, below))
+
+pub as_many_pairs : (pairs : List (List ℕ × Tree)) (graph : List (Vec ℕ Global)) (parents : List Bool)
+    → AreRelated pairs graph parents → length graph ≡ length pairs
+as_many_pairs pairs graph parents rel = rel.linked.long ∙ names_pairs pairs
 
 pub related_as : (pairs : List (List ℕ × Tree)) (graph graph' : List (Vec ℕ Global)) (parents parents' : List Bool)
     → graph ≡ graph' → parents ≡ parents' → AreRelated pairs graph parents → AreRelated pairs graph' parents'

@@ -31,13 +31,17 @@ pub record Grows (root : ℕ) (new marks marks' found found' : List ℕ) : Type 
   pub others : (k : ℕ) → k < length marks → slice_index marks' k ≢ root → slice_index marks' k ≡ slice_index marks k
   pub fewer : unmarked root marks' + length more ≡ unmarked root marks
 
--- a search that has noted what comes after each of the first `at` found things
-pub record Searches (graph : List (Vec ℕ Global)) (root : ℕ) (marks marks' found : List ℕ) (at : ℕ) : Type 0 where
+-- it is reached from one of these
+abbrev pub IsReachedFrom : List (Vec ℕ Global) → List ℕ → ℕ → Type 0
+IsReachedFrom graph starts k = (start : ℕ) × Contains starts start × Reached (After graph) start k
+
+-- a search from these things that has noted what comes after each of the first `at` found things
+pub record Searches (graph : List (Vec ℕ Global)) (starts : List ℕ) (mark : ℕ) (marks marks' found : List ℕ) (at : ℕ) : Type 0 where
   pub long : length marks' ≡ length marks
   pub within : at ≤ length found
-  pub begins : Contains found root
-  pub sound : (k : ℕ) → Contains found k → Reached (After graph) root k
-  pub marked : (k : ℕ) → Contains found k → IsMarked marks' root k
-  pub only : (k : ℕ) → IsMarked marks' root k → Contains found k
-  pub others : (k : ℕ) → k < length marks → slice_index marks' k ≢ root → slice_index marks' k ≡ slice_index marks k
+  pub begins : (k : ℕ) → Contains starts k → Contains found k
+  pub sound : (k : ℕ) → Contains found k → IsReachedFrom graph starts k
+  pub marked : (k : ℕ) → Contains found k → IsMarked marks' mark k
+  pub only : (k : ℕ) → IsMarked marks' mark k → Contains found k
+  pub others : (k : ℕ) → k < length marks → slice_index marks' k ≢ mark → slice_index marks' k ≡ slice_index marks k
   pub closed : (i : ℕ) → i < at → (b : ℕ) → After graph (slice_index found i) b → Contains found b

@@ -10,7 +10,7 @@ ghost use Rattle.city_cut.specs.Lines.{texts_of};
 use crate::boundaries::check_boundaries;
 use crate::cuts::{Cut, CutTexts};
 use crate::documents::check_document;
-use crate::families::families;
+use crate::families::kin_of;
 use crate::features::keep_features;
 use crate::headers::document_header;
 use crate::held::FeatureTexts;
@@ -31,11 +31,11 @@ fn keep_document<K: Keep>(alloc: Global, document: &Json, kept: &mut K) -> Resul
 {
     check_document(document)?;
     let objects = members_named(document, "CityObjects");
-    let families = families(alloc, objects)?;
+    let kin = kin_of(alloc, objects)?;
     let vertices = items_named(document, "vertices");
     check_boundaries(alloc, objects, vertices.len())?;
     let appearance = document.get("appearance");
-    keep_features(alloc, objects, vertices, appearance, &families, kept)?;
+    keep_features(alloc, objects, vertices, appearance, &kin, kept)?;
     Ok(())
 }
 

@@ -1,18 +1,28 @@
 //! The objects that belong together.
-ghost use Rattle.std.specs.Prelude.{◌+◌, ◌≡◌, ◌≢◌, ◌<◌, ◌↔◌, ◌⊎◌, ℕ, List, length, slice_index, All, IfOk, IfErr, OnOk};
-ghost use Rattle.std.specs.List.{AllZip};
+ghost use Rattle.std.specs.Prelude.{◌+◌, ◌≡◌, ◌≢◌, ◌<◌, ◌↔◌, ◌⊎◌, [], ℕ, List, length, map, slice_index, All, IfOk, IfErr, OnOk};
 ghost use Rattle.city_json.specs.Fits.{HasDistinctNames};
-ghost use Rattle.city_json.specs.Tree.{MemberTrees, Tree, member_trees, members_tree};
-ghost use Rattle.city_cut.specs.CityObjects.{AllBelong, HasOrphan, LacksChild, roots};
-ghost use Rattle.city_cut.specs.Families.{AreRelated, AreSought, Begins, IsMarkedSoFar, RefusesFamilies};
+ghost use Rattle.city_json.specs.Tree.{MemberTrees, Tree, member_trees, members_tree, named_tree};
+ghost use Rattle.city_cut.specs.CityObjects.{AllBelong, HasOrphan, LacksChild};
+ghost use Rattle.city_cut.specs.Families.{AreListed, AreRelated, IsBegun, IsInFamily, IsMarkedSoFar, RefusesFamilies};
 ghost use Rattle.city_cut.specs.Places.{IsFamily, IsGraph, ReachesPlace};
-ghost use Rattle.city_cut.specs.Search.{InRange};
+ghost use Rattle.city_cut.specs.Search.{InRange, IsMarked};
 
 use crate::objects::{children, parents};
-use crate::reach::reached;
+use crate::reach::{note, reached, search_on};
 use byte_streams::Fault;
 use city_json::Member;
 use std::alloc::Global;
+
+/// City objects, each at its place in the document.
+#[derive(Drop)]
+pub(crate) struct Kin {
+    /// The places of the children of each.
+    pub children: Vec<Vec<usize>>,
+    /// Whether each has parents.
+    pub parents: Vec<bool>,
+    /// Whether an object may be in more than one family: where not, each is named as a child once, or begins a family.
+    pub meets: bool,
+}
 
 /// The objects that the one at the place `root` reaches through children, it among them.
 #[derive(Drop)]
@@ -50,79 +60,130 @@ fn family_of(
     Ok(Family { root, places })
 }
 
-/// Adds the family of the object at this place, where it begins one.
-fn add_family(
-    alloc: Global,
-    graph: &[Vec<usize>],
-    parents: &[bool],
-    at: usize,
-    marks: &mut [usize],
-    families: &mut Vec<Family>,
-) -> Result<(), Fault>
-    requires graph { InRange graph.now (length graph.now) }
-    requires parents { length parents.now ≡ length graph.now }
-    requires at { at < length graph.now }
-    requires marked { IsMarkedSoFar (length graph.now) at marks.old }
-    requires sought { AreSought graph.now parents.now at marks.old families.old.items }
-    ensures marked { OnOk result (IsMarkedSoFar (length graph.now) (at + 1) marks.new) }
-    ensures sought { OnOk result (AreSought graph.now parents.now (at + 1) marks.new families.new.items) }
+/// The marks of a search for families, before the first of them. The only fault is [`Fault::Memory`].
+pub(crate) fn no_marks(alloc: Global, kin: &Kin) -> Result<Vec<usize>, Fault>
+    ensures ok { IfOk result (λ marks. IsMarkedSoFar (length kin.now.children.items) 0 marks.items) }
     ensures fault { IfErr result (λ fault. fault ≡ Fault.Memory) }
 {
-    if parents[at] {
-        return Ok(());
+    let count = kin.children.len();
+    let marks = vec![in alloc; count; count]?;
+    Ok(marks)
+}
+
+/// The family of the object at this place, where it begins one. The places are asked for in order, with the marks that
+/// [`no_marks`] gave. The only fault is [`Fault::Memory`].
+pub(crate) fn family_at(
+    alloc: Global,
+    kin: &Kin,
+    at: usize,
+    marks: &mut Vec<usize>,
+) -> Result<Option<Family>, Fault>
+    requires graph { InRange kin.now.children.items (length kin.now.children.items) }
+    requires parents { length kin.now.parents.items ≡ length kin.now.children.items }
+    requires at { at < length kin.now.children.items }
+    requires marked { IsMarkedSoFar (length kin.now.children.items) at marks.old.items }
+    ensures marked { OnOk result (IsMarkedSoFar (length kin.now.children.items) (at + 1) marks.new.items) }
+    ensures begun { IfOk result (λ found. (pairs : List (List ℕ × Tree))
+        → AreRelated pairs kin.now.children.items kin.now.parents.items → IsBegun pairs at found) }
+    ensures fault { IfErr result (λ fault. fault ≡ Fault.Memory) }
+{
+    if kin.parents[at] {
+        return Ok(None);
     }
-    let family = family_of(alloc, graph, at, marks)?;
-    families.push(family)?;
+    let family = family_of(alloc, &kin.children, at, marks)?;
+    Ok(Some(family))
+}
+
+/// Marks the objects without parents with 1, and lists them. The only fault is [`Fault::Memory`].
+fn list_beginners(
+    parents: &[bool],
+    marks: &mut [usize],
+    found: &mut Vec<usize>,
+) -> Result<(), Fault>
+    requires long { length marks.old ≡ length parents.now }
+    requires unmarked { All (λ mark. mark ≡ 0) marks.old }
+    requires none { found.old.items ≡ [] }
+    ensures ok { OnOk result (AreListed parents.now (length parents.now) marks.new found.new.items) }
+    ensures fault { IfErr result (λ fault. fault ≡ Fault.Memory) }
+{
+    for at in 0..parents.len() {
+        if parents[at] {
+            continue;
+        }
+        note(at, 1, marks, found)?;
+    }
     Ok(())
 }
 
-/// The families of the objects that have these children, and of which these have parents, in their order.
+/// Marks the objects that are in a family with 1. Whether one may be in two. The only fault is [`Fault::Memory`].
+fn mark_families(
+    alloc: Global,
+    graph: &[Vec<usize>],
+    parents: &[bool],
+    marks: &mut [usize],
+) -> Result<bool, Fault>
+    requires graph { InRange graph.now (length graph.now) }
+    requires parents { length parents.now ≡ length graph.now }
+    requires long { length marks.old ≡ length graph.now }
+    requires unmarked { All (λ mark. mark ≡ 0) marks.old }
+    ensures long { OnOk result (length marks.new ≡ length graph.now) }
+    ensures marked { OnOk result ((k : ℕ) → IsMarked marks.new 1 k ↔ IsInFamily graph.now parents.now k) }
+    ensures others { OnOk result ((k : ℕ) → k < length marks.new → slice_index marks.new k ≢ 1
+        → slice_index marks.new k ≡ 0) }
+    ensures fault { IfErr result (λ fault. fault ≡ Fault.Memory) }
+{
+    let mut found = Vec::with_capacity(alloc, graph.len())?;
+    list_beginners(parents, marks, &mut found)?;
+    let meets = search_on(graph, 1, marks, &mut found)?;
+    Ok(meets)
+}
+
+/// Sees that each of the objects that have these children, and of which these have parents, is in a family. Each is
+/// looked at once, however many families it is in. Whether one may be in more than one, as [`Kin`] tells.
 ///
 /// # Errors
 ///
 /// [`Fault::Orphan`] where an object is in no family. [`Fault::Memory`] may come in its place.
-pub(crate) fn families_among(
+pub(crate) fn check_belonging(
     alloc: Global,
     graph: &[Vec<usize>],
     parents: &[bool],
-) -> Result<Vec<Family>, Fault>
+) -> Result<bool, Fault>
     requires graph { InRange graph.now (length graph.now) }
     requires parents { length parents.now ≡ length graph.now }
-    ensures ok { IfOk result (λ families. (pairs : List (List ℕ × Tree)) → AreRelated pairs graph.now parents.now
-        → AllZip (Begins (member_trees pairs)) (roots (member_trees pairs)) families.items) }
     ensures belong { OnOk result ((pairs : List (List ℕ × Tree)) → AreRelated pairs graph.now parents.now
         → AllBelong (member_trees pairs)) }
     ensures fault { IfErr result (λ fault. (fault ≡ Fault.Memory) ⊎ ((fault ≡ Fault.Orphan)
         × ((pairs : List (List ℕ × Tree)) → AreRelated pairs graph.now parents.now
         → HasOrphan (member_trees pairs)))) }
 {
-    let unmarked = graph.len();
-    let mut marks = vec![in alloc; unmarked; graph.len()]?;
-    let mut families = Vec::new(alloc);
-    for at in 0..graph.len() {
-        add_family(alloc, graph, parents, at, &mut marks, &mut families)?;
-    }
-    if marks.contains(&unmarked) {
+    let mut marks = vec![in alloc; 0usize; graph.len()]?;
+    let meets = mark_families(alloc, graph, parents, &mut marks)?;
+    if marks.contains(&0) {
         return Err(Fault::Orphan);
     }
-    Ok(families)
+    Ok(meets)
 }
 
-/// The families of the objects that begin one, in their order.
+/// The objects with their children and parents, each of which is in a family.
 ///
 /// # Errors
 ///
 /// [`Fault::ChildMissing`] where a child names no object, else [`Fault::Orphan`] where an object is in
 /// no family. [`Fault::Memory`] may come in place of both.
-pub(crate) fn families(alloc: Global, objects: &[Member]) -> Result<Vec<Family>, Fault>
+pub(crate) fn kin_of(alloc: Global, objects: &[Member]) -> Result<Kin, Fault>
     requires { HasDistinctNames (members_tree objects.now) }
-    ensures ok { IfOk result (λ families. AllZip (Begins (members_tree objects.now))
-        (roots (members_tree objects.now)) families.items) }
+    ensures ok { IfOk result (λ kin. AreRelated (map named_tree objects.now) kin.children.items kin.parents.items) }
     ensures children { OnOk result (¬ LacksChild (members_tree objects.now)) }
     ensures belong { OnOk result (AllBelong (members_tree objects.now)) }
     ensures refusal { IfErr result (λ fault. RefusesFamilies fault (members_tree objects.now)) }
 {
     let graph = children(alloc, objects)?;
     let parents = parents(alloc, objects)?;
-    families_among(alloc, &graph, &parents)
+    let meets = check_belonging(alloc, &graph, &parents)?;
+    Ok(Kin {
+        children: graph,
+        parents,
+        meets,
+    })
 }

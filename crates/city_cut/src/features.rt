@@ -1,7 +1,7 @@
 //! The features of a document.
 ghost use Rattle.std.specs.Prelude.{◌≡◌, ◌⊎◌, ◌<◌, ℕ, List, All, Some, Contains, IfOk, IfErr, OnOk, [], codes, length, map};
 ghost use Rattle.std.specs.Prelude.{option_copied, option_map};
-ghost use Rattle.std.specs.List.{AllByRecursion, AllZip};
+ghost use Rattle.std.specs.List.{AllByRecursion};
 ghost use Rattle.city_json.specs.Fits.{IsDistinct};
 ghost use Rattle.city_json.specs.Members.{first_named};
 ghost use Rattle.city_json.specs.Tree.{Tree, array, items_tree, members_tree, named_tree, no_members, object, string, tree};
@@ -13,12 +13,12 @@ ghost use Rattle.city_cut.specs.Boundaries.{IsBounded};
 ghost use Rattle.city_cut.specs.Chosen.{appearance_added, chosen_objects, named_tree_at};
 ghost use Rattle.city_cut.specs.CityObjects.{IsReached, roots};
 ghost use Rattle.city_cut.specs.Cut.{AreFeatures, IsFeatureOf, feature_tree};
-ghost use Rattle.city_cut.specs.Families.{Begins};
+ghost use Rattle.city_cut.specs.Families.{AreRelated};
 ghost use Rattle.city_cut.specs.Items.{values};
 ghost use Rattle.city_cut.specs.Places.{IsFamily, name_at};
 
 use crate::assembling::{Assembled, assemble};
-use crate::families::Family;
+use crate::families::{Family, Kin, family_at, no_marks};
 use crate::keeping::Keep;
 use crate::numbering::Numbering;
 use crate::values::name_of;
@@ -151,7 +151,7 @@ fn feature_of(
     feature(alloc, json)
 }
 
-/// Keeps the features that the families are, in their order.
+/// Keeps the features that the families of the objects are, in their order. No more than one family is held.
 ///
 /// # Errors
 ///
@@ -161,15 +161,13 @@ pub(crate) fn keep_features<K: Keep>(
     objects: &[Member],
     vertices: &[Json],
     appearance: Option<&Json>,
-    families: &[Family],
+    kin: &Kin,
     kept: &mut K,
 ) -> Result<(), Fault>
     requires distinct { IsDistinct (object (members_tree objects.now)) }
-    requires families { AllZip (Begins (members_tree objects.now))
-        (roots (members_tree objects.now)) families.now }
+    requires related { AreRelated (map named_tree objects.now) kin.now.children.items kin.now.parents.items }
     requires none { K.keeps kept.old [] }
     ensures ok { OnOk result ((features : List FeatureValue) × K.keeps kept.new features
-        × (length features ≡ length families.now)
         × ((points : List Triple) → AreVertices (items_tree vertices.now) points
         → AreFeatures (members_tree objects.now) (option_map tree (option_copied appearance.entry))
         points features)) }
@@ -187,8 +185,20 @@ pub(crate) fn keep_features<K: Keep>(
         table: vec![in alloc; 0usize; vertices.len()]?,
         order: Vec::new(alloc),
     };
-    for family in families {
-        let feature = feature_of(alloc, objects, vertices, appearance, family, &mut numbering)?;
+    let mut marks = no_marks(alloc, kin)?;
+    for at in 0..kin.children.len() {
+        let found = family_at(alloc, kin, at, &mut marks)?;
+        let Some(family) = found else {
+            continue;
+        };
+        let feature = feature_of(
+            alloc,
+            objects,
+            vertices,
+            appearance,
+            &family,
+            &mut numbering,
+        )?;
         kept.keep(feature)?;
     }
     Ok(())

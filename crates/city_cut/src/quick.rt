@@ -35,25 +35,27 @@ ghost use Rattle.city_feature.specs.Values.{header_value};
 ghost use Rattle.city_cut.specs.Boundaries.{IsBounded};
 ghost use Rattle.city_cut.specs.CityObjects.{AllBelong, AreCityObjects, IsReached, LacksChild, roots};
 ghost use Rattle.city_cut.specs.Cut.{AreFeatures, IsCut, IsCuttable};
-ghost use Rattle.city_cut.specs.Families.{Begins};
+ghost use Rattle.city_cut.specs.Families.{AreRelated};
 ghost use Rattle.city_cut.specs.FeatureText.{tail_text};
 ghost use Rattle.city_cut.specs.HeldTexts.{texts_in};
 ghost use Rattle.city_cut.specs.Overviews.{HasChildrenIn, HasParentsIn};
+ghost use Rattle.city_cut.specs.Search.{InRange};
 ghost use Rattle.city_cut.specs.Lines.{texts_of};
 ghost use Rattle.city_cut.specs.Texts.{IsCompactOf};
 ghost use Rattle.city_cut.specs.VertexTexts.{HasPoints, StandAt};
 
 use crate::cuts::CutTexts;
-use crate::families::{Family, families_among};
+use crate::families::{Kin, check_belonging};
 use crate::held::FeatureTexts;
 use byte_streams::Line;
 use city_feature::{between, part_named};
 use city_json::{Part, Span, compact_lent};
-use features::feature_texts;
+use features::{check_objects, feature_texts};
 use graph::{graph_of, table_of};
 use headers::header_of;
 use overview::{Overview, overview_of};
 use points::{VertexTexts, starts_of, write_anew};
+use short_parts::ShortPart;
 use std::alloc::Global;
 use texts::{append_text, is_absent, member_or};
 use triples::{starts_of_triples, triples_text};
@@ -87,25 +89,38 @@ fn vertices_text<'a>(text: &'a [u8], parts: &[Part]) -> Option<&'a [u8]>
     member_or(text, parts, b"\"vertices\":", b"[]")
 }
 
-/// The families of the city objects of this text. `None`: undecided.
-fn families_of(alloc: Global, text: &[u8], found: &Overview<'_>) -> Option<Vec<Family>>
+/// The city objects that lie in these parts of a text, with these children, and of which these have parents; each is in a
+/// family. `None`: undecided.
+fn kin_of(
+    alloc: Global,
+    text: &[u8],
+    places: &[ShortPart],
+    parents: Vec<bool>,
+    children: &[&[u8]],
+) -> Option<Kin>
     requires objects { (pairs : List (List ℕ × Tree)) × IsCompactOf text.now (object (member_trees pairs))
-        × AreParts 1 found.now.places.items (member_trees pairs) }
-    requires parents { AllZip (HasParentsIn text.now) found.now.places.items found.now.parents.items }
-    requires children { AllZip (HasChildrenIn text.now) found.now.places.items found.now.children.items }
-    ensures { IfSome result (λ families. (pairs : List (List ℕ × Tree))
-        → IsCompactOf text.now (object (member_trees pairs)) → AreParts 1 found.now.places.items (member_trees pairs)
+        × AreParts 1 places.now (member_trees pairs) }
+    requires parents { AllZip (HasParentsIn text.now) places.now parents.items }
+    requires children { AllZip (HasChildrenIn text.now) places.now children.now }
+    ensures graph { IfSome result (λ kin. InRange kin.children.items (length kin.children.items)) }
+    ensures parents { IfSome result (λ kin. length kin.parents.items ≡ length kin.children.items) }
+    ensures kin { IfSome result (λ kin. (pairs : List (List ℕ × Tree))
+        → IsCompactOf text.now (object (member_trees pairs)) → AreParts 1 places.now (member_trees pairs)
         → AreCityObjects (member_trees pairs)
         × (¬ LacksChild (member_trees pairs))
         × AllBelong (member_trees pairs)
-        × AllZip (Begins (member_trees pairs)) (roots (member_trees pairs)) families.items) }
+        × AreRelated pairs kin.children.items kin.parents.items) }
 {
-    let table = table_of(alloc, text, &found.places)?;
-    let graph = graph_of(alloc, &found.children, &table)?;
-    let Ok(families) = families_among(alloc, &graph, &found.parents) else {
+    let table = table_of(alloc, text, places)?;
+    let graph = graph_of(alloc, children, &table)?;
+    let Ok(meets) = check_belonging(alloc, &graph, &parents) else {
         return None;
     };
-    Some(families)
+    Some(Kin {
+        children: graph,
+        parents,
+        meets,
+    })
 }
 
 /// The texts of the features of the city objects whose compact text this is, on these vertices. Each ends in `tail`.
@@ -129,17 +144,17 @@ fn texts_on(
         × ((id name : List ℕ) (value : Tree) → Contains (roots members) id → IsReached members id name
         → first_named name members ≡ Some value → IsBounded (length points) value)) }
 {
-    let found = overview_of(alloc, objects)?;
-    let families = families_of(alloc, objects, &found)?;
-    feature_texts(
-        alloc,
-        objects,
-        &found.places,
-        &found.held,
-        vertices,
-        tail,
-        &families,
-    )
+    let Overview {
+        places,
+        parents,
+        children,
+        held,
+    } = overview_of(alloc, objects)?;
+    let kin = kin_of(alloc, objects, &places, parents, &children)?;
+    if kin.meets {
+        check_objects(alloc, objects, &places, &held, vertices)?;
+    }
+    feature_texts(alloc, objects, &places, &held, vertices, tail, &kin)
 }
 
 /// Cuts the document into features on these vertices, which are its own.

@@ -2,13 +2,18 @@
 ghost use Rattle.std.specs.Prelude.{◌≡◌, ◌≢◌, ◌<◌, ◌++◌, ◌↔◌, ℕ, [], ◌∷◌, length, All, Contains};
 ghost use Rattle.std.specs.Prelude.{slice_index, slice_set, IfOk, IfErr, OnOk};
 ghost use Rattle.city_cut.specs.Reach.{Reached};
-ghost use Rattle.city_cut.specs.Search.{After, InRange, IsMarked, Grows};
+ghost use Rattle.city_cut.specs.Search.{After, InRange, IsMarked, IsReachedFrom, Grows};
 
 use byte_streams::Fault;
 use std::alloc::Global;
 
 /// Marks one thing with the root and puts it after those that were found, unless it has that mark.
-fn note(new: usize, root: usize, marks: &mut [usize], found: &mut Vec<usize>) -> Result<(), Fault>
+pub(crate) fn note(
+    new: usize,
+    root: usize,
+    marks: &mut [usize],
+    found: &mut Vec<usize>,
+) -> Result<(), Fault>
     requires { new < length marks.old }
     ensures again { slice_index marks.old new ≡ root
         → (marks.new ≡ marks.old) × (found.new.items ≡ found.old.items) }
@@ -42,6 +47,54 @@ fn note_all(
     Ok(())
 }
 
+/// Notes what comes after one thing. Whether there is less of it that is new than is named.
+fn note_row(
+    row: &[usize],
+    mark: usize,
+    marks: &mut [usize],
+    found: &mut Vec<usize>,
+) -> Result<bool, Fault>
+    requires { All (λ k. k < length marks.old) row.now }
+    ensures ok { OnOk result (Grows mark row.now marks.old marks.new found.old.items found.new.items) }
+    ensures fault { IfErr result (λ fault. fault ≡ Fault.Memory) }
+{
+    let before = found.len();
+    note_all(row, mark, marks, found)?;
+    Ok(found.len() - before < row.len())
+}
+
+/// Goes on from the things that were found, which alone have the mark, to all that is reached from them, each once.
+/// Nothing is come to twice where the answer is no. The only fault is [`Fault::Memory`].
+pub(crate) fn search_on(
+    graph: &[Vec<usize>],
+    mark: usize,
+    marks: &mut [usize],
+    found: &mut Vec<usize>,
+) -> Result<bool, Fault>
+    requires graph { InRange graph.now (length graph.now) }
+    requires marks { length marks.old ≡ length graph.now }
+    requires found { (k : ℕ) → Contains found.old.items k ↔ IsMarked marks.old mark k }
+    ensures ok { OnOk result ((k : ℕ)
+        → Contains found.new.items k ↔ IsReachedFrom graph.now found.old.items k) }
+    ensures marks { OnOk result ((k : ℕ)
+        → IsMarked marks.new mark k ↔ IsReachedFrom graph.now found.old.items k) }
+    ensures others { OnOk result ((k : ℕ) → k < length marks.old → slice_index marks.new k ≢ mark
+        → slice_index marks.new k ≡ slice_index marks.old k) }
+    ensures long { OnOk result (length marks.new ≡ length marks.old) }
+    ensures fault { IfErr result (λ fault. fault ≡ Fault.Memory) }
+{
+    let mut again = false;
+    let mut at = 0usize;
+    while at < found.len() {
+        let next = found[at];
+        if note_row(&graph[next], mark, marks, found)? {
+            again = true;
+        }
+        at += 1;
+    }
+    Ok(again)
+}
+
 /// What is reached from the root, each once. The marks tell afterwards for each thing whether it is: its mark
 /// is then the root. All else keeps its mark. The only fault is [`Fault::Memory`].
 pub(crate) fn reached(
@@ -65,11 +118,6 @@ pub(crate) fn reached(
 {
     let mut found = Vec::with_capacity(alloc, 1)?;
     note(root, root, marks, &mut found)?;
-    let mut at = 0usize;
-    while at < found.len() {
-        let next = found[at];
-        note_all(&graph[next], root, marks, &mut found)?;
-        at += 1;
-    }
+    search_on(graph, root, marks, &mut found)?;
     Ok(found)
 }

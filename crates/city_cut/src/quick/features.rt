@@ -1,6 +1,6 @@
 //! The texts of features, written from the compact texts of a document's parts.
 ghost use Rattle.std.specs.Prelude.{◌≡◌, ◌++◌, ◌∷◌, [], ◌<◌, ◌≤◌, ◌+◌, ℕ, List, Option, Some, Contains, length, map, IfSome, OnSome, IsUtf8};
-ghost use Rattle.std.specs.List.{flat_map, AllByRecursion, AllZip};
+ghost use Rattle.std.specs.List.{flat_map, AllByRecursion};
 ghost use Rattle.city_json.specs.Bytes.{colon};
 ghost use Rattle.city_json.specs.Compact.{compact, compact_members, compact_more_members, quoted};
 ghost use Rattle.city_json.specs.Members.{first_named};
@@ -13,13 +13,14 @@ ghost use Rattle.city_cut.specs.Chosen.{named_at, point_at};
 ghost use Rattle.city_cut.specs.CityObjects.{IsReached, roots};
 ghost use Rattle.city_cut.specs.Copied.{Copies};
 ghost use Rattle.city_cut.specs.Cut.{AreFeatures, IsFeatureOf};
-ghost use Rattle.city_cut.specs.Families.{Begins};
+ghost use Rattle.city_cut.specs.Families.{AreRelated};
 ghost use Rattle.city_cut.specs.FeatureText.{head_text, middle_text, tail_text};
 ghost use Rattle.city_cut.specs.Leaves.{leaves};
 ghost use Rattle.city_cut.specs.HeldTexts.{HasGrown, texts_in};
 ghost use Rattle.city_cut.specs.Lines.{texts_of};
 ghost use Rattle.city_cut.specs.Overviews.{AreHolders};
 ghost use Rattle.city_cut.specs.Places.{IsFamily, name_at};
+ghost use Rattle.city_cut.specs.Search.{InRange};
 ghost use Rattle.city_cut.specs.Texts.{IsCompactOf};
 ghost use Rattle.city_cut.specs.VertexTexts.{StandAt};
 
@@ -29,7 +30,7 @@ use super::objects::append_object;
 use super::points::{VertexTexts, append_points};
 use super::short_parts::ShortPart;
 use super::texts::append_text;
-use crate::families::Family;
+use crate::families::{Family, Kin, family_at, no_marks};
 use crate::held::FeatureTexts;
 use crate::numbering::Numbering;
 use byte_streams::Line;
@@ -211,7 +212,47 @@ fn note_end(before: usize, line: &Line, ends: &mut Vec<usize>) -> Option<()>
     Some(())
 }
 
-/// The texts of the features that the families are. Each ends in `tail`.
+/// Numbers for so many vertices as there are starts of their texts, of which one stands after the last. `None`: there is
+/// none, or out of memory.
+fn no_numbers(alloc: Global, vertices: &VertexTexts<'_>) -> Option<Numbering>
+    ensures { IfSome result (λ numbering. length numbering.table.items + 1 ≡ length vertices.now.starts.items) }
+{
+    if vertices.starts.is_empty() {
+        return None;
+    }
+    Some(Numbering {
+        table: vec![in alloc; 0usize; vertices.starts.len() - 1].ok()?,
+        order: Vec::new(alloc),
+    })
+}
+
+/// Looks at the boundaries of each object once. `None`: undecided.
+pub(super) fn check_objects(
+    alloc: Global,
+    text: &[u8],
+    parts: &[ShortPart],
+    held: &[ShortHeld],
+    vertices: &VertexTexts<'_>,
+) -> Option<()>
+    requires { AreHolders text.now parts.now held.now }
+    ensures { OnSome result ((pairs : List (List ℕ × Tree)) (points : List Triple)
+        → StandAt vertices.now.text.now vertices.now.starts.items points
+        → IsCompactOf text.now (object (member_trees pairs)) → AreParts 1 parts.now (member_trees pairs)
+        → (k : ℕ) → k < length parts.now → IsBounded (length points) (named_at pairs k).1) }
+{
+    let mut numbering = no_numbers(alloc, vertices)?;
+    let mut draft = Draft {
+        line: Line::new(alloc),
+        from: 0,
+    };
+    for at in 0..parts.len() {
+        draft.line.truncate(0);
+        append_named(alloc, text, parts, held, at, &mut numbering, &mut draft)?;
+    }
+    Some(())
+}
+
+/// The texts of the features that the families of the objects are. Each ends in `tail`. No more than one family is held.
 pub(super) fn feature_texts(
     alloc: Global,
     text: &[u8],
@@ -219,13 +260,15 @@ pub(super) fn feature_texts(
     held: &[ShortHeld],
     vertices: &VertexTexts<'_>,
     tail: Line,
-    families: &[Family],
+    kin: &Kin,
 ) -> Option<FeatureTexts>
-    requires { AreHolders text.now parts.now held.now }
+    requires holders { AreHolders text.now parts.now held.now }
+    requires graph { InRange kin.now.children.items (length kin.now.children.items) }
+    requires parents { length kin.now.parents.items ≡ length kin.now.children.items }
     ensures { IfSome result (λ texts. (pairs : List (List ℕ × Tree)) (appearance : Option Tree) (points : List Triple)
         → StandAt vertices.now.text.now vertices.now.starts.items points
         → IsCompactOf text.now (object (member_trees pairs)) → AreParts 1 parts.now (member_trees pairs)
-        → AllZip (Begins (member_trees pairs)) (roots (member_trees pairs)) families.now
+        → AreRelated pairs kin.now.children.items kin.now.parents.items
         → tail ≡ tail_text appearance
         → (features : List FeatureValue)
         × (texts_in texts ≡ texts_of features)
@@ -234,19 +277,22 @@ pub(super) fn feature_texts(
         → IsReached (member_trees pairs) id name → first_named name (member_trees pairs) ≡ Some value
         → IsBounded (length points) value)) }
 {
-    if vertices.starts.is_empty() {
-        return None;
-    }
-    let mut numbering = Numbering {
-        table: vec![in alloc; 0usize; vertices.starts.len() - 1].ok()?,
-        order: Vec::new(alloc),
-    };
+    let mut numbering = no_numbers(alloc, vertices)?;
     let mut draft = Draft {
         line: Line::from_vec(Vec::with_capacity(alloc, text.len()).ok()?),
         from: 0,
     };
-    let mut ends = Vec::with_capacity(alloc, families.len()).ok()?;
-    for family in families {
+    let mut ends = Vec::with_capacity(alloc, parts.len()).ok()?;
+    let Ok(mut marks) = no_marks(alloc, kin) else {
+        return None;
+    };
+    for at in 0..kin.children.len() {
+        let Ok(found) = family_at(alloc, kin, at, &mut marks) else {
+            return None;
+        };
+        let Some(family) = found else {
+            continue;
+        };
         let before = draft.line.items().len();
         append_feature(
             alloc,
@@ -254,7 +300,7 @@ pub(super) fn feature_texts(
             parts,
             held,
             vertices,
-            family,
+            &family,
             &mut numbering,
             &mut draft,
         )?;

@@ -1,46 +1,48 @@
-use Rattle.std.proofs.Common.{rules, ◌≡◌, length, [], refl, arith}
-use Rattle.std.proofs.lemmas.Option.{slice_get_read}
-use Rattle.city_cut.proofs.Growth.{grows_none, grows_first, searches_none, searches_step, searches_end, found_within, rows_within}
+use Rattle.std.proofs.Common.{rules, ◌≡◌, ◌∙◌, [], arith}
+use Rattle.city_cut.proofs.Growth.{begun_with, kept_others, noted_once, reached_from_one}
 use Rattle.city_cut.proofs.reach.reached.Goals as goal
 
-pub loop-at-init : goal.loop-at-init
-loop-at-init c =
-    let new = c.in_ok-note.ensures.first (c.requires.unmarked c.args.root 0
-    (omega (arith, c.requires.root, c.requires.marks))) in
-    let once = grows_first c.args.root [] c.args.marks.now c.args.marks.now [] [] c.args.root
-    (grows_none c.args.root c.args.marks.now []) (omega (arith, c.requires.root, c.requires.marks))
-    (c.requires.unmarked c.args.root 0 (omega (arith, c.requires.root, c.requires.marks))) in
+pub search_on-requires-clause-found : goal.search_on-requires-clause-found
+search_on-requires-clause-found c =
     let none : c.in_ok-found.found.items ≡ [] = search rules in
-    rw (new.0, new.1, none)
-    (searches_none c.args.graph.now c.args.root c.args.marks.now _ _ once c.requires.unmarked)
+    let once = noted_once c.args.root c.args.marks.now c.note.new.marks c.in_ok-found.found.items c.note.new.found.items
+    (omega (arith, c.requires.root, c.requires.marks)) c.requires.unmarked none c.in_ok-note.ensures.first in
+    begun_with c.args.root c.args.root c.args.marks.now c.note.new.marks c.note.new.found.items once.0
+    c.requires.unmarked
 
-pub offset_bounds-graph-next : goal.offset_bounds-graph-next
-offset_bounds-graph-next c =
-    let below = found_within _ _ _ _ _ _ _ c.loop-at.invariant (omega arith) c.index-next.ensures in
-    omega (arith, below, c.requires.marks)
-
-pub bounds-graph-next : goal.bounds-graph-next
-bounds-graph-next c =
-    let below = found_within _ _ _ _ _ _ _ c.loop-at.invariant (omega arith) c.index-next.ensures in
-    omega (arith, below, c.requires.marks)
-
-pub note_all-requires : goal.note_all-requires
-note_all-requires c =
-    let below = found_within _ _ _ _ _ _ _ c.loop-at.invariant (omega arith) c.index-next.ensures in
-    let all = rows_within c.args.graph.now (length c.args.graph.now) c.index-next.result.now c.index-graph-next.result
-    c.requires.graph (slice_get_read c.args.graph.now (length c.args.graph.now) _ _ refl
-    (omega (arith, below, c.requires.marks)) c.index-graph-next.is) in
-    rw (c.deref.ensures.value, c.loop-at.invariant.long, c.requires.marks) all
-
-pub loop-at-preserved : goal.loop-at-preserved
-loop-at-preserved c = searches_step _ _ _ _ _ _ _ _ _ _ _ c.loop-at.invariant (omega arith) c.requires.marks
-    c.index-next.ensures c.index-graph-next.is c.deref.ensures.value c.in_ok-note_all.ensures.ok
+pub search_on-requires-clause-marks : goal.search_on-requires-clause-marks
+search_on-requires-clause-marks c =
+    let none : c.in_ok-found.found.items ≡ [] = search rules in
+    let once = noted_once c.args.root c.args.marks.now c.note.new.marks c.in_ok-found.found.items c.note.new.found.items
+    (omega (arith, c.requires.root, c.requires.marks)) c.requires.unmarked none c.in_ok-note.ensures.first in
+    omega (arith, once.0.long, c.requires.marks)
 
 pub returns-clause-ok : goal.returns-clause-ok
-returns-clause-ok c = λ k. (c.loop-at.invariant.sound k, searches_end _ _ _ _ _ _ k c.loop-at.invariant (omega arith))
+returns-clause-ok c =
+    let none : c.in_ok-found.found.items ≡ [] = search rules in
+    let once = noted_once c.args.root c.args.marks.now c.note.new.marks c.in_ok-found.found.items c.note.new.found.items
+    (omega (arith, c.requires.root, c.requires.marks)) c.requires.unmarked none c.in_ok-note.ensures.first in
+    λ k. reached_from_one c.args.graph.now c.note.new.found.items c.args.root k once.1 (c.in_ok-search_on.ensures.ok k)
 
 pub returns-clause-marks : goal.returns-clause-marks
-returns-clause-marks c = λ k. (
-  λ m. c.loop-at.invariant.sound k (c.loop-at.invariant.only k m),
-  λ r. c.loop-at.invariant.marked k (searches_end _ _ _ _ _ _ k c.loop-at.invariant (omega arith) r),
-)
+returns-clause-marks c =
+    let none : c.in_ok-found.found.items ≡ [] = search rules in
+    let once = noted_once c.args.root c.args.marks.now c.note.new.marks c.in_ok-found.found.items c.note.new.found.items
+    (omega (arith, c.requires.root, c.requires.marks)) c.requires.unmarked none c.in_ok-note.ensures.first in
+    λ k. reached_from_one c.args.graph.now c.note.new.found.items c.args.root k once.1
+    (c.in_ok-search_on.ensures.marks k)
+
+pub returns-clause-others : goal.returns-clause-others
+returns-clause-others c =
+    let none : c.in_ok-found.found.items ≡ [] = search rules in
+    let once = noted_once c.args.root c.args.marks.now c.note.new.marks c.in_ok-found.found.items c.note.new.found.items
+    (omega (arith, c.requires.root, c.requires.marks)) c.requires.unmarked none c.in_ok-note.ensures.first in
+    kept_others c.args.root _ c.args.marks.now c.note.new.marks c.search_on.new.marks c.note.new.found.items once.0
+    c.in_ok-search_on.ensures.others
+
+pub returns-clause-long : goal.returns-clause-long
+returns-clause-long c =
+    let none : c.in_ok-found.found.items ≡ [] = search rules in
+    let once = noted_once c.args.root c.args.marks.now c.note.new.marks c.in_ok-found.found.items c.note.new.found.items
+    (omega (arith, c.requires.root, c.requires.marks)) c.requires.unmarked none c.in_ok-note.ensures.first in
+    c.in_ok-search_on.ensures.long ∙ once.0.long

@@ -5,27 +5,28 @@ use Rattle.city_json.specs.Tree.{Tree, member_trees, object}
 use Rattle.city_feature.specs.Feature.{FeatureValue}
 use Rattle.city_cut.specs.CityObjects.{roots}
 use Rattle.city_cut.specs.Cut.{IsFeatureOf}
-use Rattle.city_cut.specs.Families.{Begins}
+use Rattle.city_cut.specs.Families.{AreRelated, IsMarkedSoFar}
 use Rattle.city_cut.specs.FeatureText.{tail_text}
 use Rattle.city_cut.specs.HeldTexts.{AreEnds, pieces}
 use Rattle.city_cut.specs.Lines.{texts_of}
 use Rattle.city_cut.specs.Texts.{IsCompactOf}
 use Rattle.city_cut.specs.VertexTexts.{StandAt}
 use Rattle.city_grid.specs.Axes.{Triple}
-use Rattle.city_cut.proofs.FeatureList.{BoundedBefore}
+use Rattle.city_cut.proofs.FeatureList.{BoundedFrom}
 use Rattle.city_cut.proofs.quick.features.feature_texts.Given as goal
 
-abbrev pub invariant-loop-family : goal.invariant-loop-family
-invariant-loop-family l = record {
+abbrev pub invariant-loop-at : goal.invariant-loop-at
+invariant-loop-at l = record {
   long : length l.numbering.table.items + 1 ≡ length l.vertices.starts.items;
   ends : AreEnds 0 l.ends.items (length l.draft.line);
+  marked : IsMarkedSoFar (length l.kin.children.items) l.at l.marks.items;
   made : (pairs : List (List ℕ × Tree)) (appearance : Option Tree) (points : List Triple)
       → StandAt l.vertices.text.now l.vertices.starts.items points
       → IsCompactOf l.text (object (member_trees pairs)) → AreParts 1 l.parts (member_trees pairs)
-      → AllZip (Begins (member_trees pairs)) (roots (member_trees pairs)) l.families → l.fn.tail ≡ tail_text appearance
+      → AreRelated pairs l.kin.children.items l.kin.parents.items → l.fn.tail ≡ tail_text appearance
       → (features : List FeatureValue) × (map (λ own. own ++ l.fn.tail) (pieces l.draft.line 0 l.ends.items)
       ≡ texts_of features)
-      × AllZip (IsFeatureOf (member_trees pairs) appearance points) (take l.family-index (roots (member_trees pairs)))
+      × AllZip (IsFeatureOf (member_trees pairs) appearance points) (roots (member_trees (take l.at pairs)))
       features
-      × BoundedBefore (length points) pairs l.families l.family-index;
+      × BoundedFrom (length points) (member_trees pairs) (roots (member_trees (take l.at pairs)));
 }

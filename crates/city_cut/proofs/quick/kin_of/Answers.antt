@@ -1,0 +1,53 @@
+use Rattle.std.proofs.Common.{◌∙◌, ap, length, subst, sym}
+use Rattle.city_cut.specs.Search.{InRange}
+use Rattle.city_cut.specs.Table.{IsTable}
+use Rattle.city_cut.proofs.Kinship.{graph_in_range, lacks_none}
+use Rattle.city_cut.proofs.QuickGraphs.{related, same_long}
+use Rattle.city_cut.proofs.Seeking.{related_as}
+use Rattle.city_cut.proofs.quick.kin_of.Goals as goal
+
+pub check_belonging-requires-clause-graph : goal.check_belonging-requires-clause-graph
+check_belonging-requires-clause-graph c =
+    let (pairs, of, are) = c.requires.objects in
+    let rel = related c.args.text.now c.args.places.now c.args.parents.items c.args.children.now
+    c.in_ok-graph.graph.items pairs c.in_ok-table.table.items c.requires.parents c.requires.children
+    (c.in_ok-table.ensures pairs of are) (λ all utf8 table. c.in_ok-graph.ensures all utf8
+    (subst (IsTable _) (sym c.deref.ensures.value) table)) of are in
+    subst (λ g. InRange g (length g)) (sym c.deref-2.ensures.value)
+    (graph_in_range _ c.in_ok-graph.graph.items rel.0.differ rel.0.linked)
+
+pub check_belonging-requires-clause-parents : goal.check_belonging-requires-clause-parents
+check_belonging-requires-clause-parents c =
+    let (pairs, of, are) = c.requires.objects in
+    let rel = related c.args.text.now c.args.places.now c.args.parents.items c.args.children.now
+    c.in_ok-graph.graph.items pairs c.in_ok-table.table.items c.requires.parents c.requires.children
+    (c.in_ok-table.ensures pairs of are) (λ all utf8 table. c.in_ok-graph.ensures all utf8
+    (subst (IsTable _) (sym c.deref.ensures.value) table)) of are in
+    ap length c.deref-3.ensures.value ∙ (same_long pairs _ _ rel.0 ∙ sym (ap length c.deref-2.ensures.value))
+
+pub returns-clause-graph : goal.returns-clause-graph
+returns-clause-graph c =
+    let (pairs, of, are) = c.requires.objects in
+    let rel = related c.args.text.now c.args.places.now c.args.parents.items c.args.children.now
+    c.in_ok-graph.graph.items pairs c.in_ok-table.table.items c.requires.parents c.requires.children
+    (c.in_ok-table.ensures pairs of are) (λ all utf8 table. c.in_ok-graph.ensures all utf8
+    (subst (IsTable _) (sym c.deref.ensures.value) table)) of are in
+    graph_in_range _ c.in_ok-graph.graph.items rel.0.differ rel.0.linked
+
+pub returns-clause-parents : goal.returns-clause-parents
+returns-clause-parents c =
+    let (pairs, of, are) = c.requires.objects in
+    let rel = related c.args.text.now c.args.places.now c.args.parents.items c.args.children.now
+    c.in_ok-graph.graph.items pairs c.in_ok-table.table.items c.requires.parents c.requires.children
+    (c.in_ok-table.ensures pairs of are) (λ all utf8 table. c.in_ok-graph.ensures all utf8
+    (subst (IsTable _) (sym c.deref.ensures.value) table)) of are in
+    same_long pairs _ _ rel.0
+
+pub returns-clause-kin : goal.returns-clause-kin
+returns-clause-kin c = λ pairs of are.
+    let rel = related c.args.text.now c.args.places.now c.args.parents.items c.args.children.now
+    c.in_ok-graph.graph.items pairs c.in_ok-table.table.items c.requires.parents c.requires.children
+    (c.in_ok-table.ensures pairs of are) (λ all utf8 table. c.in_ok-graph.ensures all utf8
+    (subst (IsTable _) (sym c.deref.ensures.value) table)) of are in
+    let here = related_as pairs _ _ _ _ (sym c.deref-2.ensures.value) (sym c.deref-3.ensures.value) rel.0 in
+    (rel.1, lacks_none _ _ rel.0.linked, c.in-Ok.ensures.belong pairs here, rel.0)
