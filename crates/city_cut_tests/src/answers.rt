@@ -84,7 +84,10 @@ const OBJECTS: &str = r#""a":{"type":"Building"}
 /// Other members.
 const MEMBERS: &str = r#""appearance":{"materials":[]},
 "metadata":{"title":"t"},"+extra":[1,2],
-"geometry-templates":{"templates":[]},"appearance":{"textures":[]},"#;
+"geometry-templates":{"templates":[]},"appearance":{"textures":[]},
+"appearance":{"vertices-texture":[[0.0,1e0],[2,-0]]},"geometry-templates":{"templates":[{"appearance":1}]},
+"appearance":[{"x":[[[]],[1]]},"geometry-templates"],"+geometry-templates":{"templates":[]},
+"Geometry-templates":1,"appearance":"\"geometry-templates\":","geometry-templates\"":2,"#;
 
 const WITH_MEMBERS: &str =
     r#"HEAD,ROW"vertices":POINTS,"CityObjects":{"a":{"type":"Building","geometry":[{"boundaries":[[1,0]]}]}}}"#;
@@ -291,7 +294,7 @@ const FAULTY: &str = "[[1,2]] => VertexShape
 {} => NotCityJson";
 
 /// Whether no cut on the text answers this document.
-fn is_left(alloc: Global, form: &str, row: &str) -> Result<bool, AllocError> {
+pub(crate) fn is_left(alloc: Global, form: &str, row: &str) -> Result<bool, AllocError> {
     let document = filled(alloc, form, split(row))?;
     Ok(
         quick_cut(alloc, document.as_bytes()).is_none()

@@ -5,6 +5,8 @@
 #[cfg(test)]
 mod answers;
 #[cfg(test)]
+mod families;
+#[cfg(test)]
 mod geometries;
 #[cfg(test)]
 mod refusals;
