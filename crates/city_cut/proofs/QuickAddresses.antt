@@ -14,7 +14,7 @@ use Rattle.city_feature.specs.Quick.{IsPartNamed}
 use Rattle.city_cut.specs.Boundaries.{IsAddress, IsGeometry, address_boundary, changed_members, in_member, located, own_boundary, relabelled_boundary}
 use Rattle.city_cut.specs.Copied.{Copies}
 use Rattle.city_cut.specs.Leaves.{IsBoundary, leaves, relabelled}
-use Rattle.city_cut.specs.Texts.{IsCompactOf}
+use Rattle.city_feature.specs.Texts.{IsCompactOf}
 use Rattle.city_cut.proofs.CopiedTexts.{copies_so, copies_text}
 use Rattle.city_cut.proofs.QuickTexts.{changed_absent, changed_with, copies_exchanged, member_there, with_same}
 

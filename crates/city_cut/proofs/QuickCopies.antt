@@ -19,7 +19,7 @@ use Rattle.city_cut.specs.declared.quick.holders.Holder.{Holder}
 use Rattle.city_cut.specs.declared.quick.holders.Holder.TheVariants.{Geometry, Address}
 use Rattle.city_cut.specs.Items.{item_list}
 use Rattle.city_cut.specs.Leaves.{leaves}
-use Rattle.city_cut.specs.Texts.{IsCompactOf}
+use Rattle.city_feature.specs.Texts.{IsCompactOf}
 use Rattle.city_cut.proofs.CopiedTexts.{copies_both, copies_so, copies_text}
 use Rattle.city_cut.proofs.QuickTexts.{slice_first}
 

@@ -19,7 +19,7 @@ use Rattle.city_cut.specs.Boundaries.{IsGeometry, changed_members, own_boundary,
 use Rattle.city_cut.specs.Copied.{Copies, CopiesItems, CopiesPart}
 use Rattle.city_cut.specs.FrontMembers.{EndsAfter, HasFrontParts, IsValuePlace}
 use Rattle.city_cut.specs.Leaves.{IsBoundary, IsNested, leaves, relabelled}
-use Rattle.city_cut.specs.Texts.{IsCompactOf}
+use Rattle.city_feature.specs.Texts.{IsCompactOf}
 use Rattle.city_cut.proofs.CopiedArrays.{part_array}
 use Rattle.city_cut.proofs.CopiedTexts.{copies_so, copies_text, shown_here}
 use Rattle.city_cut.proofs.QuickMembers.{has_front_parts}

@@ -20,7 +20,7 @@ use Rattle.city_cut.specs.Leaves.{leaves}
 use Rattle.city_cut.specs.Numbered.{AreNumbered}
 use Rattle.city_cut.specs.Overviews.{IsFoundIn, IsHolderPart, IsNowhere}
 use Rattle.city_cut.specs.Points.{CountsUp}
-use Rattle.city_cut.specs.Texts.{IsCompactOf}
+use Rattle.city_feature.specs.Texts.{IsCompactOf}
 use Rattle.city_cut.specs.declared.quick.holders.Holder.{Holder}
 use Rattle.city_cut.specs.declared.quick.holders.Holder.TheVariants.{Geometry, Address}
 use Rattle.city_cut.proofs.CopiedTexts.{copies_both, copies_so, copies_text, extends_same, extends_trans}

@@ -18,7 +18,7 @@ use Rattle.city_json.specs.declared.compacting.parts.Part.{Part}
 use Rattle.city_feature.proofs.QuickLines.{first_at, replaced_at}
 use Rattle.city_feature.specs.Quick.{IsPartNamed}
 use Rattle.city_cut.specs.Boundaries.{changed_members}
-use Rattle.city_cut.specs.Texts.{IsCompactOf}
+use Rattle.city_feature.specs.Texts.{IsCompactOf}
 use Rattle.city_cut.proofs.QuickTexts.{changed_with, same_place}
 use Rattle.city_cut.proofs.Renumbering.{distinct_kept}
 

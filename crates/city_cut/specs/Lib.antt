@@ -23,6 +23,5 @@ pub mod Reach
 pub mod Relabelling
 pub mod Search
 pub mod Table
-pub mod Texts
 pub mod TripleStarts
 pub mod VertexTexts

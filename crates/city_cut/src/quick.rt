@@ -41,7 +41,7 @@ ghost use Rattle.city_cut.specs.HeldTexts.{texts_in};
 ghost use Rattle.city_cut.specs.Overviews.{HasChildrenIn, HasParentsIn};
 ghost use Rattle.city_cut.specs.Search.{InRange};
 ghost use Rattle.city_cut.specs.Lines.{texts_of};
-ghost use Rattle.city_cut.specs.Texts.{IsCompactOf};
+ghost use Rattle.city_feature.specs.Texts.{IsCompactOf};
 ghost use Rattle.city_cut.specs.VertexTexts.{HasPoints, StandAt};
 
 use crate::cuts::CutTexts;

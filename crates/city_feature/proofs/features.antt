@@ -8,5 +8,4 @@ pub mod QuickMoves
 pub mod FirstTypes
 pub mod TriplesAreVertices
 pub mod TripleVertices
-pub mod AbsentNames
 pub mod EndedTexts

@@ -22,7 +22,7 @@ use Rattle.city_feature.specs.Header.{HeaderValue}
 use Rattle.city_cut.specs.Cut.{IsCut, IsCuttable, RefusesCut}
 use Rattle.city_cut.specs.HeldTexts.{HeldTexts, texts_in}
 use Rattle.city_cut.specs.Lines.{texts_of}
-use Rattle.city_cut.specs.Texts.{IsCompactOf}
+use Rattle.city_feature.specs.Texts.{IsCompactOf}
 use Rattle.tile_stream.specs.Stream.{stream}
 use Rattle.document_stream.specs.CutStream.{IsStreamOf, cut_stream}
 use Rattle.byte_streams.specs.Limits.{max_line_bytes}

@@ -8,7 +8,7 @@ ghost use Rattle.city_json.specs.Tree.{MemberTrees, object, tree};
 ghost use Rattle.city_json.specs.Triples.{HasTriples};
 ghost use Rattle.city_feature.specs.Values.{header_value};
 ghost use Rattle.city_cut.specs.HeldTexts.{texts_in};
-ghost use Rattle.city_cut.specs.Texts.{IsCompactOf};
+ghost use Rattle.city_feature.specs.Texts.{IsCompactOf};
 ghost use Rattle.document_stream.specs.CutStream.{IsStreamOf};
 ghost use Rattle.document_stream.specs.Input.{SomeInput};
 ghost use Rattle.document_stream.specs.Taking.{CutsInto, GivesCut, HasCut, IsRefusedInput, RefusesCutting, RefusesRead, failed_reads_after_taking, is_white_space};

@@ -21,7 +21,7 @@ ghost use Rattle.city_cut.specs.Lines.{texts_of};
 ghost use Rattle.city_cut.specs.Overviews.{AreHolders};
 ghost use Rattle.city_cut.specs.Places.{IsFamily, name_at};
 ghost use Rattle.city_cut.specs.Search.{InRange};
-ghost use Rattle.city_cut.specs.Texts.{IsCompactOf};
+ghost use Rattle.city_feature.specs.Texts.{IsCompactOf};
 ghost use Rattle.city_cut.specs.VertexTexts.{StandAt};
 
 use super::drafts::Draft;

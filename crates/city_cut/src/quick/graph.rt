@@ -8,7 +8,7 @@ ghost use Rattle.city_json.specs.Tree.{Tree, member_trees, object, string};
 ghost use Rattle.city_cut.specs.Graphs.{HasRow, HaveRows};
 ghost use Rattle.city_cut.specs.Places.{ArePlaced};
 ghost use Rattle.city_cut.specs.Table.{IsTable};
-ghost use Rattle.city_cut.specs.Texts.{IsCompactOf};
+ghost use Rattle.city_feature.specs.Texts.{IsCompactOf};
 
 use super::features::id_of;
 use super::kin::texts_of;

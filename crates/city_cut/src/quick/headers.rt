@@ -10,7 +10,7 @@ ghost use Rattle.city_feature.specs.Changes.{changed_named};
 ghost use Rattle.city_feature.specs.Header.{IsHeader};
 ghost use Rattle.city_feature.specs.Quick.{IsPartNamed};
 ghost use Rattle.city_cut.specs.HeaderText.{HasHeader, IsBare, IsBareText, emptied};
-ghost use Rattle.city_cut.specs.Texts.{IsCompactOf};
+ghost use Rattle.city_feature.specs.Texts.{IsCompactOf};
 
 use super::texts::{append_back, append_front, append_text, is_absent, parts_of};
 use crate::headers::drop_appearance;

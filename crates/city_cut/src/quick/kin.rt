@@ -5,7 +5,7 @@ ghost use Rattle.std.specs.Prelude.{◌≡◌, ◌++◌, ◌∷◌, [], IfSome, 
 ghost use Rattle.city_json.specs.CompactMembers.{HasParts};
 ghost use Rattle.city_json.specs.Tree.{Tree};
 ghost use Rattle.city_cut.specs.Kin.{AreQuoted, HasChildrenText, HasParents};
-ghost use Rattle.city_cut.specs.Texts.{IsCompactOf};
+ghost use Rattle.city_feature.specs.Texts.{IsCompactOf};
 
 use super::texts::member_or;
 use city_feature::between;

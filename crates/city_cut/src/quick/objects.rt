@@ -13,7 +13,7 @@ ghost use Rattle.city_cut.specs.Copied.{Copies, Numbers};
 ghost use Rattle.city_cut.specs.Holders.{AreHeld, held_uses, name_of, other_than, relabelled_held};
 ghost use Rattle.city_cut.specs.Leaves.{leaves};
 ghost use Rattle.city_cut.specs.Overviews.{HasHolders};
-ghost use Rattle.city_cut.specs.Texts.{IsCompactOf};
+ghost use Rattle.city_feature.specs.Texts.{IsCompactOf};
 
 use super::drafts::Draft;
 use super::holders::{HeldParts, Holder};

@@ -1,7 +1,7 @@
 //! The texts of a document's features, which end in its appearance: the end is looked at once, and not with each of them.
-ghost use Rattle.std.specs.Prelude.{◌≡◌, ◌++◌, ◌∷◌, [], ℕ, List, None, codes, option_map, slice_range, IfSome, IsTrue, OnSome};
-ghost use Rattle.city_json.specs.Bytes.{close_brace, colon, comma, open_brace};
-ghost use Rattle.city_json.specs.Compact.{compact, quoted};
+ghost use Rattle.std.specs.Prelude.{◌≡◌, ◌++◌, ◌∷◌, [], ℕ, List, None, codes, option_map, IfSome, IsTrue, OnSome};
+ghost use Rattle.city_json.specs.Bytes.{close_brace, comma, open_brace};
+ghost use Rattle.city_json.specs.Compact.{compact};
 ghost use Rattle.city_json.specs.Fits.{Fits};
 ghost use Rattle.city_json.specs.Grammar.{Spells};
 ghost use Rattle.city_json.specs.Lent.{lent_bytes};
@@ -11,13 +11,12 @@ ghost use Rattle.city_json.specs.Writable.{IsWritable};
 ghost use Rattle.city_feature.specs.Choice.{IsChosen};
 ghost use Rattle.city_feature.specs.Ended.{IsAppearanceEnd, appearance_alone};
 ghost use Rattle.city_feature.specs.FeatureLine.{GivesFeature};
-ghost use Rattle.city_feature.specs.Quick.{IsLine};
 
 use crate::choices::Choice;
-use crate::features::quick::{between, compacted_text, part_named};
+use crate::features::quick::{compacted_text, is_absent, part_named};
 use byte_streams::Line;
 use city_grid::Shift;
-use city_json::{LentText, Part, compact_lent};
+use city_json::{LentText, compact_lent};
 use std::alloc::Global;
 
 fn are_same(text: &[u8], other: &[u8]) -> bool
@@ -70,29 +69,6 @@ pub fn is_appearance_end(alloc: Global, end: &[u8]) -> bool
     is_appearance_alone(alloc, text.items())
 }
 
-/// Whether this text may stand between two places: no means that it does not.
-fn may_stand(text: &[u8], from: usize, to: usize, other: &[u8]) -> bool
-    ensures { slice_range text.now from to ≡ other.now → IsTrue result }
-{
-    let Some(found) = between(text, from, to) else {
-        return true;
-    };
-    found == other
-}
-
-/// Whether no member of a line has this name, which is given as it stands there, with its marks and its colon.
-fn lacks(line: &[u8], parts: &[Part], name: &[u8]) -> bool
-    ensures { IsTrue result → (members : MemberTrees) → IsLine line.now parts.now members → (other : List ℕ)
-        → name.now ≡ quoted other ++ colon ∷ [] → first_named other members ≡ None }
-{
-    for part in parts {
-        if may_stand(line, part.at, part.value, name) {
-            return false;
-        }
-    }
-    true
-}
-
 /// The compact text of the feature of a line that is compact and has no appearance, moved by the shift, where it is chosen
 /// then. `None`: undecided.
 fn closed_text<'a>(
@@ -108,7 +84,7 @@ fn closed_text<'a>(
 {
     let found = compact_lent(alloc, line, Line::new(alloc))?;
     let text = found.text.bytes();
-    if !are_same(line, text) || !lacks(text, &found.parts, b"\"appearance\":") {
+    if !are_same(line, text) || !is_absent(text, &found.parts, b"\"appearance\":") {
         return None;
     }
     let given = compacted_text(alloc, found, shift, choice)?;

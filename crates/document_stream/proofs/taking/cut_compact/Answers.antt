@@ -2,7 +2,7 @@ use Rattle.std.proofs.Common.{sym, subst}
 use Rattle.city_json.specs.Parts.{AreParts}
 use Rattle.city_json.specs.Tree.{object, tree}
 use Rattle.city_cut.specs.HeldTexts.{texts_in}
-use Rattle.city_cut.specs.Texts.{IsCompactOf}
+use Rattle.city_feature.specs.Texts.{IsCompactOf}
 use Rattle.city_cut.specs.declared.cuts.CutTexts.{CutTexts}
 use Rattle.city_feature.specs.Values.{header_value}
 use Rattle.document_stream.proofs.InputTaken.{again_given, again_refused}

@@ -3,7 +3,7 @@ use Rattle.city_json.specs.Parts.{AreParts}
 use Rattle.city_json.specs.Tree.{Tree, member_trees, object}
 use Rattle.city_cut.specs.Boundaries.{IsBounded}
 use Rattle.city_cut.specs.Chosen.{named_at}
-use Rattle.city_cut.specs.Texts.{IsCompactOf}
+use Rattle.city_feature.specs.Texts.{IsCompactOf}
 use Rattle.city_cut.specs.VertexTexts.{StandAt}
 use Rattle.city_grid.specs.Axes.{Triple}
 use Rattle.city_cut.proofs.quick.features.check_objects.Given as goal
