@@ -2,7 +2,7 @@
 //! CityJSONFeature): what they are ([`header`], [`feature`]), how the headers of tiles join
 //! ([`join_headers`]), how a feature is moved onto the shared grid ([`shifted`]) and chosen
 //! ([`selects`]), and the one step from a feature's line to its text ([`feature_line`],
-//! [`feature_text`]).
+//! [`feature_text`]), or where many end in one appearance, to what it has before that ([`own_text`]).
 #![tactic(auto)]
 
 mod base;
