@@ -150,15 +150,20 @@ pub(crate) fn gives(
     }
 }
 
+/// How far features are to be moved.
+pub(crate) fn asked_shift(asked: &str) -> Option<Shift> {
+    shift_of(field(asked, 0))
+}
+
 /// The choice that is asked for.
-fn asked_choice(alloc: Global, asked: &str) -> Result<Choice, Fault> {
+pub(crate) fn asked_choice(alloc: Global, asked: &str) -> Result<Choice, Fault> {
     let exclude = field(asked, 3) == "others";
     choice_of(alloc, field(asked, 1), field(asked, 2), exclude)
 }
 
 /// The same of what is asked for.
 pub(crate) fn gives_asked(alloc: Global, line: &str, asked: &str, wanted: &str) -> bool {
-    let Some(shift) = shift_of(field(asked, 0)) else {
+    let Some(shift) = asked_shift(asked) else {
         return false;
     };
     match asked_choice(alloc, asked) {

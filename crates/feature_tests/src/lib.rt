@@ -9,6 +9,8 @@ mod changes;
 #[cfg(test)]
 mod choices;
 #[cfg(test)]
+mod ended;
+#[cfg(test)]
 mod generated;
 #[cfg(test)]
 mod headers;
