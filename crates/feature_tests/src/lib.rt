@@ -23,6 +23,8 @@ mod many_extensions;
 #[cfg(test)]
 mod measured;
 #[cfg(test)]
+mod repeated_names;
+#[cfg(test)]
 mod texts;
 #[cfg(test)]
 mod tiles;
