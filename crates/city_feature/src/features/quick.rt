@@ -387,8 +387,7 @@ pub fn quick_text<'a>(
         GivesFeature (IsChosen choice.now) shift bytes.now (option_map lent_bytes given)) }
 {
     let found = compact_lent(alloc, bytes, spare)?;
-    let given = compacted_text(alloc, found, shift, choice)?;
-    Some(given)
+    compacted_text(alloc, found, shift, choice)
 }
 
 /// Appends the compact text of the feature that a line spells, moved by the shift, where it is chosen then, and says

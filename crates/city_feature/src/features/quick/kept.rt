@@ -26,6 +26,7 @@ struct KeptLine<'a> {
 }
 
 /// Whether the line is a feature whose vertices stand as they would be written.
+#[inline(always)]
 pub(super) fn has_vertices(line: &[u8], parts: &[Part], triples: Span) -> bool
     requires triples { HasTriples line.now triples }
     ensures { IsTrue result → IsAsWritten line.now parts.now }
@@ -77,6 +78,7 @@ fn kept_line<'a>(
 }
 
 /// The line of a feature whose vertices stand as they would be written, where it is chosen. `None`: undecided.
+#[inline(always)]
 pub(super) fn kept_text<'a>(
     alloc: Global,
     found: LentFeature<'a>,

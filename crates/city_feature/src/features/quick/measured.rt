@@ -79,6 +79,7 @@ pub fn measured(line: &[u8], parts: &[Part], triples: Span, area: &Area) -> Opti
 }
 
 /// The line of a feature that was measured, where it is chosen. `None`: undecided.
+#[inline(always)]
 pub(super) fn measured_text<'a>(
     alloc: Global,
     found: LentFeature<'a>,
