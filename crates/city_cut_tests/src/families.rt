@@ -59,24 +59,30 @@ fn faults_of_shared_objects_come_in_their_order(rt: HostRuntime) {
     }
 }
 
-/// A link of a chain, whose number stands for `NUMBER`, and the next one for `NEXT`.
-const LINK: &str = r#""oNUMBER":{"children":["oNEXT"],"attributes":{"height":NUMBER}},"#;
+/// A link of a chain, whose number stands for `NUMBER`, and the one before for `LAST`, with other members for `MEMBERS`.
+const LINK: &str = r#","oNUMBER":{"children":["oLAST"],MEMBERS}"#;
 
-fn put_link(text: &mut String, alloc: Global, number: u32) -> Result<(), AllocError> {
+fn put_link(
+    text: &mut String,
+    alloc: Global,
+    number: u32,
+    members: &str,
+) -> Result<(), AllocError> {
     let link = LINK.replace(alloc, "NUMBER", &format!(in alloc; "{number}")?)?;
-    let next = number + 1;
-    text.push_str(&link.replace(alloc, "NEXT", &format!(in alloc; "{next}")?)?)
+    let last = number.wrapping_sub(1);
+    let link = link.replace(alloc, "LAST", &format!(in alloc; "{last}")?)?;
+    text.push_str(&link.replace(alloc, "MEMBERS", members)?)
 }
 
-/// A chain of this many objects, of which the last has this boundary.
-fn chain(alloc: Global, count: u32, boundary: &str) -> Result<String, AllocError> {
+/// A chain of objects, each with the one before as its child, the last of this number, which has these members and is in
+/// no family but its own.
+fn chain(alloc: Global, count: u32, members: &str) -> Result<String, AllocError> {
     let mut text = String::new(alloc);
-    for number in 0..count {
-        put_link(&mut text, alloc, number)?;
+    text.push_str(r#""o0":{}"#)?;
+    for number in 1..count {
+        put_link(&mut text, alloc, number, r#""attributes":{"height":3.5}"#)?;
     }
-    let last = r#""oNUMBER":{"geometry":[{"boundaries":BOUNDARY}]}"#;
-    let last = last.replace(alloc, "NUMBER", &format!(in alloc; "{count}")?)?;
-    text.push_str(&last.replace(alloc, "BOUNDARY", boundary)?)?;
+    put_link(&mut text, alloc, count, members)?;
     Ok(text)
 }
 
@@ -87,7 +93,7 @@ fn is_chain_refused(alloc: Global, document: &str) -> bool {
 }
 
 fn is_long_chain_refused(alloc: Global) -> Result<bool, AllocError> {
-    let links = chain(alloc, 20000, "[3,4]")?;
+    let links = chain(alloc, 20000, r#""geometry":[{"boundaries":[3,4]}]"#)?;
     let document = filled(
         alloc,
         r#"HEAD,"CityObjects":{ROW},"vertices":POINTS}"#,
@@ -96,7 +102,7 @@ fn is_long_chain_refused(alloc: Global) -> Result<bool, AllocError> {
     Ok(is_chain_refused(alloc, &document))
 }
 
-/// All families of this chain have some two hundred million members.
+/// All families of this chain have some two hundred million members, and the last of them alone is at fault.
 #[test]
 fn families_of_a_refused_document_are_not_listed(rt: HostRuntime) {
     assert!(rt; is_long_chain_refused(rt.alloc()) == Ok(true));

@@ -128,6 +128,16 @@ pub const X: &str =
 pub const Y: &str =
     r#"{"type":"CityJSONFeature","id":"y","CityObjects":{"y":{"type":"Road","geometry":[{"type":"MultiPoint","lod":"1","boundaries":[0]}]}},"vertices":[[20,0,0]]}"#;
 
+/// The same with an appearance.
+pub const SHADED_POINTS: &str =
+    r#"{"type":"CityJSON","version":"2.0","transform":{"scale":[0.001,0.001,0.001],"translate":[0,0,0]},"CityObjects":{"x":{"type":"Building","geometry":[{"type":"MultiPoint","lod":"1","boundaries":[0]}]},"y":{"type":"Road","geometry":[{"type":"MultiPoint","lod":"1","boundaries":[1]}]}},"vertices":[[10,0,0],[20,0,0]],"appearance":{"materials":[{"name":"brick"}]}}"#;
+
+pub const SHADED_X: &str =
+    r#"{"type":"CityJSONFeature","id":"x","CityObjects":{"x":{"type":"Building","geometry":[{"type":"MultiPoint","lod":"1","boundaries":[0]}]}},"vertices":[[10,0,0]],"appearance":{"materials":[{"name":"brick"}]}}"#;
+
+pub const SHADED_Y: &str =
+    r#"{"type":"CityJSONFeature","id":"y","CityObjects":{"y":{"type":"Road","geometry":[{"type":"MultiPoint","lod":"1","boundaries":[0]}]}},"vertices":[[20,0,0]],"appearance":{"materials":[{"name":"brick"}]}}"#;
+
 /// Headers that join, or do not: of scales that are written otherwise, reference systems and extensions.
 pub const SCALED: &str = header!("1e-3", "0", "");
 

@@ -5,7 +5,7 @@ use byte_streams::{Fault, Line};
 use city_cut::{CutTexts, FeatureTexts, cut, cut_texts, quick_cut};
 use city_feature::{
     Base, Choice, Feature, Header, HeaderFault, Joined, area, feature, feature_line, feature_text,
-    header, join_headers, line, selects, set_member, shifted, types,
+    header, is_appearance_end, join_headers, line, own_text, selects, set_member, shifted, types,
 };
 use city_grid::{Shift, Vertex, append_vertex, vertex_json, write_vertex};
 use city_json::{Json, read};
@@ -397,6 +397,30 @@ fn texts_are_lent_or_written(rt: &(impl AllocGlobal + Eprint)) -> Result<bool, F
     Ok(is_refused && is_lent && gives(rt, SPACED, Shift::new(10, 20, 30), MOVED)?)
 }
 
+/// An end that features share, which is told unless memory is wanted.
+fn end_is_told(rt: &(impl AllocGlobal + Eprint)) -> Result<bool, Fault> {
+    if is_appearance_end(rt.alloc(), br#","appearance":{"materials":[]}}"#) {
+        return Ok(true);
+    }
+    refused(rt, Call("is_appearance_end"), Fault::Memory)
+}
+
+/// What a feature has before such an end is moved and given; it is undecided where memory is wanted.
+fn own_part_is_given(rt: &(impl AllocGlobal + Eprint)) -> Result<bool, Fault> {
+    let choice = choice_of(rt.alloc())?;
+    let shift = Shift::new(10, 20, 30).ok_or(Fault::ShiftRange)?;
+    let mut buffer = Line::new(rt.alloc());
+    let own =
+        br#"{"type":"CityJSONFeature","id":"a","CityObjects":{"a":{"type":"Road"}},"vertices":[[1,2,3]]"#;
+    let moved =
+        br#"{"type":"CityJSONFeature","id":"a","CityObjects":{"a":{"type":"Road"}},"vertices":[[11,22,33]]"#;
+    match own_text(rt.alloc(), own, shift, &choice, &mut buffer) {
+        Some(Some(text)) => Ok(text.items() == moved.as_slice()),
+        Some(None) => Ok(false),
+        None => refused(rt, Call("own_text"), Fault::Memory),
+    }
+}
+
 /// Whether so many names stand between the commas, none where one is empty.
 fn are_types(
     rt: &(impl AllocGlobal + Eprint),
@@ -530,6 +554,44 @@ fn document_is_cut_at_once(rt: &(impl AllocGlobal + Eprint)) -> Result<bool, Fau
     }
 }
 
+/// A document in which two objects name each other, and each of its texts.
+const SHARED: &str =
+    r#"{"type":"CityJSON","version":"2.0","transform":{"scale":[1,1,1],"translate":[0,0,0]},"appearance":{"materials":[]},"CityObjects":{"a":{"children":["b"],"geometry":[{"boundaries":[1]}]},"b":{"children":["a"]}},"vertices":[[0,0,0],[1,1,1]]}"#;
+
+const OF_SHARED: [&str; 2] = [
+    r#"{"type":"CityJSONFeature","id":"a","CityObjects":{"a":{"children":["b"],"geometry":[{"boundaries":[0]}]},"b":{"children":["a"]}},"vertices":[[1,1,1]],"appearance":{"materials":[]}}"#,
+    r#"{"type":"CityJSONFeature","id":"b","CityObjects":{"a":{"children":["b"],"geometry":[{"boundaries":[0]}]},"b":{"children":["a"]}},"vertices":[[1,1,1]],"appearance":{"materials":[]}}"#,
+];
+
+/// Whether the texts are those of the objects that name each other.
+fn are_shared(alloc: Global, texts: &FeatureTexts) -> Result<bool, Fault> {
+    if texts.len() != OF_SHARED.len() {
+        return Ok(false);
+    }
+    for at in 0..texts.len() {
+        let mut text = Line::new(alloc);
+        texts.append_to(at, &mut text)?;
+        if text.items() != OF_SHARED[at].as_bytes() {
+            return Ok(false);
+        }
+    }
+    Ok(true)
+}
+
+fn shared_objects_are_cut_into_texts(rt: &(impl AllocGlobal + Eprint)) -> Result<bool, Fault> {
+    match cut_texts(rt.alloc(), read(rt.alloc(), SHARED.as_bytes())?) {
+        Ok(found) => are_shared(rt.alloc(), &found.texts),
+        Err(fault) => refused(rt, Call("cut_texts"), fault),
+    }
+}
+
+fn shared_objects_are_cut_at_once(rt: &(impl AllocGlobal + Eprint)) -> Result<bool, Fault> {
+    match quick_cut(rt.alloc(), SHARED.as_bytes()) {
+        Some(found) => are_shared(rt.alloc(), &found.texts),
+        None => refused(rt, Call("quick_cut"), Fault::Memory),
+    }
+}
+
 #[test]
 fn vertices_headers_features_and_documents(rt: HostRuntime) -> Result<(), Fault> {
     expect!(rt; vertices_are_written(&rt));
@@ -540,10 +602,14 @@ fn vertices_headers_features_and_documents(rt: HostRuntime) -> Result<(), Fault>
     expect!(rt; features_are_refused(&rt));
     expect!(rt; lines_are_chosen(&rt));
     expect!(rt; texts_are_lent_or_written(&rt));
+    expect!(rt; end_is_told(&rt));
+    expect!(rt; own_part_is_given(&rt));
     expect!(rt; types_are_read(&rt));
     expect!(rt; choices_are_copied(&rt));
     expect!(rt; documents_are_cut(&rt));
     expect!(rt; document_is_cut_into_texts(&rt));
     expect!(rt; document_is_cut_at_once(&rt));
+    expect!(rt; shared_objects_are_cut_into_texts(&rt));
+    expect!(rt; shared_objects_are_cut_at_once(&rt));
     Ok(())
 }

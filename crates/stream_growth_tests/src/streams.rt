@@ -10,7 +10,7 @@ use city_json::{Json, print};
 use document_stream::{cat_document, cat_source};
 use growth_support::texts::{
     A1, A2, B1, BLANKS, BLANKS_CUT, BUILDING, CHILDLESS, DOCUMENT, EMPTY_A, EMPTY_B, FIRST,
-    FIRST_FEATURE, HEADER, ORPHANED, POINTS, UNBOUNDED, X, Y,
+    FIRST_FEATURE, HEADER, ORPHANED, POINTS, SHADED_POINTS, SHADED_X, SHADED_Y, UNBOUNDED, X, Y,
 };
 use growth_support::{Call, expect, is_fault, is_gone, refused, wanted};
 use std::alloc::{AllocError, Global};
@@ -305,6 +305,16 @@ fn document_is_filtered(rt: &(impl AllocGlobal + Eprint), step: usize) -> Result
     is_filtered(rt, step, &input, 1, &[(1, X), (1, Y), (2, A1)], Ok(3))
 }
 
+/// The same with an appearance, which its features share.
+fn shaded_document_is_filtered(
+    rt: &(impl AllocGlobal + Eprint),
+    step: usize,
+) -> Result<bool, Fault> {
+    let input = bytes_of(rt.alloc(), &[SHADED_POINTS, A1])?;
+    let wanted = [(1, SHADED_X), (1, SHADED_Y), (2, A1)];
+    is_filtered(rt, step, &input, 1, &wanted, Ok(3))
+}
+
 /// Want of memory of this call at this line, or a wrong answer.
 fn is_refused(
     rt: &(impl AllocGlobal + Eprint),
@@ -475,6 +485,7 @@ fn streams_are_read_filtered_and_made_of_documents(rt: HostRuntime) -> Result<()
     expect!(rt; first_is_filtered(&rt, IN_PARTS));
     expect!(rt; features_are_chosen(&rt, IN_PARTS));
     expect!(rt; document_is_filtered(&rt, IN_PARTS));
+    expect!(rt; shaded_document_is_filtered(&rt, IN_PARTS));
     expect!(rt; tile_is_taken(&rt));
     expect!(rt; document_is_cat(&rt));
     expect!(rt; documents_are_refused(&rt));
@@ -491,5 +502,6 @@ fn whole_lines_are_filtered(rt: HostRuntime) -> Result<(), Fault> {
     expect!(rt; first_is_filtered(&rt, WHOLE));
     expect!(rt; features_are_chosen(&rt, WHOLE));
     expect!(rt; document_is_filtered(&rt, WHOLE));
+    expect!(rt; shaded_document_is_filtered(&rt, WHOLE));
     Ok(())
 }

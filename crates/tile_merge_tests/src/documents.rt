@@ -102,6 +102,21 @@ VERTEX_HEADER => HEADER => 0
 VERTEX_ALONE_HEADER A1 => NO_VERTEX_HEADER A1 => 1
 BARE_DOCUMENT A1 => BARE_HEADER BARE A1 => 2
 SHADED_DOCUMENT A1 => EXTENT_HEADER SHADED A1 => 2
+SHADED_POINTS A1 => HEADER SHADED_X SHADED_Y SHADED_Z A1 => 4
+TEMPLATES_POINTS => SHADED_TEMPLATES_HEADER SHADED_X SHADED_Y SHADED_Z => 3
+";
+
+/// The road alone is chosen, with the appearance.
+const FILTERED_ROADS: &str = "
+POINTS A1 Y => HEADER Y Y => 2
+SHADED_POINTS A1 Y => HEADER SHADED_Y Y => 2
+TEMPLATES_POINTS => SHADED_TEMPLATES_HEADER SHADED_Y => 1
+";
+
+/// Of a document of which nothing is chosen its header is written.
+const FILTERED_BRIDGES: &str = "
+POINTS A1 => HEADER => 0
+SHADED_POINTS A1 => HEADER => 0
 ";
 
 /// A document alone is cut where it stands first, and what is faulty after it leaves its features written.
@@ -135,13 +150,8 @@ fn documents_are_filtered(rt: HostRuntime) {
     expect_filters(&rt, &PLAIN, FILTERED, false);
     expect_filters(&rt, &PLAIN, FAULTY_LINES, false);
     expect_filters(&rt, &PLAIN, FAULTY, false);
-    expect_filters(
-        &rt,
-        &of_types("Road"),
-        "POINTS A1 Y => HEADER Y Y => 2",
-        false,
-    );
-    expect_filters(&rt, &of_types("Bridge"), "POINTS A1 => HEADER => 0", false);
+    expect_filters(&rt, &of_types("Road"), FILTERED_ROADS, false);
+    expect_filters(&rt, &of_types("Bridge"), FILTERED_BRIDGES, false);
     expect_filters(
         &rt,
         &PLAIN,
@@ -192,11 +202,13 @@ HEADER | FAR_DOCUMENT => HEADER FAR_BUILDING => [0, 1] =>  | FAR_BUILDING
 HEADER A1 | POINTS X Y Z => HEADER A1 X Y Z X Y Z => [1, 6] => A1 | X Y Z X Y Z
 VERTEX_HEADER | HEADER A1 | VERTEX_HEADER B1 => HEADER A1 B1 => [0, 1, 1] =>  | A1 | B1
 VERTEX_ALONE_HEADER A1 | VERTEX_ALONE_HEADER B1 => NO_VERTEX_HEADER A1 B1 => [1, 1] => A1 | B1
+HEADER A1 | SHADED_FAR_POINTS => HEADER A1 SHADED_FAR_X SHADED_FAR_Y SHADED_FAR_Z => [1, 3] => A1 | SHADED_FAR_X SHADED_FAR_Y SHADED_FAR_Z
 ";
 
 /// A document gives all of its features or none, and what is faulty after it leaves its features written.
 const REFUSED: &str = "
 HEADER A1 | LAST_DOCUMENT => HEADER A1 => tile 2 line 1: VertexRange => A1 |
+HEADER A1 | SHADED_LAST_POINTS => HEADER A1 => tile 2 line 1: VertexRange => A1 |
 HEADER A1 | EMPTY SPACE LAST_POINTS B1 { | HEADER C1 => HEADER A1 C1 => tile 2 line 3: VertexRange => A1 |  | C1
 HEADER A1 B1 | POINTS C1 CUT => HEADER A1 X B1 Y Z C1 => tile 2 line 3: Syntax => A1 B1 | X Y Z C1
 ";
@@ -204,6 +216,7 @@ HEADER A1 B1 | POINTS C1 CUT => HEADER A1 X B1 Y Z C1 => tile 2 line 3: Syntax =
 /// The second of three features of a document leaves the range, which tells, too, where it is not chosen.
 const REFUSED_BUILDINGS: &str = "
 HEADER A1 | EMPTY SPACE LAST_POINTS B1 { | HEADER C1 => HEADER A1 C1 => tile 2 line 3: VertexRange => A1 |  | C1
+HEADER A1 | EMPTY SPACE SHADED_LAST_POINTS B1 { | HEADER C1 => HEADER A1 C1 => tile 2 line 3: VertexRange => A1 |  | C1
 ";
 
 /// A faulty document leaves nothing merged.
@@ -221,11 +234,13 @@ POINTS A1 | EMPTY FAULTY_DOCUMENT B1 | HEADER { =>  => tile 2 line 2: VertexShap
 /// Features are chosen as they are moved.
 const CHOSEN: &str = "
 POINTS | FAR_POINTS A1 => HEADER FAR_Y => [0, 1] =>  | FAR_Y
+SHADED_POINTS | SHADED_FAR_POINTS A1 => HEADER SHADED_FAR_Y => [0, 1] =>  | SHADED_FAR_Y
 ";
 
 /// A document of which nothing is chosen is passed over.
 const ROADS: &str = "
 DOCUMENT | POINTS | DOCUMENT A1 => HEADER Y => [0, 1, 0] =>  | Y |
+SHADED_POINTS | DOCUMENT | SHADED_FAR_POINTS => HEADER SHADED_Y SHADED_FAR_Y => [1, 0, 1] => SHADED_Y |  | SHADED_FAR_Y
 ";
 
 #[test]
