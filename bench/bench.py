@@ -23,7 +23,8 @@ Eleven parts, each of which can be left out:
                 time against size for worst-case documents
   cuts          instructions for each byte and peak memory of `citymerge cat` on documents that are cut on their
                 text, with textures, with addresses, beside the same documents with a -0 (valgrind)
-  worst         the peak memory of the worst lines and documents, in times of their size, valid and refused ones apart
+  worst         the peak memory of the worst lines, documents and headers, in times of their size, valid and refused ones
+                apart, and how memory and time grow from 0.5 to 4 MB; where features share objects, beside what is written
 
 Status 0: all is right. 1: an output is wrong, the peak memory grows with the stream or is above its bound for a
 worst case, a stream or a document takes more instructions than is wanted, a merge is too slow beside the filter, one

@@ -10,6 +10,8 @@ holds: such shapes are measured in times of what is read and written.
 """
 
 import os
+import shutil
+import string
 import typing
 
 from documents import (
@@ -25,13 +27,14 @@ SMALL_SIZES = tuple(int(size * MEGA) for size in (0.025, 0.05, 0.1, 0.2))
 
 # Peak memory in times of the input, as README.md states it: of a valid line and one at fault, of a valid document and one
 # at fault, of the headers of a merge; and in times of what is read and written, where features share objects.
-LINE, REFUSED_LINE, DOCUMENT, REFUSED_DOCUMENT, HEADERS, SHARED = 13, 26, 37, 37, 26, 2
+LINE, REFUSED_LINE, DOCUMENT, REFUSED_DOCUMENT, HEADERS, SHARED = 12.5, 25.5, 34.5, 34.5, 26.5, 2.5
 
 # The peak, in times of the input, grows at most so much from the smallest size to the largest: tables that double give
 # up to 2, the square of the size would give 8.
 MAX_GROWTH = 2.5
 # Twice the size takes at most so many times as long, where it takes so many seconds.
 MAX_SLOWER, LEAST_SECONDS = 3.0, 0.1
+TURNS = 3
 # A run gets so many kilobytes of memory, so that one which takes the square of its input is told and does not stop the
 # machine.
 MOST_KILOBYTES = 6_000_000
@@ -97,9 +100,22 @@ def typed(object_text, piece, count):
     return feature(FEATURE + object_text + b'},"vertices":[],"holds":[', piece, count)
 
 
-def of_one_print(name):
-    """An object with two names of one print, of which one has an escape."""
-    return b'{"\\u0061%s":1,"b%s":1}' % (name, name)
+# two names of one print, of which one has an escape
+OF_ONE_PRINT = b'"\\u0061bcdefgh1ijklmnop":1,"abcdefgh2ijklmnop":1'
+LETTERS = string.ascii_letters + string.digits
+
+
+def shortest(at):
+    """The name of this number, of as few letters as can be."""
+    return (shortest(at // len(LETTERS) - 1) if at >= len(LETTERS) else "") + LETTERS[at % len(LETTERS)]
+
+
+def names(front, count):
+    """A feature with an object of so many short names that begin so, and two of one print."""
+    yield HEADER
+    yield TYPED + b',"holds":{'
+    yield b",".join([b'"%s%s":1' % (front, shortest(at).encode("ascii")) for at in range(count)])
+    yield b"," + OF_ONE_PRINT + b"}}\n"
 
 
 def whole(objects, table):
@@ -132,11 +148,15 @@ def header_with(name, value, piece, count):
     yield b"]}}}\n" if value.count(b"{") == 2 else b"]}}\n"
 
 
-def with_appearance(count):
-    """A document of so many buildings, and an appearance of 400 bytes for each."""
-    objects = ('"%d":{"type":"Building",%s}' % (at, points(at)) for at in range(count))
-    yield whole(objects, vertices(count))[:-1]
+def with_appearance(buildings, count):
+    """A document of these buildings, and an appearance of so many times 400 bytes, which each feature bears."""
+    objects = ('"%d":{"type":"Building",%s}' % (at, points(at)) for at in range(buildings))
+    yield whole(objects, vertices(buildings))[:-1]
     yield b',"appearance":{"textures":["' + b"a" * (400 * count) + b'"]}}\n'
+
+
+def large_appearance(count):
+    return with_appearance(50, count)
 
 
 def nested_leaf(count):
@@ -171,18 +191,18 @@ def minus_zero_vertices(count):
 
 def bare(count):
     """So many objects that are empty."""
-    return document(listed('"%x":{}' % at for at in range(count)), vertices(1))
+    return document(listed('"%s":{}' % shortest(at) for at in range(count)), vertices(1))
 
 
 def with_child(count):
     """So many objects that name one child."""
-    objects = ('"%x":{"children":["a"]}' % at for at in range(count))
+    objects = ('"%s":{"children":["a"]}' % shortest(at) for at in range(count))
     return document(listed(objects), vertices(1))
 
 
 def chain(count):
     """So many objects, each with the next one as its child, none of which names a parent."""
-    objects = ('"%x":{"children":["%x"]}' % (at, min(at + 1, count - 1)) for at in range(count))
+    objects = ('"%s":{"children":["%s"]}' % (shortest(at), shortest(min(at + 1, count - 1))) for at in range(count))
     return document(listed(objects), vertices(1))
 
 
@@ -211,8 +231,8 @@ def groups(count):
 def long_vertices(count):
     """A hundred long vertices, all of which each of so many objects names."""
     names = points(",".join([str(at) for at in range(100)]))
-    objects = ('"%d":{%s}' % (at, names) for at in range(count))
-    return document(listed(objects), listed("[%d,%d,%d]" % ((2**53 - 1 - at,) * 3) for at in range(100)))
+    objects = ('"%s":{%s}' % (shortest(at), names) for at in range(count))
+    return document(listed(objects), listed("[-%d,-%d,-%d]" % ((2**53 - 1 - at,) * 3) for at in range(100)))
 
 
 ORPHAN = "a city object belongs to no feature"
@@ -229,7 +249,9 @@ LINES = (
     Worst("a line in a rare spelling: arrays of one item", "filter", lambda n: escaped(b"[1]", n), 6),
     Worst("a line in a rare spelling: short texts", "filter", lambda n: escaped(b'"a"', n), 6),
     Worst("a line in a rare spelling: numbers", "filter", lambda n: escaped(b"1", n), 6),
-    Worst("a line: objects with two names of one print, one escaped", "filter", lambda n: holding(of_one_print(b"bcdefghijklmnop"), n), LINE),
+    Worst("a line: objects with two names of one print, one escaped", "filter", lambda n: holding(b"{" + OF_ONE_PRINT + b"}", n), 6),
+    Worst("a line: short names with an escape, two of one print", "filter", lambda n: names(b"\\n", n), LINE),
+    Worst("a line: short names, two of one print", "filter", lambda n: names(b"", n), 9),
     Worst("a line of a type: small arrays", BY_TYPE, lambda n: typed(b'"a":{"type":"Building"}', b"[1]", n), 6),
     Worst("a line whose id names no object", BY_TYPE, lambda n: typed(b'"b":{"type":"Building"}', b"[1]", n), 6),
     Worst("a line whose object has no type", BY_TYPE, lambda n: typed(b'"a":{}', b"[1]", n), 6),
@@ -259,11 +281,11 @@ DOCUMENTS = (
     Worst("cat: long vertices that each object names", "cat", long_vertices, DOCUMENT),
     Worst("cat: empty objects", "cat", bare, DOCUMENT),
     Worst("cat: objects that name one child", "cat", with_child, 17),
-    Worst("cat: buildings with a large appearance", "cat", with_appearance, 9),
-    Worst("cat: an appearance of arrays 100 deep", "cat", lambda n: textured(DEEP, n), 9),
-    Worst("cat: an appearance of arrays of one item", "cat", lambda n: textured(b"[0]", n), 9),
-    Worst("cat: an appearance of pairs", "cat", lambda n: textured(b"[0.25,0.75]", n), 9),
-    Worst("cat: an appearance of numbers", "cat", lambda n: textured(b"0", n), 9),
+    Worst("cat: buildings with a large appearance", "cat", large_appearance, 4),
+    Worst("cat: an appearance of arrays 100 deep", "cat", lambda n: textured(DEEP, n), 4),
+    Worst("cat: an appearance of arrays of one item", "cat", lambda n: textured(b"[0]", n), 4),
+    Worst("cat: an appearance of pairs", "cat", lambda n: textured(b"[0.25,0.75]", n), 4),
+    Worst("cat: an appearance of numbers", "cat", lambda n: textured(b"0", n), 4),
     Worst("cat: a header of arrays 100 deep", "cat", lambda n: with_metadata(DEEP, n), DOCUMENT),
     Worst("cat: a header of arrays of one item", "cat", lambda n: with_metadata(b"[1]", n), DOCUMENT),
     Worst("cat: a header of numbers", "cat", lambda n: with_metadata(b"1", n), DOCUMENT),
@@ -280,18 +302,18 @@ DOCUMENTS = (
     Worst("a first line: arrays of one index", "filter", nested_leaf, 9),
     Worst("a first line: empty objects", "filter", bare, DOCUMENT),
     Worst("a first line: long vertices that each object names", "filter", long_vertices, DOCUMENT),
-    Worst("a first line: buildings with a large appearance", "filter", with_appearance, 9),
-    Worst("a first line: the same, none of them chosen", NONE, with_appearance, 9),
-    Worst("a first line: an appearance of arrays 100 deep", "filter", lambda n: textured(DEEP, n), 9),
-    Worst("a first line: an appearance of pairs", "filter", lambda n: textured(b"[0.25,0.75]", n), 9),
+    Worst("a first line: buildings with a large appearance", "filter", large_appearance, 4),
+    Worst("a first line: as many buildings, none of them chosen", NONE, lambda n: with_appearance(n, n), 4),
+    Worst("a first line: an appearance of arrays 100 deep", "filter", lambda n: textured(DEEP, n), 4),
+    Worst("a first line: an appearance of pairs", "filter", lambda n: textured(b"[0.25,0.75]", n), 4),
     Worst("a first line, refused late: arrays of one index", "filter", refused_late(nested_leaf), REFUSED_DOCUMENT, BOUNDARY),
     Worst("a first line, refused late: a chain of objects", "filter", refused_late(chain), REFUSED_DOCUMENT, BOUNDARY),
     Worst("a first line, refused: small objects", "filter", orphan(apart), REFUSED_DOCUMENT, ORPHAN),
     Worst("a first line of a merged tile: small objects", "merge", apart, 9),
     Worst("a first line of a merged tile: empty objects", "merge", bare, DOCUMENT),
     Worst("a first line of a merged tile: objects that name one child", "merge", with_child, 17),
-    Worst("a first line of a merged tile: buildings with a large appearance", "merge", with_appearance, 9),
-    Worst("a first line of a tile merged in turn: the same", "merge --in-turn", with_appearance, 9),
+    Worst("a first line of a merged tile: buildings with a large appearance", "merge", large_appearance, 4),
+    Worst("a first line of a tile merged in turn: the same", "merge --in-turn", large_appearance, 4),
 )
 
 JOINED = (
@@ -323,23 +345,40 @@ class Measured(typing.NamedTuple):
     seconds: float
 
 
-def measured(bench, worst, size, idle):
+def run_of(bench, words, given, target=os.devnull):
+    """A run with a limit of memory, and its peak, which `time` tells: a child of this script begins with its pages."""
+    told = bench.path("peak")
+    limited = ("time", "-q", "-f", "%M", "-o", told, "sh", "-c", 'ulimit -v %d && exec "$0" "$@"' % MOST_KILOBYTES)
+    run = Run([*limited, bench.program, *words], given, target)
+    with open(told) as peak:
+        return run, 1024 * int(peak.read())
+
+
+def measured(bench, worst, size, idle, is_counted=False):
     """A run on an input of this size, or None where it ended in another way than it should."""
-    path, target = bench.write("worst", worst.make(count_of(worst, size))), bench.path("worst_output")
+    path, target = bench.write("worst", worst.make(count_of(worst, size))), bench.path("worst_output") if is_counted else os.devnull
     words, given = ([path], os.devnull) if "merge" in worst.command else ([], path)
-    limited = ("sh", "-c", 'ulimit -v %d && exec "$0" "$@"' % MOST_KILOBYTES)
-    run = Run([*limited, bench.program, *worst.command.split(), *words], given, target)
+    run, peak = run_of(bench, [*worst.command.split(), *words], given, target)
     read, written = os.path.getsize(path), os.path.getsize(target)
     os.remove(path)
-    os.remove(target)
+    if is_counted:
+        os.remove(target)
     if (run.status, worst.fault in run.errors) != (1 if worst.fault else 0, True):
         bench.fail("%s: %s" % (worst.name, run.trouble()))
         return None
-    return Measured(read, written, max(0, run.peak - idle), run.processor)
+    return Measured(read, written, max(0, peak - idle), run.processor)
+
+
+def slower_by(runs):
+    return runs[-1].seconds / max(runs[-2].seconds, 0.001)
+
+
+def is_slower(runs):
+    return slower_by(runs) > MAX_SLOWER and runs[-1].seconds > LEAST_SECONDS
 
 
 def tell(bench, worst, runs, times):
-    growth, slower = times[-1] / max(times[0], 1), runs[-1].seconds / max(runs[-2].seconds, 0.001)
+    growth, slower = times[-1] / max(times[0], 1), slower_by(runs)
     bench.say(
         "  %-72s %6.2f MB: %7.1f times (grows %4.1f), %6.2f s (grows %4.1f)"
         % (worst.name, runs[-1].read / MEGA, max(times), growth, runs[-1].seconds, slower)
@@ -348,20 +387,28 @@ def tell(bench, worst, runs, times):
         bench.fail("%s: %.1f times, at most %g are wanted" % (worst.name, max(times), worst.most))
     if growth > MAX_GROWTH:
         bench.fail("%s: from %.1f to %.1f times, so memory grows faster than the size" % (worst.name, times[0], times[-1]))
-    if slower > MAX_SLOWER and runs[-1].seconds > LEAST_SECONDS:
+    if is_slower(runs):
         bench.fail("%s: twice the size takes %.1f times as long" % (worst.name, slower))
 
 
 def measure(bench, worst, idle):
     """Told in times of what is read."""
     runs = [measured(bench, worst, size, idle) for size in SIZES]
+    # a load on the machine makes single times longer: those that grow too much are taken again
+    for _ in range(TURNS):
+        if None in runs or not is_slower(runs):
+            break
+        again = [measured(bench, worst, size, idle) for size in SIZES[-2:]]
+        if None in again:
+            return
+        runs[-2:] = [old if old.seconds < new.seconds else new for old, new in zip(runs[-2:], again)]
     if None not in runs:
         tell(bench, worst, runs, [run.peak / run.read for run in runs])
 
 
 def measure_overlapping(bench, worst, idle):
     """Told in times of what is read and written."""
-    runs = [measured(bench, worst, size, idle) for size in SMALL_SIZES]
+    runs = [measured(bench, worst, size, idle, True) for size in SMALL_SIZES]
     if None in runs:
         return
     times = [run.peak / (run.read + run.written) for run in runs]
@@ -375,7 +422,10 @@ def measure_overlapping(bench, worst, idle):
 
 def worst_memory(bench):
     bench.say("How much memory do the worst inputs take, and how does it grow? (0.5, 1, 2 and 4 MB)")
-    idle = Run(bench.filter, bench.write("idle", (HEADER,))).peak
+    if not shutil.which("time"):
+        bench.say("  time is not installed: left out")
+        return
+    idle = run_of(bench, ["filter"], bench.write("idle", (HEADER,)))[1]
     for worst in (*LINES, *DOCUMENTS, *JOINED):
         measure(bench, worst, idle)
     bench.say("Where features share objects (25, 50, 100 and 200 kB)")
