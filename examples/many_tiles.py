@@ -265,7 +265,7 @@ def read_head(name: str) -> Head:
     mode = os.stat(name).st_mode
     if stat.S_ISDIR(mode):
         raise ValueError("it is a folder")
-    if not stat.S_ISREG(mode) or os.path.abspath(name).startswith(("/dev/", "/proc/")):
+    if not stat.S_ISREG(mode) or os.path.abspath(name).startswith(("/dev/stdin", "/dev/fd/", "/proc/")):
         raise ValueError("it is a pipe or a device; a file is needed, since its header is read twice")
     with open(name, "rb") as tile:
         for front, packer in PACKED.items():
@@ -396,7 +396,7 @@ def named_twice(names: Sequence[str]) -> Iterator[str]:
 
 def first_identifier(name: str) -> Optional[str]:
     """The identifier of the first feature that has a line of its own, where that can be told."""
-    with contextlib.suppress(OSError, ValueError, TypeError, AttributeError):
+    with contextlib.suppress(OSError, ValueError, TypeError, AttributeError, RecursionError, MemoryError):
         with open(name, "rb") as tile:
             lines = (line for line in iter(lambda: tile.readline(LONGEST_LINE + 2), b"") if line.strip(b" \t\r\n"))
             next(lines, None)
@@ -423,7 +423,8 @@ def alike(names: Sequence[str]) -> Iterator[str]:
     identifiers: dict[str, str] = {}
     for name in names:
         if same_size[os.path.getsize(name)] > 1:
-            known = contents.setdefault(digest(name), name)
+            content = digest(name)
+            known = contents.setdefault(content, name) if content is not None else name
             if known != name:
                 yield f"{shown(name)}: it has the same bytes as {shown(known)}; the features of both are written"
                 continue

@@ -121,6 +121,8 @@ def wrong_files(text, place):
 
     wrong = []
     for make, refused, text, advice, mend in WRONG_FILES:
+        if missing_tool(make + mend):
+            continue
         found = [ended(command) for command in (make, refused, mend, "citymerge filter < NEW")]
         if [run.returncode for run in found] != [0, 1, 0, 0] or text not in found[1].stderr.decode():
             wrong.append("docs/GUIDE.md: %s: %r" % (make, found))
@@ -133,7 +135,7 @@ def dead_links(folder, names):
     """Links of installed documents that lead to no file that is installed."""
     for name in names:
         with open(os.path.join(folder, name), encoding="utf-8") as document:
-            for target in re.findall(r"\]\(([^)#:]+)", document.read()):
+            for target in re.findall(r"\]\(([^)#:]+)[)#]", document.read()):
                 if not os.path.exists(os.path.join(folder, os.path.dirname(name), target)):
                     yield "%s: no such file is installed: %s" % (name, target)
 

@@ -43,7 +43,8 @@ sums() {
 
 # the archive: what `make install` puts below PREFIX, with a README beside
 tools/install.sh install "$stage/$archive" >/dev/null
-cp README.md LICENSE CHANGELOG.md "$stage/$archive"
+cp LICENSE CHANGELOG.md "$stage/$archive"
+sed 's#](docs/#](share/doc/citymerge/#g' README.md >"$stage/$archive/README.md"
 sums "$stage/$archive" sha256sum >"$stage/SHA256SUMS"
 mv "$stage/SHA256SUMS" "$stage/$archive/SHA256SUMS"
 settle "$stage/$archive"

@@ -48,12 +48,14 @@ folder=$(echo "$room"/citymerge-*-linux-*)
 expect 'the archive is one folder, named by version and machine' "$room/citymerge-$version-linux-$(uname -m)" "$folder"
 expect 'the sums of the archive' 0 "$(cd "$folder" && sha256sum -c --quiet SHA256SUMS >&2; echo $?)"
 expect 'all of it has a sum' "$(find "$folder" -type f ! -name SHA256SUMS | wc -l)" "$(wc -l <"$folder/SHA256SUMS")"
+expect 'links of its README that lead nowhere' '' \
+    "$(grep -oE '\]\([^)#:]+[)#]' "$folder/README.md" | sed 's/^..//; s/.$//' | while read -r to; do [ -e "$folder/$to" ] || echo "$to"; done)"
 expect 'the programs of the archive' "$wanted" "$(tried "$folder/bin" 2>&1)"
 mkdir "$room/empty"
 dpkg-deb -x "$room/here"/*.deb "$room/empty"
 expect 'the programs of the package' "$wanted" "$(tried "$room/empty/usr/bin" 2>&1)"
 expect 'the commands of its documents, in an empty folder with no clone' 'The commands of the installed documents: N right, 0 wrong' \
-    "$(python3 tools/commands_test.py --package "$room/empty" | sed 's/: [1-9][0-9]* right/: N right/')"
+    "$(python3 tools/commands_test.py --package "$room/empty" | tail -n 1 | sed 's/: [1-9][0-9]* right/: N right/')"
 expect 'the version of the package' "$version" "$(dpkg-deb -f "$room/here"/*.deb Version)"
 for file in man/man1/citymerge.1.gz man/man1/citymerge-many.1.gz bash-completion/completions/citymerge \
     zsh/vendor-completions/_citymerge fish/vendor_completions.d/citymerge.fish \

@@ -6,5 +6,7 @@
 set -eu
 cd "$(dirname "$0")/.."
 mkdir -p "$1"
-{ cat crates/manual/stdout && python3 tools/many_manual.py; } |
+python3 tools/many_manual.py >"$1/many"
+cat crates/manual/stdout "$1/many" |
     awk -v folder="$1" '/^==> / { file = folder "/" substr($0, 5); printf "" >file; next } { print >file }'
+rm "$1/many"

@@ -80,9 +80,9 @@ def is_name(action: argparse.Action) -> bool:
     return action.metavar in ("FILE", "FOLDER")
 
 
-def told(action: argparse.Action) -> str:
-    """What an option does, as the first sentence of its help."""
-    return re.match(r"[^.]*", action.help)[0].replace("`", "").replace("'", "")
+def told(action: argparse.Action, mark: str) -> str:
+    """What an option does, as the first sentence of its help, with this in place of each mark that ends a text."""
+    return re.match(r"[^.]*", action.help)[0].replace("`", "").replace("'", mark)
 
 
 def bash() -> list[str]:
@@ -94,7 +94,7 @@ def zsh() -> list[str]:
     for action in options():
         value = ":%s:%s" % (action.metavar.lower(), "_files" if is_name(action) else "") if action.metavar else ""
         for name in action.option_strings:
-            lines.append("    '%s%s[%s]%s' \\" % (name, "=" if action.metavar else "", told(action), value))
+            lines.append("    '%s%s[%s]%s' \\" % (name, "=" if action.metavar else "", told(action, "'\\''"), value))
     return lines + ["    '*:tile:_files'"]
 
 
@@ -103,7 +103,7 @@ def fish() -> list[str]:
     for action in options():
         names = "".join([" -l %s" % name[2:] if name.startswith("--") else " -s %s" % name[1:] for name in action.option_strings])
         value = (" -r -F" if is_name(action) else " -x") if action.metavar else ""
-        lines.append("complete -c citymerge-many%s%s -d '%s'" % (names, value, told(action)))
+        lines.append("complete -c citymerge-many%s%s -d '%s'" % (names, value, told(action, "\\'")))
     return lines
 
 
