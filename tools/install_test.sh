@@ -12,22 +12,10 @@ offered_by_bash() {
     (
         cd "$room" || exit
         compopt() { :; }
-        . "$share/bash-completion/completions/citymerge"
+        . "$share/bash-completion/completions/$1"
         COMP_WORDS=("$@")
         COMP_CWORD=$(($# - 1))
-        _citymerge
-        echo "${COMPREPLY[*]}"
-    )
-}
-
-offered_of_many() {
-    (
-        cd "$room" || exit
-        compopt() { :; }
-        . "$share/bash-completion/completions/citymerge-many"
-        COMP_WORDS=("$@")
-        COMP_CWORD=$(($# - 1))
-        _citymerge_many
+        "_${1//-/_}"
         echo "${COMPREPLY[*]}"
     )
 }
@@ -126,8 +114,8 @@ for words in 'filter < ' 'cat <' 'filter --exclude > ' 'merge --in-turn w 2>'; d
     expect "bash: a file after $words" "citymerge ${words}west.city.jsonl " "$(typed_in_bash "citymerge ${words}w")"
 done
 expect 'bash: an option after a file that is read' 'citymerge filter < w --exclude ' "$(typed_in_bash 'citymerge filter < w --ex')"
-expect 'bash: an option of citymerge-many' '--output=' "$(offered_of_many citymerge-many --o)"
-expect 'bash: options of citymerge-many' '--in-turn --least' "$(offered_of_many citymerge-many --in) $(offered_of_many citymerge-many --l)"
+expect 'bash: an option of citymerge-many' '--output=' "$(offered_by_bash citymerge-many --o)"
+expect 'bash: options of citymerge-many' '--in-turn --least' "$(offered_by_bash citymerge-many --in) $(offered_by_bash citymerge-many --l)"
 expect 'bash: a tile of citymerge-many, typed' 'citymerge-many a\ b.city.jsonl ' "$(typed_in_bash 'citymerge-many a')"
 if command -v fish >/dev/null; then
     expect 'fish: an option of citymerge-many' '--output ' "$(offered_by_fish citymerge-many --outp)"
