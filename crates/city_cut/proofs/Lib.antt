@@ -29,6 +29,7 @@ mod QuickOverviews
 mod QuickPoints
 mod QuickTexts
 pub mod OwnVertices
+pub mod Passes
 pub mod Renumbering
 pub mod SamePoints
 pub mod Seeking

@@ -15,6 +15,7 @@ pub mod Items
 pub mod Kin
 pub mod Leaves
 pub mod Lines
+pub mod Made
 pub mod Numbered
 pub mod Overviews
 pub mod Places
@@ -22,6 +23,7 @@ pub mod Points
 pub mod Reach
 pub mod Relabelling
 pub mod Search
+pub mod Skeletons
 pub mod Table
 pub mod TripleStarts
 pub mod VertexTexts
