@@ -8,11 +8,13 @@ mod CopiedTexts
 pub mod Copies
 pub mod FeatureList
 pub mod FeatureParts
+pub mod Gathered
 pub mod Growth
 pub mod HeaderMembers
 pub mod Indices
 pub mod Kinship
 pub mod MemberChanges
+pub mod Noted
 pub mod Numbers
 pub mod Pieces
 mod QuickAddresses

@@ -35,9 +35,6 @@ follows_after (row ∷ rows) (suc a) b is = follows_after rows a b is
 same_row : (x y : Vec ℕ Global) → Some x ≡ Some y → y ≡ x
 same_row x y e = cc
 
-none_there : (x : Vec ℕ Global) {P : Type 0} → slice_get [] 0 ≡ Some x → P
-none_there x e = cc
-
 after_follows : (graph : List (Vec ℕ Global)) (a b : ℕ) (row : Vec ℕ Global) → slice_get graph a ≡ Some row
     → Contains row.items b → follows graph a b ≡ true
 after_follows [] a b row is c = cc

@@ -22,6 +22,7 @@ pub mod Places
 pub mod Points
 pub mod Reach
 pub mod Relabelling
+pub mod Rosters
 pub mod Search
 pub mod Skeletons
 pub mod Table
