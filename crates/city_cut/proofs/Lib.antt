@@ -17,6 +17,8 @@ pub mod MemberChanges
 pub mod Noted
 pub mod Numbers
 pub mod Pieces
+pub mod FirstUses
+pub mod MadeFeatures
 mod QuickAddresses
 mod QuickCopies
 mod QuickDocuments

@@ -233,11 +233,11 @@ regroup : (t s i d o m w v l : List ℕ) → ((open_brace
     ++ (comma ∷ ((w ++ colon ∷ v) ++ l))))))) ++ close_brace ∷ []
 regroup t s i d o m w v l = simp (append_assoc, cons_append)
 
-abbrev own_part : List ℕ → List (List ℕ × Tree) → Tree → List ℕ
+abbrev pub own_part : List ℕ → List (List ℕ × Tree) → Tree → List ℕ
 own_part id objects vertices = head_text id
     ++ (compact_members (member_trees objects) ++ (middle_text ++ compact vertices))
 
-feature_text : (id : List ℕ) (objects : List (List ℕ × Tree)) (vertices : Tree) (appearance : Option Tree)
+pub feature_text : (id : List ℕ) (objects : List (List ℕ × Tree)) (vertices : Tree) (appearance : Option Tree)
     → own_part id objects vertices ++ tail_text appearance ≡ compact (feature_tree id objects vertices appearance)
 feature_text id objects vertices appearance =
     regroup (quoted (codes "type")) (quoted (codes "CityJSONFeature")) (quoted (codes "id")) (quoted id)
