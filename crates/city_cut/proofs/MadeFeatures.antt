@@ -3,6 +3,7 @@ use Rattle.std.proofs.Common.{◌≡◌, ◌∙◌, ◌++◌, ◌<◌, ◌≤◌
 use Rattle.std.proofs.lemmas.Fmt.{decimal_is_IsNumeral}
 use Rattle.std.proofs.lemmas.List.{append-nil, drop-drop, length-map, map-append}
 use Rattle.std.proofs.lemmas.List.Elements.{All-contains, All-from_recursion, Contains-get_or, filter-append, recursion_from_All}
+use Rattle.std.proofs.lemmas.Simd.{map-map}
 use Rattle.std.proofs.lemmas.Option.{slice_get-get_or, slice_get-map}
 use Rattle.std.specs.Fmt.{decimal}
 use Rattle.std.specs.Global.{Global}
@@ -16,13 +17,14 @@ use Rattle.city_json.specs.Tree.{Tree, MemberTrees, item_trees, member_trees}
 use Rattle.city_grid.specs.Axes.{Triple, triple}
 use Rattle.city_grid.specs.Vertex.{vertex_tree}
 use Rattle.city_feature.specs.Feature.{FeatureValue, vertices_tree}
-use Rattle.city_cut.specs.Boundaries.{IsBounded, boundaries, relabelled_object, relabelled_objects, uses}
+use Rattle.city_cut.specs.Boundaries.{IsBounded, relabelled_object, relabelled_objects, uses}
 use Rattle.city_cut.specs.Chosen.{named_at, point_at}
 use Rattle.city_cut.specs.CityObjects.{has_parents, roots}
 use Rattle.city_cut.specs.Cut.{AreFeatures, IsFeatureOf, feature_tree}
 use Rattle.city_cut.specs.Families.{AreRelated}
 use Rattle.city_cut.specs.FeatureText.{head_text, middle_text, tail_text}
-use Rattle.city_cut.specs.Leaves.{leaves, renumbered}
+use Rattle.city_cut.specs.HeldTexts.{texts_in}
+use Rattle.city_cut.specs.Leaves.{renumbered}
 use Rattle.city_cut.specs.Lines.{texts_of}
 use Rattle.city_cut.specs.Made.{Makings, beginners, family, listed, made_text, more_listed, numbers_below, order_of, place_in, vertex_at}
 use Rattle.city_cut.specs.Places.{IsFamily, IsGraph, name_at}
@@ -90,20 +92,17 @@ range_split xs a b c first second =
 uses_below : (count : ℕ) (skeletons : SkeletonTexts) (k : ℕ) (named : List ℕ × Tree)
     → IsSkeleton count skeletons k named → AllByRecursion (λ vertex. vertex < count) (uses_at skeletons k)
 uses_below count skeletons k named is =
-    let first = (place_at skeletons k).leaves in
-    let split = (place_at skeletons k).split in
-    let last = (place_at skeletons (k + 1)).leaves in
-    let here = recursion_from_All (λ (leaf : LeafPlace). leaf.vertex < count) (leaves_at skeletons k) is.within in
-    let both = all_split (λ (leaf : LeafPlace). leaf.vertex < count) (slice_range skeletons.leaves first split)
-    (slice_range skeletons.leaves split last)
-    (subst (AllByRecursion (λ (leaf : LeafPlace). leaf.vertex < count))
-    (range_split skeletons.leaves first split last is.after_first is.before_last) here) in
-    all_join (λ vertex. vertex < count) (map (λ (leaf : LeafPlace). leaf.vertex) (slice_range skeletons.leaves split last))
-    (map (λ (leaf : LeafPlace). leaf.vertex) (slice_range skeletons.leaves first split))
-    (all_mapped (λ vertex. vertex < count) (λ (leaf : LeafPlace). leaf.vertex)
-    (slice_range skeletons.leaves split last) both.1)
-    (all_mapped (λ vertex. vertex < count) (λ (leaf : LeafPlace). leaf.vertex)
-    (slice_range skeletons.leaves first split) both.0)
+    let first = slice_range skeletons.leaves (place_at skeletons k).leaves (place_at skeletons k).split in
+    let last = slice_range skeletons.leaves (place_at skeletons k).split (place_at skeletons (k + 1)).leaves in
+    let vertex_of : LeafPlace → ℕ = λ leaf. leaf.vertex in
+    let Below : LeafPlace → Type 0 = λ leaf. leaf.vertex < count in
+    let here = recursion_from_All Below (leaves_at skeletons k) is.within in
+    let both = all_split Below first last (subst (AllByRecursion Below)
+    (range_split skeletons.leaves (place_at skeletons k).leaves (place_at skeletons k).split
+    (place_at skeletons (k + 1)).leaves is.after_first is.before_last) here) in
+    all_join (λ vertex. vertex < count) (map vertex_of last) (map vertex_of first)
+    (all_mapped (λ vertex. vertex < count) vertex_of last both.1)
+    (all_mapped (λ vertex. vertex < count) vertex_of first both.0)
 
 -- ---- the text of an object
 woven_same : (text : List ℕ) (from end : ℕ) (leaves : List LeafPlace) (f g : ℕ → List ℕ)
@@ -202,7 +201,8 @@ all_below_count count skeletons pairs (p ∷ ps) each =
 head_made : (id rest : List ℕ) → head_text id ++ rest
     ≡ codes "{\"type\":\"CityJSONFeature\",\"id\":" ++ (quoted id ++ (codes ",\"CityObjects\":{" ++ rest))
 head_made id rest =
-    ap (λ l. codes "{\"type\":\"CityJSONFeature\",\"id\":" ++ l) (append_assoc (quoted id) (codes ",\"CityObjects\":{") rest)
+    ap (λ l. codes "{\"type\":\"CityJSONFeature\",\"id\":" ++ l)
+    (append_assoc (quoted id) (codes ",\"CityObjects\":{") rest)
 
 module _ (pairs : List (List ℕ × Tree)) (points : List Triple) (makings : Makings) (root : ℕ)
     (are : AreSkeletons (length points) makings.skeletons pairs)
@@ -394,6 +394,17 @@ module _ (pairs : List (List ℕ × Tree)) (appearance : Option Tree) (points : 
         subst (λ l. AllZip (IsFeatureOf (member_trees pairs) appearance points) (roots (member_trees l)) all.0)
             (take_all (length pairs) pairs (omega arith)) all.1.1,
       )
+
+  -- the same where what all of them end in is apart
+  pub made_own : (tail : List ℕ) → tail ≡ tail_text appearance → (features : List FeatureValue)
+      × (texts_in (record { own = map (made_text makings) (beginners parents); common = tail }) ≡ texts_of features)
+      × AreFeatures (member_trees pairs) appearance points features
+  made_own tail is = (
+    made_features.0,
+    map-map (λ own. own ++ tail) (made_text makings) (beginners parents)
+        ∙ (ap (λ l. map (λ root. made_text makings root ++ l) (beginners parents)) is ∙ made_features.1),
+    made_features.2,
+  )
 
 -- ---- the boundaries
 pub skeletons_bounded : (count : ℕ) (skeletons : SkeletonTexts) (pairs : List (List ℕ × Tree))
