@@ -45,3 +45,4 @@ mod TripleStarts
 mod TwoMembers
 pub mod Unspoilt
 pub mod WholeDocument
+mod Writing

@@ -1,7 +1,8 @@
 -- Numbers that are noted once each, in a table of their places.
-use Rattle.std.proofs.Common.{◌≡◌, ◌≢◌, ◌<◌, ◌≤◌, ◌+◌, ◌++◌, ◌⊎◌, ◌↔◌, inl, inr, ℕ, zero, suc, Bool, true, false, ◌==◌, List, [], ◌∷◌, length, get_or, take, length-append, length-set, sym, refl, ap, subst, ◌∙◌, arith, append_assoc}
+use Rattle.std.proofs.Common.{◌≡◌, ◌≢◌, ◌<◌, ◌≤◌, ◌+◌, ◌++◌, ◌⊎◌, ◌↔◌, inl, inr, ℕ, zero, suc, Bool, true, false, ◌==◌, List, [], ◌∷◌, length, get_or, map, flat_map, take, length-append, length-set, sym, refl, ap, subst, ◌∙◌, arith, append_assoc}
 use Rattle.std.proofs.lemmas.Bool.{cases_eq, eqb-true, eq-eqb, false_from_ne_true, ne_eqb, both_ways}
-use Rattle.std.proofs.lemmas.List.{append-nil, get_or_append_left, get_or_default, get_or_push, get_or-set_same, get_or-set_other, take_more}
+use Rattle.std.proofs.lemmas.List.{append-nil, get_or_append_left, get_or_default, get_or_push, get_or-set_same, get_or-set_other, map-append, take_more}
+use Rattle.std.proofs.lemmas.Grind.{flat_map-append}
 use Rattle.std.proofs.lemmas.List.Elements.{All-contains, Contains-append_left, Contains-get_or, Contains-push, Contains-push_cases, recursion_from_All}
 use Rattle.std.proofs.lemmas.List.Sorted.{Contains-permutation, IsPermutation-sym, IsNonDecreasingBy-from_sort}
 use Rattle.std.proofs.lemmas.List.Kept.{AllPairs-from_increasing}
@@ -267,3 +268,20 @@ first_uses-only before (x ∷ xs) k c = by (list_any (λ j. j == x) before) refl
           [ inl older ↦ inl older | inr same ↦ inr (0, omega arith, same) ]
       | inr new ↦ inr (on new)
     ]
+
+pub first_uses-mapped : {X : Type 0} (f : X → ℕ) (before : List ℕ) (xs : List X) (i : ℕ) (x : X) → i < length xs
+    → get_or xs i x ≡ x
+    → first_uses before (map f (take (i + 1) xs)) ≡ first_uses (first_uses before (map f (take i xs))) (f x ∷ [])
+first_uses-mapped f before xs i x inside is =
+    ap (λ l. first_uses before (map f l)) (take_more xs i x inside ∙ ap (λ y. take i xs ++ y ∷ []) is)
+    ∙ (ap (first_uses before) (map-append f (take i xs) (x ∷ []))
+    ∙ first_uses-append before (map f (take i xs)) (f x ∷ []))
+
+pub first_uses-flat : (f : ℕ → List ℕ) (before xs : List ℕ) (i d : ℕ) → i < length xs
+    → first_uses before (flat_map f (take (i + 1) xs))
+    ≡ first_uses (first_uses before (flat_map f (take i xs))) (f (get_or xs i d))
+first_uses-flat f before xs i d inside =
+    ap (λ l. first_uses before (flat_map f l)) (take_more xs i d inside)
+    ∙ (ap (first_uses before) (flat_map-append f (take i xs) (get_or xs i d ∷ [])
+    ∙ ap (λ l. flat_map f (take i xs) ++ l) (append-nil (f (get_or xs i d))))
+    ∙ first_uses-append before (flat_map f (take i xs)) (f (get_or xs i d)))

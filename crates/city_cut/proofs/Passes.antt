@@ -1,16 +1,16 @@
 -- What is reached from a thing, found by Warshall's algorithm, and the list of it in order.
-use Rattle.std.proofs.Common.{◌≡◌, ◌<◌, ◌≤◌, ◌+◌, ◌++◌, ◌⊎◌, ◌↔◌, inl, inr, ℕ, zero, suc, Bool, true, false, ◌==◌, ◌&&◌, List, [], ◌∷◌, Some, length, get_or, length-append, sym, refl, ap, subst, ◌∙◌, arith}
+use Rattle.std.proofs.Common.{◌≡◌, ◌<◌, ◌≤◌, ◌+◌, ◌++◌, ◌⊎◌, ◌↔◌, inl, inr, ℕ, zero, suc, Bool, true, false, ◌==◌, ◌&&◌, List, [], ◌∷◌, Some, not, length, get_or, length-append, sym, refl, ap, subst, ◌∙◌, arith}
 use Rattle.std.proofs.lemmas.Bool.{and_from, and_parts, cases_eq, eq-eqb, eqb-true, or_cases, or_left, or_right}
 use Rattle.std.proofs.lemmas.List.{get_or_append_left, get_or_push}
-use Rattle.std.proofs.lemmas.List.Elements.{All-contains, All-contains_itself, All-filter, filter_passes}
+use Rattle.std.proofs.lemmas.List.Elements.{All-contains, All-contains_itself, All-filter, Contains-get_or, filter_passes}
 use Rattle.std.proofs.lemmas.List.Folds.{Any-from_list_any, list_any-from_Any}
 use Rattle.std.proofs.lemmas.List.Kept.{AllPairs-from_increasing, IsStrictlyIncreasing-filter}
 use Rattle.std.proofs.lemmas.Option.{slice_get_within}
 use Rattle.std.specs.Global.{Global}
-use Rattle.std.specs.List.{AllPairs, Contains, filter, list_any, slice_get}
+use Rattle.std.specs.List.{All, AllPairs, Contains, filter, list_any, slice_get}
 use Rattle.std.specs.List.Sorted.{IsStrictlyIncreasing}
 use Rattle.std.specs.Prelude.{Vec}
-use Rattle.city_cut.specs.Made.{family, follows, numbers_below, passes}
+use Rattle.city_cut.specs.Made.{beginners, family, follows, numbers_below, passes}
 use Rattle.city_cut.specs.Reach.{Reached, itself, onward}
 use Rattle.city_cut.specs.Search.{After, InRange}
 use Rattle.city_cut.proofs.Growth.{rows_within}
@@ -43,7 +43,8 @@ after_follows (first ∷ rows) zero b row is c =
 after_follows (first ∷ rows) (suc a) b row is c = after_follows rows a b row is c
 
 -- ---- what is passed through
-pub reached_on : {A : Type 0} (Next : A → A → Type 0) (a b c : A) → Reached Next a b → Reached Next b c → Reached Next a c
+reached_on : {A : Type 0} (Next : A → A → Type 0) (a b c : A) → Reached Next a b → Reached Next b c
+    → Reached Next a c
 reached_on Next a b c first itself = first
 reached_on Next a b c first (onward m e more after) = onward m c (reached_on Next a b m first more) after
 
@@ -282,3 +283,10 @@ pub family_is : (graph : List (Vec ℕ Global)) (root : ℕ) (found : List ℕ) 
 family_is graph root found within inside up both = same_rising found (family graph root) up (family_rises graph root)
     (λ k. let own = family_reached graph root k within inside in
     (λ c. own.1 ((both k).0 c), λ c. (both k).1 (own.0 c)))
+
+-- ---- the objects without parents
+pub beginners_within : (parents : List Bool) → All (λ k. k < length parents) (beginners parents)
+beginners_within parents = All-filter (λ k. not (get_or parents k true)) (λ k. k < length parents)
+    (numbers_below (length parents))
+    (λ i d inside. numbers_below_within (length parents) (get_or (numbers_below (length parents)) i d)
+    (Contains-get_or (numbers_below (length parents)) i d inside))

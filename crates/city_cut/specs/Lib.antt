@@ -28,3 +28,4 @@ pub mod Skeletons
 pub mod Table
 pub mod TripleStarts
 pub mod VertexTexts
+pub mod Written

@@ -1,11 +1,13 @@
 -- The texts of features that are made of the skeletons of city objects, of the texts of vertices, and of who is whose
 -- child.
-use Rattle.std.specs.Prelude.{◌≡◌, ◌++◌, ◌∷◌, [], ◌==◌, ◌&&◌, ◌||◌, not, suc, zero, true, false, ℕ, Bool, List, Vec, codes, get_or, if◌then◌else◌, length, map, slice_index, slice_range}
+use Rattle.std.specs.Prelude.{◌≡◌, ◌<◌, ◌+◌, ◌-◌, ◌++◌, ◌∷◌, [], ◌==◌, ◌&&◌, ◌||◌, not, suc, zero, true, false, ℕ, Bool, List, All, Vec, codes, get_or, if◌then◌else◌, length, map, slice_index, slice_range}
 use Rattle.std.specs.Fmt.{decimal}
 use Rattle.std.specs.Global.{Global}
 use Rattle.std.specs.List.{filter, flat_map, list_any}
 use Rattle.city_json.specs.Bytes.{close_bracket, comma, open_bracket}
 use Rattle.city_cut.specs.FeatureText.{middle_text}
+use Rattle.city_cut.specs.Rosters.{RosterState}
+use Rattle.city_cut.specs.Search.{InRange}
 use Rattle.city_cut.specs.Skeletons.{SkeletonTexts, id_at, text_at, uses_at}
 
 -- the numbers below `count`, in their order
@@ -16,7 +18,8 @@ numbers_below (suc k) = numbers_below k ++ k ∷ []
 -- each number once, where it comes first, after those that came before
 abbrev pub first_uses : List ℕ → List ℕ → List ℕ
 first_uses before [] = before
-first_uses before (k ∷ ks) = if list_any (λ x. x == k) before then first_uses before ks else first_uses (before ++ k ∷ []) ks
+first_uses before (k ∷ ks) =
+    if list_any (λ x. x == k) before then first_uses before ks else first_uses (before ++ k ∷ []) ks
 
 -- where a number comes first
 abbrev pub place_in : List ℕ → ℕ → ℕ
@@ -47,6 +50,11 @@ abbrev pub listed : List (List ℕ) → List ℕ
 listed [] = []
 listed (text ∷ texts) = text ++ more_listed texts
 
+-- what stands before a text of this number in a list
+abbrev pub comma_before : ℕ → List ℕ
+comma_before zero = []
+comma_before (suc k) = comma ∷ []
+
 -- what features are made of: the text and the starts of vertices are as in `StandAt`
 pub record Makings : Type 0 where
   pub skeletons : SkeletonTexts
@@ -54,20 +62,38 @@ pub record Makings : Type 0 where
   pub starts : List ℕ
   pub graph : List (Vec ℕ Global)
 
+-- the text of a vertex, in the text of all of them, by where they begin
+abbrev pub vertex_in : List ℕ → List ℕ → ℕ → List ℕ
+vertex_in text starts k = slice_range text (slice_index starts k) (slice_index starts (k + 1) - 1)
+
 abbrev pub vertex_at : Makings → ℕ → List ℕ
-vertex_at makings k = slice_range makings.vertices (slice_index makings.starts k) (slice_index makings.starts (k + 1) - 1)
+vertex_at makings = vertex_in makings.vertices makings.starts
 
 -- the vertices of the feature that the object at a place begins, by first use
 abbrev pub order_of : Makings → ℕ → List ℕ
 order_of makings root = first_uses [] (flat_map (uses_at makings.skeletons) (family makings.graph root))
 
--- that feature's text, up to its vertices
+-- the text of a feature up to its vertices: that of the object `root`, of these objects, and of these vertices
+abbrev pub feature_text : SkeletonTexts → (ℕ → List ℕ) → ℕ → List ℕ → List ℕ → List ℕ
+feature_text skeletons vertex root places order =
+    codes "{\"type\":\"CityJSONFeature\",\"id\":" ++ (id_at skeletons root ++ (codes ",\"CityObjects\":{"
+    ++ (listed (map (text_at skeletons (λ k. decimal (place_in order k))) places)
+    ++ (middle_text ++ (open_bracket ∷ (listed (map vertex order) ++ close_bracket ∷ []))))))
+
+-- of the feature that the object at a place begins
 abbrev pub made_text : Makings → ℕ → List ℕ
 made_text makings root =
-    codes "{\"type\":\"CityJSONFeature\",\"id\":" ++ (id_at makings.skeletons root ++ (codes ",\"CityObjects\":{"
-    ++ (listed (map (text_at makings.skeletons (λ vertex. decimal (place_in (order_of makings root) vertex))) (family makings.graph root))
-    ++ (middle_text ++ (open_bracket ∷ (listed (map (vertex_at makings) (order_of makings root)) ++ close_bracket ∷ []))))))
+    feature_text makings.skeletons (vertex_at makings) root (family makings.graph root) (order_of makings root)
 
 -- the objects without parents
 abbrev pub beginners : List Bool → List ℕ
 beginners parents = filter (λ k. not (get_or parents k true)) (numbers_below (length parents))
+
+-- texts that can be made, with room for all numbers
+pub record CanMake (makings : Makings) (roots : List ℕ) (found order : RosterState) : Type 0 where
+  pub places : length makings.skeletons.places ≡ length makings.graph + 1
+  pub within : InRange makings.graph (length makings.graph)
+  pub inside : All (λ root. root < length makings.graph) roots
+  pub leaves : All (λ leaf. leaf.vertex < order.count) makings.skeletons.leaves
+  pub objects : found.count ≡ length makings.graph
+  pub vertices : order.count ≡ length makings.starts - 1

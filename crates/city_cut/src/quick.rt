@@ -9,12 +9,15 @@ mod headers;
 mod holders;
 mod items;
 mod kin;
+pub(crate) mod made;
 mod members;
 mod numbers;
 mod objects;
 mod overview;
 mod points;
+mod ranges;
 mod short_parts;
+mod skeletons;
 mod texts;
 pub(crate) mod triples;
 
