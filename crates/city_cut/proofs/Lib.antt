@@ -13,6 +13,9 @@ pub mod HeaderMembers
 pub mod Indices
 pub mod Kinship
 pub mod MemberChanges
+mod NoteWalks
+mod NotedObjects
+mod NumberedWalks
 pub mod Numbers
 pub mod Pieces
 mod QuickAddresses
@@ -32,6 +35,7 @@ pub mod OwnVertices
 pub mod Renumbering
 pub mod SamePoints
 pub mod Seeking
+mod Sketched
 pub mod SpelledFeatures
 pub mod SpelledLengths
 pub mod Tables
@@ -40,3 +44,4 @@ mod TripleStarts
 mod TwoMembers
 pub mod Unspoilt
 pub mod WholeDocument
+mod Woven

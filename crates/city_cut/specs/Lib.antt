@@ -16,6 +16,7 @@ pub mod Kin
 pub mod Leaves
 pub mod Lines
 pub mod Numbered
+pub mod NumberWalks
 pub mod Overviews
 pub mod Places
 pub mod Points
@@ -23,5 +24,8 @@ pub mod Reach
 pub mod Relabelling
 pub mod Search
 pub mod Table
+pub mod Skeletons
+pub mod Sketches
 pub mod TripleStarts
 pub mod VertexTexts
+pub mod Walks

@@ -10,11 +10,13 @@ mod holders;
 mod items;
 mod kin;
 mod members;
+mod notes;
 mod numbers;
 mod objects;
 mod overview;
 mod points;
 mod short_parts;
+mod skeletons;
 mod texts;
 pub(crate) mod triples;
 
