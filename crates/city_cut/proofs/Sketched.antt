@@ -25,17 +25,17 @@ use Rattle.city_cut.proofs.Woven.{placed_order, slice_end, slice_front, slice_mi
 
 -- an object whose name was written after a line, then a colon, and then its text without its leaves
 pub sketched : (count at : ℕ) (text given id : List ℕ) (noted : List LeafPlace) (line line₁ line₂ : List ℕ)
-    (noted' : List LeafPlace) (line' : List ℕ) (start : SkeletonPlace) (parts : List Part) (d : Part)
+    (noted' : List LeafPlace) (line' : List ℕ) (start : SkeletonPlace) (split : ℕ) (parts : List Part) (d : Part)
     (pairs : List (List ℕ × Tree)) → at < length parts
     → given ≡ slice_range text (get_or parts at d).value (get_or parts at d).end
     → IsCompactOf text (object (member_trees pairs)) → AreParts 1 parts (member_trees pairs)
     → id ≡ quoted (named_at pairs at).0 → line₁ ≡ line ++ id → line₂ ≡ line₁ ++ colon ∷ []
-    → ((value : Tree) → IsCompactOf given value → IsBounded count value × IsNoted noted line₂ start.split noted' line'
+    → ((value : Tree) → IsCompactOf given value → IsBounded count value × IsNoted noted line₂ split noted' line'
     (flat_map leaves (boundaries value)) (λ change. compact (relabelled_object change value)))
-    → start.text ≡ length line → start.name ≡ length line₁ → start.leaves ≡ length noted
+    → start.text ≡ length line → start.name ≡ length line₁ → start.leaves ≡ length noted → start.split ≡ split
     → IsSketch count noted line start noted' line' (named_at pairs at)
-sketched count at text given id noted line line₁ line₂ noted' line' start parts d pairs within lies of are id_is first
-    second made begin name begins =
+sketched count at text given id noted line line₁ line₂ noted' line' start split parts d pairs within lies of are id_is
+    first second made begin name begins splits =
     let there = value_there text given parts at d pairs within lies of are in
     let (bounded, notes) = made (named_at pairs at).1 there.2 in
     let quoted_name = quoted (named_at pairs at).0 in
@@ -50,7 +50,7 @@ sketched count at text given id noted line line₁ line₂ noted' line' start pa
     record {
       bounded = bounded;
       text = begin;
-      leaves = begins;
+      first = begins;
       order = omega (arith, begin, name, long);
       within = omega (arith, name, longer, all);
       name = ap (λ n. slice_range line' n start.name) begin
@@ -59,14 +59,16 @@ sketched count at text given id noted line line₁ line₂ noted' line' start pa
           ∙ (ap (λ l. slice_range l (length line) start.name)
           (append_assoc (line ++ quoted_name) (colon ∷ []) notes.text)
           ∙ slice_middle line quoted_name (colon ∷ notes.text) start.name (name ∙ long)));
-      object = noted_so noted line start.split noted' line' (flat_map leaves (boundaries (named_at pairs at).1))
+      object = subst (λ n. IsNoted noted line n noted' line' (flat_map leaves (boundaries (named_at pairs at).1))
+          (λ change. quoted_name ++ colon ∷ compact (relabelled_object change (named_at pairs at).1))) (sym splits)
+          (noted_so noted line split noted' line' (flat_map leaves (boundaries (named_at pairs at).1))
           (flat_map leaves (boundaries (named_at pairs at).1))
           (λ change. (quoted_name ++ colon ∷ []) ++ compact (relabelled_object change (named_at pairs at).1))
           (λ change. quoted_name ++ colon ∷ compact (relabelled_object change (named_at pairs at).1))
-          (noted_after noted line line₂ (quoted_name ++ colon ∷ []) start.split noted' line'
+          (noted_after noted line line₂ (quoted_name ++ colon ∷ []) split noted' line'
           (flat_map leaves (boundaries (named_at pairs at).1))
           (λ change. compact (relabelled_object change (named_at pairs at).1)) before notes) refl
-          (λ change. append_assoc quoted_name (colon ∷ []) (compact (relabelled_object change (named_at pairs at).1)));
+          (λ change. append_assoc quoted_name (colon ∷ []) (compact (relabelled_object change (named_at pairs at).1))));
     }
 
 -- ---- an object among others
@@ -94,6 +96,15 @@ abbrev pub place_after : List ℕ → List LeafPlace → SkeletonPlace
 place_after line noted =
     record { text = length line; name = length line; leaves = length noted; split = length noted }
 
+pub place_is : (place : SkeletonPlace) (text first : ℕ) (line : List ℕ) (noted : List LeafPlace)
+    → place ≡ record { text = text; name = text; leaves = first; split = first } → text ≡ length line
+    → first ≡ length noted → place ≡ place_after line noted
+place_is place text first line noted is same same_first = is ∙ (ap (λ n. at_places n first) same
+    ∙ ap (λ n. at_places (length line) n) same_first)
+  where
+    at_places : ℕ → ℕ → SkeletonPlace
+    at_places n m = record { text = n; name = n; leaves = m; split = m }
+
 laid_last : (count : ℕ) (noted : List LeafPlace) (line : List ℕ) (start : SkeletonPlace) (noted' : List LeafPlace)
     (line' : List ℕ) (named : List ℕ × Tree) → IsSketch count noted line start noted' line' named
     → IsLaid count line' noted' start (place_after line' noted') named
@@ -107,11 +118,11 @@ laid_last count noted line start noted' line' named sketch =
     let lines : length line' ≡ length line + length notes.text =
     ap length notes.written ∙ length-append line notes.text in
     let all : slice_range noted' start.leaves (length noted') ≡ first ++ second =
-    ap (λ n. slice_range noted' n (length noted')) sketch.leaves
+    ap (λ n. slice_range noted' n (length noted')) sketch.first
     ∙ (ap (λ l. slice_range l (length noted) (length noted')) notes.more
     ∙ slice_end noted (first ++ second) (length noted') long) in
     let front : slice_range noted' start.leaves start.split ≡ first =
-    ap (λ n. slice_range noted' n start.split) sketch.leaves
+    ap (λ n. slice_range noted' n start.split) sketch.first
     ∙ (ap (λ l. slice_range l (length noted) start.split)
     (notes.more ∙ sym (append_assoc noted first second))
     ∙ slice_middle noted first second start.split notes.split_is) in
@@ -127,7 +138,7 @@ laid_last count noted line start noted' line' named sketch =
       within = omega arith;
       named_order = sketch.order;
       named_within = sketch.within;
-      after_first = omega (arith, sketch.leaves, notes.split_is);
+      after_first = omega (arith, sketch.first, notes.split_is);
       before_last = omega (arith, notes.split_is, long, both);
       noted_within = omega arith;
       name = sketch.name;
@@ -268,7 +279,7 @@ laid_more count at noted line start noted' line' places places' pairs long pushe
             get_or_push places (place_after line noted) no_place (k + 1) (omega (arith, same, long)) in (
               ap (λ (p : SkeletonPlace). p.text) one ∙ (sketch.text ∙ sym (ap (λ (p : SkeletonPlace). p.text) other)),
               ap (λ (p : SkeletonPlace). p.leaves) one
-                  ∙ (sketch.leaves ∙ sym (ap (λ (p : SkeletonPlace). p.leaves) other)),
+                  ∙ (sketch.first ∙ sym (ap (λ (p : SkeletonPlace). p.leaves) other)),
             )
         next_place k false e inside =
             let apart = eqb-false (k + 1) at e in

@@ -1,6 +1,6 @@
 -- City objects whose texts are held without the numbers of their leaves, and the texts of the features that are made of
 -- them.
-use Rattle.std.specs.Prelude.{◌≡◌, ◌≤◌, ◌<◌, ◌++◌, ◌∷◌, [], ◌==◌, ◌&&◌, ◌||◌, suc, zero, ℕ, Bool, List, All, Vec, codes, if◌then◌else◌, length, map, slice_index_or, slice_range}
+use Rattle.std.specs.Prelude.{◌≡◌, ◌≤◌, ◌<◌, ◌+◌, ◌++◌, ◌∷◌, [], ◌==◌, ◌&&◌, ◌||◌, suc, zero, ℕ, Bool, List, All, Vec, codes, if◌then◌else◌, length, map, slice_index_or, slice_range}
 use Rattle.std.specs.Fmt.{decimal}
 use Rattle.std.specs.Global.{Global}
 use Rattle.std.specs.List.{filter, flat_map, list_any}

@@ -40,7 +40,7 @@ pub record IsNoted (noted : List LeafPlace) (line : List ℕ) (split : ℕ) (not
 pub record IsSketch (count : ℕ) (noted : List LeafPlace) (line : List ℕ) (start : SkeletonPlace) (noted' : List LeafPlace) (line' : List ℕ) (named : List ℕ × Tree) : Type 0 where
   pub bounded : IsBounded count named.1
   pub text : start.text ≡ length line
-  pub leaves : start.leaves ≡ length noted
+  pub first : start.leaves ≡ length noted
   pub order : start.text ≤ start.name
   pub within : start.name ≤ length line'
   pub name : slice_range line' start.text start.name ≡ quoted named.0

@@ -1,3 +1,5 @@
+use Rattle.std.proofs.Common.{length}
+use Rattle.city_json.specs.Tree.{object}
 use Rattle.city_cut.proofs.QuickObjects.{object_in_order, object_numbered, object_out_of_order}
 use Rattle.city_cut.proofs.QuickTexts.{on_some_more}
 use Rattle.city_cut.proofs.quick.objects.append_both.Goals as goal
@@ -5,7 +7,8 @@ use Rattle.city_cut.proofs.quick.objects.append_both.Goals as goal
 pub returns-then-geometry-address-clause-made : goal.returns-then-geometry-address-clause-made
 returns-then-geometry-address-clause-made c =
     on_some_more c.append_two.result (λ made parts members of are geometry address.
-    object_numbered _ _ _ _ _ _ (object_in_order _ _ _ _ _ members (made parts members of are geometry address)))
+    object_numbered (length c.args.numbering.now.table.items) _ _ _ _ (object members)
+    (object_in_order _ _ _ _ _ members (made parts members of are geometry address)))
     c.append_two.ensures.made
 
 pub returns-clause-made : goal.returns-clause-made
