@@ -15,6 +15,9 @@ pub mod Indices
 pub mod Kinship
 pub mod MemberChanges
 pub mod Noted
+mod NoteWalks
+mod NotedObjects
+mod NumberedWalks
 pub mod Numbers
 pub mod Pieces
 pub mod FirstUses
@@ -37,6 +40,7 @@ pub mod Passes
 pub mod Renumbering
 pub mod SamePoints
 pub mod Seeking
+mod Sketched
 pub mod SpelledFeatures
 pub mod SpelledLengths
 pub mod Tables
@@ -46,3 +50,4 @@ mod TwoMembers
 pub mod Unspoilt
 pub mod WholeDocument
 mod Writing
+mod Woven

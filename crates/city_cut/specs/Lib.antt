@@ -17,6 +17,7 @@ pub mod Leaves
 pub mod Lines
 pub mod Made
 pub mod Numbered
+pub mod NumberWalks
 pub mod Overviews
 pub mod Places
 pub mod Points
@@ -26,6 +27,8 @@ pub mod Rosters
 pub mod Search
 pub mod Skeletons
 pub mod Table
+pub mod Sketches
 pub mod TripleStarts
 pub mod VertexTexts
 pub mod Written
+pub mod Walks
