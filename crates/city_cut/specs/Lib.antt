@@ -16,9 +16,10 @@ pub mod Kin
 pub mod Leaves
 pub mod Lines
 pub mod Made
-pub mod Numbered
 pub mod NumberWalks
+pub mod Numbered
 pub mod Overviews
+pub mod OwnTexts
 pub mod Places
 pub mod Points
 pub mod Reach
@@ -26,9 +27,9 @@ pub mod Relabelling
 pub mod Rosters
 pub mod Search
 pub mod Skeletons
-pub mod Table
 pub mod Sketches
+pub mod Table
 pub mod TripleStarts
 pub mod VertexTexts
-pub mod Written
 pub mod Walks
+pub mod Written

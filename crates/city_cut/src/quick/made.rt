@@ -1,7 +1,7 @@
 //! Features that are written from what the objects of a document are held by.
 //!
 //! All memory was taken before: while a feature is made, nothing but a write fails.
-ghost use Rattle.std.specs.Prelude.{◌≡◌, ◌<◌, ◌+◌, ◌-◌, ◌++◌, ◌∷◌, [], ℕ, List, All, IfErr, IfSome, OnErr, OnOk, codes, get_or, length, map, slice_index, slice_range, take};
+ghost use Rattle.std.specs.Prelude.{◌≡◌, ◌<◌, ◌+◌, ◌-◌, ◌^◌, ◌++◌, ◌∷◌, [], ℕ, List, All, IfErr, IfSome, OnErr, OnOk, codes, get_or, length, map, slice_index, slice_range, take};
 ghost use Rattle.std.specs.Fmt.{decimal};
 ghost use Rattle.std.specs.Io.KnownBytes.{Appends};
 ghost use Rattle.std.specs.List.{flat_map};
@@ -410,6 +410,13 @@ impl MadeTexts {
         ensures { result ≡ length self.now }
     {
         self.roots.len()
+    }
+
+    /// Tells a proof that a count of the texts does not run over, and does nothing.
+    pub(crate) fn known(&self)
+        ensures { length self.now < 2 ^ 63 }
+    {
+        let _ = &self.roots;
     }
 
     /// Writes the text at a place.
