@@ -1,15 +1,13 @@
 -- City objects whose texts are held without the numbers of their leaves, and the texts of the features that are made of
 -- them.
-use Rattle.std.specs.Prelude.{◌≡◌, ◌≤◌, ◌<◌, ◌+◌, ◌++◌, ◌∷◌, [], ◌==◌, ◌&&◌, ◌||◌, suc, zero, ℕ, Bool, List, All, Vec, codes, if◌then◌else◌, length, map, slice_index_or, slice_range}
+use Rattle.std.specs.Prelude.{◌≡◌, ◌≤◌, ◌<◌, ◌+◌, ◌++◌, ◌∷◌, [], ℕ, List, All, length, map, slice_index_or, slice_range}
 use Rattle.std.specs.Fmt.{decimal}
-use Rattle.std.specs.Global.{Global}
-use Rattle.std.specs.List.{filter, flat_map, list_any}
-use Rattle.city_json.specs.Bytes.{close_bracket, colon, comma, open_bracket}
+use Rattle.std.specs.List.{flat_map}
+use Rattle.city_json.specs.Bytes.{colon}
 use Rattle.city_json.specs.Compact.{compact, quoted}
 use Rattle.city_json.specs.Tree.{Tree}
 use Rattle.city_cut.specs.Boundaries.{IsBounded, boundaries, relabelled_object}
 use Rattle.city_cut.specs.Chosen.{named_at}
-use Rattle.city_cut.specs.FeatureText.{middle_text}
 use Rattle.city_cut.specs.Leaves.{leaves}
 
 -- a leaf: where it belongs in a text that has no leaves, and the vertex that it names
