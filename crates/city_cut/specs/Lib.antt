@@ -19,6 +19,7 @@ pub mod Made
 pub mod NumberWalks
 pub mod Numbered
 pub mod Overviews
+pub mod OwnFeatures
 pub mod OwnTexts
 pub mod Places
 pub mod Points
