@@ -14,6 +14,8 @@ pub mod HeaderMembers
 pub mod Indices
 pub mod Kinship
 pub mod MemberChanges
+pub mod MovedFeatures
+mod MovedVertices
 pub mod Noted
 mod NoteWalks
 mod NotedObjects

@@ -29,9 +29,9 @@ const DIGITS: usize = 20;
 
 /// The text of a document's vertices, and where in it each begins.
 #[derive(Debug, Drop)]
-struct Vertices {
-    text: Line,
-    starts: Vec<u32>,
+pub(super) struct Vertices {
+    pub text: Line,
+    pub starts: Vec<u32>,
 }
 
 impl Vertices {
@@ -51,7 +51,7 @@ impl Vertices {
     }
 
     /// The text of a vertex.
-    fn vertex(&self, at: usize) -> &[u8]
+    pub(super) fn vertex(&self, at: usize) -> &[u8]
         requires { at + 1 < length self.now.starts.items }
         ensures { result.now ≡ vertex_in self.now.text self.now.starts.items at }
     {
