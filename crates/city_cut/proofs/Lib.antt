@@ -12,6 +12,7 @@ pub mod Gathered
 pub mod Growth
 pub mod HeaderMembers
 pub mod Indices
+mod KeptPlaces
 pub mod Kinship
 pub mod MemberChanges
 pub mod MovedFeatures

@@ -25,4 +25,5 @@ invariant_of-result c =
           (λ k d below. omega (arith, c.requires.leaves k d below, count, starts, c.saturating_sub.ensures));
       objects = ap (λ (s : RosterState). s.count) c.in_ok-family.ensures ∙ objects;
       vertices = omega (arith, count, starts, c.saturating_sub.ensures, ap length c.in_ok-copied.ensures.starts);
+      document = ?;
     }
