@@ -12,7 +12,7 @@ use Rattle.std.specs.Prelude.{Vec}
 use Rattle.city_json.specs.Bytes.{close_bracket, colon, comma, open_bracket}
 use Rattle.city_json.specs.Compact.{compact, compact_items, compact_members, compact_more_items, compact_more_members, quoted}
 use Rattle.city_json.specs.Fits.{HasDistinctNames}
-use Rattle.city_json.specs.Members.{first_named, names}
+use Rattle.city_json.specs.Members.{names}
 use Rattle.city_json.specs.Tree.{Tree, MemberTrees, item_trees, member_trees}
 use Rattle.city_grid.specs.Axes.{Triple, triple}
 use Rattle.city_grid.specs.Vertex.{vertex_tree}
@@ -23,10 +23,10 @@ use Rattle.city_cut.specs.CityObjects.{has_parents, roots}
 use Rattle.city_cut.specs.Cut.{AreFeatures, IsFeatureOf, feature_tree}
 use Rattle.city_cut.specs.Families.{AreRelated}
 use Rattle.city_cut.specs.FeatureText.{head_text, middle_text, tail_text}
-use Rattle.city_cut.specs.HeldTexts.{texts_in}
 use Rattle.city_cut.specs.Leaves.{renumbered}
 use Rattle.city_cut.specs.Lines.{texts_of}
 use Rattle.city_cut.specs.Made.{Makings, beginners, family, listed, made_text, more_listed, numbers_below, order_of, place_in, vertex_at}
+use Rattle.city_cut.specs.OwnFeatures.{AreOwnTexts}
 use Rattle.city_cut.specs.Places.{IsFamily, IsGraph, name_at}
 use Rattle.city_cut.specs.Points.{CountsUp, SamePoints}
 use Rattle.city_cut.specs.Reach.{Reached}
@@ -395,21 +395,15 @@ module _ (pairs : List (List ℕ × Tree)) (appearance : Option Tree) (points : 
             (take_all (length pairs) pairs (omega arith)) all.1.1,
       )
 
-  -- the same where what all of them end in is apart
-  pub made_own : (tail : List ℕ) → tail ≡ tail_text appearance → (features : List FeatureValue)
-      × (texts_in (record { own = map (made_text makings) (beginners parents); common = tail }) ≡ texts_of features)
-      × AreFeatures (member_trees pairs) appearance points features
-  made_own tail is = (
-    made_features.0,
-    map-map (λ own. own ++ tail) (made_text makings) (beginners parents)
-        ∙ (ap (λ l. map (λ root. made_text makings root ++ l) (beginners parents)) is ∙ made_features.1),
-    made_features.2,
-  )
-
--- ---- the boundaries
-pub skeletons_bounded : (count : ℕ) (skeletons : SkeletonTexts) (pairs : List (List ℕ × Tree))
-    → AreSkeletons count skeletons pairs → (name : List ℕ) (value : Tree)
-    → first_named name (member_trees pairs) ≡ Some value → IsBounded count value
-skeletons_bounded count skeletons pairs are name value is =
-    let there = first_place pairs name value is in
-    subst (IsBounded count) there.3 (are.each there.0 there.1).bounded
+  -- so what they have of their own is that of the features
+  pub made_own : (own : List (List ℕ)) → own ≡ map (made_text makings) (beginners parents)
+      → AreOwnTexts (member_trees pairs) appearance points own
+  made_own own is = record {
+    features = made_features.0;
+    texts = ap (map (λ text. text ++ tail_text appearance)) is
+        ∙ (map-map (λ text. text ++ tail_text appearance) (made_text makings) (beginners parents) ∙ made_features.1);
+    are = made_features.2;
+    bounded = λ id name value c far named.
+        let there = first_place pairs name value named in
+        subst (IsBounded (length points)) there.3 (are.each there.0 there.1).bounded;
+  }

@@ -1,12 +1,12 @@
 -- Walks that note their leaves.
-use Rattle.std.proofs.Common.{◌≡◌, ◌∙◌, ◌++◌, ◌≤◌, ◌+◌, ◌-◌, ℕ, List, [], ◌∷◌, map, length, take, drop, slice_range, refl, sym, ap, subst, arith, append_assoc, append-nil, length-append, length-drop}
+use Rattle.std.proofs.Common.{◌≡◌, ◌∙◌, ◌++◌, ◌≤◌, ◌+◌, ℕ, List, [], ◌∷◌, length, take, drop, slice_range, refl, sym, ap, subst, arith, append_assoc, append-nil, length-append}
 use Rattle.std.proofs.Math.Seq.{drop-append_seam, take-append_seam}
 use Rattle.std.proofs.lemmas.List.{drop-map, length-map, length-take-le, map-append, take-append-drop, take-map}
 use Rattle.std.specs.Fmt.{decimal}
 use Rattle.city_cut.specs.Skeletons.{LeafPlace, woven}
 use Rattle.city_cut.specs.Sketches.{ArePlaced, IsNoted, LeafNoted, vertices_of}
 use Rattle.city_cut.specs.Walks.{Labelling, Walks, walks_both, walks_leaf, walks_so, walks_text}
-use Rattle.city_cut.proofs.Woven.{placed_both, placed_order, slice_end, slice_middle, slice_none, woven_both, woven_front}
+use Rattle.city_cut.proofs.Woven.{placed_both, slice_end, slice_middle, slice_none, woven_both, woven_front}
 
 -- a text was written after a line, and these leaves were noted
 pub record Notes (noted : List LeafPlace) (line : List ℕ) (noted' : List LeafPlace) (line' uses : List ℕ) (own : (List ℕ → List ℕ) → List ℕ) : Type 0 where

@@ -1,5 +1,5 @@
 -- Objects whose leaves are noted.
-use Rattle.std.proofs.Common.{◌≡◌, ◌∙◌, ◌++◌, ◌≤◌, ◌+◌, ℕ, List, ◌∷◌, [], Some, map, length, take, drop, slice_range, refl, sym, ap, subst, arith, codes, length-append}
+use Rattle.std.proofs.Common.{◌≡◌, ◌∙◌, ◌++◌, ◌≤◌, ◌+◌, ℕ, List, ◌∷◌, [], Some, length, take, drop, slice_range, sym, ap, codes, length-append}
 use Rattle.std.proofs.lemmas.List.{length-map}
 use Rattle.std.specs.List.{flat_map}
 use Rattle.city_json.specs.Bytes.{colon}
@@ -21,7 +21,7 @@ use Rattle.city_cut.specs.declared.quick.holders.Holder.TheVariants.{Geometry, A
 use Rattle.city_cut.specs.declared.quick.notes.NotedLeaves.{NotedLeaves}
 use Rattle.city_cut.proofs.NoteWalks.{Notes, noted_apart, noted_in_order, noted_so, walk_notes}
 use Rattle.city_cut.proofs.QuickCopies.{HeldMade, ObjectWalked}
-use Rattle.city_cut.proofs.QuickObjects.{TwoMade, both_bounded, both_uses, either, name_utf8, some_same, two_made}
+use Rattle.city_cut.proofs.QuickObjects.{both_bounded, both_uses, either, name_utf8, some_same, two_made}
 use Rattle.city_cut.proofs.QuickTexts.{member_there}
 
 abbrev pub NoteLabelled : Labelling NotedLeaves

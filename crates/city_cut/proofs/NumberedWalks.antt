@@ -1,5 +1,5 @@
 -- Walks by numbers, as copies by them.
-use Rattle.std.proofs.Common.{◌≡◌, ◌++◌, ◌∷◌, [], ℕ, List}
+use Rattle.std.proofs.Common.{ℕ, List}
 use Rattle.city_cut.specs.Copied.{Copies}
 use Rattle.city_cut.specs.NumberWalks.{NumberLabelled}
 use Rattle.city_cut.specs.Walks.{Walks, walks_both, walks_leaf, walks_so, walks_text}

@@ -1,6 +1,5 @@
 -- Sketches of objects, one after another.
-use Rattle.std.proofs.Common.{◌≡◌, ◌∙◌, ◌++◌, ◌≤◌, ◌<◌, ◌+◌, ◌-◌, ◌==◌, Bool, true, false, ℕ, List, [], ◌∷◌, All, length, map, take, drop, get_or, slice_range, refl, sym, ap, subst, arith, append_assoc, append-nil, length-append, length-drop}
-use Rattle.std.proofs.Math.Seq.{drop-append_seam}
+use Rattle.std.proofs.Common.{◌≡◌, ◌∙◌, ◌++◌, ◌≤◌, ◌<◌, ◌+◌, ◌-◌, ◌==◌, Bool, true, false, ℕ, List, [], ◌∷◌, All, length, drop, get_or, slice_range, refl, sym, ap, subst, arith, append_assoc, length-append}
 use Rattle.std.proofs.lemmas.Bool.{eqb-true, eqb-false}
 use Rattle.std.proofs.lemmas.List.{get_or_append_left, get_or_push}
 use Rattle.std.proofs.lemmas.List.Elements.{All-drop, All-take}
@@ -19,7 +18,7 @@ use Rattle.city_cut.specs.Skeletons.{AreSkeletons, IsSkeleton, LeafPlace, Skelet
 use Rattle.city_cut.specs.Sketches.{ArePlaced, IsNoted, IsSketch, vertices_of}
 use Rattle.city_cut.proofs.NoteWalks.{noted_after, noted_so}
 use Rattle.city_cut.proofs.QuickFeatures.{as_many_parts, value_there}
-use Rattle.city_cut.proofs.Woven.{placed_order, slice_end, slice_front, slice_middle, woven_front}
+use Rattle.city_cut.proofs.Woven.{slice_end, slice_front, slice_middle, woven_front}
 
 -- ---- one object
 

@@ -1,5 +1,5 @@
 -- Texts that are woven of pieces and the labels of the leaves between them.
-use Rattle.std.proofs.Common.{◌≡◌, ◌∙◌, ◌++◌, ◌≤◌, ◌+◌, ◌-◌, ℕ, List, [], ◌∷◌, length, take, drop, slice_range, refl, sym, ap, subst, arith, append_assoc, append-nil, length-append, length-drop}
+use Rattle.std.proofs.Common.{◌≡◌, ◌∙◌, ◌++◌, ◌≤◌, ◌+◌, ◌-◌, ℕ, List, [], ◌∷◌, length, take, drop, slice_range, sym, ap, arith, append_assoc, length-drop}
 use Rattle.std.proofs.Math.Seq.{drop-append_seam}
 use Rattle.std.proofs.lemmas.List.{drop-append-le, take-append-le, take_all, take_at}
 use Rattle.city_json.proofs.Places.{slice_more}

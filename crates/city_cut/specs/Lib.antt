@@ -20,6 +20,7 @@ pub mod Moved
 pub mod NumberWalks
 pub mod Numbered
 pub mod Overviews
+pub mod OwnFeatures
 pub mod OwnTexts
 pub mod Places
 pub mod Points

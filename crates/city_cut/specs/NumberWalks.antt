@@ -1,5 +1,5 @@
 -- Walks that put at each leaf the number that a feature gives to its vertex.
-use Rattle.std.specs.Prelude.{◌∷◌, [], ℕ, List}
+use Rattle.std.specs.Prelude.{◌∷◌, []}
 use Rattle.std.specs.Fmt.{decimal}
 use Rattle.city_cut.specs.Copied.{Copies}
 use Rattle.city_cut.specs.Walks.{Labelling}

@@ -43,9 +43,9 @@ fn piece<'a>(bytes: &'a [u8], ends: &[usize], at: usize) -> &'a [u8]
     part_of(bytes, start_of(ends, at), ends[at])
 }
 
-/// Texts that are held one after another, each up to its place of `ends`.
+/// Texts that are held one after another.
 #[derive(Debug, Drop)]
-struct Pieces {
+pub(crate) struct Pieces {
     bytes: Line,
     ends: Vec<usize>,
 }
@@ -62,6 +62,14 @@ impl Model for Pieces {
 }
 
 impl Pieces {
+    /// The texts that stand in the bytes one after another, each up to its place of `ends`.
+    pub(crate) fn new(bytes: Line, ends: Vec<usize>) -> Pieces
+        requires { AreEnds 0 ends.items (length bytes) }
+        ensures { result ≡ pieces bytes 0 ends.items }
+    {
+        Pieces { bytes, ends }
+    }
+
     fn len(&self) -> usize
         ensures { result ≡ length self.now }
     {
@@ -193,13 +201,12 @@ impl Model for FeatureTexts {
 }
 
 impl FeatureTexts {
-    /// The texts whose own parts stand in `own`, one after another, each up to its place of `ends`.
-    pub(crate) fn new(own: Line, ends: Vec<usize>, common: Line) -> FeatureTexts
-        requires { AreEnds 0 ends.items (length own) }
-        ensures { result ≡ record { own = pieces own 0 ends.items; common = common } }
+    /// The texts whose own parts are held.
+    pub(crate) fn new(own: Pieces, common: Line) -> FeatureTexts
+        ensures { result ≡ record { own = own; common = common } }
     {
         FeatureTexts {
-            own: OwnTexts::Held(Pieces { bytes: own, ends }),
+            own: OwnTexts::Held(own),
             common,
         }
     }
@@ -218,7 +225,8 @@ impl FeatureTexts {
     pub fn none(alloc: Global) -> FeatureTexts
         ensures { texts_in result ≡ [] }
     {
-        FeatureTexts::new(Line::new(alloc), Vec::new(alloc), Line::new(alloc))
+        let own = Pieces::new(Line::new(alloc), Vec::new(alloc));
+        FeatureTexts::new(own, Line::new(alloc))
     }
 
     /// How many texts there are.

@@ -22,4 +22,4 @@ returns-clause-made c = if_some_more c.new.result (λ start is pairs of are.
     c.in_ok-split.ensures.made (ap (λ (p : SkeletonPlace). p.text) is ∙ ap length c.items-begin.ensures)
     (ap (λ (p : SkeletonPlace). p.name) is ∙ ap length c.items-name.ensures)
     (omega (arith, ap (λ (p : SkeletonPlace). p.leaves) is, c.len-leaves.ensures, c.args.notes.now.leaves.ok))
-    (ap (λ (p : SkeletonPlace). p.split) is)) c.new.ensures
+    (omega (arith, ap (λ (p : SkeletonPlace). p.split) is))) c.new.ensures

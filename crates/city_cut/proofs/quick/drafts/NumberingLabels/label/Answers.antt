@@ -1,4 +1,4 @@
-use Rattle.std.proofs.Common.{◌≡◌, ◌∙◌, ◌<◌, ◌^◌, ◌++◌, ap, arith, slice_index}
+use Rattle.std.proofs.Common.{◌≡◌, ◌∙◌, ◌++◌, ap, arith, slice_index}
 use Rattle.std.proofs.lemmas.List.{get_or_default}
 use Rattle.std.specs.Fmt.{decimal}
 use Rattle.city_json.specs.Compacting.{shown}
