@@ -1,6 +1,8 @@
 -- Items that are kept in place, those at whose places it is true.
 use Rattle.std.proofs.Common.{◌≡◌, ◌∙◌, ◌++◌, ◌<◌, ◌≤◌, ◌+◌, ℕ, zero, suc, Bool, true, false, List, [], ◌∷◌, cond, get_or, length, map, min, take, drop, refl, sym, ap, subst, arith, take_all}
-use Rattle.std.proofs.lemmas.List.{append-nil, drop-drop, drop-set-lt, get_or-drop, length-set, length-take-le, take_more, take_more_set}
+use Rattle.std.proofs.lemmas.List.{append-nil, drop-drop, drop-set-lt, get_or-drop, get_or_default, length-set, length-take-le, take_more, take_more_set}
+use Rattle.std.proofs.lemmas.List.Elements.{All-from_recursion, recursion_from_All}
+use Rattle.std.specs.List.{All, AllByRecursion}
 use Rattle.std.specs.Prelude.{set}
 use Rattle.city_cut.specs.Moved.{chosen_of}
 
@@ -49,20 +51,21 @@ module _ (chosen : List Bool) (at : ℕ) (items now : List ℕ) (count : ℕ) (i
     others = next_others;
   }
 
-  same_item : get_or now at 0 ≡ get_or items at 0
-  same_item =
+  same_item : (x : ℕ) → x ≡ get_or now at x → x ≡ get_or items at 0
+  same_item x is_x =
       let zero_more : at + 0 ≡ at = omega arith in
-      sym (get_or-drop at now 0 0 ∙ ap (λ n. get_or now n 0) zero_more)
-      ∙ (ap (λ l. get_or l 0 0) is.others ∙ (get_or-drop at items 0 0 ∙ ap (λ n. get_or items n 0) zero_more))
+      is_x ∙ (get_or_default now at x 0 (omega (arith, is.long, there))
+      ∙ (sym (get_or-drop at now 0 0 ∙ ap (λ n. get_or now n 0) zero_more)
+      ∙ (ap (λ l. get_or l 0 0) is.others ∙ (get_or-drop at items 0 0 ∙ ap (λ n. get_or items n 0) zero_more))))
 
-  pub kept_one : get_or chosen at false ≡ true
-      → IsKept chosen (at + 1) items (set now count (get_or now at 0)) (count + 1)
-  kept_one e = record {
-    long = length-set now count (get_or now at 0) ∙ is.long;
+  pub kept_one : get_or chosen at false ≡ true → (x : ℕ) → x ≡ get_or now at x
+      → IsKept chosen (at + 1) items (set now count x) (count + 1)
+  kept_one e x is_x = record {
+    long = length-set now count x ∙ is.long;
     ordered = omega (arith, is.ordered);
-    kept = take_more_set now count (get_or now at 0) (omega (arith, is.ordered, is.long, there))
-        ∙ (ap (λ x. take count now ++ x ∷ []) same_item ∙ sym (grown true e));
-    others = drop-set-lt (at + 1) now count (get_or now at 0) (omega (arith, is.ordered)) ∙ next_others;
+    kept = take_more_set now count x (omega (arith, is.ordered, is.long, there))
+        ∙ (ap (λ y. take count now ++ y ∷ []) (same_item x is_x) ∙ sym (grown true e));
+    others = drop-set-lt (at + 1) now count x (omega (arith, is.ordered)) ∙ next_others;
   }
 
 -- ---- all of them
@@ -87,3 +90,13 @@ chosen_map f [] xs = refl
 chosen_map f (b ∷ bs) [] = refl
 chosen_map f (true ∷ bs) (x ∷ xs) = ap (λ l. f x ∷ l) (chosen_map f bs xs)
 chosen_map f (false ∷ bs) (x ∷ xs) = chosen_map f bs xs
+
+all_by_recursion : {X : Type 0} (P : X → Type 0) (bs : List Bool) (xs : List X) → AllByRecursion P xs
+    → AllByRecursion P (chosen_of bs xs)
+all_by_recursion P [] xs all = tt
+all_by_recursion P (b ∷ bs) [] all = tt
+all_by_recursion P (true ∷ bs) (x ∷ xs) all = (all.0, all_by_recursion P bs xs all.1)
+all_by_recursion P (false ∷ bs) (x ∷ xs) all = all_by_recursion P bs xs all.1
+
+pub all_chosen : (P : ℕ → Type 0) (bs : List Bool) (xs : List ℕ) → All P xs → All P (chosen_of bs xs)
+all_chosen P bs xs all = All-from_recursion P (chosen_of bs xs) (all_by_recursion P bs xs (recursion_from_All P xs all))

@@ -1,5 +1,5 @@
-use Rattle.std.proofs.Common.{◌∙◌, ◌≡◌, ◌≤◌, ◌<◌, ◌+◌, length, min, get_or, sym, subst, arith, slice_set}
-use Rattle.city_cut.proofs.KeptPlaces.{IsKept, kept_all, kept_none, kept_one, kept_past}
+use Rattle.std.proofs.Common.{◌∙◌, arith}
+use Rattle.city_cut.proofs.KeptPlaces.{kept_all, kept_none, kept_one, kept_past}
 use Rattle.city_cut.proofs.quick.made.keep_chosen.Goals as goal
 
 pub loop-at-init : goal.loop-at-init
@@ -13,11 +13,10 @@ loop-at-preserved-then-not-chosen-at c =
 
 pub loop-at-preserved : goal.loop-at-preserved
 loop-at-preserved c =
-    subst (λ root. IsKept c.args.chosen.now (c.loop-at.at + 1) c.args.roots.now.items
-    (slice_set c.loop-at.roots.items c.loop-at.kept root) (c.loop-at.kept + 1)) (sym c.index.ensures)
-    (kept_one c.args.chosen.now c.loop-at.at c.args.roots.now.items c.loop-at.roots.items c.loop-at.kept
+    kept_one c.args.chosen.now c.loop-at.at c.args.roots.now.items c.loop-at.roots.items c.loop-at.kept
     c.loop-at.invariant (omega (arith, c.loop-at-test.true, c.min-count.ensures, c.len.ensures))
-    (omega (arith, c.loop-at-test.true, c.min-count.ensures, c.len.ensures)) c.if-not-chosen-at.false)
+    (omega (arith, c.loop-at-test.true, c.min-count.ensures, c.len.ensures)) c.if-not-chosen-at.false
+    c.index.result.now c.index.ensures
 
 pub returns : goal.returns
 returns c = c.truncate.ensures.items
