@@ -11,6 +11,7 @@ mod items;
 mod kin;
 pub(crate) mod made;
 mod members;
+mod moving;
 mod notes;
 mod numbers;
 mod objects;
