@@ -9,8 +9,9 @@ use city_grid::Shift;
 use city_json::{Json, print};
 use document_stream::{cat_document, cat_source};
 use growth_support::texts::{
-    A1, A2, B1, BLANKS, BLANKS_CUT, BUILDING, CHILDLESS, DOCUMENT, EMPTY_A, EMPTY_B, FIRST,
-    FIRST_FEATURE, HEADER, ORPHANED, POINTS, SHADED_POINTS, SHADED_X, SHADED_Y, UNBOUNDED, X, Y,
+    A1, A2, B1, BLANKS, BLANKS_CUT, BUILDING, CHAIN, CHAIN_A, CHAIN_B, CHAIN_C, CHILDLESS,
+    DOCUMENT, EMPTY_A, EMPTY_B, FIRST, FIRST_FEATURE, HEADER, ORPHANED, POINTS, SHADED_POINTS,
+    SHADED_X, SHADED_Y, UNBOUNDED, X, Y,
 };
 use growth_support::{Call, expect, is_fault, is_gone, refused, wanted};
 use std::alloc::{AllocError, Global};
@@ -315,6 +316,16 @@ fn shaded_document_is_filtered(
     is_filtered(rt, step, &input, 1, &wanted, Ok(3))
 }
 
+/// A document whose features share objects, all of them and those that are chosen.
+fn chain_is_filtered(rt: &(impl AllocGlobal + Eprint), step: usize) -> Result<bool, Fault> {
+    let input = bytes_of(rt.alloc(), &[CHAIN, A1])?;
+    let wanted = [(1, CHAIN_A), (1, CHAIN_B), (1, CHAIN_C), (2, A1)];
+    let others = choice_of(rt.alloc(), true)?;
+    let tiles = alone(1, &wanted[1..3]);
+    Ok(is_filtered(rt, step, &input, 1, &wanted, Ok(4))?
+        && stream_is_filtered(rt, step, &input, &others, &tiles, Ok(2))?)
+}
+
 /// Want of memory of this call at this line, or a wrong answer.
 fn is_refused(
     rt: &(impl AllocGlobal + Eprint),
@@ -346,7 +357,7 @@ fn takes_head(
 }
 
 /// Whether this is all that is held.
-fn is_held(alloc: Global, texts: &ReadyTexts, text: &str) -> Result<bool, Fault> {
+fn is_held(alloc: Global, mut texts: ReadyTexts, text: &str) -> Result<bool, Fault> {
     let mut output = Bin::new(alloc, 4096, 100, false)?;
     texts.write(&mut output)?;
     Ok(texts.len() == 1 && after_line(output.bytes(), text) == Some([].as_slice()))
@@ -358,7 +369,7 @@ fn takes_held(
     choice: &Choice,
 ) -> Result<bool, Fault> {
     match tile.take_held(rt.alloc(), Shift::zero(), choice) {
-        Ok(texts) => is_held(rt.alloc(), &texts, X),
+        Ok(texts) => is_held(rt.alloc(), texts, X),
         Err(told) => is_refused(rt, Call("TileReader::take_held"), told, 1),
     }
 }
@@ -486,6 +497,7 @@ fn streams_are_read_filtered_and_made_of_documents(rt: HostRuntime) -> Result<()
     expect!(rt; features_are_chosen(&rt, IN_PARTS));
     expect!(rt; document_is_filtered(&rt, IN_PARTS));
     expect!(rt; shaded_document_is_filtered(&rt, IN_PARTS));
+    expect!(rt; chain_is_filtered(&rt, IN_PARTS));
     expect!(rt; tile_is_taken(&rt));
     expect!(rt; document_is_cat(&rt));
     expect!(rt; documents_are_refused(&rt));
@@ -503,5 +515,6 @@ fn whole_lines_are_filtered(rt: HostRuntime) -> Result<(), Fault> {
     expect!(rt; features_are_chosen(&rt, WHOLE));
     expect!(rt; document_is_filtered(&rt, WHOLE));
     expect!(rt; shaded_document_is_filtered(&rt, WHOLE));
+    expect!(rt; chain_is_filtered(&rt, WHOLE));
     Ok(())
 }

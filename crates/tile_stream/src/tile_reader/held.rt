@@ -61,7 +61,7 @@ fn made_texts(
     let mut held = held;
     let wanted = wanted_of(alloc, &mut held, shift, choice)?;
     held.move_by(alloc, shift)?;
-    held.keep(&wanted);
+    held.keep(&wanted)?;
     Ok(ReadyTexts::made(held))
 }
 
