@@ -1,5 +1,5 @@
 -- Of the texts that a first line holds, those of the features that are wanted once they are moved.
-use Rattle.std.proofs.Common.{◌≡◌, ◌≤◌, ◌<◌, ◌+◌, ◌++◌, ◌∙◌, ℕ, Bool, true, false, List, [], ◌∷◌, Option, Some, None, is_some, length, length-append, get_or, take, take_all, map, option_to_list, refl, sym, ap, subst, arith}
+use Rattle.std.proofs.Common.{◌≡◌, ◌≤◌, ◌<◌, ◌+◌, ◌++◌, ◌∙◌, ℕ, Bool, true, false, List, [], ◌∷◌, Option, Some, None, is_some, length, length-append, get_or, take, take_all, map, option_map, option_to_list, refl, sym, ap, subst, arith}
 use Rattle.std.proofs.lemmas.List.{take_more}
 use Rattle.std.specs.List.{AllByRecursion, AllZip}
 use Rattle.city_json.specs.Compact.{compact}
@@ -21,17 +21,21 @@ chosen_mapped f (b ∷ bs) [] = refl
 chosen_mapped f (true ∷ bs) (x ∷ xs) = ap (λ l. f x ∷ l) (chosen_mapped f bs xs)
 chosen_mapped f (false ∷ bs) (x ∷ xs) = chosen_mapped f bs xs
 
+some_mapped : {X Y : Type 0} (f : X → Y) (given : Option X) → is_some (option_map f given) ≡ is_some given
+some_mapped f None = refl
+some_mapped f (Some x) = refl
+
 module _ (IsWanted : FeatureValue → Type 0) (k : Triple) where
   -- one line more was looked at
-  pub told_more : (all : List (List ℕ)) (at : ℕ) (wanted longer : List Bool) → at < length all
-      → TellWanted IsWanted k (take at all) wanted → (given : Option (List ℕ))
-      → GivesFeature IsWanted k (get_or all at []) given → longer ≡ wanted ++ is_some given ∷ []
-      → TellWanted IsWanted k (take (at + 1) all) longer
-  told_more all at wanted longer within so_far given one is =
+  pub told_more : {X : Type 0} (f : X → List ℕ) (all : List (List ℕ)) (at : ℕ) (wanted longer : List Bool)
+      → at < length all → TellWanted IsWanted k (take at all) wanted → (given : Option X) (is : Bool)
+      → GivesFeature IsWanted k (get_or all at []) (option_map f given) → is ≡ is_some given
+      → longer ≡ wanted ++ is ∷ [] → TellWanted IsWanted k (take (at + 1) all) longer
+  told_more f all at wanted longer within so_far given is one some grown =
       subst (λ lines. TellWanted IsWanted k lines longer) (sym (take_more all at [] within))
-      (subst (TellWanted IsWanted k (take at all ++ get_or all at [] ∷ [])) (sym is)
-      (zip_push (TellsWanted IsWanted k) (take at all) wanted (get_or all at []) (is_some given) so_far
-      (given, one, refl)))
+      (subst (TellWanted IsWanted k (take at all ++ get_or all at [] ∷ [])) (sym grown)
+      (zip_push (TellsWanted IsWanted k) (take at all) wanted (get_or all at []) is so_far
+      (option_map f given, one, some ∙ sym (some_mapped f given))))
 
   pub all_told : (all : List (List ℕ)) (at : ℕ) (wanted : List Bool) → length all ≤ at
       → TellWanted IsWanted k (take at all) wanted → TellWanted IsWanted k all wanted
@@ -78,7 +82,7 @@ module _ (IsWanted : FeatureValue → Type 0) (k : Triple) where
       one_more line lines is wanted told.0.0 told.0.1 told.0.2 (looked lines wanted told.1)
 
   -- what is given are as many texts at most
-  pub few_given : (lines texts : List (List ℕ)) → LinesGive IsWanted k lines texts → length texts ≤ length lines
+  few_given : (lines texts : List (List ℕ)) → LinesGive IsWanted k lines texts → length texts ≤ length lines
   few_given [] texts give = omega (arith, ap length give)
   few_given (line ∷ lines) texts give =
       omega (
@@ -95,12 +99,15 @@ module _ (IsWanted : FeatureValue → Type 0) (k : Triple) where
       → ((features : List FeatureValue) → AllZip SpellsFeature (texts_in held) features
       → AllByRecursion (λ feature. IsMovable feature k) features
       → texts_in there ≡ texts_of (map (λ feature. moved feature k) features))
-      → kept ≡ record { own = chosen_of wanted there.own; common = there.common }
-      → LinesGive IsWanted k (texts_in held) (texts_in kept)
-  kept_given held wanted told there kept moves is =
+      → kept ≡ record { own = chosen_of wanted there.own; common = there.common } → (texts : List (List ℕ))
+      → texts ≡ texts_in kept
+      → LinesGive IsWanted k (texts_in held) texts × (length texts ≤ length (texts_in held))
+  kept_given held wanted told there kept moves is texts are =
       let all = looked (texts_in held) wanted told in
-      let texts : texts_in kept ≡ chosen_of wanted (texts_of (map (λ feature. moved feature k) all.features)) =
-      ap texts_in is
+      let same : texts ≡ chosen_of wanted (texts_of (map (λ feature. moved feature k) all.features)) =
+      are
+      ∙ (ap texts_in is
       ∙ (chosen_mapped (λ own. own ++ there.common) wanted there.own
-      ∙ ap (chosen_of wanted) (moves all.features all.spelled all.movable)) in
-      subst (LinesGive IsWanted k (texts_in held)) (sym texts) all.give
+      ∙ ap (chosen_of wanted) (moves all.features all.spelled all.movable))) in
+      let give = subst (LinesGive IsWanted k (texts_in held)) (sym same) all.give in
+      (give, few_given (texts_in held) texts give)

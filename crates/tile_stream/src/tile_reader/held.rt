@@ -83,8 +83,8 @@ fn wanted_of(
     let mut buffers = Buffers::new(alloc);
     let mut at = 0usize;
     'held: while at < held.len() {
-        let given = text_at(alloc, held, at, shares, shift, choice, &mut buffers)?;
-        wanted.push(given.is_some())?;
+        let text = text_at(alloc, held, at, shares, shift, choice, &mut buffers)?;
+        wanted.push(text.is_some())?;
         at += 1;
     }
     Ok(wanted)
