@@ -7,13 +7,13 @@ use Rattle.std.proofs.lemmas.List.{length-map}
 use Rattle.std.proofs.lemmas.List.Elements.{All-map}
 use Rattle.std.specs.Global.{Global}
 use Rattle.std.specs.List.{All, AllByRecursion, AllZip, Contains}
-use Rattle.std.specs.Prelude.{IsUtf8, Vec, nat_le}
+use Rattle.std.specs.Prelude.{IsUtf8, Vec, bytes_eq, if◌then◌else◌, nat_le}
 use Rattle.byte_streams.specs.Limits.{max_steps}
 use Rattle.city_json.proofs.SpelledWritable.{read_of_compact}
 use Rattle.city_json.specs.Compact.{compact}
 use Rattle.city_json.specs.Fits.{IsDistinct}
 use Rattle.city_json.specs.Grammar.{Spells}
-use Rattle.city_json.specs.Members.{member_of}
+use Rattle.city_json.specs.Members.{first_named, member_of}
 use Rattle.city_json.specs.Tree.{Tree, MemberTrees, array, no_members, member, item_trees, member_trees, object}
 use Rattle.city_json.specs.Writable.{AreWritableMembers, IsWritable}
 use Rattle.city_grid.specs.Axes.{IsInRange, Triple, sum, triple}
@@ -50,9 +50,11 @@ both false b e = cc e
 in_range_says : (p : Triple) → is_in_range p ≡ true → IsInRange p
 in_range_says p e =
     let (x, rest) = both (nat_le (unsigned_abs p.x) max_steps) _ e in
-    let (y, z) = both (nat_le (unsigned_abs p.y) max_steps) (nat_le (unsigned_abs p.z) max_steps) rest in
-    (leb-true (unsigned_abs p.x) max_steps x, leb-true (unsigned_abs p.y) max_steps y,
-    leb-true (unsigned_abs p.z) max_steps z)
+    let (y, z) = both (nat_le (unsigned_abs p.y) max_steps) (nat_le (unsigned_abs p.z) max_steps) rest in (
+      leb-true (unsigned_abs p.x) max_steps x,
+      leb-true (unsigned_abs p.y) max_steps y,
+      leb-true (unsigned_abs p.z) max_steps z,
+    )
 
 said_in_range : (p : Triple) → IsInRange p → is_in_range p ≡ true
 said_in_range p range =
@@ -244,3 +246,14 @@ module _ (makings : Makings) (of : AreMakings makings) (k : Triple) (vertices st
       of.range of.writable of.distinct k vertices starts stand appearance last f spell.0 movable.0 in
       ap (λ text. text ∷ texts_in (record { own = map (made_text there) roots; common = tail_text appearance })) one
       ∙ ap (λ texts. compact (moved f k).value ∷ texts) rest
+
+-- ---- what all of them end in
+pub last_writable : (members : MemberTrees) → AreWritableMembers members
+    → AreWritableMembers (last_members (first_named (codes "appearance") members))
+last_writable no_members all = tt
+last_writable (member name value others) all = by (bytes_eq name (codes "appearance")) (last_writable others all.2)
+  where
+    by : (b : Bool) → AreWritableMembers (last_members (first_named (codes "appearance") others))
+        → AreWritableMembers (last_members (if b then Some value else first_named (codes "appearance") others))
+    by true rest = (utf8 _ refl, all.1, tt)
+    by false rest = rest
