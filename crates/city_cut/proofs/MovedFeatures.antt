@@ -1,20 +1,17 @@
 -- What is made on moved vertices are the features, moved.
-use Rattle.std.proofs.Common.{◌≡◌, ◌∙◌, ◌++◌, ◌<◌, ◌≤◌, ◌^◌, ◌&&◌, ℕ, zero, suc, Bool, true, false, List, [], ◌∷◌, Option, Some, cond, get_or, length, map, unsigned_abs, refl, sym, ap, subst, arith, codes, pos}
+use Rattle.std.proofs.Common.{◌≡◌, ◌∙◌, ◌++◌, ◌<◌, ◌^◌, ◌&&◌, ℕ, zero, suc, Bool, true, false, List, [], ◌∷◌, Option, Some, cond, get_or, length, map, unsigned_abs, refl, sym, ap, subst, arith, codes, pos}
 use Rattle.std.proofs.lemmas.Bool.{le-leb, leb-true}
 use Rattle.std.proofs.Math.Dec.{leb}
-use Rattle.std.proofs.lemmas.Bool.Decides.{nat_tests}
 use Rattle.std.proofs.lemmas.List.{length-map}
 use Rattle.std.proofs.lemmas.List.Elements.{All-map}
-use Rattle.std.specs.Global.{Global}
-use Rattle.std.specs.List.{All, AllByRecursion, AllZip, Contains}
-use Rattle.std.specs.Prelude.{IsUtf8, Vec, bytes_eq, if◌then◌else◌, nat_le}
+use Rattle.std.specs.List.{All, AllByRecursion, AllZip}
+use Rattle.std.specs.Prelude.{IsUtf8, bytes_eq, if◌then◌else◌, nat_le}
 use Rattle.byte_streams.specs.Limits.{max_steps}
 use Rattle.city_json.proofs.SpelledWritable.{read_of_compact}
 use Rattle.city_json.specs.Compact.{compact}
 use Rattle.city_json.specs.Fits.{IsDistinct}
-use Rattle.city_json.specs.Grammar.{Spells}
 use Rattle.city_json.specs.Members.{first_named, member_of}
-use Rattle.city_json.specs.Tree.{Tree, MemberTrees, array, no_members, member, item_trees, member_trees, object}
+use Rattle.city_json.specs.Tree.{Tree, MemberTrees, no_members, member, item_trees, member_trees, object}
 use Rattle.city_json.specs.Writable.{AreWritableMembers, IsWritable}
 use Rattle.city_grid.specs.Axes.{IsInRange, Triple, sum, triple}
 use Rattle.city_grid.specs.Vertex.{vertex_tree}
@@ -22,15 +19,14 @@ use Rattle.city_feature.proofs.QuickLines.{utf8}
 use Rattle.city_feature.specs.Changes.{with_member}
 use Rattle.city_feature.specs.Feature.{AreVertices, FeatureValue, IsMovable, moved, moved_vertices, vertices_tree}
 use Rattle.city_feature.specs.FeatureLine.{SpellsFeature}
-use Rattle.city_cut.specs.Chosen.{named_at, point_at}
+use Rattle.city_cut.specs.Chosen.{point_at}
 use Rattle.city_cut.specs.CityObjects.{IsReached}
 use Rattle.city_cut.specs.Cut.{feature_tree, last_members}
 use Rattle.city_cut.specs.FeatureText.{tail_text}
 use Rattle.city_cut.specs.HeldTexts.{texts_in}
-use Rattle.city_cut.specs.Leaves.{renumbered}
 use Rattle.city_cut.specs.Lines.{texts_of}
 use Rattle.city_cut.specs.Made.{AreMakings, Makings, family, made_text, order_of}
-use Rattle.city_cut.specs.Moved.{chosen_of, is_in_range, moved_or_same}
+use Rattle.city_cut.specs.Moved.{is_in_range, moved_or_same}
 use Rattle.city_cut.specs.Places.{IsFamily, name_at}
 use Rattle.city_cut.specs.Skeletons.{AreSkeletons}
 use Rattle.city_cut.specs.VertexTexts.{StandAt}

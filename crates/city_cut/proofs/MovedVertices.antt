@@ -1,5 +1,5 @@
 -- The texts of moved vertices, put one after another.
-use Rattle.std.proofs.Common.{◌≡◌, ◌∙◌, ◌++◌, ◌<◌, ◌≤◌, ◌+◌, ◌-◌, ◌⊎◌, inl, inr, ℕ, zero, suc, Bool, true, false, List, [], ◌∷◌, get_or, length, map, take, drop, refl, sym, ap, subst, arith, length-append, take_all, pos}
+use Rattle.std.proofs.Common.{◌≡◌, ◌∙◌, ◌++◌, ◌<◌, ◌≤◌, ◌+◌, ◌-◌, ◌⊎◌, inl, inr, ℕ, zero, suc, true, false, List, [], ◌∷◌, length, map, take, drop, sym, ap, subst, arith, length-append, take_all, pos}
 use Rattle.std.proofs.Math.Dec.{leb}
 use Rattle.std.proofs.Math.Seq.{drop-append-add}
 use Rattle.std.proofs.lemmas.Bool.Decides.{leb_tells}
@@ -12,7 +12,6 @@ use Rattle.city_json.specs.Compact.{compact}
 use Rattle.city_grid.proofs.VertexLaws.{vertex_is_read, vertex_is_writable}
 use Rattle.city_grid.specs.Axes.{IsInRange, Triple, triple}
 use Rattle.city_grid.specs.Vertex.{IsVertex, vertex_tree}
-use Rattle.city_feature.specs.Feature.{vertices_tree}
 use Rattle.city_cut.specs.Chosen.{point_at}
 use Rattle.city_cut.specs.Moved.{moved_or_same}
 use Rattle.city_cut.specs.VertexTexts.{StandAt}

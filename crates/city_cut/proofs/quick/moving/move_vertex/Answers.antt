@@ -1,4 +1,4 @@
-use Rattle.std.proofs.Common.{◌≡◌, ◌∙◌, sym, subst}
+use Rattle.std.proofs.Common.{◌∙◌, sym, subst}
 use Rattle.city_grid.specs.Axes.{IsInRange}
 use Rattle.city_cut.proofs.MovedFeatures.{moved_within, same_outside}
 use Rattle.city_cut.proofs.quick.moving.move_vertex.Goals as goal
