@@ -90,7 +90,8 @@ moved_points : (k : Triple) (points : List Triple) (order : List ℕ) → AllByR
 moved_points k points [] below range = refl
 moved_points k points (j ∷ js) below range =
     let here : point_at (map (moved_or_same k) points) j ≡ sum (point_at points j) k =
-    moved_point k points j below.0 ∙ moved_within k (point_at points j) (range 0 (sum (point_at points j) k) (omega arith)) in
+    moved_point k points j below.0
+    ∙ moved_within k (point_at points j) (range 0 (sum (point_at points j) k) (omega arith)) in
     let rest = moved_points k points js below.1
     (λ i d within. range (suc i) d (omega (arith, within))) in
     ap (λ p. p ∷ map (point_at (map (moved_or_same k) points)) js) here
@@ -165,7 +166,8 @@ module _ (pairs : List (List ℕ × Tree)) (points : List Triple) (makings : Mak
       decimal_is_number (same.label n) (omega (arith, below, more, small))) kept.1 in
       subst (λ l. AreWritableMembers (member_trees l)) (sym same.but_leaves) (relabelled.0 (kept.0 writable))
 
-  whole : made_text makings root ++ tail_text appearance ≡ compact (feature_tree id objects (vertices_tree own) appearance)
+  whole : made_text makings root ++ tail_text appearance
+      ≡ compact (feature_tree id objects (vertices_tree own) appearance)
   whole = ap (λ l. l ++ tail_text appearance) (made.whole_made pairs points makings root are stand small of_root)
       ∙ feature_text id objects (vertices_tree own) appearance
 
@@ -200,7 +202,8 @@ module _ (pairs : List (List ℕ × Tree)) (points : List Triple) (makings : Mak
         ∙ (ap (λ ps. compact (feature_tree id objects (vertices_tree ps) appearance)) points_moved
         ∙ (ap (λ ps. compact (with_member (codes "vertices") (vertices_tree (moved_vertices ps k))
         (feature_tree id objects (vertices_tree own) appearance))) (sym vertices_are)
-        ∙ ap (λ value. compact (with_member (codes "vertices") (vertices_tree (moved_vertices feature.vertices k)) value))
+        ∙ ap (λ value. compact (with_member (codes "vertices")
+        (vertices_tree (moved_vertices feature.vertices k)) value))
         value_is)))
 
 -- ---- the features of all roots
@@ -228,7 +231,8 @@ module _ (makings : Makings) (of : AreMakings makings) (k : Triple) (vertices st
 
   pub moved_texts : (appearance : Option Tree) → AreWritableMembers (last_members appearance) → (roots : List ℕ)
       → AllByRecursion (λ root. root < length makings.graph) roots → (features : List FeatureValue)
-      → AllZip SpellsFeature (texts_in (record { own = map (made_text makings) roots; common = tail_text appearance })) features
+      → AllZip SpellsFeature
+      (texts_in (record { own = map (made_text makings) roots; common = tail_text appearance })) features
       → AllByRecursion (λ feature. IsMovable feature k) features
       → texts_in (record { own = map (made_text there) roots; common = tail_text appearance })
       ≡ texts_of (map (λ feature. moved feature k) features)

@@ -23,7 +23,8 @@ pub same_point : (p q : Triple) → IsInRange p → IsInRange q → compact (ver
 same_point p q p_range q_range same =
     let trees : vertex_tree p ≡ vertex_tree q =
     compact-tells (vertex_tree p) (vertex_tree q) (vertex_is_writable p p_range) (vertex_is_writable q q_range) same in
-    same_vertex (vertex_tree q) p q (subst (λ t. IsVertex t p) trees (vertex_is_read p p_range)) (vertex_is_read q q_range)
+    same_vertex (vertex_tree q) p q (subst (λ t. IsVertex t p) trees (vertex_is_read p p_range))
+    (vertex_is_read q q_range)
 
 -- the texts of these vertices stand in a text that ends with the last of them
 pub record IsGrown (text starts : List ℕ) (points : List Triple) : Type 0 where
@@ -75,7 +76,8 @@ grown_more text text' starts starts' points v grown appended pushed =
     ap (λ l. take (length text' - (length text + 1)) (drop (length text + 1) l)) appended
     ∙ (ap (take (length text' - (length text + 1))) (drop-append-add text (comma ∷ here) 1)
     ∙ take_all (length text' - (length text + 1)) here (omega (arith, long))) in
-    let more = stand_more text' starts starts' points v (length text + 1) (length text') still grown.last written pushed in
+    let more = stand_more text' starts starts' points v (length text + 1) (length text') still grown.last written
+    pushed in
     record {
       stand = more.0;
       last = more.1;

@@ -46,12 +46,7 @@ fn moved_and_kept(alloc: Global, document: &str, chosen: &[bool]) -> Result<Line
 }
 
 /// Whether these lines come of the groups with these vertices.
-fn gives(
-    alloc: Global,
-    points: &str,
-    chosen: &[bool],
-    wanted: &str,
-) -> Result<bool, AllocError> {
+fn gives(alloc: Global, points: &str, chosen: &[bool], wanted: &str) -> Result<bool, AllocError> {
     let document = filled(alloc, GROUPS, points)?;
     match moved_and_kept(alloc, &document, chosen) {
         Ok(lines) => Ok(lines.items() == wanted.as_bytes()),
@@ -63,11 +58,13 @@ fn gives(
 fn made_texts_are_moved_and_kept(rt: HostRuntime) {
     let alloc = rt.alloc();
     assert!(rt; gives(alloc, "POINTS", &[true, false, true], OF_GROUP) == Ok(true));
-    assert!(rt; gives(
-        alloc,
-        "[[0,0,0],[1,1,1],[2,2,2],[9007199254740981,-9007199254740990,3]]",
-        &[false, true],
-        OF_OTHER,
-    ) == Ok(true));
+    assert!(rt;
+        gives(
+            alloc,
+            "[[0,0,0],[1,1,1],[2,2,2],[9007199254740981,-9007199254740990,3]]",
+            &[false, true],
+            OF_OTHER,
+        ) == Ok(true)
+    );
     assert!(rt; gives(alloc, "POINTS", &[], "") == Ok(true));
 }

@@ -5,7 +5,8 @@ use Rattle.city_cut.proofs.quick.moving.move_vertex.Goals as goal
 
 pub returns-in-Ok : goal.returns-in-Ok
 returns-in-Ok c =
-    c.in-Ok.ensures.ok ∙ sym (moved_within c.args.shift c.args.vertex (subst IsInRange c.in-Ok.ensures.ok c.in-Ok.ensures.range))
+    c.in-Ok.ensures.ok
+    ∙ sym (moved_within c.args.shift c.args.vertex (subst IsInRange c.in-Ok.ensures.ok c.in-Ok.ensures.range))
 
 pub returns-in-Err : goal.returns-in-Err
 returns-in-Err c = sym (same_outside c.args.shift c.args.vertex c.in-Err.ensures.refusal.1)
