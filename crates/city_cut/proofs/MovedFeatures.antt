@@ -1,20 +1,17 @@
 -- What is made on moved vertices are the features, moved.
-use Rattle.std.proofs.Common.{◌≡◌, ◌∙◌, ◌++◌, ◌<◌, ◌≤◌, ◌^◌, ◌&&◌, ℕ, zero, suc, Bool, true, false, List, [], ◌∷◌, Option, Some, cond, get_or, length, map, unsigned_abs, refl, sym, ap, subst, arith, codes, pos}
+use Rattle.std.proofs.Common.{◌≡◌, ◌∙◌, ◌++◌, ◌<◌, ◌^◌, ◌&&◌, ℕ, zero, suc, Bool, true, false, List, [], ◌∷◌, Option, Some, cond, get_or, length, map, unsigned_abs, refl, sym, ap, subst, arith, codes, pos}
 use Rattle.std.proofs.lemmas.Bool.{le-leb, leb-true}
 use Rattle.std.proofs.Math.Dec.{leb}
-use Rattle.std.proofs.lemmas.Bool.Decides.{nat_tests}
 use Rattle.std.proofs.lemmas.List.{length-map}
 use Rattle.std.proofs.lemmas.List.Elements.{All-map}
-use Rattle.std.specs.Global.{Global}
-use Rattle.std.specs.List.{All, AllByRecursion, AllZip, Contains}
-use Rattle.std.specs.Prelude.{IsUtf8, Vec, nat_le}
+use Rattle.std.specs.List.{All, AllByRecursion, AllZip}
+use Rattle.std.specs.Prelude.{IsUtf8, bytes_eq, if◌then◌else◌, nat_le}
 use Rattle.byte_streams.specs.Limits.{max_steps}
 use Rattle.city_json.proofs.SpelledWritable.{read_of_compact}
 use Rattle.city_json.specs.Compact.{compact}
 use Rattle.city_json.specs.Fits.{IsDistinct}
-use Rattle.city_json.specs.Grammar.{Spells}
-use Rattle.city_json.specs.Members.{member_of}
-use Rattle.city_json.specs.Tree.{Tree, MemberTrees, array, no_members, member, item_trees, member_trees, object}
+use Rattle.city_json.specs.Members.{first_named, member_of}
+use Rattle.city_json.specs.Tree.{Tree, MemberTrees, no_members, member, item_trees, member_trees, object}
 use Rattle.city_json.specs.Writable.{AreWritableMembers, IsWritable}
 use Rattle.city_grid.specs.Axes.{IsInRange, Triple, sum, triple}
 use Rattle.city_grid.specs.Vertex.{vertex_tree}
@@ -22,15 +19,14 @@ use Rattle.city_feature.proofs.QuickLines.{utf8}
 use Rattle.city_feature.specs.Changes.{with_member}
 use Rattle.city_feature.specs.Feature.{AreVertices, FeatureValue, IsMovable, moved, moved_vertices, vertices_tree}
 use Rattle.city_feature.specs.FeatureLine.{SpellsFeature}
-use Rattle.city_cut.specs.Chosen.{named_at, point_at}
+use Rattle.city_cut.specs.Chosen.{point_at}
 use Rattle.city_cut.specs.CityObjects.{IsReached}
 use Rattle.city_cut.specs.Cut.{feature_tree, last_members}
 use Rattle.city_cut.specs.FeatureText.{tail_text}
 use Rattle.city_cut.specs.HeldTexts.{texts_in}
-use Rattle.city_cut.specs.Leaves.{renumbered}
 use Rattle.city_cut.specs.Lines.{texts_of}
 use Rattle.city_cut.specs.Made.{AreMakings, Makings, family, made_text, order_of}
-use Rattle.city_cut.specs.Moved.{chosen_of, is_in_range, moved_or_same}
+use Rattle.city_cut.specs.Moved.{is_in_range, moved_or_same}
 use Rattle.city_cut.specs.Places.{IsFamily, name_at}
 use Rattle.city_cut.specs.Skeletons.{AreSkeletons}
 use Rattle.city_cut.specs.VertexTexts.{StandAt}
@@ -50,9 +46,11 @@ both false b e = cc e
 in_range_says : (p : Triple) → is_in_range p ≡ true → IsInRange p
 in_range_says p e =
     let (x, rest) = both (nat_le (unsigned_abs p.x) max_steps) _ e in
-    let (y, z) = both (nat_le (unsigned_abs p.y) max_steps) (nat_le (unsigned_abs p.z) max_steps) rest in
-    (leb-true (unsigned_abs p.x) max_steps x, leb-true (unsigned_abs p.y) max_steps y,
-    leb-true (unsigned_abs p.z) max_steps z)
+    let (y, z) = both (nat_le (unsigned_abs p.y) max_steps) (nat_le (unsigned_abs p.z) max_steps) rest in (
+      leb-true (unsigned_abs p.x) max_steps x,
+      leb-true (unsigned_abs p.y) max_steps y,
+      leb-true (unsigned_abs p.z) max_steps z,
+    )
 
 said_in_range : (p : Triple) → IsInRange p → is_in_range p ≡ true
 said_in_range p range =
@@ -92,7 +90,8 @@ moved_points : (k : Triple) (points : List Triple) (order : List ℕ) → AllByR
 moved_points k points [] below range = refl
 moved_points k points (j ∷ js) below range =
     let here : point_at (map (moved_or_same k) points) j ≡ sum (point_at points j) k =
-    moved_point k points j below.0 ∙ moved_within k (point_at points j) (range 0 (sum (point_at points j) k) (omega arith)) in
+    moved_point k points j below.0
+    ∙ moved_within k (point_at points j) (range 0 (sum (point_at points j) k) (omega arith)) in
     let rest = moved_points k points js below.1
     (λ i d within. range (suc i) d (omega (arith, within))) in
     ap (λ p. p ∷ map (point_at (map (moved_or_same k) points)) js) here
@@ -167,7 +166,8 @@ module _ (pairs : List (List ℕ × Tree)) (points : List Triple) (makings : Mak
       decimal_is_number (same.label n) (omega (arith, below, more, small))) kept.1 in
       subst (λ l. AreWritableMembers (member_trees l)) (sym same.but_leaves) (relabelled.0 (kept.0 writable))
 
-  whole : made_text makings root ++ tail_text appearance ≡ compact (feature_tree id objects (vertices_tree own) appearance)
+  whole : made_text makings root ++ tail_text appearance
+      ≡ compact (feature_tree id objects (vertices_tree own) appearance)
   whole = ap (λ l. l ++ tail_text appearance) (made.whole_made pairs points makings root are stand small of_root)
       ∙ feature_text id objects (vertices_tree own) appearance
 
@@ -202,7 +202,8 @@ module _ (pairs : List (List ℕ × Tree)) (points : List Triple) (makings : Mak
         ∙ (ap (λ ps. compact (feature_tree id objects (vertices_tree ps) appearance)) points_moved
         ∙ (ap (λ ps. compact (with_member (codes "vertices") (vertices_tree (moved_vertices ps k))
         (feature_tree id objects (vertices_tree own) appearance))) (sym vertices_are)
-        ∙ ap (λ value. compact (with_member (codes "vertices") (vertices_tree (moved_vertices feature.vertices k)) value))
+        ∙ ap (λ value. compact (with_member (codes "vertices")
+        (vertices_tree (moved_vertices feature.vertices k)) value))
         value_is)))
 
 -- ---- the features of all roots
@@ -230,7 +231,8 @@ module _ (makings : Makings) (of : AreMakings makings) (k : Triple) (vertices st
 
   pub moved_texts : (appearance : Option Tree) → AreWritableMembers (last_members appearance) → (roots : List ℕ)
       → AllByRecursion (λ root. root < length makings.graph) roots → (features : List FeatureValue)
-      → AllZip SpellsFeature (texts_in (record { own = map (made_text makings) roots; common = tail_text appearance })) features
+      → AllZip SpellsFeature
+      (texts_in (record { own = map (made_text makings) roots; common = tail_text appearance })) features
       → AllByRecursion (λ feature. IsMovable feature k) features
       → texts_in (record { own = map (made_text there) roots; common = tail_text appearance })
       ≡ texts_of (map (λ feature. moved feature k) features)
@@ -244,3 +246,14 @@ module _ (makings : Makings) (of : AreMakings makings) (k : Triple) (vertices st
       of.range of.writable of.distinct k vertices starts stand appearance last f spell.0 movable.0 in
       ap (λ text. text ∷ texts_in (record { own = map (made_text there) roots; common = tail_text appearance })) one
       ∙ ap (λ texts. compact (moved f k).value ∷ texts) rest
+
+-- ---- what all of them end in
+pub last_writable : (members : MemberTrees) → AreWritableMembers members
+    → AreWritableMembers (last_members (first_named (codes "appearance") members))
+last_writable no_members all = tt
+last_writable (member name value others) all = by (bytes_eq name (codes "appearance")) (last_writable others all.2)
+  where
+    by : (b : Bool) → AreWritableMembers (last_members (first_named (codes "appearance") others))
+        → AreWritableMembers (last_members (if b then Some value else first_named (codes "appearance") others))
+    by true rest = (utf8 _ refl, all.1, tt)
+    by false rest = rest

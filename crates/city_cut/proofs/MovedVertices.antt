@@ -1,5 +1,5 @@
 -- The texts of moved vertices, put one after another.
-use Rattle.std.proofs.Common.{◌≡◌, ◌∙◌, ◌++◌, ◌<◌, ◌≤◌, ◌+◌, ◌-◌, ◌⊎◌, inl, inr, ℕ, zero, suc, Bool, true, false, List, [], ◌∷◌, get_or, length, map, take, drop, refl, sym, ap, subst, arith, length-append, take_all, pos}
+use Rattle.std.proofs.Common.{◌≡◌, ◌∙◌, ◌++◌, ◌<◌, ◌≤◌, ◌+◌, ◌-◌, ◌⊎◌, inl, inr, ℕ, zero, suc, true, false, List, [], ◌∷◌, length, map, take, drop, sym, ap, subst, arith, length-append, take_all, pos}
 use Rattle.std.proofs.Math.Dec.{leb}
 use Rattle.std.proofs.Math.Seq.{drop-append-add}
 use Rattle.std.proofs.lemmas.Bool.Decides.{leb_tells}
@@ -12,7 +12,6 @@ use Rattle.city_json.specs.Compact.{compact}
 use Rattle.city_grid.proofs.VertexLaws.{vertex_is_read, vertex_is_writable}
 use Rattle.city_grid.specs.Axes.{IsInRange, Triple, triple}
 use Rattle.city_grid.specs.Vertex.{IsVertex, vertex_tree}
-use Rattle.city_feature.specs.Feature.{vertices_tree}
 use Rattle.city_cut.specs.Chosen.{point_at}
 use Rattle.city_cut.specs.Moved.{moved_or_same}
 use Rattle.city_cut.specs.VertexTexts.{StandAt}
@@ -24,7 +23,8 @@ pub same_point : (p q : Triple) → IsInRange p → IsInRange q → compact (ver
 same_point p q p_range q_range same =
     let trees : vertex_tree p ≡ vertex_tree q =
     compact-tells (vertex_tree p) (vertex_tree q) (vertex_is_writable p p_range) (vertex_is_writable q q_range) same in
-    same_vertex (vertex_tree q) p q (subst (λ t. IsVertex t p) trees (vertex_is_read p p_range)) (vertex_is_read q q_range)
+    same_vertex (vertex_tree q) p q (subst (λ t. IsVertex t p) trees (vertex_is_read p p_range))
+    (vertex_is_read q q_range)
 
 -- the texts of these vertices stand in a text that ends with the last of them
 pub record IsGrown (text starts : List ℕ) (points : List Triple) : Type 0 where
@@ -76,7 +76,8 @@ grown_more text text' starts starts' points v grown appended pushed =
     ap (λ l. take (length text' - (length text + 1)) (drop (length text + 1) l)) appended
     ∙ (ap (take (length text' - (length text + 1))) (drop-append-add text (comma ∷ here) 1)
     ∙ take_all (length text' - (length text + 1)) here (omega (arith, long))) in
-    let more = stand_more text' starts starts' points v (length text + 1) (length text') still grown.last written pushed in
+    let more = stand_more text' starts starts' points v (length text + 1) (length text') still grown.last written
+    pushed in
     record {
       stand = more.0;
       last = more.1;

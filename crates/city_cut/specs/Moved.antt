@@ -4,7 +4,9 @@ use Rattle.byte_streams.specs.Limits.{max_steps}
 use Rattle.city_grid.specs.Axes.{Triple, sum}
 
 abbrev pub is_in_range : Triple → Bool
-is_in_range p = nat_le (unsigned_abs p.x) max_steps && (nat_le (unsigned_abs p.y) max_steps && nat_le (unsigned_abs p.z) max_steps)
+is_in_range p =
+    nat_le (unsigned_abs p.x) max_steps
+    && (nat_le (unsigned_abs p.y) max_steps && nat_le (unsigned_abs p.z) max_steps)
 
 -- the vertex moved by a shift; where it was, if it would leave the range
 abbrev pub moved_or_same : Triple → Triple → Triple
