@@ -173,11 +173,13 @@ impl<R: Source> TileReader<R> {
         }
         let held = mem::replace(&mut self.held.texts, FeatureTexts::none(alloc));
         match texts_of(alloc, held, shift, choice) {
-            Ok(texts) => Ok(texts),
-            Err(fault) => Err(LineFault {
-                line: self.held.line,
-                fault,
-            }),
+            Ok(texts) => return Ok(texts),
+            Err(fault) => {
+                return Err(LineFault {
+                    line: self.held.line,
+                    fault,
+                });
+            }
         }
     }
 
