@@ -437,11 +437,15 @@ fn is_cat(
     call: Call,
     answer: Result<u64, MergeFault>,
     written: &[u8],
+    features: &[&str],
 ) -> Result<bool, Fault> {
     match answer {
         Ok(count) => {
-            let left = after_line(written, HEADER).unwrap_or(b"");
-            Ok(count == 1 && after_line(left, BUILDING) == Some([].as_slice()))
+            let mut left = after_line(written, HEADER).unwrap_or(b"?");
+            for feature in features {
+                left = after_line(left, feature).unwrap_or(b"?");
+            }
+            Ok(count == features.len() as u64 && left.is_empty())
         }
         Err(told) if (told.tile, told.line) == (1, 0) && written.is_empty() => {
             refused(rt, call, told.fault)
@@ -450,22 +454,43 @@ fn is_cat(
     }
 }
 
-fn document_becomes(rt: &(impl AllocGlobal + Eprint), text: &str) -> Result<bool, Fault> {
+fn document_becomes(
+    rt: &(impl AllocGlobal + Eprint),
+    text: &str,
+    features: &[&str],
+) -> Result<bool, Fault> {
     let mut output = Bin::new(rt.alloc(), 4096, 100, false)?;
     let reader = tape_of(rt.alloc(), text.as_bytes(), IN_PARTS)?;
     let answer = cat_document(rt.alloc(), reader, &mut output);
-    is_cat(rt, Call("cat_document"), answer, output.bytes())
+    is_cat(rt, Call("cat_document"), answer, output.bytes(), features)
 }
 
-fn source_becomes(rt: &(impl AllocGlobal + Eprint), text: &str) -> Result<bool, Fault> {
+fn source_becomes(
+    rt: &(impl AllocGlobal + Eprint),
+    text: &str,
+    features: &[&str],
+) -> Result<bool, Fault> {
     let mut output = Bin::new(rt.alloc(), 4096, 100, false)?;
     let mut source = tape_of(rt.alloc(), text.as_bytes(), IN_PARTS)?;
     let answer = cat_source(rt.alloc(), &mut source, &mut output);
-    is_cat(rt, Call("cat_source"), answer, output.bytes())
+    is_cat(rt, Call("cat_source"), answer, output.bytes(), features)
 }
 
 fn document_is_cat(rt: &(impl AllocGlobal + Eprint)) -> Result<bool, Fault> {
-    Ok(document_becomes(rt, DOCUMENT)? && source_becomes(rt, DOCUMENT)?)
+    Ok(document_becomes(rt, DOCUMENT, &[BUILDING])? && source_becomes(rt, DOCUMENT, &[BUILDING])?)
+}
+
+/// A document in which two objects name each other, of which one has an address before its geometries.
+const SHARED: &str =
+    r#"{"type":"CityJSON","version":"2.0","transform":{"scale":[0.001,0.001,0.001],"translate":[0,0,0]},"CityObjects":{"a":{"children":["b"],"geometry":[{"boundaries":[2]}]},"b":{"children":["a"],"address":[{"location":{"boundaries":[0]}}],"geometry":[{"boundaries":[[1,2]]}]}},"vertices":[[0,0,0],[1,1,1],[2,2,2]]}"#;
+
+const OF_SHARED: [&str; 2] = [
+    r#"{"type":"CityJSONFeature","id":"a","CityObjects":{"a":{"children":["b"],"geometry":[{"boundaries":[0]}]},"b":{"children":["a"],"address":[{"location":{"boundaries":[2]}}],"geometry":[{"boundaries":[[1,0]]}]}},"vertices":[[2,2,2],[1,1,1],[0,0,0]]}"#,
+    r#"{"type":"CityJSONFeature","id":"b","CityObjects":{"a":{"children":["b"],"geometry":[{"boundaries":[0]}]},"b":{"children":["a"],"address":[{"location":{"boundaries":[2]}}],"geometry":[{"boundaries":[[1,0]]}]}},"vertices":[[2,2,2],[1,1,1],[0,0,0]]}"#,
+];
+
+fn shared_document_is_cat(rt: &(impl AllocGlobal + Eprint)) -> Result<bool, Fault> {
+    Ok(document_becomes(rt, SHARED, &OF_SHARED)? && source_becomes(rt, SHARED, &OF_SHARED)?)
 }
 
 /// Documents, and why they are refused.
@@ -477,8 +502,8 @@ const NO_DOCUMENTS: [(&str, Fault); 3] = [
 
 fn documents_are_refused(rt: &(impl AllocGlobal + Eprint)) -> Result<bool, Fault> {
     for (text, fault) in NO_DOCUMENTS.iter() {
-        let is_refused = is_fault(document_becomes(rt, text), *fault)?;
-        if !(is_refused && is_fault(source_becomes(rt, text), *fault)?) {
+        let is_refused = is_fault(document_becomes(rt, text, &[]), *fault)?;
+        if !(is_refused && is_fault(source_becomes(rt, text, &[]), *fault)?) {
             return Ok(false);
         }
     }
@@ -500,6 +525,7 @@ fn streams_are_read_filtered_and_made_of_documents(rt: HostRuntime) -> Result<()
     expect!(rt; chain_is_filtered(&rt, IN_PARTS));
     expect!(rt; tile_is_taken(&rt));
     expect!(rt; document_is_cat(&rt));
+    expect!(rt; shared_document_is_cat(&rt));
     expect!(rt; documents_are_refused(&rt));
     Ok(())
 }
