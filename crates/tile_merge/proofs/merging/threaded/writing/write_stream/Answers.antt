@@ -5,9 +5,9 @@ use Rattle.tile_merge.proofs.merging.threaded.writing.write_stream.Goals as goal
 pub rounds-init : goal.rounds-init
 rounds-init g c =
     let wrote = c.write_first-wrote in
-    first_lines c.args.tiles.now c.args.header wrote.result (g.W.Sink.taken c.args.output.now)
+    rw wrote.ensures.same (first_lines c.args.tiles.now c.args.header wrote.result (g.W.Sink.taken c.args.output.now)
     (g.W.Sink.taken wrote.new.output) (g.W.Sink.failures c.args.output.now) (g.W.Sink.failures wrote.new.output)
-    c.requires.fresh wrote.ensures.written wrote.ensures.failures wrote.ensures.fault
+    c.requires.fresh wrote.ensures.written wrote.ensures.failures wrote.ensures.fault)
 
 pub returns-clause-written : goal.returns-clause-written
 returns-clause-written g c =
