@@ -18,8 +18,8 @@ use Rattle.city_cut.specs.Copied.{Copies, CopiesPart, Extends}
 use Rattle.city_cut.specs.Leaves.{IsNested, leaves, relabelled}
 use Rattle.city_cut.specs.Numbered.{AreNumbered, HasNumber}
 use Rattle.city_cut.specs.Relabelling.{own_text}
+use Rattle.city_cut.specs.Walks.{Labelling, Walks, walks_leaf, walks_so}
 use Rattle.city_cut.proofs.Indices.{own_of_index}
-use Rattle.city_cut.proofs.CopiedTexts.{copies_so}
 
 -- a leaf
 
@@ -97,18 +97,17 @@ number_there ds after rest (array items) all some stop stop₂ w is = let d =
 number_there ds after rest (object all_members) all some stop stop₂ w is = let d =
     digit_first ds after _ open_brace all some is in absurd (omega (arith, d))
 
-pub part_leaf : (t o line t' o' line' b after : List ℕ) (k : ℕ) → k < length t → length t < 2 ^ 64 → Extends t o t' o'
-    → HasNumber t' o' k → ((before : List ℕ) → AreNumbered before t o → AreNumbered (before ++ k ∷ []) t' o')
-    → line' ≡ line ++ decimal (slice_index t' k) → IsStopped after → b ≡ decimal k ++ after
-    → CopiesPart (length t) b after (Copies t o line t' o' line')
-part_leaf t o line t' o' line' b after k inside small extends has numbered is stopped begins value rest w stop₂ there =
-    let numeral = decimal_is_IsNumeral k (omega (arith, inside, small)) in
-    let found = number_there (decimal k) after rest value numeral.0.1
-    (decimal_nonempty k (omega (arith, inside, small))) stopped stop₂ w (sym begins ∙ there) in
-    let leaf = copies_leaf t o line t' o' line' k inside small extends has numbered is in (
+pub part_leaf : {S : Type 0} {L : Labelling S} (count : ℕ) (s : S) (line : List ℕ) (s' : S) (line' b after : List ℕ)
+    (k : ℕ) → k < count → k < 2 ^ 64 → L s line s' line' k → IsStopped after → b ≡ decimal k ++ after
+    → CopiesPart count b after (Walks L s line s' line')
+part_leaf {S} {L} count s line s' line' b after k inside small labelled stopped begins value rest w stopped₂ there =
+    let numeral = decimal_is_IsNumeral k small in
+    let found = number_there (decimal k) after rest value numeral.0.1 (decimal_nonempty k small) stopped stopped₂ w
+    (sym begins ∙ there) in (
       found.1,
-      subst (IsNested (length t)) (sym found.0) (k, inside, refl),
-      subst (λ v. Copies t o line t' o' line' (leaves v) (λ change. compact (relabelled change v))) (sym found.0)
-          (copies_so t o line t' o' line' (k ∷ []) (digits_value 10 (decimal k) ∷ []) (λ change. change (decimal k))
-          (λ change. change (decimal k)) leaf (ap (λ n. n ∷ []) (sym numeral.1)) (λ change. refl)),
+      subst (IsNested count) (sym found.0) (k, inside, refl),
+      subst (λ v. Walks L s line s' line' (leaves v) (λ change. compact (relabelled change v))) (sym found.0)
+          (walks_so s line s' line' (k ∷ []) (digits_value 10 (decimal k) ∷ []) (λ change. change (decimal k))
+          (λ change. change (decimal k)) (walks_leaf s line s' line' k labelled) (ap (λ n. n ∷ []) (sym numeral.1))
+          (λ change. refl)),
     )

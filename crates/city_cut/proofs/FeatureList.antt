@@ -85,7 +85,7 @@ bounded_on count pairs at none within all =
     subst (BoundedFrom count (member_trees pairs)) (sym (root_same pairs at within none)) all
 
 -- where the object of a name stands
-first_place : (objects : List (List ℕ × Tree)) (name : List ℕ) (value : Tree)
+pub first_place : (objects : List (List ℕ × Tree)) (name : List ℕ) (value : Tree)
     → first_named name (member_trees objects) ≡ Some value → (k : ℕ) × (k < length objects)
     × (name_at (member_trees objects) k ≡ name) × ((named_at objects k).1 ≡ value)
 first_place [] name value is = cc

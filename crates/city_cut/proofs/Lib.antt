@@ -8,13 +8,20 @@ mod CopiedTexts
 pub mod Copies
 pub mod FeatureList
 pub mod FeatureParts
+pub mod Gathered
 pub mod Growth
 pub mod HeaderMembers
 pub mod Indices
 pub mod Kinship
 pub mod MemberChanges
+pub mod Noted
+mod NoteWalks
+mod NotedObjects
+mod NumberedWalks
 pub mod Numbers
 pub mod Pieces
+pub mod FirstUses
+pub mod MadeFeatures
 mod QuickAddresses
 mod QuickCopies
 mod QuickDocuments
@@ -29,9 +36,11 @@ mod QuickOverviews
 mod QuickPoints
 mod QuickTexts
 pub mod OwnVertices
+pub mod Passes
 pub mod Renumbering
 pub mod SamePoints
 pub mod Seeking
+mod Sketched
 pub mod SpelledFeatures
 pub mod SpelledLengths
 pub mod Tables
@@ -40,3 +49,5 @@ mod TripleStarts
 mod TwoMembers
 pub mod Unspoilt
 pub mod WholeDocument
+mod Writing
+mod Woven

@@ -12,15 +12,14 @@ use Rattle.city_feature.proofs.QuickLines.{utf8}
 use Rattle.city_feature.specs.Changes.{with_named}
 use Rattle.city_feature.specs.Quick.{IsPartNamed}
 use Rattle.city_cut.specs.Boundaries.{IsAddress, IsGeometry, address_boundary, changed_members, in_member, located, own_boundary, relabelled_boundary}
-use Rattle.city_cut.specs.Copied.{Copies}
 use Rattle.city_cut.specs.Leaves.{IsBoundary, leaves, relabelled}
+use Rattle.city_cut.specs.Walks.{Labelling, Walks, walks_so, walks_text}
 use Rattle.city_feature.specs.Texts.{IsCompactOf}
-use Rattle.city_cut.proofs.CopiedTexts.{copies_so, copies_text}
-use Rattle.city_cut.proofs.QuickTexts.{changed_absent, changed_with, copies_exchanged, member_there, with_same}
+use Rattle.city_cut.proofs.QuickTexts.{changed_absent, changed_with, walks_exchanged, member_there, with_same}
 
-abbrev pub AddressMade : ℕ → List ℕ → List ℕ → List ℕ → List ℕ → List ℕ → List ℕ → Tree → Type 0
-AddressMade count t o line t' o' line' value = IsAddress count value
-    × Copies t o line t' o' line' (flat_map leaves (address_boundary value))
+abbrev pub AddressMade : {S : Type 0} → Labelling S → ℕ → S → List ℕ → S → List ℕ → Tree → Type 0
+AddressMade L count s line s' line' value = IsAddress count value
+    × Walks L s line s' line' (flat_map leaves (address_boundary value))
     (λ change. compact (in_member (codes "location") (relabelled_boundary change) value))
 
 -- what is no object has no members, and stays
@@ -35,26 +34,27 @@ not_object text (string s) name other of = (refl, λ f. refl)
 not_object text (array items) name other of = (refl, λ f. refl)
 
 -- an address that has no boundary
-module _ (count : ℕ) (text t o line line' : List ℕ) (appended : line' ≡ line ++ text) where
+module _ {S : Type 0} {L : Labelling S} (count : ℕ) (text : List ℕ) (s : S) (line line' : List ℕ)
+    (appended : line' ≡ line ++ text) where
   address_stays : (value : Tree) → IsCompactOf text value → address_boundary value ≡ []
       → ((change : List ℕ → List ℕ) → in_member (codes "location") (relabelled_boundary change) value ≡ value)
-      → AddressMade count t o line t o line' value
+      → AddressMade L count s line s line' value
   address_stays value of none same = (
     subst (AllByRecursion (IsBoundary count)) (sym none) tt,
-    copies_so t o line t o line' [] (flat_map leaves (address_boundary value)) (λ change. text)
+    walks_so s line s line' [] (flat_map leaves (address_boundary value)) (λ change. text)
         (λ change. compact (in_member (codes "location") (relabelled_boundary change) value))
-        (copies_text t o line line' text appended) (sym (ap (flat_map leaves) none))
+        (walks_text s line line' text appended) (sym (ap (flat_map leaves) none))
         (λ change. of.is ∙ ap compact (sym (same change))),
   )
 
   pub address_no_object : (0 < length text → get_or text 0 0 ≡ open_brace → ⊥) → (value : Tree) → IsCompactOf text value
-      → AddressMade count t o line t o line' value
+      → AddressMade L count s line s line' value
   address_no_object other value of =
       let none = not_object text value (codes "location") other of in
       address_stays value of (ap located none.0) (λ change. none.1 (relabelled_boundary change))
 
   pub address_absent : (members : MemberTrees) → IsCompactOf text (object members)
-      → first_named (codes "location") members ≡ None → AddressMade count t o line t o line' (object members)
+      → first_named (codes "location") members ≡ None → AddressMade L count s line s line' (object members)
   address_absent members of none = address_stays (object members) of (ap located none)
       (λ change. ap object (changed_absent (codes "location") (relabelled_boundary change) members none))
 
@@ -62,7 +62,7 @@ module _ (count : ℕ) (text t o line line' : List ℕ) (appended : line' ≡ li
       → IsCompactOf text (object members) → AreParts 1 parts members
       → IsPartNamed text parts (quoted (codes "location") ++ colon ∷ []) part
       → given ≡ slice_range text part.value part.end → (0 < length given → get_or given 0 0 ≡ open_brace → ⊥)
-      → AddressMade count t o line t o line' (object members)
+      → AddressMade L count s line s line' (object members)
   address_bare given parts part members of are named lies other =
       let found = member_there text parts members (codes "location") part given (utf8 (codes "location") refl) of are
       named lies in
@@ -73,28 +73,29 @@ module _ (count : ℕ) (text t o line line' : List ℕ) (appended : line' ≡ li
       ∙ (ap (λ v. with_named (codes "location") v members) (none.1 (relabelled change))
       ∙ with_same (codes "location") found.value members found.is)))
 
-pub address_made : (count : ℕ) (text given t o line line₁ t' o' line₂ line₃ : List ℕ) (parts : List Part) (part : Part)
+pub address_made : {S : Type 0} {L : Labelling S} (count : ℕ) (text given : List ℕ) (s : S) (line line₁ : List ℕ)
+    (s' : S) (line₂ line₃ : List ℕ) (parts : List Part) (part : Part)
     (members : MemberTrees) → IsCompactOf text (object members) → AreParts 1 parts members
     → IsPartNamed text parts (quoted (codes "location") ++ colon ∷ []) part
     → given ≡ slice_range text part.value part.end
     → line₁ ≡ line ++ take part.value text
     → ((value : Tree) → IsCompactOf given value → IsGeometry count value
-    × Copies t o line₁ t' o' line₂ (flat_map leaves (own_boundary value))
+    × Walks L s line₁ s' line₂ (flat_map leaves (own_boundary value))
     (λ change. compact (relabelled_boundary change value)))
     → line₃ ≡ line₂ ++ drop part.end text
-    → IsAddress count (object members) × Copies t o line t' o' line₃
+    → IsAddress count (object members) × Walks L s line s' line₃
     (flat_map leaves (address_boundary (object members)))
     (λ change. compact (in_member (codes "location") (relabelled_boundary change) (object members)))
-address_made count text given t o line line₁ t' o' line₂ line₃ parts part members of are named lies front made back =
+address_made count text given s line line₁ s' line₂ line₃ parts part members of are named lies front made back =
     let found = member_there text parts members (codes "location") part given (utf8 (codes "location") refl) of are
     named lies in
     let inner = made found.value found.of in
     let there : address_boundary (object members) ≡ own_boundary found.value = rw found.is refl in
-    let all = copies_exchanged t o line line₁ t' o' line₂ line₃ text part members (codes "location") found.value
+    let all = walks_exchanged s line line₁ s' line₂ line₃ text part members (codes "location") found.value
     (flat_map leaves (own_boundary found.value)) relabelled_boundary of.distinct.0 found.is found.exchanged front
     inner.1 back in (
       subst (AllByRecursion (IsBoundary count)) (sym there) inner.0.1,
-      copies_so t o line t' o' line₃ (flat_map leaves (own_boundary found.value))
+      walks_so s line s' line₃ (flat_map leaves (own_boundary found.value))
           (flat_map leaves (address_boundary (object members)))
           (λ change. compact (object (changed_members (codes "location") (relabelled_boundary change) members)))
           (λ change. compact (in_member (codes "location") (relabelled_boundary change) (object members))) all

@@ -19,20 +19,26 @@ use Rattle.city_cut.specs.declared.quick.holders.Holder.{Holder}
 use Rattle.city_cut.specs.declared.quick.holders.Holder.TheVariants.{Geometry, Address}
 use Rattle.city_cut.specs.Items.{item_list}
 use Rattle.city_cut.specs.Leaves.{leaves}
+use Rattle.city_cut.specs.Walks.{Labelling, Walks, walks_both, walks_so, walks_text}
 use Rattle.city_feature.specs.Texts.{IsCompactOf}
-use Rattle.city_cut.proofs.CopiedTexts.{copies_both, copies_so, copies_text}
 use Rattle.city_cut.proofs.QuickTexts.{slice_first}
 
 -- ---- what is made of values
-abbrev pub ItemMade : Holder → ℕ → List ℕ → List ℕ → List ℕ → List ℕ → List ℕ → List ℕ → Tree → Type 0
-ItemMade holder count t o line t' o' line' value = IsHeld holder count value
-    × Copies t o line t' o' line' (flat_map leaves (boundary_in holder value))
+abbrev pub ItemMade : {S : Type 0} → Labelling S → Holder → ℕ → S → List ℕ → S → List ℕ → Tree → Type 0
+ItemMade L holder count s line s' line' value = IsHeld holder count value
+    × Walks L s line s' line' (flat_map leaves (boundary_in holder value))
     (λ change. compact (relabelled_in holder change value))
 
-abbrev pub HeldMade : Holder → ℕ → List ℕ → List ℕ → List ℕ → List ℕ → List ℕ → List ℕ → Tree → Type 0
-HeldMade holder count t o line t' o' line' value = AreHeld holder count value
-    × Copies t o line t' o' line' (held_uses holder value) (λ change. compact (relabelled_held holder change value))
+abbrev pub HeldMade : {S : Type 0} → Labelling S → Holder → ℕ → S → List ℕ → S → List ℕ → Tree → Type 0
+HeldMade L holder count s line s' line' value = AreHeld holder count value
+    × Walks L s line s' line' (held_uses holder value) (λ change. compact (relabelled_held holder change value))
 
+abbrev pub ObjectWalked : {S : Type 0} → Labelling S → ℕ → S → List ℕ → S → List ℕ → Tree → Type 0
+ObjectWalked L count s line s' line' value = IsBounded count value
+    × Walks L s line s' line' (flat_map leaves (boundaries value))
+    (λ change. compact (relabelled_object change value))
+
+-- and of an object by numbers
 abbrev pub ObjectMade : ℕ → List ℕ → List ℕ → List ℕ → List ℕ → List ℕ → List ℕ → Tree → Type 0
 ObjectMade count t o line t' o' line' value = IsBounded count value
     × Copies t o line t' o' line' (flat_map leaves (boundaries value))
@@ -65,20 +71,21 @@ items_there : (text : List ℕ) (items : ItemTrees) → 0 < length text → get_
     → IsCompactOf text (array items) → drop 1 text ≡ compact_items items ++ close_bracket ∷ []
 items_there text items some here of = others_same _ _ _ _ (sym (drop_one text 0 open_bracket some here) ∙ of.is)
 
-pub items_made_none : (holder : Holder) (count : ℕ) (text t o line line' : List ℕ) → 0 < length text
+pub items_made_none : {S : Type 0} {L : Labelling S} (holder : Holder) (count : ℕ) (text : List ℕ) (s : S)
+    (line line' : List ℕ) → 0 < length text
     → get_or text 0 0 ≡ open_bracket → 1 < length text → get_or text 1 0 ≡ close_bracket → line' ≡ line ++ text
-    → (items : ItemTrees) → IsCompactOf text (array items) → HeldMade holder count t o line t o line' (array items)
-items_made_none holder count text t o line line' some here more closes appended no_items of = (
+    → (items : ItemTrees) → IsCompactOf text (array items) → HeldMade L holder count s line s line' (array items)
+items_made_none holder count text s line line' some here more closes appended no_items of = (
   (shaped holder no_items, tt),
-  copies_so t o line t o line' [] [] (λ change. text)
-      (λ change. compact (array no_items)) (copies_text t o line line' text appended) refl (λ change. of.is),
+  walks_so s line s line' [] [] (λ change. text)
+      (λ change. compact (array no_items)) (walks_text s line line' text appended) refl (λ change. of.is),
 )
-items_made_none holder count text t o line line' some here more closes appended (item first others) of =
+items_made_none holder count text s line line' some here more closes appended (item first others) of =
     absurd (items_some text [] 1 first others more closes of.writable
     (items_there text (item first others) some here of))
 
 -- the items up to the one that stands first in `b` were copied
-pub record ItemsMade (holder : Holder) (count : ℕ) (items : ItemTrees) (b t o line t' o' line' : List ℕ) : Type 0 where
+pub record ItemsMade {S : Type 0} (L : Labelling S) (holder : Holder) (count : ℕ) (items : ItemTrees) (b : List ℕ) (s : S) (line : List ℕ) (s' : S) (line' : List ℕ) : Type 0 where
   pub first : Tree
   pub others : ItemTrees
   pub writable : AreWritableItems (item first others)
@@ -87,7 +94,7 @@ pub record ItemsMade (holder : Holder) (count : ℕ) (items : ItemTrees) (b t o 
   pub is : b ≡ compact_items (item first others) ++ close_bracket ∷ []
   pub uses : List ℕ
   pub own : (List ℕ → List ℕ) → List ℕ
-  pub copies : Copies t o line t' o' line' uses own
+  pub copies : Walks L s line s' line' uses own
   pub leaves_are : held_uses holder (array items) ≡ uses ++ held_uses holder (array (item first others))
   pub own_is : (change : List ℕ → List ℕ) → open_bracket ∷ compact_items
       (changed_items (relabelled_in holder change) items) ≡ own change
@@ -95,15 +102,16 @@ pub record ItemsMade (holder : Holder) (count : ℕ) (items : ItemTrees) (b t o 
   pub parts : AllByRecursion (IsHeld holder count) (item_list (item first others))
       → AllByRecursion (IsHeld holder count) (item_list items)
 
-pub items_begin : (holder : Holder) (count : ℕ) (text t o line line' : List ℕ) → 0 < length text
+pub items_begin : {S : Type 0} {L : Labelling S} (holder : Holder) (count : ℕ) (text : List ℕ) (s : S)
+    (line line' : List ℕ) → 0 < length text
     → get_or text 0 0 ≡ open_bracket → (1 < length text → get_or text 1 0 ≡ close_bracket → ⊥)
     → line' ≡ line ++ open_bracket ∷ [] → (items : ItemTrees) → IsCompactOf text (array items)
-    → ItemsMade holder count items (drop 1 text) t o line t o line'
-items_begin holder count text t o line line' some here other opened no_items of =
+    → ItemsMade L holder count items (drop 1 text) s line s line'
+items_begin holder count text s line line' some here other opened no_items of =
     let is = items_there text no_items some here of in
     let inside : 1 < length text = omega (arith, ap length is, length-drop 1 text) in
     absurd (other inside (first_same _ _ _ _ (sym (drop_one text 1 (get_or text 1 0) inside refl) ∙ is)))
-items_begin holder count text t o line line' some here other opened (item first others) of = record {
+items_begin holder count text s line line' some here other opened (item first others) of = record {
   first = first;
   others = others;
   writable = of.writable;
@@ -112,7 +120,7 @@ items_begin holder count text t o line line' some here other opened (item first 
   is = items_there text (item first others) some here of;
   uses = [];
   own = λ change. open_bracket ∷ [];
-  copies = copies_text t o line line' (open_bracket ∷ []) opened;
+  copies = walks_text s line line' (open_bracket ∷ []) opened;
   leaves_are = refl;
   own_is = λ change. refl;
   parts = λ p. p;
@@ -130,11 +138,12 @@ others_within : (first : Tree) (others : ItemTrees) → items_depth (item first 
     → items_depth others ≤ max_depth
 others_within first others within = omega (arith, within)
 
-module _ (holder : Holder) (count : ℕ) (items : ItemTrees) (text given t o line t₁ o₁ line₁ t₂ o₂ line₂ : List ℕ)
-    (i end : ℕ) (so_far : ItemsMade holder count items (drop i text) t o line t₁ o₁ line₁)
+module _ {S : Type 0} {L : Labelling S} (holder : Holder) (count : ℕ) (items : ItemTrees) (text given : List ℕ)
+    (s : S) (line : List ℕ) (s₁ : S) (line₁ : List ℕ) (s₂ : S) (line₂ : List ℕ)
+    (i end : ℕ) (so_far : ItemsMade L holder count items (drop i text) s line s₁ line₁)
     (leaves_value : LeavesValue 128 (drop i text) (drop end text)) (onward : i ≤ end) (within : end ≤ length text)
     (lies : given ≡ slice_range text i end) (made : (value : Tree) → IsCompactOf given value
-    → ItemMade holder count t₁ o₁ line₁ t₂ o₂ line₂ value) where
+    → ItemMade L holder count s₁ line₁ s₂ line₂ value) where
   left : drop end text ≡ compact_more_items so_far.others ++ close_bracket ∷ []
   left =
       leaves_value so_far.first (compact_more_items so_far.others ++ close_bracket ∷ []) so_far.writable.0
@@ -147,7 +156,7 @@ module _ (holder : Holder) (count : ℕ) (items : ItemTrees) (text given t o lin
       (so_far.is ∙ (append_assoc (compact so_far.first) (compact_more_items so_far.others) (close_bracket ∷ [])
       ∙ ap (λ l. compact so_far.first ++ l) (sym left)))
 
-  one : ItemMade holder count t₁ o₁ line₁ t₂ o₂ line₂ so_far.first
+  one : ItemMade L holder count s₁ line₁ s₂ line₂ so_far.first
   one = made so_far.first (record {
     is = here_is;
     writable = so_far.writable.0;
@@ -158,9 +167,9 @@ module _ (holder : Holder) (count : ℕ) (items : ItemTrees) (text given t o lin
   uses_of : List ℕ
   uses_of = flat_map leaves (boundary_in holder so_far.first)
 
-  both : Copies t o line t₂ o₂ line₂ (so_far.uses ++ flat_map leaves (boundary_in holder so_far.first))
+  both : Walks L s line s₂ line₂ (so_far.uses ++ flat_map leaves (boundary_in holder so_far.first))
       (λ change. so_far.own change ++ compact (relabelled_in holder change so_far.first))
-  both = copies_both t o line t₁ o₁ line₁ t₂ o₂ line₂ so_far.uses (flat_map leaves (boundary_in holder so_far.first))
+  both = walks_both s line s₁ line₁ s₂ line₂ so_far.uses (flat_map leaves (boundary_in holder so_far.first))
       so_far.own (λ change. compact (relabelled_in holder change so_far.first)) so_far.copies one.1
 
   split_uses : (others : ItemTrees) → held_uses holder (array (item so_far.first others))
@@ -169,21 +178,21 @@ module _ (holder : Holder) (count : ℕ) (items : ItemTrees) (text given t o lin
       (flat_map (boundary_in holder) (item_list others))
 
   pub items_stop : (line₃ : List ℕ) → end < length text → get_or text end 0 ≡ close_bracket
-      → line₃ ≡ line₂ ++ close_bracket ∷ [] → HeldMade holder count t o line t₂ o₂ line₃ (array items)
+      → line₃ ≡ line₂ ++ close_bracket ∷ [] → HeldMade L holder count s line s₂ line₃ (array items)
   items_stop line₃ inside here closed = by_others so_far.others refl left
     where
       by_others : (others : ItemTrees) → others ≡ so_far.others
           → drop end text ≡ compact_more_items so_far.others ++ close_bracket ∷ []
-          → HeldMade holder count t o line t₂ o₂ line₃ (array items)
+          → HeldMade L holder count s line s₂ line₃ (array items)
       by_others (item next others) same rest =
           absurd (other_head comma close_bracket _ (drop (end + 1) text) (omega arith)
           (ap (λ l. compact_more_items l ++ close_bracket ∷ []) same
           ∙ (sym rest ∙ drop_one text end close_bracket inside here)))
       by_others no_items same rest =
-          let closing = copies_both t o line t₂ o₂ line₂ t₂ o₂ line₃
+          let closing = walks_both s line s₂ line₂ s₂ line₃
           (so_far.uses ++ flat_map leaves (boundary_in holder so_far.first)) []
           (λ change. so_far.own change ++ compact (relabelled_in holder change so_far.first))
-          (λ change. close_bracket ∷ []) both (copies_text t₂ o₂ line₂ line₃ (close_bracket ∷ []) closed) in
+          (λ change. close_bracket ∷ []) both (walks_text s₂ line₂ line₃ (close_bracket ∷ []) closed) in
           let uses : (so_far.uses ++ flat_map leaves (boundary_in holder so_far.first)) ++ []
           ≡ held_uses holder (array items) =
           append-nil (so_far.uses ++ flat_map leaves (boundary_in holder so_far.first))
@@ -197,7 +206,7 @@ module _ (holder : Holder) (count : ℕ) (items : ItemTrees) (text given t o lin
                 subst (λ l. AllByRecursion (IsHeld holder count) (item_list l)) same tt,
               ),
             ),
-            copies_so t o line t₂ o₂ line₃ ((so_far.uses ++ flat_map leaves (boundary_in holder so_far.first)) ++ [])
+            walks_so s line s₂ line₃ ((so_far.uses ++ flat_map leaves (boundary_in holder so_far.first)) ++ [])
                 (held_uses holder (array items)) (λ change.
                 (so_far.own change ++ compact (relabelled_in holder change so_far.first)) ++ close_bracket ∷ [])
                 (λ change. compact (relabelled_held holder change (array items))) closing uses
@@ -210,20 +219,20 @@ module _ (holder : Holder) (count : ℕ) (items : ItemTrees) (text given t o lin
           )
 
   pub items_more : (line₃ : List ℕ) → end < length text → get_or text end 0 ≡ comma → line₃ ≡ line₂ ++ comma ∷ []
-      → ItemsMade holder count items (drop (end + 1) text) t o line t₂ o₂ line₃
+      → ItemsMade L holder count items (drop (end + 1) text) s line s₂ line₃
   items_more line₃ inside here more = by_others so_far.others refl left
     where
       by_others : (others : ItemTrees) → others ≡ so_far.others
           → drop end text ≡ compact_more_items so_far.others ++ close_bracket ∷ []
-          → ItemsMade holder count items (drop (end + 1) text) t o line t₂ o₂ line₃
+          → ItemsMade L holder count items (drop (end + 1) text) s line s₂ line₃
       by_others no_items same rest = absurd (other_head close_bracket comma [] (drop (end + 1) text) (omega arith)
           (ap (λ l. compact_more_items l ++ close_bracket ∷ []) same
           ∙ (sym rest ∙ drop_one text end comma inside here)))
       by_others (item next others) same rest =
-          let on = copies_both t o line t₂ o₂ line₂ t₂ o₂ line₃
+          let on = walks_both s line s₂ line₂ s₂ line₃
           (so_far.uses ++ flat_map leaves (boundary_in holder so_far.first)) []
           (λ change. so_far.own change ++ compact (relabelled_in holder change so_far.first)) (λ change. comma ∷ [])
-          both (copies_text t₂ o₂ line₂ line₃ (comma ∷ []) more) in
+          both (walks_text s₂ line₂ line₃ (comma ∷ []) more) in
           record {
             first = next;
             others = others;
@@ -254,51 +263,55 @@ module _ (holder : Holder) (count : ℕ) (items : ItemTrees) (text given t o lin
           regroup a b c = simp append_assoc
 
 -- what is no array has no items, and stays
-pub not_array_made : (count : ℕ) (text t o line line' : List ℕ) → (0 < length text → get_or text 0 0 ≡ open_bracket → ⊥)
-    → line' ≡ line ++ text → (value : Tree) → IsCompactOf text value → HeldMade Address count t o line t o line' value
-not_array_made count text t o line line' other appended (array items) of =
+pub not_array_made : {S : Type 0} {L : Labelling S} (count : ℕ) (text : List ℕ) (s : S) (line line' : List ℕ) →
+    (0 < length text → get_or text 0 0 ≡ open_bracket → ⊥)
+    → line' ≡ line ++ text → (value : Tree) → IsCompactOf text value → HeldMade L Address count s line s line' value
+not_array_made count text s line line' other appended (array items) of =
     absurd (other (omega (arith, ap length of.is)) (ap (λ l. get_or l 0 0) of.is))
-not_array_made count text t o line line' other appended null of = (
+not_array_made count text s line line' other appended null of = (
   (tt, tt),
-  copies_so t o line t o line' [] [] (λ change. text) (λ change. compact null)
-      (copies_text t o line line' text appended) refl (λ change. of.is),
+  walks_so s line s line' [] [] (λ change. text) (λ change. compact null)
+      (walks_text s line line' text appended) refl (λ change. of.is),
 )
-not_array_made count text t o line line' other appended (boolean b) of = (
+not_array_made count text s line line' other appended (boolean b) of = (
   (tt, tt),
-  copies_so t o line t o line' [] [] (λ change. text) (λ change. compact (boolean b))
-      (copies_text t o line line' text appended) refl (λ change. of.is),
+  walks_so s line s line' [] [] (λ change. text) (λ change. compact (boolean b))
+      (walks_text s line line' text appended) refl (λ change. of.is),
 )
-not_array_made count text t o line line' other appended (number text₂) of = (
+not_array_made count text s line line' other appended (number text₂) of = (
   (tt, tt),
-  copies_so t o line t o line' [] [] (λ change. text) (λ change. compact (number text₂))
-      (copies_text t o line line' text appended) refl (λ change. of.is),
+  walks_so s line s line' [] [] (λ change. text) (λ change. compact (number text₂))
+      (walks_text s line line' text appended) refl (λ change. of.is),
 )
-not_array_made count text t o line line' other appended (string text₂) of = (
+not_array_made count text s line line' other appended (string text₂) of = (
   (tt, tt),
-  copies_so t o line t o line' [] [] (λ change. text) (λ change. compact (string text₂))
-      (copies_text t o line line' text appended) refl (λ change. of.is),
+  walks_so s line s line' [] [] (λ change. text) (λ change. compact (string text₂))
+      (walks_text s line line' text appended) refl (λ change. of.is),
 )
-not_array_made count text t o line line' other appended (object members) of = (
+not_array_made count text s line line' other appended (object members) of = (
   (tt, tt),
-  copies_so t o line t o line' [] [] (λ change. text) (λ change. compact (object members))
-      (copies_text t o line line' text appended) refl (λ change. of.is),
+  walks_so s line s line' [] [] (λ change. text) (λ change. compact (object members))
+      (walks_text s line line' text appended) refl (λ change. of.is),
 )
 
 -- ---- of the member that is meant
-pub item_as : (holder known : Holder) (count : ℕ) (t o line t' o' line' : List ℕ) (value : Tree) → holder ≡ known
-    → ItemMade known count t o line t' o' line' value → ItemMade holder count t o line t' o' line' value
-item_as holder known count t o line t' o' line' value is made =
-    subst (λ h. ItemMade h count t o line t' o' line' value) (sym is) made
+pub item_as : {S : Type 0} {L : Labelling S} (holder known : Holder) (count : ℕ) (s : S) (line : List ℕ) (s' : S)
+    (line' : List ℕ) (value : Tree) → holder ≡ known
+    → ItemMade L known count s line s' line' value → ItemMade L holder count s line s' line' value
+item_as {S} {L} holder known count s line s' line' value is made =
+    subst (λ h. ItemMade L h count s line s' line' value) (sym is) made
 
-pub held_as : (holder known : Holder) (count : ℕ) (t o line t' o' line' : List ℕ) (value : Tree) → holder ≡ known
-    → HeldMade known count t o line t' o' line' value → HeldMade holder count t o line t' o' line' value
-held_as holder known count t o line t' o' line' value is made =
-    subst (λ h. HeldMade h count t o line t' o' line' value) (sym is) made
+pub held_as : {S : Type 0} {L : Labelling S} (holder known : Holder) (count : ℕ) (s : S) (line : List ℕ) (s' : S)
+    (line' : List ℕ) (value : Tree) → holder ≡ known
+    → HeldMade L known count s line s' line' value → HeldMade L holder count s line s' line' value
+held_as {S} {L} holder known count s line s' line' value is made =
+    subst (λ h. HeldMade L h count s line s' line' value) (sym is) made
 
-pub held_again : (given : List ℕ) (holder other : Holder) (count count₂ : ℕ) (t o line t' o' line' : List ℕ)
+pub held_again : {S : Type 0} {L : Labelling S} (given : List ℕ) (holder other : Holder) (count count₂ : ℕ) (s : S)
+    (line : List ℕ) (s' : S) (line' : List ℕ)
     → other ≡ holder → count₂ ≡ count → ((value : Tree) → IsCompactOf given value
-    → HeldMade other count₂ t o line t' o' line' value) → (value : Tree) → IsCompactOf given value
-    → HeldMade holder count t o line t' o' line' value
-held_again given holder other count count₂ t o line t' o' line' same long made value of =
-    held_as holder other count t o line t' o' line' value (sym same)
-    (subst (λ n. HeldMade other n t o line t' o' line' value) long (made value of))
+    → HeldMade L other count₂ s line s' line' value) → (value : Tree) → IsCompactOf given value
+    → HeldMade L holder count s line s' line' value
+held_again {S} {L} given holder other count count₂ s line s' line' same long made value of =
+    held_as holder other count s line s' line' value (sym same)
+    (subst (λ n. HeldMade L other n s line s' line' value) long (made value of))

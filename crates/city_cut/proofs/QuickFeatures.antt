@@ -1,6 +1,5 @@
 -- The objects of a feature, copied one after another.
-use Rattle.std.proofs.Common.{◌≡◌, ◌∙◌, ◌++◌, ◌<◌, ◌≤◌, ◌+◌, ◌==◌, ℕ, zero, suc, Bool, true, false, ◌^◌, pos, List, [], ◌∷◌, Option, IsUtf8, map, length, take, take_all, drop, ◌-◌, get_or, slice_range, refl, sym, ap, subst, arith, append_assoc, append-nil}
-use Rattle.std.proofs.lemmas.Bool.{eqb-true, eqb-false}
+use Rattle.std.proofs.Common.{◌≡◌, ◌∙◌, ◌++◌, ◌<◌, ◌≤◌, ◌+◌, ℕ, zero, suc, ◌^◌, pos, List, [], ◌∷◌, Option, IsUtf8, map, length, take, take_all, drop, ◌-◌, get_or, slice_range, refl, sym, ap, subst, arith, append_assoc, append-nil}
 use Rattle.std.proofs.lemmas.Grind.{flat_map-append}
 use Rattle.std.proofs.lemmas.Option.{slice_get-map, slice_get-get_or}
 use Rattle.std.proofs.lemmas.List.{length-map, map-append, take_more}
@@ -96,15 +95,6 @@ named_made count text name given t o line line₁ t' o' line₂ parts at part d 
           (name_is ∙ ap (λ n. quoted n ++ colon ∷ []) fits.1)
           ∙ named_split (quoted (named_at pairs at).0) (compact (relabelled_object change (named_at pairs at).1))),
     )
-
-pub checked_more : (count at : ℕ) (pairs : List (List ℕ × Tree))
-    → ((k : ℕ) → k < at → IsBounded count (named_at pairs k).1) → IsBounded count (named_at pairs at).1 → (k : ℕ)
-    → k < at + 1 → IsBounded count (named_at pairs k).1
-checked_more count at pairs before here k below = by (k == at) refl
-  where
-    by : (b : Bool) → (k == at) ≡ b → IsBounded count (named_at pairs k).1
-    by true e = subst (λ n. IsBounded count (named_at pairs n).1) (sym (eqb-true k at e)) here
-    by false e = before k (omega (arith, below, eqb-false k at e))
 
 -- ---- one after another
 abbrev pub OthersMade : ℕ → List ℕ → List ℕ → List ℕ → List ℕ → List ℕ → List ℕ → List (List ℕ × Tree) → Type 0
@@ -233,11 +223,11 @@ regroup : (t s i d o m w v l : List ℕ) → ((open_brace
     ++ (comma ∷ ((w ++ colon ∷ v) ++ l))))))) ++ close_brace ∷ []
 regroup t s i d o m w v l = simp (append_assoc, cons_append)
 
-abbrev own_part : List ℕ → List (List ℕ × Tree) → Tree → List ℕ
+abbrev pub own_part : List ℕ → List (List ℕ × Tree) → Tree → List ℕ
 own_part id objects vertices = head_text id
     ++ (compact_members (member_trees objects) ++ (middle_text ++ compact vertices))
 
-feature_text : (id : List ℕ) (objects : List (List ℕ × Tree)) (vertices : Tree) (appearance : Option Tree)
+pub feature_text : (id : List ℕ) (objects : List (List ℕ × Tree)) (vertices : Tree) (appearance : Option Tree)
     → own_part id objects vertices ++ tail_text appearance ≡ compact (feature_tree id objects vertices appearance)
 feature_text id objects vertices appearance =
     regroup (quoted (codes "type")) (quoted (codes "CityJSONFeature")) (quoted (codes "id")) (quoted id)

@@ -16,14 +16,15 @@ use Rattle.city_json.specs.declared.compacting.parts.Part.{Part}
 use Rattle.city_feature.proofs.QuickLines.{utf8}
 use Rattle.city_feature.specs.Quick.{IsPartNamed}
 use Rattle.city_cut.specs.Boundaries.{IsGeometry, changed_members, own_boundary, relabelled_boundary}
-use Rattle.city_cut.specs.Copied.{Copies, CopiesItems, CopiesPart}
+use Rattle.city_cut.specs.Copied.{CopiesItems, CopiesPart}
 use Rattle.city_cut.specs.FrontMembers.{EndsAfter, HasFrontParts, IsValuePlace}
 use Rattle.city_cut.specs.Leaves.{IsBoundary, IsNested, leaves, relabelled}
+use Rattle.city_cut.specs.Walks.{Labelling, Walks, walks_so, walks_text}
 use Rattle.city_feature.specs.Texts.{IsCompactOf}
 use Rattle.city_cut.proofs.CopiedArrays.{part_array}
-use Rattle.city_cut.proofs.CopiedTexts.{copies_so, copies_text, shown_here}
+use Rattle.city_cut.proofs.CopiedTexts.{shown_here}
 use Rattle.city_cut.proofs.QuickMembers.{has_front_parts}
-use Rattle.city_cut.proofs.QuickTexts.{changed_absent, copies_exchanged, member_there}
+use Rattle.city_cut.proofs.QuickTexts.{changed_absent, walks_exchanged, member_there}
 
 part_boundary : (count : ℕ) (value : Tree) (rest tail : List ℕ) → IsWritable value
     → compact value ++ rest ≡ open_bracket ∷ tail → IsNested count value → IsBoundary count value
@@ -34,67 +35,70 @@ part_boundary count (string text) rest tail w is part = absurd part
 part_boundary count (array items) rest tail w is part = part
 part_boundary count (object members) rest tail w is part = absurd part
 
-pub boundary_made : (count : ℕ) (text t o line t' o' line' line₃ : List ℕ) (from end : ℕ) → 0 < length text
+pub boundary_made : {S : Type 0} {L : Labelling S} (count : ℕ) (text : List ℕ) (s : S) (line : List ℕ) (s' : S)
+    (line' line₃ : List ℕ) (from end : ℕ) → 0 < length text
     → get_or text 0 0 ≡ open_bracket
     → CopiesItems count (drop 1 text) (drop end text)
-    (Copies t o (shown line text 0 1) t' o' (shown line' text from end)) → length text ≤ end
+    (Walks L s (shown line text 0 1) s' (shown line' text from end)) → length text ≤ end
     → line₃ ≡ line' ++ slice_range text from end
     → (value : Tree) → IsWritable value → text ≡ compact value → IsBoundary count value
-    × Copies t o line t' o' line₃ (leaves value) (λ change. compact (relabelled change value))
-boundary_made count text t o line t' o' line' line₃ from end some here items past last value writable is =
+    × Walks L s line s' line₃ (leaves value) (λ change. compact (relabelled change value))
+boundary_made {S} {L} count text s line s' line' line₃ from end some here items past last value writable is =
     let begins : text ≡ open_bracket ∷ drop 1 text = drop_one text 0 open_bracket some here in
     let opened : shown line text 0 1 ≡ line ++ open_bracket ∷ [] =
     shown_one line text 0 0 open_bracket (omega arith) some here
     ∙ ap (λ l. l ++ open_bracket ∷ []) (shown_here line text 0 0 refl) in
-    let made = part_array count t o line (shown line text 0 1) t' o' (shown line' text from end) text (drop 1 text)
+    let made = part_array count s line (shown line text 0 1) s' (shown line' text from end) text (drop 1 text)
     (drop end text) begins opened items value [] writable tt (is ∙ sym (append-nil (compact value))) in (
       part_boundary count value [] (drop 1 text) writable (append-nil (compact value) ∙ (sym is ∙ begins)) made.1,
-      subst (λ l. Copies t o line t' o' l (leaves value) (λ change. compact (relabelled change value))) (sym last)
+      subst (λ l. Walks L s line s' l (leaves value) (λ change. compact (relabelled change value))) (sym last)
           made.2,
     )
 
 -- ---- a geometry
-pub geometry_absent : (count : ℕ) (text t o line line' : List ℕ) (members : MemberTrees)
+pub geometry_absent : {S : Type 0} {L : Labelling S} (count : ℕ) (text : List ℕ) (s : S) (line line' : List ℕ)
+    (members : MemberTrees)
     → text ≡ compact (object members) → first_named (codes "boundaries") members ≡ None → line' ≡ line ++ text
-    → IsGeometry count (object members) × Copies t o line t o line' (flat_map leaves (own_boundary (object members)))
+    → IsGeometry count (object members) × Walks L s line s line' (flat_map leaves (own_boundary (object members)))
     (λ change. compact (relabelled_boundary change (object members)))
-geometry_absent count text t o line line' members is none appended =
+geometry_absent count text s line line' members is none appended =
     let none_there : own_boundary (object members) ≡ [] = rw none refl in (
       (tt, subst (AllByRecursion (IsBoundary count)) (sym none_there) tt),
-      copies_so t o line t o line' [] (flat_map leaves (own_boundary (object members))) (λ change. text)
-          (λ change. compact (relabelled_boundary change (object members))) (copies_text t o line line' text appended)
+      walks_so s line s line' [] (flat_map leaves (own_boundary (object members))) (λ change. text)
+          (λ change. compact (relabelled_boundary change (object members))) (walks_text s line line' text appended)
           (sym (ap (flat_map leaves) none_there))
           (λ change. is ∙ ap (λ m. compact (object m))
           (sym (changed_absent (codes "boundaries") (relabelled change) members none))),
     )
 
-pub geometry_made : (count : ℕ) (text given t o line line₁ t' o' line₂ line₃ : List ℕ) (parts : List Part) (part : Part)
+pub geometry_made : {S : Type 0} {L : Labelling S} (count : ℕ) (text given : List ℕ) (s : S) (line line₁ : List ℕ)
+    (s' : S) (line₂ line₃ : List ℕ) (parts : List Part) (part : Part)
     (members : MemberTrees) → IsCompactOf text (object members) → AreParts 1 parts members
     → IsPartNamed text parts (quoted (codes "boundaries") ++ colon ∷ []) part
     → given ≡ slice_range text part.value part.end
     → line₁ ≡ line ++ take part.value text
     → ((value : Tree) → IsWritable value → given ≡ compact value → IsBoundary count value
-    × Copies t o line₁ t' o' line₂ (leaves value) (λ change. compact (relabelled change value)))
+    × Walks L s line₁ s' line₂ (leaves value) (λ change. compact (relabelled change value)))
     → line₃ ≡ line₂ ++ drop part.end text
-    → IsGeometry count (object members) × Copies t o line t' o' line₃ (flat_map leaves (own_boundary (object members)))
+    → IsGeometry count (object members) × Walks L s line s' line₃ (flat_map leaves (own_boundary (object members)))
     (λ change. compact (relabelled_boundary change (object members)))
-geometry_made count text given t o line line₁ t' o' line₂ line₃ parts part members of are named lies front made back =
+geometry_made count text given s line line₁ s' line₂ line₃ parts part members of are named lies front made back =
     let found = member_there text parts members (codes "boundaries") part given (utf8 (codes "boundaries") refl) of are
     named lies in
     let inner = made found.value found.of.writable found.of.is in
     let there : own_boundary (object members) ≡ found.value ∷ [] = rw found.is refl in
-    let all = copies_exchanged t o line line₁ t' o' line₂ line₃ text part members (codes "boundaries") found.value
+    let all = walks_exchanged s line line₁ s' line₂ line₃ text part members (codes "boundaries") found.value
     (leaves found.value) relabelled of.distinct.0 found.is found.exchanged front inner.1 back in (
       (tt, subst (AllByRecursion (IsBoundary count)) (sym there) (inner.0, tt)),
-      copies_so t o line t' o' line₃ (leaves found.value) (flat_map leaves (own_boundary (object members)))
+      walks_so s line s' line₃ (leaves found.value) (flat_map leaves (own_boundary (object members)))
           (λ change. compact (object (changed_members (codes "boundaries") (relabelled change) members)))
           (λ change. compact (relabelled_boundary change (object members))) all
           (sym (append-nil (leaves found.value)) ∙ sym (ap (flat_map leaves) there)) (λ change. refl),
     )
 
-abbrev pub GeometryMade : ℕ → List ℕ → List ℕ → List ℕ → List ℕ → List ℕ → List ℕ → Tree → Type 0
-GeometryMade count t o line t' o' line' value = IsGeometry count value
-    × Copies t o line t' o' line' (flat_map leaves (own_boundary value))
+abbrev pub GeometryMade : {S : Type 0} → Labelling S → ℕ → S → List ℕ → S → List ℕ → Tree → Type 0
+GeometryMade L count s line s' line' value = IsGeometry count value
+    × Walks L s line s' line' (flat_map leaves (own_boundary value))
     (λ change. compact (relabelled_boundary change value))
 
 -- ---- a geometry in front of other bytes, whose boundaries were copied where they were come upon
@@ -139,22 +143,25 @@ walked text name value end stop there leaves inside ends =
     )
 
 -- boundaries at a place, whose items were copied
-pub copied_there : (count : ℕ) (text t o line t' o' line' : List ℕ) (value end : ℕ) → value < length text
+pub copied_there : {S : Type 0} {L : Labelling S} (count : ℕ) (text : List ℕ) (s : S) (line : List ℕ) (s' : S)
+    (line' : List ℕ) (value end : ℕ) → value < length text
     → get_or text value 0 ≡ open_bracket
     → CopiesItems count (drop (value + 1) text) (drop end text)
-    (Copies t o (shown line text 0 (value + 1)) t' o' line')
-    → CopiesPart count (drop value text) (drop end text) (Copies t o (shown line text 0 value) t' o' line')
-copied_there count text t o line t' o' line' value end inside here copied =
-    part_array count t o (shown line text 0 value) (shown line text 0 (value + 1)) t' o' line' (drop value text)
+    (Walks L s (shown line text 0 (value + 1)) s' line')
+    → CopiesPart count (drop value text) (drop end text) (Walks L s (shown line text 0 value) s' line')
+copied_there count text s line s' line' value end inside here copied =
+    part_array count s (shown line text 0 value) (shown line text 0 (value + 1)) s' line' (drop value text)
     (drop (value + 1) text) (drop end text) (drop_one text value open_bracket inside here)
     (shown_one line text 0 value open_bracket (omega arith) inside here) copied
 
-pub part_leaves : (count : ℕ) (b after t o line t' o' line' : List ℕ)
-    → CopiesPart count b after (Copies t o line t' o' line') → LeavesValue 128 b after
-part_leaves count b after t o line t' o' line' copied = λ value rest w shallow stopped is.
+pub part_leaves : {S : Type 0} {L : Labelling S} (count : ℕ) (b after : List ℕ) (s : S) (line : List ℕ) (s' : S)
+    (line' : List ℕ)
+    → CopiesPart count b after (Walks L s line s' line') → LeavesValue 128 b after
+part_leaves count b after s line s' line' copied = λ value rest w shallow stopped is.
     (copied value rest w stopped is).0
 
-module _ (count : ℕ) (text t o line t' o' line' line₃ : List ℕ) (at value end stop from : ℕ)
+module _ {S : Type 0} {L : Labelling S} (count : ℕ) (text : List ℕ) (s : S) (line : List ℕ) (s' : S)
+    (line' line₃ : List ℕ) (at value end stop from : ℕ)
     (parts : List Part)
     (named : IsPartNamed text parts (quoted (codes "boundaries") ++ colon ∷ [])
     (record { at = at; value = value; end = end }))
@@ -162,7 +169,7 @@ module _ (count : ℕ) (text t o line t' o' line' line₃ : List ℕ) (at value 
     (opens : get_or text value 0 ≡ open_bracket) (order : value ≤ end) (more : end ≤ stop) (copied_to : from ≤ end)
     (stopped : IsStopped (drop end text))
     (copied : CopiesPart count (drop value text) (drop end text)
-    (Copies t o (shown line text 0 value) t' o' (shown line' text from end)))
+    (Walks L s (shown line text 0 value) s' (shown line' text from end)))
     (last : line₃ ≡ line' ++ slice_range text from stop) where
   walked_lies : drop value text ≡ slice_range text value end ++ drop end text
   walked_lies =
@@ -178,7 +185,7 @@ module _ (count : ℕ) (text t o line t' o' line' line₃ : List ℕ) (at value 
 
   walked_boundary : (boundary : Tree) → IsWritable boundary
       → slice_range (take stop text) value end ≡ compact boundary → IsBoundary count boundary
-      × Copies t o (line ++ take value (take stop text)) t' o' (shown line' text from end) (leaves boundary)
+      × Walks L s (line ++ take value (take stop text)) s' (shown line' text from end) (leaves boundary)
       (λ change. compact (relabelled change boundary))
   walked_boundary boundary writable is =
       let lies : drop value text ≡ compact boundary ++ drop end text =
@@ -186,20 +193,20 @@ module _ (count : ℕ) (text t o line t' o' line' line₃ : List ℕ) (at value 
       let made = copied boundary (drop end text) writable stopped lies in (
         part_boundary count boundary (drop end text) (drop (value + 1) text) writable
             (sym lies ∙ drop_one text value open_bracket inside opens) made.1,
-        subst (λ l. Copies t o l t' o' (shown line' text from end) (leaves boundary)
+        subst (λ l. Walks L s l s' (shown line' text from end) (leaves boundary)
             (λ change. compact (relabelled change boundary))) walked_front made.2,
       )
 
-  pub walked_made : (v : Tree) → IsCompactOf (take stop text) v → GeometryMade count t o line t' o' line₃ v
+  pub walked_made : (v : Tree) → IsCompactOf (take stop text) v → GeometryMade L count s line s' line₃ v
   walked_made v of =
       let part : Part = record { at = at; value = value; end = end } in
       let (members, is_object, are, left) = front v (drop stop text) of.writable of.within
       (sym (take-append-drop stop text) ∙ ap (λ l. l ++ drop stop text) of.is) in
       let of_object : IsCompactOf (take stop text) (object members) =
       subst (IsCompactOf (take stop text)) is_object of in
-      subst (GeometryMade count t o line t' o' line₃) (sym is_object)
-      (geometry_made count (take stop text) (slice_range (take stop text) value end) t o line
-      (line ++ take value (take stop text)) t' o' (shown line' text from end) line₃ parts part members of_object are
+      subst (GeometryMade L count s line s' line₃) (sym is_object)
+      (geometry_made count (take stop text) (slice_range (take stop text) value end) s line
+      (line ++ take value (take stop text)) s' (shown line' text from end) line₃ parts part members of_object are
       (record {
         place = named.place;
         within = named.within;

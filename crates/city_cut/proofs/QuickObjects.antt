@@ -19,13 +19,17 @@ use Rattle.city_cut.specs.Items.{items_of}
 use Rattle.city_cut.specs.Leaves.{leaves}
 use Rattle.city_cut.specs.Numbered.{AreNumbered}
 use Rattle.city_cut.specs.Overviews.{IsFoundIn, IsHolderPart, IsNowhere}
+use Rattle.city_cut.specs.NumberWalks.{NumberLabelled}
 use Rattle.city_cut.specs.Points.{CountsUp}
+use Rattle.city_cut.specs.Walks.{Labelling, Walks, walks_both, walks_so, walks_text}
+use Rattle.city_cut.specs.declared.numbering.Numbering.{Numbering}
 use Rattle.city_feature.specs.Texts.{IsCompactOf}
 use Rattle.city_cut.specs.declared.quick.holders.Holder.{Holder}
 use Rattle.city_cut.specs.declared.quick.holders.Holder.TheVariants.{Geometry, Address}
-use Rattle.city_cut.proofs.CopiedTexts.{copies_both, copies_so, copies_text, extends_same, extends_trans}
-use Rattle.city_cut.proofs.QuickCopies.{HeldMade, ObjectMade}
-use Rattle.city_cut.proofs.QuickTexts.{changed_absent, copies_exchanged, member_there}
+use Rattle.city_cut.proofs.CopiedTexts.{copies_so, extends_same, extends_trans}
+use Rattle.city_cut.proofs.NumberedWalks.{numbered_walk}
+use Rattle.city_cut.proofs.QuickCopies.{HeldMade, ObjectMade, ObjectWalked}
+use Rattle.city_cut.proofs.QuickTexts.{changed_absent, member_there, walks_exchanged}
 use Rattle.city_cut.proofs.TwoMembers.{changed_either, two_exchanged}
 
 -- ---- vertices that are noted again
@@ -100,55 +104,60 @@ copies_numbered t o t₁ o₁ line t' o' line' first second own before copies = 
 }
 
 -- ---- one member
-name_utf8 : (holder : Holder) → IsUtf8 (name_of holder)
+pub name_utf8 : (holder : Holder) → IsUtf8 (name_of holder)
 name_utf8 Geometry = utf8 (codes "geometry") refl
 name_utf8 Address = utf8 (codes "address") refl
 
-abbrev pub OneMade : Holder → ℕ → List ℕ → List ℕ → List ℕ → List ℕ → List ℕ → List ℕ → MemberTrees → Type 0
-OneMade holder count t o line t' o' line' members =
+abbrev pub OneMade : {S : Type 0} → Labelling S → Holder → ℕ → S → List ℕ → S → List ℕ → MemberTrees → Type 0
+OneMade L holder count s line s' line' members =
     (value : Tree) × (first_named (name_of holder) members ≡ Some value) × AreHeld holder count value
-    × Copies t o line t' o' line' (held_uses holder value)
+    × Walks L s line s' line' (held_uses holder value)
     (λ change. compact (object (changed_members (name_of holder) (relabelled_held holder change) members)))
 
-pub one_made : (holder : Holder) (count : ℕ) (text given t o line line₁ t' o' line₂ line₃ : List ℕ) (part : Part)
+pub one_made : {S : Type 0} {L : Labelling S} (holder : Holder) (count : ℕ) (text given : List ℕ) (s : S)
+    (line line₁ : List ℕ) (s' : S) (line₂ line₃ : List ℕ) (part : Part)
     → given ≡ slice_range text part.value part.end → line₁ ≡ line ++ take part.value text
-    → ((value : Tree) → IsCompactOf given value → HeldMade holder count t o line₁ t' o' line₂ value)
+    → ((value : Tree) → IsCompactOf given value → HeldMade L holder count s line₁ s' line₂ value)
     → line₃ ≡ line₂ ++ drop part.end text
     → (parts : List Part) (members : MemberTrees) → IsCompactOf text (object members) → AreParts 1 parts members
     → IsPartNamed text parts (quoted (name_of holder) ++ colon ∷ []) part
-    → OneMade holder count t o line t' o' line₃ members
-one_made holder count text given t o line line₁ t' o' line₂ line₃ part lies front made back parts members of are named =
+    → OneMade L holder count s line s' line₃ members
+one_made holder count text given s line line₁ s' line₂ line₃ part lies front made back parts members of are named =
     let found = member_there text parts members (name_of holder) part given (name_utf8 holder) of are named lies in
     let inner = made found.value found.of in (
       found.value,
       found.is,
       inner.0,
-      copies_exchanged t o line line₁ t' o' line₂ line₃ text part members
+      walks_exchanged s line line₁ s' line₂ line₃ text part members
           (name_of holder) found.value (held_uses holder found.value) (relabelled_held holder) of.distinct.0 found.is
           found.exchanged front inner.1 back,
     )
 
-some_same : (v w : Tree) → Some v ≡ Some w → v ≡ w
+pub some_same : (v w : Tree) → Some v ≡ Some w → v ≡ w
 some_same v w e = cc
 
 abbrev pub NumberedMade : Holder → List ℕ → List ℕ → List ℕ → List ℕ → MemberTrees → Type 0
 NumberedMade holder t o t' o' members = (value : Tree) → first_named (name_of holder) members ≡ Some value
     → Numbers t o t' o' (held_uses holder value)
 
-pub numbered_made : (holder : Holder) (count : ℕ) (text given t o line t' o' line₁ line₂ : List ℕ) (part : Part)
-    → given ≡ slice_range text part.value part.end
-    → ((value : Tree) → IsCompactOf given value → HeldMade holder count t o line t' o' line₁ value)
+pub numbered_made : (holder : Holder) (count : ℕ) (text given : List ℕ) (n : Numbering) (line : List ℕ) (n' : Numbering)
+    (line₁ line₂ : List ℕ) (part : Part) → given ≡ slice_range text part.value part.end
+    → ((value : Tree) → IsCompactOf given value → HeldMade NumberLabelled holder count n line n' line₁ value)
     → line₂ ≡ take (length line) line₁
     → (parts : List Part) (members : MemberTrees) → IsCompactOf text (object members) → AreParts 1 parts members
     → IsPartNamed text parts (quoted (name_of holder) ++ colon ∷ []) part → (line₂ ≡ line)
-    × NumberedMade holder t o t' o' members
-numbered_made holder count text given t o line t' o' line₁ line₂ part lies made back parts members of are named =
+    × NumberedMade holder n.table.items n.order.items n'.table.items n'.order.items members
+numbered_made holder count text given n line n' line₁ line₂ part lies made back parts members of are named =
     let found = member_there text parts members (name_of holder) part given (name_utf8 holder) of are named lies in
-    let inner = made found.value found.of in
-    let written = inner.1.written t' o' (extends_same t' o') in (
+    let inner = numbered_walk n line n' line₁ (held_uses holder found.value)
+    (λ change. compact (relabelled_held holder change found.value)) (made found.value found.of).1 in
+    let t' = n'.table.items in
+    let o' = n'.order.items in
+    let written = inner.written t' o' (extends_same t' o') in (
       back ∙ (ap (take (length line)) written ∙ take_at line _ (length line) refl),
-      λ value is. subst (λ v. Numbers t o t' o' (held_uses holder v)) (some_same found.value value (sym found.is ∙ is))
-          (record { extends = inner.1.extends; numbered = inner.1.numbered }),
+      λ value is. subst (λ v. Numbers n.table.items n.order.items t' o' (held_uses holder v))
+          (some_same found.value value (sym found.is ∙ is))
+          (record { extends = inner.extends; numbered = inner.numbered }),
     )
 
 -- ---- two members
@@ -156,31 +165,32 @@ names_apart : (holder : Holder) → bytes_eq (name_of holder) (name_of (other_th
 names_apart Geometry = refl
 names_apart Address = refl
 
-abbrev pub TwoMade : Holder → ℕ → List ℕ → List ℕ → List ℕ → List ℕ → List ℕ → List ℕ → MemberTrees → Type 0
-TwoMade holder count t o line t' o' line' members =
+abbrev pub TwoMade : {S : Type 0} → Labelling S → Holder → ℕ → S → List ℕ → S → List ℕ → MemberTrees → Type 0
+TwoMade L holder count s line s' line' members =
     (value other : Tree) × (first_named (name_of holder) members ≡ Some value)
     × (first_named (name_of (other_than holder)) members ≡ Some other)
     × AreHeld holder count value × AreHeld (other_than holder) count other
-    × Copies t o line t' o' line' (held_uses holder value ++ held_uses (other_than holder) other)
+    × Walks L s line s' line' (held_uses holder value ++ held_uses (other_than holder) other)
     (λ change. compact (object (changed_members (name_of holder) (relabelled_held holder change)
     (changed_members (name_of (other_than holder)) (relabelled_held (other_than holder) change) members))))
 
 five : (a b c d e : List ℕ) → (((a ++ b) ++ c) ++ d) ++ e ≡ a ++ (b ++ (c ++ (d ++ e)))
 five a b c d e = simp append_assoc
 
-pub two_made : (holder : Holder) (count : ℕ)
-    (text given middle given₂ t o line line₁ t₁ o₁ line₂ line₃ t₂ o₂ line₄ line₅ : List ℕ) (p q : Part)
+pub two_made : {S : Type 0} {L : Labelling S} (holder : Holder) (count : ℕ)
+    (text given middle given₂ : List ℕ) (s : S) (line line₁ : List ℕ) (s₁ : S) (line₂ line₃ : List ℕ) (s₂ : S)
+    (line₄ line₅ : List ℕ) (p q : Part)
     → given ≡ slice_range text p.value p.end → middle ≡ slice_range text p.end q.value
     → given₂ ≡ slice_range text q.value q.end → p.end ≤ q.value
     → line₁ ≡ line ++ take p.value text → ((value : Tree) → IsCompactOf given value
-    → HeldMade holder count t o line₁ t₁ o₁ line₂ value) → line₃ ≡ line₂ ++ middle
-    → ((value : Tree) → IsCompactOf given₂ value → HeldMade (other_than holder) count t₁ o₁ line₃ t₂ o₂ line₄ value)
+    → HeldMade L holder count s line₁ s₁ line₂ value) → line₃ ≡ line₂ ++ middle
+    → ((value : Tree) → IsCompactOf given₂ value → HeldMade L (other_than holder) count s₁ line₃ s₂ line₄ value)
     → line₅ ≡ line₄ ++ drop q.end text
     → (parts : List Part) (members : MemberTrees) → IsCompactOf text (object members) → AreParts 1 parts members
     → IsPartNamed text parts (quoted (name_of holder) ++ colon ∷ []) p
     → IsPartNamed text parts (quoted (name_of (other_than holder)) ++ colon ∷ []) q
-    → TwoMade holder count t o line t₂ o₂ line₅ members
-two_made holder count text given middle given₂ t o line line₁ t₁ o₁ line₂ line₃ t₂ o₂ line₄ line₅ p q lies between lies₂
+    → TwoMade L holder count s line s₂ line₅ members
+two_made holder count text given middle given₂ s line line₁ s₁ line₂ line₃ s₂ line₄ line₅ p q lies between lies₂
     ordered front made more made₂ back parts members of are named named₂ =
     let found = member_there text parts members (name_of holder) p given (name_utf8 holder) of are named lies in
     let found₂ = member_there text parts members (name_of (other_than holder)) q given₂ (name_utf8 (other_than holder))
@@ -192,16 +202,16 @@ two_made holder count text given middle given₂ t o line line₁ t₁ o₁ line
     let one : (List ℕ → List ℕ) → List ℕ = λ change. compact (relabelled_held holder change found.value) in
     let two : (List ℕ → List ℕ) → List ℕ = λ change.
     compact (relabelled_held (other_than holder) change found₂.value) in
-    let begins = copies_both t o line t o line₁ t₁ o₁ line₂ [] uses (λ change. take p.value text) one
-    (copies_text t o line line₁ (take p.value text) front) inner.1 in
-    let goes = copies_both t o line t₁ o₁ line₂ t₁ o₁ line₃ uses [] (λ change. take p.value text ++ one change)
-    (λ change. middle) begins (copies_text t₁ o₁ line₂ line₃ middle more) in
-    let on = copies_both t o line t₁ o₁ line₃ t₂ o₂ line₄ (uses ++ []) uses₂
+    let begins = walks_both s line s line₁ s₁ line₂ [] uses (λ change. take p.value text) one
+    (walks_text s line line₁ (take p.value text) front) inner.1 in
+    let goes = walks_both s line s₁ line₂ s₁ line₃ uses [] (λ change. take p.value text ++ one change)
+    (λ change. middle) begins (walks_text s₁ line₂ line₃ middle more) in
+    let on = walks_both s line s₁ line₃ s₂ line₄ (uses ++ []) uses₂
     (λ change. (take p.value text ++ one change) ++ middle) two goes inner₂.1 in
-    let ends = copies_both t o line t₂ o₂ line₄ t₂ o₂ line₅ ((uses ++ []) ++ uses₂) []
+    let ends = walks_both s line s₂ line₄ s₂ line₅ ((uses ++ []) ++ uses₂) []
     (λ change. ((take p.value text ++ one change) ++ middle) ++ two change) (λ change. drop q.end text) on
-    (copies_text t₂ o₂ line₄ line₅ (drop q.end text) back) in
-    let all = copies_so t o line t₂ o₂ line₅ (((uses ++ []) ++ uses₂) ++ []) (uses ++ uses₂)
+    (walks_text s₂ line₄ line₅ (drop q.end text) back) in
+    let all = walks_so s line s₂ line₅ (((uses ++ []) ++ uses₂) ++ []) (uses ++ uses₂)
     (λ change. (((take p.value text ++ one change) ++ middle) ++ two change) ++ drop q.end text)
     (λ change. compact (object (changed_members (name_of holder) (relabelled_held holder change)
     (changed_members (name_of (other_than holder)) (relabelled_held (other_than holder) change) members)))) ends
@@ -223,17 +233,16 @@ pub is_found : (holder : Holder) (text : List ℕ) (parts : List Part) (found : 
 is_found holder text parts found part is told = subst (IsHolderPart holder text parts) is told
 
 -- for each object, it is enough to know what is made of its members
-pub of_object : (count : ℕ) (text t o line t' o' line' : List ℕ) (parts : List Part)
+pub of_object : (P : Tree → Type 0) (text : List ℕ) (parts : List Part)
     → ((value : Tree) → IsCompactOf text value → (members : MemberTrees) × (value ≡ object members)
     × AreParts 1 parts members)
-    → ((members : MemberTrees) → IsCompactOf text (object members) → AreParts 1 parts members
-    → ObjectMade count t o line t' o' line' (object members)) → (value : Tree) → IsCompactOf text value
-    → ObjectMade count t o line t' o' line' value
-of_object count text t o line t' o' line' parts there made value of =
+    → ((members : MemberTrees) → IsCompactOf text (object members) → AreParts 1 parts members → P (object members))
+    → (value : Tree) → IsCompactOf text value → P value
+of_object P text parts there made value of =
     let (members, is, are) = there value of in
-    subst (ObjectMade count t o line t' o' line') (sym is) (made members (subst (IsCompactOf text) is of) are)
+    subst P (sym is) (made members (subst (IsCompactOf text) is of) are)
 
-either : (change : List ℕ → List ℕ) (members : MemberTrees)
+pub either : (change : List ℕ → List ℕ) (members : MemberTrees)
     → changed_members (codes "address") (relabelled_addresses change)
     (changed_members (codes "geometry") (relabelled_geometries change) members)
     ≡ changed_members (codes "geometry") (relabelled_geometries change)
@@ -241,14 +250,15 @@ either : (change : List ℕ → List ℕ) (members : MemberTrees)
 either change members = changed_either (codes "address") (codes "geometry") (relabelled_addresses change)
     (relabelled_geometries change) members refl refl
 
-pub object_none : (count : ℕ) (text t o line line' : List ℕ) (members : MemberTrees) → text ≡ compact (object members)
+pub object_none : {S : Type 0} {L : Labelling S} (count : ℕ) (text : List ℕ) (s : S) (line line' : List ℕ)
+    (members : MemberTrees) → text ≡ compact (object members)
     → first_named (codes "geometry") members ≡ None → first_named (codes "address") members ≡ None
-    → line' ≡ line ++ text → ObjectMade count t o line t o line' (object members)
-object_none count text t o line line' members is none missing appended =
+    → line' ≡ line ++ text → ObjectWalked L count s line s line' (object members)
+object_none count text s line line' members is none missing appended =
     let nothing : boundaries (object members) ≡ [] = rw (none, missing) refl in (
       rw (none, missing) (tt, tt, tt),
-      copies_so t o line t o line' [] (flat_map leaves (boundaries (object members))) (λ change. text)
-          (λ change. compact (relabelled_object change (object members))) (copies_text t o line line' text appended)
+      walks_so s line s line' [] (flat_map leaves (boundaries (object members))) (λ change. text)
+          (λ change. compact (relabelled_object change (object members))) (walks_text s line line' text appended)
           (sym (ap (flat_map leaves) nothing))
           (λ change. is ∙ ap (λ m. compact (object m))
           (sym (ap (changed_members (codes "geometry") (relabelled_geometries change))
@@ -256,27 +266,30 @@ object_none count text t o line line' members is none missing appended =
           ∙ changed_absent (codes "geometry") (relabelled_geometries change) members none))),
     )
 
-pub object_geometry : (count : ℕ) (t o line t' o' line' : List ℕ) (members : MemberTrees)
-    → first_named (codes "address") members ≡ None → OneMade Geometry count t o line t' o' line' members
-    → ObjectMade count t o line t' o' line' (object members)
-object_geometry count t o line t' o' line' members missing (value, is, held, copies) =
+pub object_geometry : {S : Type 0} {L : Labelling S} (count : ℕ) (s : S) (line : List ℕ) (s' : S) (line' : List ℕ)
+    (members : MemberTrees)
+    → first_named (codes "address") members ≡ None → OneMade L Geometry count s line s' line' members
+    → ObjectWalked L count s line s' line' (object members)
+object_geometry count s line s' line' members missing (value, is, held, copies) =
     let there : boundaries (object members) ≡ flat_map own_boundary (items_of (Some value)) =
     rw (is, missing) (append-nil (flat_map own_boundary (items_of (Some value)))) in (
       rw (is, missing) (held.0, held.1, tt),
-      copies_so t o line t' o' line' (held_uses Geometry value) (flat_map leaves (boundaries (object members)))
+      walks_so s line s' line' (held_uses Geometry value) (flat_map leaves (boundaries (object members)))
           (λ change. compact (object (changed_members (codes "geometry") (relabelled_geometries change) members)))
           (λ change. compact (relabelled_object change (object members))) copies (sym (ap (flat_map leaves) there))
           (λ change. ap (λ m. compact (object (changed_members (codes "geometry") (relabelled_geometries change) m)))
           (sym (changed_absent (codes "address") (relabelled_addresses change) members missing))),
     )
 
-pub object_address : (count : ℕ) (t o line t' o' line' : List ℕ) (members : MemberTrees)
-    → first_named (codes "geometry") members ≡ None → OneMade Address count t o line t' o' line' members
-    → ObjectMade count t o line t' o' line' (object members)
-object_address count t o line t' o' line' members none (value, is, held, copies) =
-    let there : boundaries (object members) ≡ flat_map address_boundary (items_of (Some value)) = rw (is, none) refl in (
+pub object_address : {S : Type 0} {L : Labelling S} (count : ℕ) (s : S) (line : List ℕ) (s' : S) (line' : List ℕ)
+    (members : MemberTrees)
+    → first_named (codes "geometry") members ≡ None → OneMade L Address count s line s' line' members
+    → ObjectWalked L count s line s' line' (object members)
+object_address count s line s' line' members none (value, is, held, copies) =
+    let there : boundaries (object members) ≡ flat_map address_boundary (items_of (Some value)) = rw
+    (is, none) refl in (
       rw (is, none) (tt, tt, held.1),
-      copies_so t o line t' o' line' (held_uses Address value) (flat_map leaves (boundaries (object members)))
+      walks_so s line s' line' (held_uses Address value) (flat_map leaves (boundaries (object members)))
           (λ change. compact (object (changed_members (codes "address") (relabelled_addresses change) members)))
           (λ change. compact (relabelled_object change (object members))) copies (sym (ap (flat_map leaves) there))
           (λ change. ap (λ m. compact (object m))
@@ -285,46 +298,61 @@ object_address count t o line t' o' line' members none (value, is, held, copies)
           ∙ either change members)),
     )
 
-both_bounded : (count : ℕ) (members : MemberTrees) (value other : Tree)
+pub both_bounded : (count : ℕ) (members : MemberTrees) (value other : Tree)
     → first_named (codes "geometry") members ≡ Some value → first_named (codes "address") members ≡ Some other
     → AreHeld Geometry count value → AreHeld Address count other → IsBounded count (object members)
 both_bounded count members value other is is₂ held held₂ = rw (is, is₂) (held.0, held.1, held₂.1)
 
-both_uses : (members : MemberTrees) (value other : Tree) → first_named (codes "geometry") members ≡ Some value
+pub both_uses : (members : MemberTrees) (value other : Tree) → first_named (codes "geometry") members ≡ Some value
     → first_named (codes "address") members ≡ Some other
     → flat_map leaves (boundaries (object members)) ≡ held_uses Geometry value ++ held_uses Address other
 both_uses members value other is is₂ = rw (is, is₂)
     (flat_map-append leaves (flat_map own_boundary (items_of (Some value)))
     (flat_map address_boundary (items_of (Some other))))
 
-pub object_in_order : (count : ℕ) (t o line t' o' line' : List ℕ) (members : MemberTrees)
-    → TwoMade Geometry count t o line t' o' line' members → ObjectMade count t o line t' o' line' (object members)
-object_in_order count t o line t' o' line' members (value, other, is, is₂, held, held₂, copies) = (
+pub object_in_order : {S : Type 0} {L : Labelling S} (count : ℕ) (s : S) (line : List ℕ) (s' : S) (line' : List ℕ)
+    (members : MemberTrees)
+    → TwoMade L Geometry count s line s' line' members → ObjectWalked L count s line s' line' (object members)
+object_in_order count s line s' line' members (value, other, is, is₂, held, held₂, copies) = (
   both_bounded count members value other is is₂ held held₂,
-  copies_so t o line t' o' line' (held_uses Geometry value ++ held_uses Address other)
+  walks_so s line s' line' (held_uses Geometry value ++ held_uses Address other)
       (flat_map leaves (boundaries (object members))) (λ change. compact (relabelled_object change (object members)))
       (λ change. compact (relabelled_object change (object members))) copies
       (sym (both_uses members value other is is₂)) (λ change. refl),
 )
 
-pub object_out_of_order : (count count₂ : ℕ) (t o line t₁ o₁ line₁ t' o' line' : List ℕ) (members : MemberTrees)
-    → count₂ ≡ count → line₁ ≡ line → NumberedMade Geometry t o t₁ o₁ members
-    → TwoMade Address count₂ t₁ o₁ line₁ t' o' line' members → ObjectMade count t o line t' o' line' (object members)
-object_out_of_order count count₂ t o line t₁ o₁ line₁ t' o' line' members long back before made =
-    made_then (subst (λ n. TwoMade Address n t₁ o₁ line t' o' line' members) long
-    (subst (λ l. TwoMade Address count₂ t₁ o₁ l t' o' line' members) back made))
+-- by numbers
+pub object_numbered : (count : ℕ) (n : Numbering) (line : List ℕ) (n' : Numbering) (line' : List ℕ) (value : Tree)
+    → ObjectWalked NumberLabelled count n line n' line' value
+    → ObjectMade count n.table.items n.order.items line n'.table.items n'.order.items line' value
+object_numbered count n line n' line' value made = (
+  made.0,
+  numbered_walk n line n' line' (flat_map leaves (boundaries value))
+      (λ change. compact (relabelled_object change value)) made.1,
+)
+
+pub object_out_of_order : (count count₂ : ℕ) (t o line : List ℕ) (n : Numbering) (line₁ : List ℕ) (n' : Numbering)
+    (line' : List ℕ) (members : MemberTrees) → count₂ ≡ count → line₁ ≡ line
+    → NumberedMade Geometry t o n.table.items n.order.items members
+    → TwoMade NumberLabelled Address count₂ n line₁ n' line' members
+    → ObjectMade count t o line n'.table.items n'.order.items line' (object members)
+object_out_of_order count count₂ t o line n line₁ n' line' members long back before made =
+    made_then (subst (λ k. TwoMade NumberLabelled Address k n line n' line' members) long
+    (subst (λ l. TwoMade NumberLabelled Address count₂ n l n' line' members) back made))
   where
-    made_then : TwoMade Address count t₁ o₁ line t' o' line' members
-        → ObjectMade count t o line t' o' line' (object members)
-    made_then (other, value, is₂, is, held₂, held, copies) = (
-      both_bounded count members value other is is₂ held held₂,
-      copies_so t o line t' o' line' (held_uses Geometry value ++ held_uses Address other)
-          (flat_map leaves (boundaries (object members)))
-          (λ change. compact (object (changed_members (codes "address") (relabelled_addresses change)
-          (changed_members (codes "geometry") (relabelled_geometries change) members))))
-          (λ change. compact (relabelled_object change (object members)))
-          (copies_numbered t o t₁ o₁ line t' o' line' (held_uses Geometry value) (held_uses Address other)
-          (λ change. compact (object (changed_members (codes "address") (relabelled_addresses change)
-          (changed_members (codes "geometry") (relabelled_geometries change) members)))) (before value is) copies)
-          (sym (both_uses members value other is is₂)) (λ change. ap (λ m. compact (object m)) (either change members)),
-    )
+    made_then : TwoMade NumberLabelled Address count n line n' line' members
+        → ObjectMade count t o line n'.table.items n'.order.items line' (object members)
+    made_then (other, value, is₂, is, held₂, held, walks) =
+        let own : (List ℕ → List ℕ) → List ℕ = λ change. compact (object (changed_members (codes "address")
+        (relabelled_addresses change) (changed_members (codes "geometry") (relabelled_geometries change) members))) in
+        let uses = held_uses Geometry value in
+        let uses₂ = held_uses Address other in
+        let copies = numbered_walk n line n' line' (uses₂ ++ uses) own walks in (
+          both_bounded count members value other is is₂ held held₂,
+          copies_so t o line n'.table.items n'.order.items line' (uses ++ uses₂)
+              (flat_map leaves (boundaries (object members))) own
+              (λ change. compact (relabelled_object change (object members)))
+              (copies_numbered t o n.table.items n.order.items line n'.table.items n'.order.items line' uses uses₂ own
+              (before value is) copies) (sym (both_uses members value other is is₂))
+              (λ change. ap (λ m. compact (object m)) (either change members)),
+        )

@@ -11,8 +11,7 @@ use Rattle.city_json.specs.declared.compacting.parts.Part.{Part}
 pub use Rattle.city_feature.proofs.NamedTexts.{if_some_more, member_there, same_place, value_or}
 use Rattle.city_feature.specs.Changes.{with_named}
 use Rattle.city_cut.specs.Boundaries.{changed_members}
-use Rattle.city_cut.specs.Copied.{Copies}
-use Rattle.city_cut.proofs.CopiedTexts.{copies_both, copies_so, copies_text}
+use Rattle.city_cut.specs.Walks.{Labelling, Walks, walks_both, walks_so, walks_text}
 
 pub on_some_more : {A P Q : Type 0} (answer : Option A) → (P → Q) → OnSome answer P → OnSome answer Q
 on_some_more (Some x) on holds = on holds
@@ -77,22 +76,23 @@ with_same name value (member other v others) is = by (bytes_eq other name) refl 
     by false e later = rw e (ap (member other v) (later (rw e at is)))
 
 -- ---- the text around a member, and its value between
-pub copies_exchanged : (t o line line₁ t' o' line₂ line₃ text : List ℕ) (part : Part) (members : MemberTrees)
+pub walks_exchanged : {S : Type 0} {L : Labelling S} (s : S) (line line₁ : List ℕ) (s' : S)
+    (line₂ line₃ text : List ℕ) (part : Part) (members : MemberTrees)
     (name : List ℕ) (value : Tree) (uses : List ℕ) (f : (List ℕ → List ℕ) → Tree → Tree)
     → HasDistinctNames members → first_named name members ≡ Some value
     → ((new : Tree) → compact (object (with_named name new members)) ≡ with_value text part (compact new))
-    → line₁ ≡ line ++ take part.value text → Copies t o line₁ t' o' line₂ uses (λ change. compact (f change value))
+    → line₁ ≡ line ++ take part.value text → Walks L s line₁ s' line₂ uses (λ change. compact (f change value))
     → line₃ ≡ line₂ ++ drop part.end text
-    → Copies t o line t' o' line₃ uses (λ change. compact (object (changed_members name (f change) members)))
-copies_exchanged t o line line₁ t' o' line₂ line₃ text part members name value uses f differ is exchanged front middle
+    → Walks L s line s' line₃ uses (λ change. compact (object (changed_members name (f change) members)))
+walks_exchanged s line line₁ s' line₂ line₃ text part members name value uses f differ is exchanged front middle
     back =
-    let first = copies_text t o line line₁ (take part.value text) front in
-    let last = copies_text t' o' line₂ line₃ (drop part.end text) back in
-    let two = copies_both t o line t o line₁ t' o' line₂ [] uses (λ change. take part.value text)
+    let first = walks_text s line line₁ (take part.value text) front in
+    let last = walks_text s' line₂ line₃ (drop part.end text) back in
+    let two = walks_both s line s line₁ s' line₂ [] uses (λ change. take part.value text)
     (λ change. compact (f change value)) first middle in
-    let three = copies_both t o line t' o' line₂ t' o' line₃ uses []
+    let three = walks_both s line s' line₂ s' line₃ uses []
     (λ change. take part.value text ++ compact (f change value)) (λ change. drop part.end text) two last in
-    copies_so t o line t' o' line₃ (uses ++ []) uses
+    walks_so s line s' line₃ (uses ++ []) uses
     (λ change. (take part.value text ++ compact (f change value)) ++ drop part.end text)
     (λ change. compact (object (changed_members name (f change) members))) three (append-nil uses)
     (λ change. append_assoc (take part.value text) (compact (f change value)) (drop part.end text)

@@ -13,7 +13,7 @@ use crate::documents::check_document;
 use crate::families::kin_of;
 use crate::features::keep_features;
 use crate::headers::document_header;
-use crate::held::FeatureTexts;
+use crate::held::{FeatureTexts, Pieces};
 use crate::keeping::{Keep, OpenTexts};
 use crate::values::{items_named, members_named};
 use byte_streams::{Fault, Line, Sequence};
@@ -84,6 +84,7 @@ pub fn cut_texts(alloc: Global, document: Json) -> Result<CutTexts, Fault>
     let mut open = OpenTexts::new(alloc);
     keep_document(alloc, &document, &mut open)?;
     let header = document_header(alloc, document)?;
-    let texts = FeatureTexts::new(open.own, open.ends, Line::new(alloc));
+    let own = Pieces::new(open.own, open.ends);
+    let texts = FeatureTexts::new(own, Line::new(alloc));
     Ok(CutTexts { header, texts })
 }

@@ -1,10 +1,19 @@
-//! The texts of a document's features, held with what they have in common once.
-ghost use Rattle.std.specs.Prelude.{◌≡◌, ◌<◌, ◌≤◌, ◌^◌, ◌++◌, ◌∷◌, [], length, get_or, slice_range, IfErr, OnOk};
+//! The texts of a document's features. What each has of its own is held, or made when it is asked for; what all of them
+//! end in is held once.
+ghost use Rattle.std.specs.Prelude.{◌≡◌, ◌<◌, ◌≤◌, ◌^◌, ◌++◌, ◌∷◌, [], ℕ, length, get_or, slice_range, take, IfErr, IfSome, OnErr, OnOk};
+ghost use Rattle.std.specs.Io.KnownBytes.{Appends};
+ghost use Rattle.byte_streams.specs.Failures.{after_call};
 ghost use Rattle.city_cut.specs.HeldTexts.{AreEnds, pieces, texts_in};
+ghost use Rattle.city_cut.specs.OwnTexts.{own_texts};
 
-use byte_streams::{Fault, Line};
+mod line_sink;
+
+use crate::quick::made::MadeTexts;
+use byte_streams::{Fault, Line, Sink, write_all};
+use line_sink::LineSink;
 use std::alloc::Global;
 use std::marker::Model;
+use std::mem;
 
 /// Where the piece at a place begins.
 fn start_of(ends: &[usize], at: usize) -> usize
@@ -34,65 +43,212 @@ fn piece<'a>(bytes: &'a [u8], ends: &[usize], at: usize) -> &'a [u8]
     part_of(bytes, start_of(ends, at), ends[at])
 }
 
-/// The texts of features, in order, without newlines. What all of them end in is held once.
+/// Texts that are held one after another.
+#[derive(Debug, Drop)]
+pub(crate) struct Pieces {
+    bytes: Line,
+    ends: Vec<usize>,
+}
+
+impl Model for Pieces {
+    ghost use Rattle.std.specs.Prelude.{ℕ, List, length};
+    ghost use Rattle.city_cut.specs.HeldTexts.{AreEnds, pieces};
+
+    ghost Value = { List (List ℕ) };
+
+    ghost view = { λ texts. pieces texts.bytes 0 texts.ends.items };
+
+    ghost invariant = { λ texts. AreEnds 0 texts.ends.items (length texts.bytes) };
+}
+
+impl Pieces {
+    /// The texts that stand in the bytes one after another, each up to its place of `ends`.
+    pub(crate) fn new(bytes: Line, ends: Vec<usize>) -> Pieces
+        requires { AreEnds 0 ends.items (length bytes) }
+        ensures { result ≡ pieces bytes 0 ends.items }
+    {
+        Pieces { bytes, ends }
+    }
+
+    fn len(&self) -> usize
+        ensures { result ≡ length self.now }
+    {
+        self.ends.len()
+    }
+
+    /// Tells a proof that a count of them does not run over, and does nothing.
+    fn known(&self)
+        ensures { length self.now < 2 ^ 63 }
+    {
+        let _ = &self.ends;
+    }
+
+    /// The text at a place.
+    fn text(&self, at: usize) -> &[u8]
+        requires { at < length self.now }
+        ensures { result.now ≡ get_or self.now at [] }
+    {
+        piece(self.bytes.items(), &self.ends, at)
+    }
+}
+
+/// What each of the texts has of its own.
+#[derive(Debug, Drop)]
+enum OwnTexts {
+    Held(Pieces),
+    Made(MadeTexts),
+}
+
+/// Puts a made text after a line. The only fault is [`Fault::Memory`].
+fn append_made(
+    alloc: Global,
+    texts: &mut MadeTexts,
+    at: usize,
+    line: &mut Line,
+) -> Result<(), Fault>
+    requires { at < length texts.old }
+    ensures ok { OnOk result (line.new ≡ line.old ++ get_or texts.old at []) }
+    ensures fault { IfErr result (λ fault. fault ≡ Fault.Memory) }
+    ensures same { texts.new ≡ texts.old }
+{
+    let mut sink = LineSink::new(mem::replace(line, Line::new(alloc)));
+    let written = texts.write_own(at, &mut sink);
+    *line = sink.into_line();
+    if written.is_err() {
+        return Err(Fault::Memory);
+    }
+    Ok(())
+}
+
+impl OwnTexts {
+    fn len(&self) -> usize
+        ensures { result ≡ length (own_texts self.now) }
+    {
+        match self {
+            OwnTexts::Held(texts) => texts.len(),
+            OwnTexts::Made(texts) => texts.len(),
+        }
+    }
+
+    /// Tells a proof that a count of them does not run over, and does nothing.
+    fn known(&self)
+        ensures { length (own_texts self.now) < 2 ^ 63 }
+    {
+        match self {
+            OwnTexts::Held(texts) => texts.known(),
+            OwnTexts::Made(texts) => texts.known(),
+        }
+    }
+
+    /// The text at a place, where it is held.
+    fn held(&self, at: usize) -> Option<&[u8]>
+        requires { at < length (own_texts self.now) }
+        ensures { IfSome result (λ text. text.now ≡ get_or (own_texts self.now) at []) }
+    {
+        match self {
+            OwnTexts::Held(texts) => Some(texts.text(at)),
+            OwnTexts::Made(_) => None,
+        }
+    }
+
+    /// Writes the text at a place.
+    fn write<W: Sink>(&mut self, at: usize, output: &mut W) -> Result<(), Fault>
+        requires { at < length (own_texts self.old) }
+        ensures ok { OnOk result (Appends (W.taken output.old) (W.taken output.new) (get_or (own_texts self.old) at [])) }
+        ensures some { OnErr result ((count : ℕ)
+            × Appends (W.taken output.old) (W.taken output.new) (take count (get_or (own_texts self.old) at []))) }
+        ensures failures { W.failures output.new ≡ after_call result (W.failures output.old) }
+        ensures fault { IfErr result (λ fault. fault ≡ Fault.Write) }
+        ensures same { own_texts self.new ≡ own_texts self.old }
+    {
+        match self {
+            OwnTexts::Held(texts) => write_all(output, texts.text(at)),
+            OwnTexts::Made(texts) => texts.write_own(at, output),
+        }
+    }
+
+    /// Puts the text at a place after a line. The only fault is [`Fault::Memory`].
+    fn append(&mut self, alloc: Global, at: usize, line: &mut Line) -> Result<(), Fault>
+        requires { at < length (own_texts self.old) }
+        ensures ok { OnOk result (line.new ≡ line.old ++ get_or (own_texts self.old) at []) }
+        ensures fault { IfErr result (λ fault. fault ≡ Fault.Memory) }
+        ensures same { own_texts self.new ≡ own_texts self.old }
+    {
+        match self {
+            OwnTexts::Held(texts) => {
+                line.append(texts.text(at))?;
+                Ok(())
+            }
+            OwnTexts::Made(texts) => append_made(alloc, texts, at, line),
+        }
+    }
+}
+
+/// The texts of features, in order, without newlines.
 #[derive(Debug, Drop)]
 pub struct FeatureTexts {
-    own: Line,
-    ends: Vec<usize>,
+    own: OwnTexts,
     common: Line,
 }
 
 impl Model for FeatureTexts {
-    ghost use Rattle.std.specs.Prelude.{length};
-    ghost use Rattle.city_cut.specs.HeldTexts.{AreEnds, HeldTexts, pieces};
+    ghost use Rattle.city_cut.specs.HeldTexts.{HeldTexts};
+    ghost use Rattle.city_cut.specs.OwnTexts.{own_texts};
 
     ghost Value = { HeldTexts };
 
-    ghost view = { λ texts. record { own = pieces texts.own 0 texts.ends.items; common = texts.common } };
-
-    ghost invariant = { λ texts. AreEnds 0 texts.ends.items (length texts.own) };
+    ghost view = { λ texts. record { own = own_texts texts.own; common = texts.common } };
 }
 
 impl FeatureTexts {
-    /// The texts whose own parts stand in `own`, one after another, each up to its place of `ends`.
-    pub(crate) fn new(own: Line, ends: Vec<usize>, common: Line) -> FeatureTexts
-        requires { AreEnds 0 ends.items (length own) }
-        ensures { result ≡ record { own = pieces own 0 ends.items; common = common } }
+    /// The texts whose own parts are held.
+    pub(crate) fn new(own: Pieces, common: Line) -> FeatureTexts
+        ensures { result ≡ record { own = own; common = common } }
     {
-        FeatureTexts { own, ends, common }
+        FeatureTexts {
+            own: OwnTexts::Held(own),
+            common,
+        }
+    }
+
+    /// The texts whose own parts are made when they are asked for.
+    pub(crate) fn made(own: MadeTexts, common: Line) -> FeatureTexts
+        ensures { result ≡ record { own = own; common = common } }
+    {
+        FeatureTexts {
+            own: OwnTexts::Made(own),
+            common,
+        }
     }
 
     /// No texts.
     pub fn none(alloc: Global) -> FeatureTexts
         ensures { texts_in result ≡ [] }
     {
-        FeatureTexts {
-            own: Line::new(alloc),
-            ends: Vec::new(alloc),
-            common: Line::new(alloc),
-        }
+        let own = Pieces::new(Line::new(alloc), Vec::new(alloc));
+        FeatureTexts::new(own, Line::new(alloc))
     }
 
     /// How many texts there are.
     pub fn len(&self) -> usize
         ensures { result ≡ length self.now.own }
     {
-        self.ends.len()
+        self.own.len()
     }
 
     /// Tells a proof that a count of the texts does not run over, and does nothing.
     pub fn known(&self)
         ensures { length self.now.own < 2 ^ 63 }
     {
-        let _ = &self.ends;
+        self.own.known();
     }
 
-    /// What the text at a place has of its own. What all of them end in comes after it.
-    pub fn own(&self, at: usize) -> &[u8]
+    /// What the text at a place has of its own, where that is held. What all of them end in comes after it.
+    pub fn held(&self, at: usize) -> Option<&[u8]>
         requires { at < length self.now.own }
-        ensures { result.now ≡ get_or self.now.own at [] }
+        ensures { IfSome result (λ own. own.now ≡ get_or self.now.own at []) }
     {
-        piece(self.own.items(), &self.ends, at)
+        self.own.held(at)
     }
 
     /// What all texts end in.
@@ -102,14 +258,43 @@ impl FeatureTexts {
         self.common.items()
     }
 
+    /// Writes what the text at a place has of its own. It takes no memory.
+    ///
+    /// # Errors
+    ///
+    /// [`Fault::Write`] where a write failed; some first bytes of it were written then.
+    pub fn write_own<W: Sink>(&mut self, at: usize, output: &mut W) -> Result<(), Fault>
+        requires { at < length self.old.own }
+        ensures ok { OnOk result (Appends (W.taken output.old) (W.taken output.new) (get_or self.old.own at [])) }
+        ensures some { OnErr result ((count : ℕ)
+            × Appends (W.taken output.old) (W.taken output.new) (take count (get_or self.old.own at []))) }
+        ensures failures { W.failures output.new ≡ after_call result (W.failures output.old) }
+        ensures fault { IfErr result (λ fault. fault ≡ Fault.Write) }
+        ensures same { self.new ≡ self.old }
+    {
+        self.own.write(at, output)
+    }
+
+    /// Appends what the text at a place has of its own. The only fault is [`Fault::Memory`], after which a part of it may
+    /// have been appended.
+    pub fn append_own(&mut self, alloc: Global, at: usize, line: &mut Line) -> Result<(), Fault>
+        requires { at < length self.old.own }
+        ensures ok { OnOk result (line.new ≡ line.old ++ get_or self.old.own at []) }
+        ensures fault { IfErr result (λ fault. fault ≡ Fault.Memory) }
+        ensures same { self.new ≡ self.old }
+    {
+        self.own.append(alloc, at, line)
+    }
+
     /// Appends the text at a place. The only fault is [`Fault::Memory`], after which a part of the text may have been
     /// appended.
-    pub fn append_to(&self, at: usize, line: &mut Line) -> Result<(), Fault>
-        requires { at < length self.now.own }
-        ensures ok { OnOk result (line.new ≡ line.old ++ (get_or self.now.own at [] ++ self.now.common)) }
+    pub fn append_to(&mut self, alloc: Global, at: usize, line: &mut Line) -> Result<(), Fault>
+        requires { at < length self.old.own }
+        ensures ok { OnOk result (line.new ≡ line.old ++ (get_or self.old.own at [] ++ self.old.common)) }
         ensures fault { IfErr result (λ fault. fault ≡ Fault.Memory) }
+        ensures same { self.new ≡ self.old }
     {
-        line.append(self.own(at))?;
+        self.append_own(alloc, at, line)?;
         line.append(self.common())?;
         Ok(())
     }

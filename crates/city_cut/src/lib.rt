@@ -10,6 +10,7 @@ mod cutting;
 mod documents;
 mod families;
 mod features;
+mod gathering;
 mod headers;
 mod held;
 mod keeping;
@@ -20,6 +21,7 @@ mod objects;
 mod quick;
 mod reach;
 mod relabelling;
+mod rosters;
 mod values;
 
 pub use cuts::{Cut, CutTexts, Features};

@@ -9,12 +9,16 @@ mod headers;
 mod holders;
 mod items;
 mod kin;
+pub(crate) mod made;
 mod members;
+mod notes;
 mod numbers;
 mod objects;
 mod overview;
 mod points;
+mod ranges;
 mod short_parts;
+mod skeletons;
 mod texts;
 pub(crate) mod triples;
 
@@ -38,7 +42,8 @@ ghost use Rattle.city_cut.specs.Cut.{AreFeatures, IsCut, IsCuttable};
 ghost use Rattle.city_cut.specs.Families.{AreRelated};
 ghost use Rattle.city_cut.specs.FeatureText.{tail_text};
 ghost use Rattle.city_cut.specs.HeldTexts.{texts_in};
-ghost use Rattle.city_cut.specs.Overviews.{HasChildrenIn, HasParentsIn};
+ghost use Rattle.city_cut.specs.Overviews.{AreHolders, HasChildrenIn, HasParentsIn};
+ghost use Rattle.city_cut.specs.OwnFeatures.{AreOwnTexts};
 ghost use Rattle.city_cut.specs.Search.{InRange};
 ghost use Rattle.city_cut.specs.Lines.{texts_of};
 ghost use Rattle.city_feature.specs.Texts.{IsCompactOf};
@@ -50,12 +55,15 @@ use crate::held::FeatureTexts;
 use byte_streams::Line;
 use city_feature::{between, part_named};
 use city_json::{Part, Span, compact_lent};
-use features::{check_objects, feature_texts};
+use features::feature_texts;
 use graph::{graph_of, table_of};
 use headers::header_of;
+use holders::ShortHeld;
+use made::MadeTexts;
 use overview::{Overview, overview_of};
 use points::{VertexTexts, starts_of, write_anew};
 use short_parts::ShortPart;
+use skeletons::skeletons_of;
 use std::alloc::Global;
 use texts::{append_text, is_absent, member_or};
 use triples::{starts_of_triples, triples_text};
@@ -123,6 +131,31 @@ fn kin_of(
     })
 }
 
+/// What the texts of the features have of their own that the families of the objects are, made when they are asked for.
+/// `None`: undecided.
+fn made_texts(
+    alloc: Global,
+    text: &[u8],
+    places: &[ShortPart],
+    held: &[ShortHeld],
+    vertices: &VertexTexts<'_>,
+    kin: Kin,
+) -> Option<MadeTexts>
+    requires holders { AreHolders text.now places.now held.now }
+    requires places { length kin.children.items ≡ length places.now }
+    requires graph { InRange kin.children.items (length kin.children.items) }
+    requires parents { length kin.parents.items ≡ length kin.children.items }
+    ensures { IfSome result (λ own. (pairs : List (List ℕ × Tree)) (appearance : Option Tree) (points : List Triple)
+        → StandAt vertices.now.text.now vertices.now.starts.items points
+        → IsCompactOf text.now (object (member_trees pairs)) → AreParts 1 places.now (member_trees pairs)
+        → AreRelated pairs kin.children.items kin.parents.items
+        → AreOwnTexts (member_trees pairs) appearance points own) }
+{
+    let count = vertices.starts.len().saturating_sub(1);
+    let skeletons = skeletons_of(alloc, text, places, held, count)?;
+    MadeTexts::new(alloc, skeletons, vertices, kin)
+}
+
 /// The texts of the features of the city objects whose compact text this is, on these vertices. Each ends in `tail`.
 fn texts_on(
     alloc: Global,
@@ -151,10 +184,13 @@ fn texts_on(
         held,
     } = overview_of(alloc, objects)?;
     let kin = kin_of(alloc, objects, &places, parents, &children)?;
-    if kin.meets {
-        check_objects(alloc, objects, &places, &held, vertices)?;
+    if !kin.meets {
+        if let Some(own) = feature_texts(alloc, objects, &places, &held, vertices, &kin)? {
+            return Some(FeatureTexts::new(own, tail));
+        }
     }
-    feature_texts(alloc, objects, &places, &held, vertices, tail, &kin)
+    let own = made_texts(alloc, objects, &places, &held, vertices, kin)?;
+    Some(FeatureTexts::made(own, tail))
 }
 
 /// Cuts the document into features on these vertices, which are its own.

@@ -58,11 +58,11 @@ pub fn cat_source<R: Source, W: Sink>(
     ensures reads { R.failures source.new
         ≡ failed_reads_after_filter result (R.failures source.old) }
 {
-    let stream = match take_stream(alloc, source) {
+    let mut stream = match take_stream(alloc, source) {
         Ok(stream) => stream,
         Err(fault) => return Err(MergeFault::of_line(0, fault)),
     };
-    match write_stream(&stream, output) {
+    match write_stream(&mut stream, output) {
         Ok(()) => Ok(stream.texts.len() as u64),
         Err(_) => Err(MergeFault::of_no_line(Fault::Write)),
     }

@@ -171,8 +171,8 @@ impl<R: Source> TileReader<R> {
         if self.held.texts.len() == 0 {
             return Ok(ReadyTexts::none(alloc));
         }
-        let held = mem::replace(&mut self.held.texts, FeatureTexts::none(alloc));
-        match texts_of(alloc, &held, shift, choice) {
+        let mut held = mem::replace(&mut self.held.texts, FeatureTexts::none(alloc));
+        match texts_of(alloc, &mut held, shift, choice) {
             Ok(texts) => Ok(texts),
             Err(fault) => Err(LineFault {
                 line: self.held.line,

@@ -1,9 +1,11 @@
-//! Boundaries copied with numbers of their own at their leaves.
-ghost use Rattle.std.specs.Prelude.{◌≡◌, ◌<◌, ◌≤◌, ◌++◌, ◌-◌, length, drop, slice_range, slice_index, IfSome, OnSome, IsTrue, ◌⊎◌};
+//! Boundaries copied with labels of their own at their leaves.
+ghost use Rattle.std.specs.Prelude.{◌≡◌, ◌<◌, ◌≤◌, ◌++◌, ◌-◌, ℕ, length, drop, slice_range, slice_index, IfSome, OnSome, IsTrue, ◌⊎◌};
 ghost use Rattle.std.specs.Fmt.{decimal};
 ghost use Rattle.city_json.specs.Bytes.{comma, close_bracket};
 ghost use Rattle.city_json.specs.Compacting.{shown};
-ghost use Rattle.city_cut.specs.Copied.{Copies, CopiesItems, CopiesPart};
+ghost use Rattle.city_cut.specs.Copied.{CopiesItems, CopiesPart};
+ghost use Rattle.city_cut.specs.NumberWalks.{NumberLabelled};
+ghost use Rattle.city_cut.specs.Walks.{Labelling, Walks};
 
 use super::numbers::{append_between, append_number};
 use crate::numbering::Numbering;
@@ -59,41 +61,93 @@ fn put_number(text: &[u8], at: usize, end: usize, number: usize, draft: &mut Dra
     Some(())
 }
 
+/// What is put in place of the leaves of boundaries that are copied.
+pub(super) trait Labels {
+    // How many vertices there are.
+    ghost count: { Self → ℕ };
+
+    // What was done at a leaf.
+    ghost labelled: { Labelling Self };
+
+    /// How many vertices there are.
+    fn count(&self) -> usize
+        ensures { result ≡ count self.now };
+
+    /// Copies the text up to `at`, and puts a vertex's label in place of what stands there up to `end`.
+    fn label(
+        &mut self,
+        text: &[u8],
+        at: usize,
+        end: usize,
+        vertex: usize,
+        draft: &mut Draft,
+    ) -> Option<()>
+        requires within { at ≤ length text.now }
+        requires known { vertex < count self.old }
+        ensures count { OnSome result (count self.new ≡ count self.old) }
+        ensures from { OnSome result (draft.new.from ≡ end) }
+        ensures labelled { OnSome result (labelled self.old
+            (shown draft.old.line text.now draft.old.from at) self.new draft.new.line vertex) };
+}
+
+/// Each vertex has the number that it has, or the next one.
+impl Labels for Numbering {
+    ghost count = { λ numbering. length numbering.table.items };
+
+    ghost labelled = { NumberLabelled };
+
+    #[inline(always)]
+    fn count(&self) -> usize {
+        self.table.len()
+    }
+
+    #[inline(always)]
+    fn label(
+        &mut self,
+        text: &[u8],
+        at: usize,
+        end: usize,
+        vertex: usize,
+        draft: &mut Draft,
+    ) -> Option<()> {
+        let Ok(_) = self.note(vertex) else {
+            return None;
+        };
+        put_number(text, at, end, self.table[vertex], draft)
+    }
+}
+
 /// The leaf at `at`: where it ends.
 #[inline(always)]
-fn copy_leaf(text: &[u8], at: usize, numbering: &mut Numbering, draft: &mut Draft) -> Option<usize>
+fn copy_leaf<L: Labels>(text: &[u8], at: usize, labels: &mut L, draft: &mut Draft) -> Option<usize>
     requires { at ≤ length text.now }
     ensures onward { IfSome result (λ end. at < end) }
     ensures within { IfSome result (λ end. end ≤ length text.now) }
     ensures copied { IfSome result (λ end. draft.new.from ≤ end) }
-    ensures long { OnSome result (length numbering.new.table.items ≡ length numbering.old.table.items) }
-    ensures made { IfSome result (λ end. CopiesPart (length numbering.old.table.items)
-        (drop at text.now) (drop end text.now) (Copies numbering.old.table.items numbering.old.order.items
-        (shown draft.old.line text.now draft.old.from at) numbering.new.table.items numbering.new.order.items
+    ensures count { OnSome result (L.count labels.new ≡ L.count labels.old) }
+    ensures made { IfSome result (λ end. CopiesPart (L.count labels.old)
+        (drop at text.now) (drop end text.now) (Walks L.labelled labels.old
+        (shown draft.old.line text.now draft.old.from at) labels.new
         (shown draft.new.line text.now draft.new.from end))) }
 {
     let digits = number_at(text, at)?;
     if !ends_item(text, digits.end) {
         return None;
     }
-    if digits.size >= numbering.table.len() as u64 {
+    if digits.size >= labels.count() as u64 {
         return None;
     }
-    let vertex = digits.size as usize;
-    let Ok(_) = numbering.note(vertex) else {
-        return None;
-    };
-    put_number(text, at, digits.end, numbering.table[vertex], draft)?;
+    labels.label(text, at, digits.end, digits.size as usize, draft)?;
     Some(digits.end)
 }
 
 /// A part of a boundary at `at`: where it ends.
 #[cycle(copy)]
-fn copy_part(
+fn copy_part<L: Labels>(
     text: &[u8],
     at: usize,
     levels: usize,
-    numbering: &mut Numbering,
+    labels: &mut L,
     draft: &mut Draft,
 ) -> Option<usize>
     requires within { at ≤ length text.now }
@@ -101,28 +155,28 @@ fn copy_part(
     ensures onward { IfSome result (λ end. at < end) }
     ensures within { IfSome result (λ end. end ≤ length text.now) }
     ensures copied { IfSome result (λ end. draft.new.from ≤ end) }
-    ensures long { OnSome result (length numbering.new.table.items ≡ length numbering.old.table.items) }
-    ensures made { IfSome result (λ end. CopiesPart (length numbering.old.table.items)
-        (drop at text.now) (drop end text.now) (Copies numbering.old.table.items numbering.old.order.items
-        (shown draft.old.line text.now draft.old.from at) numbering.new.table.items numbering.new.order.items
+    ensures count { OnSome result (L.count labels.new ≡ L.count labels.old) }
+    ensures made { IfSome result (λ end. CopiesPart (L.count labels.old)
+        (drop at text.now) (drop end text.now) (Walks L.labelled labels.old
+        (shown draft.old.line text.now draft.old.from at) labels.new
         (shown draft.new.line text.now draft.new.from end))) }
 {
     if !byte_is(text, at, b'[') {
-        return copy_leaf(text, at, numbering, draft);
+        return copy_leaf(text, at, labels, draft);
     }
     if levels == 0 {
         return None;
     }
-    copy_items(text, at + 1, levels - 1, numbering, draft)
+    copy_items(text, at + 1, levels - 1, labels, draft)
 }
 
 /// The parts after an opening bracket, and the closing one: where it ends.
 #[cycle(copy)]
-pub(super) fn copy_items(
+pub(super) fn copy_items<L: Labels>(
     text: &[u8],
     at: usize,
     levels: usize,
-    numbering: &mut Numbering,
+    labels: &mut L,
     draft: &mut Draft,
 ) -> Option<usize>
     requires within { at ≤ length text.now }
@@ -130,10 +184,10 @@ pub(super) fn copy_items(
     ensures onward { IfSome result (λ end. at < end) }
     ensures within { IfSome result (λ end. end ≤ length text.now) }
     ensures copied { IfSome result (λ end. draft.new.from ≤ end) }
-    ensures long { OnSome result (length numbering.new.table.items ≡ length numbering.old.table.items) }
-    ensures made { IfSome result (λ end. CopiesItems (length numbering.old.table.items)
-        (drop at text.now) (drop end text.now) (Copies numbering.old.table.items numbering.old.order.items
-        (shown draft.old.line text.now draft.old.from at) numbering.new.table.items numbering.new.order.items
+    ensures count { OnSome result (L.count labels.new ≡ L.count labels.old) }
+    ensures made { IfSome result (λ end. CopiesItems (L.count labels.old)
+        (drop at text.now) (drop end text.now) (Walks L.labelled labels.old
+        (shown draft.old.line text.now draft.old.from at) labels.new
         (shown draft.new.line text.now draft.new.from end))) }
 {
     if byte_is(text, at, b']') {
@@ -141,7 +195,7 @@ pub(super) fn copy_items(
     }
     let mut i = at;
     'items: loop {
-        let end = copy_part(text, i, levels, numbering, draft)?;
+        let end = copy_part(text, i, levels, labels, draft)?;
         if byte_is(text, end, b']') {
             return Some(end + 1);
         }

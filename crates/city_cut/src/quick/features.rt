@@ -18,6 +18,7 @@ ghost use Rattle.city_cut.specs.FeatureText.{head_text, middle_text, tail_text};
 ghost use Rattle.city_cut.specs.Leaves.{leaves};
 ghost use Rattle.city_cut.specs.HeldTexts.{HasGrown, texts_in};
 ghost use Rattle.city_cut.specs.Lines.{texts_of};
+ghost use Rattle.city_cut.specs.OwnFeatures.{AreOwnTexts};
 ghost use Rattle.city_cut.specs.Overviews.{AreHolders};
 ghost use Rattle.city_cut.specs.Places.{IsFamily, name_at};
 ghost use Rattle.city_cut.specs.Search.{InRange};
@@ -31,7 +32,7 @@ use super::points::{VertexTexts, append_points};
 use super::short_parts::ShortPart;
 use super::texts::append_text;
 use crate::families::{Family, Kin, family_at, no_marks};
-use crate::held::FeatureTexts;
+use crate::held::Pieces;
 use crate::numbering::Numbering;
 use byte_streams::Line;
 use city_feature::between;
@@ -226,62 +227,42 @@ fn no_numbers(alloc: Global, vertices: &VertexTexts<'_>) -> Option<Numbering>
     })
 }
 
-/// Looks at the boundaries of each object once. `None`: undecided.
-pub(super) fn check_objects(
-    alloc: Global,
-    text: &[u8],
-    parts: &[ShortPart],
-    held: &[ShortHeld],
-    vertices: &VertexTexts<'_>,
-) -> Option<()>
-    requires { AreHolders text.now parts.now held.now }
-    ensures { OnSome result ((pairs : List (List ℕ × Tree)) (points : List Triple)
-        → StandAt vertices.now.text.now vertices.now.starts.items points
-        → IsCompactOf text.now (object (member_trees pairs)) → AreParts 1 parts.now (member_trees pairs)
-        → (k : ℕ) → k < length parts.now → IsBounded (length points) (named_at pairs k).1) }
-{
-    let mut numbering = no_numbers(alloc, vertices)?;
-    let mut draft = Draft {
-        line: Line::new(alloc),
-        from: 0,
-    };
-    for at in 0..parts.len() {
-        draft.line.truncate(0);
-        append_named(alloc, text, parts, held, at, &mut numbering, &mut draft)?;
-    }
-    Some(())
+/// How many bytes the fixed text of a feature has at most.
+const FIXED_LEN: usize = 64;
+
+/// How many bytes the texts of features may have that are held: each object and each vertex may stand in them twice.
+fn most_held(text: &[u8], parts: &[ShortPart], vertices: &VertexTexts<'_>) -> usize {
+    (text.len() + vertices.text.len())
+        .saturating_mul(2)
+        .saturating_add(parts.len().saturating_mul(FIXED_LEN))
 }
 
-/// The texts of the features that the families of the objects are. Each ends in `tail`. No more than one family is held.
+/// What the texts of the features that the families of the objects are have of their own. No more than one family is held.
+/// `None`: undecided; nothing in it: there is too much of it to be held.
 pub(super) fn feature_texts(
     alloc: Global,
     text: &[u8],
     parts: &[ShortPart],
     held: &[ShortHeld],
     vertices: &VertexTexts<'_>,
-    tail: Line,
     kin: &Kin,
-) -> Option<FeatureTexts>
+) -> Option<Option<Pieces>>
     requires holders { AreHolders text.now parts.now held.now }
     requires graph { InRange kin.now.children.items (length kin.now.children.items) }
     requires parents { length kin.now.parents.items ≡ length kin.now.children.items }
-    ensures { IfSome result (λ texts. (pairs : List (List ℕ × Tree)) (appearance : Option Tree) (points : List Triple)
+    ensures { IfSome result (λ found. IfSome found (λ own.
+        (pairs : List (List ℕ × Tree)) (appearance : Option Tree) (points : List Triple)
         → StandAt vertices.now.text.now vertices.now.starts.items points
         → IsCompactOf text.now (object (member_trees pairs)) → AreParts 1 parts.now (member_trees pairs)
         → AreRelated pairs kin.now.children.items kin.now.parents.items
-        → tail ≡ tail_text appearance
-        → (features : List FeatureValue)
-        × (texts_in texts ≡ texts_of features)
-        × AreFeatures (member_trees pairs) appearance points features
-        × ((id name : List ℕ) (value : Tree) → Contains (roots (member_trees pairs)) id
-        → IsReached (member_trees pairs) id name → first_named name (member_trees pairs) ≡ Some value
-        → IsBounded (length points) value)) }
+        → AreOwnTexts (member_trees pairs) appearance points own)) }
 {
     let mut numbering = no_numbers(alloc, vertices)?;
     let mut draft = Draft {
         line: Line::from_vec(Vec::with_capacity(alloc, text.len()).ok()?),
         from: 0,
     };
+    let most = most_held(text, parts, vertices);
     let mut ends = Vec::with_capacity(alloc, parts.len()).ok()?;
     let Ok(mut marks) = no_marks(alloc, kin) else {
         return None;
@@ -305,6 +286,9 @@ pub(super) fn feature_texts(
             &mut draft,
         )?;
         note_end(before, &draft.line, &mut ends)?;
+        if draft.line.items().len() > most {
+            return Some(None);
+        }
     }
-    Some(FeatureTexts::new(draft.line, ends, tail))
+    Some(Some(Pieces::new(draft.line, ends)))
 }

@@ -1,4 +1,4 @@
-//! Geometries and addresses, copied with numbers of their own at the leaves of their boundaries.
+//! Geometries and addresses, copied with labels of their own at the leaves of their boundaries.
 ghost use Rattle.std.specs.Prelude.{◌≡◌, ◌++◌, ◌≤◌, ◌<◌, ◌⊎◌, ◌∷◌, [], ℕ, List, length, drop, take, slice_index, slice_range, IfSome, OnSome, IsTrue, codes};
 ghost use Rattle.std.specs.List.{flat_map};
 ghost use Rattle.city_json.specs.Bytes.{close_brace, colon, comma};
@@ -10,17 +10,16 @@ ghost use Rattle.city_json.specs.Writable.{IsWritable};
 ghost use Rattle.city_json.specs.declared.compacting.parts.Part.{Part};
 ghost use Rattle.city_cut.specs.Boundaries.{IsAddress, IsGeometry, address_boundary, in_member, own_boundary};
 ghost use Rattle.city_cut.specs.Boundaries.{relabelled_boundary};
-ghost use Rattle.city_cut.specs.Copied.{Copies};
 ghost use Rattle.city_cut.specs.FrontMembers.{HasFrontParts, IsValuePlace};
 ghost use Rattle.city_cut.specs.Holders.{AreHeld, IsHeld, boundary_in, held_uses, relabelled_held, relabelled_in};
 ghost use Rattle.city_cut.specs.Leaves.{IsBoundary, leaves, relabelled};
+ghost use Rattle.city_cut.specs.Walks.{Walks};
 ghost use Rattle.city_feature.specs.Texts.{IsCompactOf};
 
-use super::drafts::{Draft, copy_items};
+use super::drafts::{Draft, Labels, copy_items};
 use super::holders::Holder;
 use super::members::{end_after, members_at, value_place};
 use super::texts::{append_back, append_front, append_text, is_absent, parts_of};
-use crate::numbering::Numbering;
 use city_feature::{between, part_named};
 use city_grid::byte_is;
 use city_json::{Part, members_of_compact, value_end};
@@ -42,19 +41,18 @@ fn ends_member(text: &[u8], at: usize) -> bool
 }
 
 /// Copies a boundary.
-fn append_boundary(text: &[u8], numbering: &mut Numbering, draft: &mut Draft) -> Option<()>
-    ensures long { OnSome result (length numbering.new.table.items ≡ length numbering.old.table.items) }
+fn append_boundary<L: Labels>(text: &[u8], labels: &mut L, draft: &mut Draft) -> Option<()>
+    ensures count { OnSome result (L.count labels.new ≡ L.count labels.old) }
     ensures made { OnSome result ((value : Tree) → IsWritable value → text.now ≡ compact value
-        → IsBoundary (length numbering.old.table.items) value
-        × Copies numbering.old.table.items numbering.old.order.items draft.old.line
-        numbering.new.table.items numbering.new.order.items draft.new.line
+        → IsBoundary (L.count labels.old) value
+        × Walks L.labelled labels.old draft.old.line labels.new draft.new.line
         (leaves value) (λ change. compact (relabelled change value))) }
 {
     if !byte_is(text, 0, b'[') {
         return None;
     }
     draft.from = 0;
-    let end = copy_items(text, 1, MAX_LEVELS, numbering, draft)?;
+    let end = copy_items(text, 1, MAX_LEVELS, labels, draft)?;
     if end < text.len() {
         return None;
     }
@@ -63,18 +61,17 @@ fn append_boundary(text: &[u8], numbering: &mut Numbering, draft: &mut Draft) ->
 }
 
 /// Copies a geometry, whose members lie in these parts.
-fn append_listed(
+fn append_listed<L: Labels>(
     text: &[u8],
     parts: &[Part],
-    numbering: &mut Numbering,
+    labels: &mut L,
     draft: &mut Draft,
 ) -> Option<()>
     requires { HasParts text.now parts.now }
-    ensures long { OnSome result (length numbering.new.table.items ≡ length numbering.old.table.items) }
+    ensures count { OnSome result (L.count labels.new ≡ L.count labels.old) }
     ensures made { OnSome result ((value : Tree) → IsCompactOf text.now value
-        → IsGeometry (length numbering.old.table.items) value
-        × Copies numbering.old.table.items numbering.old.order.items draft.old.line
-        numbering.new.table.items numbering.new.order.items draft.new.line
+        → IsGeometry (L.count labels.old) value
+        × Walks L.labelled labels.old draft.old.line labels.new draft.new.line
         (flat_map leaves (own_boundary value)) (λ change. compact (relabelled_boundary change value))) }
 {
     let Some(part) = part_named(text, parts, b"\"boundaries\":") else {
@@ -85,40 +82,38 @@ fn append_listed(
     };
     let boundary = between(text, part.value, part.end)?;
     append_front(text, &part, &mut draft.line)?;
-    append_boundary(boundary, numbering, draft)?;
+    append_boundary(boundary, labels, draft)?;
     append_back(text, &part, &mut draft.line)
 }
 
 /// Copies a geometry.
-fn append_geometry(
+fn append_geometry<L: Labels>(
     alloc: Global,
     text: &[u8],
-    numbering: &mut Numbering,
+    labels: &mut L,
     draft: &mut Draft,
 ) -> Option<()>
-    ensures long { OnSome result (length numbering.new.table.items ≡ length numbering.old.table.items) }
+    ensures count { OnSome result (L.count labels.new ≡ L.count labels.old) }
     ensures made { OnSome result ((value : Tree) → IsCompactOf text.now value
-        → IsGeometry (length numbering.old.table.items) value
-        × Copies numbering.old.table.items numbering.old.order.items draft.old.line
-        numbering.new.table.items numbering.new.order.items draft.new.line
+        → IsGeometry (L.count labels.old) value
+        × Walks L.labelled labels.old draft.old.line labels.new draft.new.line
         (flat_map leaves (own_boundary value)) (λ change. compact (relabelled_boundary change value))) }
 {
     let parts = members_of_compact(alloc, text)?;
-    append_listed(text, &parts, numbering, draft)
+    append_listed(text, &parts, labels, draft)
 }
 
 /// Copies an address. It may be no object, or its location none: it has no boundary.
-fn append_address(
+fn append_address<L: Labels>(
     alloc: Global,
     text: &[u8],
-    numbering: &mut Numbering,
+    labels: &mut L,
     draft: &mut Draft,
 ) -> Option<()>
-    ensures long { OnSome result (length numbering.new.table.items ≡ length numbering.old.table.items) }
+    ensures count { OnSome result (L.count labels.new ≡ L.count labels.old) }
     ensures made { OnSome result ((value : Tree) → IsCompactOf text.now value
-        → IsAddress (length numbering.old.table.items) value
-        × Copies numbering.old.table.items numbering.old.order.items draft.old.line
-        numbering.new.table.items numbering.new.order.items draft.new.line
+        → IsAddress (L.count labels.old) value
+        × Walks L.labelled labels.old draft.old.line labels.new draft.new.line
         (flat_map leaves (address_boundary value))
         (λ change. compact (in_member (codes "location") (relabelled_boundary change) value))) }
 {
@@ -137,32 +132,31 @@ fn append_address(
         return append_text(text, &mut draft.line);
     }
     append_front(text, &part, &mut draft.line)?;
-    append_geometry(alloc, location, numbering, draft)?;
+    append_geometry(alloc, location, labels, draft)?;
     append_back(text, &part, &mut draft.line)
 }
 
 /// Copies the geometry that stands in front, the boundaries of which begin at `value`: where it ends.
-fn append_walked(
+fn append_walked<L: Labels>(
     text: &[u8],
     value: usize,
-    numbering: &mut Numbering,
+    labels: &mut L,
     draft: &mut Draft,
 ) -> Option<usize>
     requires { IsValuePlace text.now (quoted (codes "boundaries") ++ colon ∷ []) value }
     ensures within { IfSome result (λ end. end ≤ length text.now) }
     ensures is { IfSome result (λ end. (parts : List Part) × HasFrontParts text.now parts end) }
-    ensures long { OnSome result (length numbering.new.table.items ≡ length numbering.old.table.items) }
+    ensures count { OnSome result (L.count labels.new ≡ L.count labels.old) }
     ensures made { IfSome result (λ end. (value : Tree) → IsCompactOf (take end text.now) value
-        → IsGeometry (length numbering.old.table.items) value
-        × Copies numbering.old.table.items numbering.old.order.items draft.old.line
-        numbering.new.table.items numbering.new.order.items draft.new.line
+        → IsGeometry (L.count labels.old) value
+        × Walks L.labelled labels.old draft.old.line labels.new draft.new.line
         (flat_map leaves (own_boundary value)) (λ change. compact (relabelled_boundary change value))) }
 {
     if !byte_is(text, value, b'[') {
         return None;
     }
     draft.from = 0;
-    let boundary_end = copy_items(text, value + 1, MAX_LEVELS, numbering, draft)?;
+    let boundary_end = copy_items(text, value + 1, MAX_LEVELS, labels, draft)?;
     if !ends_member(text, boundary_end) {
         return None;
     }
@@ -173,120 +167,115 @@ fn append_walked(
 }
 
 /// Copies the geometry that begins at `at`, whatever its members: where it ends.
-fn append_any_at(
+fn append_any_at<L: Labels>(
     alloc: Global,
     text: &[u8],
     at: usize,
-    numbering: &mut Numbering,
+    labels: &mut L,
     draft: &mut Draft,
 ) -> Option<usize>
     requires { at ≤ length text.now }
     ensures onward { IfSome result (λ end. at ≤ end) }
     ensures within { IfSome result (λ end. end ≤ length text.now) }
     ensures leaves { IfSome result (λ end. LeavesValue 128 (drop at text.now) (drop end text.now)) }
-    ensures long { OnSome result (length numbering.new.table.items ≡ length numbering.old.table.items) }
+    ensures count { OnSome result (L.count labels.new ≡ L.count labels.old) }
     ensures made { IfSome result (λ end. (value : Tree) → IsCompactOf (slice_range text.now at end) value
-        → IsGeometry (length numbering.old.table.items) value
-        × Copies numbering.old.table.items numbering.old.order.items draft.old.line
-        numbering.new.table.items numbering.new.order.items draft.new.line
+        → IsGeometry (L.count labels.old) value
+        × Walks L.labelled labels.old draft.old.line labels.new draft.new.line
         (flat_map leaves (own_boundary value)) (λ change. compact (relabelled_boundary change value))) }
 {
     let found = members_at(alloc, text, at)?;
-    append_listed(&text[at..found.end], &found.parts, numbering, draft)?;
+    append_listed(&text[at..found.end], &found.parts, labels, draft)?;
     Some(found.end)
 }
 
 /// Copies the geometry that begins at `at`: where it ends.
-fn append_geometry_at(
+fn append_geometry_at<L: Labels>(
     alloc: Global,
     text: &[u8],
     at: usize,
-    numbering: &mut Numbering,
+    labels: &mut L,
     draft: &mut Draft,
 ) -> Option<usize>
     requires { at ≤ length text.now }
     ensures onward { IfSome result (λ end. at ≤ end) }
     ensures within { IfSome result (λ end. end ≤ length text.now) }
     ensures leaves { IfSome result (λ end. LeavesValue 128 (drop at text.now) (drop end text.now)) }
-    ensures long { OnSome result (length numbering.new.table.items ≡ length numbering.old.table.items) }
+    ensures count { OnSome result (L.count labels.new ≡ L.count labels.old) }
     ensures made { IfSome result (λ end. (value : Tree) → IsCompactOf (slice_range text.now at end) value
-        → IsGeometry (length numbering.old.table.items) value
-        × Copies numbering.old.table.items numbering.old.order.items draft.old.line
-        numbering.new.table.items numbering.new.order.items draft.new.line
+        → IsGeometry (L.count labels.old) value
+        × Walks L.labelled labels.old draft.old.line labels.new draft.new.line
         (flat_map leaves (own_boundary value)) (λ change. compact (relabelled_boundary change value))) }
 {
     let geometry = &text[at..];
     let Some(value) = value_place(geometry, b"\"boundaries\":") else {
-        return append_any_at(alloc, text, at, numbering, draft);
+        return append_any_at(alloc, text, at, labels, draft);
     };
-    let end = append_walked(geometry, value, numbering, draft)?;
+    let end = append_walked(geometry, value, labels, draft)?;
     Some(at + end)
 }
 
 /// Copies the address that begins at `at`: where it ends.
-fn append_address_at(
+fn append_address_at<L: Labels>(
     alloc: Global,
     text: &[u8],
     at: usize,
-    numbering: &mut Numbering,
+    labels: &mut L,
     draft: &mut Draft,
 ) -> Option<usize>
     requires { at ≤ length text.now }
     ensures onward { IfSome result (λ end. at ≤ end) }
     ensures within { IfSome result (λ end. end ≤ length text.now) }
     ensures leaves { IfSome result (λ end. LeavesValue 128 (drop at text.now) (drop end text.now)) }
-    ensures long { OnSome result (length numbering.new.table.items ≡ length numbering.old.table.items) }
+    ensures count { OnSome result (L.count labels.new ≡ L.count labels.old) }
     ensures made { IfSome result (λ end. (value : Tree) → IsCompactOf (slice_range text.now at end) value
-        → IsAddress (length numbering.old.table.items) value
-        × Copies numbering.old.table.items numbering.old.order.items draft.old.line
-        numbering.new.table.items numbering.new.order.items draft.new.line
+        → IsAddress (L.count labels.old) value
+        × Walks L.labelled labels.old draft.old.line labels.new draft.new.line
         (flat_map leaves (address_boundary value))
         (λ change. compact (in_member (codes "location") (relabelled_boundary change) value))) }
 {
     let end = value_end(text, at);
-    append_address(alloc, &text[at..end], numbering, draft)?;
+    append_address(alloc, &text[at..end], labels, draft)?;
     Some(end)
 }
 
 /// Copies the geometry or the address that begins at `at`: where it ends.
-fn append_item(
+fn append_item<L: Labels>(
     alloc: Global,
     text: &[u8],
     at: usize,
     holder: Holder,
-    numbering: &mut Numbering,
+    labels: &mut L,
     draft: &mut Draft,
 ) -> Option<usize>
     requires { at ≤ length text.now }
     ensures onward { IfSome result (λ end. at ≤ end) }
     ensures within { IfSome result (λ end. end ≤ length text.now) }
     ensures leaves { IfSome result (λ end. LeavesValue 128 (drop at text.now) (drop end text.now)) }
-    ensures long { OnSome result (length numbering.new.table.items ≡ length numbering.old.table.items) }
+    ensures count { OnSome result (L.count labels.new ≡ L.count labels.old) }
     ensures made { IfSome result (λ end. (value : Tree) → IsCompactOf (slice_range text.now at end) value
-        → IsHeld holder (length numbering.old.table.items) value
-        × Copies numbering.old.table.items numbering.old.order.items draft.old.line
-        numbering.new.table.items numbering.new.order.items draft.new.line
+        → IsHeld holder (L.count labels.old) value
+        × Walks L.labelled labels.old draft.old.line labels.new draft.new.line
         (flat_map leaves (boundary_in holder value)) (λ change. compact (relabelled_in holder change value))) }
 {
     match holder {
-        Holder::Geometry => append_geometry_at(alloc, text, at, numbering, draft),
-        Holder::Address => append_address_at(alloc, text, at, numbering, draft),
+        Holder::Geometry => append_geometry_at(alloc, text, at, labels, draft),
+        Holder::Address => append_address_at(alloc, text, at, labels, draft),
     }
 }
 
 /// Copies an array of geometries or of addresses.
-fn append_items(
+fn append_items<L: Labels>(
     alloc: Global,
     text: &[u8],
     holder: Holder,
-    numbering: &mut Numbering,
+    labels: &mut L,
     draft: &mut Draft,
 ) -> Option<()>
-    ensures long { OnSome result (length numbering.new.table.items ≡ length numbering.old.table.items) }
+    ensures count { OnSome result (L.count labels.new ≡ L.count labels.old) }
     ensures made { OnSome result ((value : Tree) → IsCompactOf text.now value
-        → AreHeld holder (length numbering.old.table.items) value
-        × Copies numbering.old.table.items numbering.old.order.items draft.old.line
-        numbering.new.table.items numbering.new.order.items draft.new.line
+        → AreHeld holder (L.count labels.old) value
+        × Walks L.labelled labels.old draft.old.line labels.new draft.new.line
         (held_uses holder value) (λ change. compact (relabelled_held holder change value))) }
 {
     if !byte_is(text, 0, b'[') {
@@ -301,7 +290,7 @@ fn append_items(
         if at >= text.len() {
             return None;
         }
-        let end = append_item(alloc, text, at, holder, numbering, draft)?;
+        let end = append_item(alloc, text, at, holder, labels, draft)?;
         if byte_is(text, end, b']') {
             return append_text(b"]", &mut draft.line);
         }
@@ -315,22 +304,21 @@ fn append_items(
 
 /// Copies what stands in the member `geometry` or `address` of a city object. An address may be no array: it has no
 /// boundary.
-pub(super) fn append_held(
+pub(super) fn append_held<L: Labels>(
     alloc: Global,
     text: &[u8],
     holder: Holder,
-    numbering: &mut Numbering,
+    labels: &mut L,
     draft: &mut Draft,
 ) -> Option<()>
-    ensures long { OnSome result (length numbering.new.table.items ≡ length numbering.old.table.items) }
+    ensures count { OnSome result (L.count labels.new ≡ L.count labels.old) }
     ensures made { OnSome result ((value : Tree) → IsCompactOf text.now value
-        → AreHeld holder (length numbering.old.table.items) value
-        × Copies numbering.old.table.items numbering.old.order.items draft.old.line
-        numbering.new.table.items numbering.new.order.items draft.new.line
+        → AreHeld holder (L.count labels.old) value
+        × Walks L.labelled labels.old draft.old.line labels.new draft.new.line
         (held_uses holder value) (λ change. compact (relabelled_held holder change value))) }
 {
     if byte_is(text, 0, b'[') {
-        return append_items(alloc, text, holder, numbering, draft);
+        return append_items(alloc, text, holder, labels, draft);
     }
     let Holder::Address = holder else {
         return None;

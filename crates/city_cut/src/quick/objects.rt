@@ -13,9 +13,10 @@ ghost use Rattle.city_cut.specs.Copied.{Copies, Numbers};
 ghost use Rattle.city_cut.specs.Holders.{AreHeld, held_uses, name_of, other_than, relabelled_held};
 ghost use Rattle.city_cut.specs.Leaves.{leaves};
 ghost use Rattle.city_cut.specs.Overviews.{HasHolders};
+ghost use Rattle.city_cut.specs.Walks.{Walks};
 ghost use Rattle.city_feature.specs.Texts.{IsCompactOf};
 
-use super::drafts::Draft;
+use super::drafts::{Draft, Labels};
 use super::holders::{HeldParts, Holder};
 use super::items::append_held;
 use super::texts::{append_back, append_front, append_text};
@@ -25,52 +26,50 @@ use city_json::Part;
 use std::alloc::Global;
 
 /// Copies an object in which boundaries stand in one member.
-fn append_one(
+pub(super) fn append_one<L: Labels>(
     alloc: Global,
     text: &[u8],
     part: &Part,
     holder: Holder,
-    numbering: &mut Numbering,
+    labels: &mut L,
     draft: &mut Draft,
 ) -> Option<()>
-    ensures long { OnSome result (length numbering.new.table.items ≡ length numbering.old.table.items) }
+    ensures count { OnSome result (L.count labels.new ≡ L.count labels.old) }
     ensures made { OnSome result ((parts : List Part) (members : MemberTrees)
         → IsCompactOf text.now (object members) → AreParts 1 parts members
         → IsPartNamed text.now parts (quoted (name_of holder) ++ colon ∷ []) part.now
         → (value : Tree) × (first_named (name_of holder) members ≡ Some value)
-        × AreHeld holder (length numbering.old.table.items) value
-        × Copies numbering.old.table.items numbering.old.order.items draft.old.line
-        numbering.new.table.items numbering.new.order.items draft.new.line
+        × AreHeld holder (L.count labels.old) value
+        × Walks L.labelled labels.old draft.old.line labels.new draft.new.line
         (held_uses holder value)
         (λ change. compact (object (changed_members (name_of holder) (relabelled_held holder change) members)))) }
 {
     let held = between(text, part.value, part.end)?;
     append_front(text, part, &mut draft.line)?;
-    append_held(alloc, held, holder, numbering, draft)?;
+    append_held(alloc, held, holder, labels, draft)?;
     append_back(text, part, &mut draft.line)
 }
 
 /// Copies an object in which boundaries may stand in two members. The first part is that of `holder`.
-fn append_two(
+pub(super) fn append_two<L: Labels>(
     alloc: Global,
     text: &[u8],
     first: &Part,
     second: &Part,
     holder: Holder,
-    numbering: &mut Numbering,
+    labels: &mut L,
     draft: &mut Draft,
 ) -> Option<()>
-    ensures long { OnSome result (length numbering.new.table.items ≡ length numbering.old.table.items) }
+    ensures count { OnSome result (L.count labels.new ≡ L.count labels.old) }
     ensures made { OnSome result ((parts : List Part) (members : MemberTrees)
         → IsCompactOf text.now (object members) → AreParts 1 parts members
         → IsPartNamed text.now parts (quoted (name_of holder) ++ colon ∷ []) first.now
         → IsPartNamed text.now parts (quoted (name_of (other_than holder)) ++ colon ∷ []) second.now
         → (value other : Tree) × (first_named (name_of holder) members ≡ Some value)
         × (first_named (name_of (other_than holder)) members ≡ Some other)
-        × AreHeld holder (length numbering.old.table.items) value
-        × AreHeld (other_than holder) (length numbering.old.table.items) other
-        × Copies numbering.old.table.items numbering.old.order.items draft.old.line
-        numbering.new.table.items numbering.new.order.items draft.new.line
+        × AreHeld holder (L.count labels.old) value
+        × AreHeld (other_than holder) (L.count labels.old) other
+        × Walks L.labelled labels.old draft.old.line labels.new draft.new.line
         (held_uses holder value ++ held_uses (other_than holder) other)
         (λ change. compact (object (changed_members (name_of holder) (relabelled_held holder change)
         (changed_members (name_of (other_than holder)) (relabelled_held (other_than holder) change) members))))) }
@@ -79,9 +78,9 @@ fn append_two(
     let middle = between(text, first.end, second.value)?;
     let others = between(text, second.value, second.end)?;
     append_front(text, first, &mut draft.line)?;
-    append_held(alloc, held, holder, numbering, draft)?;
+    append_held(alloc, held, holder, labels, draft)?;
     append_text(middle, &mut draft.line)?;
-    append_held(alloc, others, holder.other(), numbering, draft)?;
+    append_held(alloc, others, holder.other(), labels, draft)?;
     append_back(text, second, &mut draft.line)
 }
 

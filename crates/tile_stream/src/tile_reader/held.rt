@@ -1,4 +1,4 @@
-ghost use Rattle.std.specs.Prelude.{◌≡◌, ◌≤◌, ◌<◌, ◌⊎◌, ◌++◌, [], ℕ, List, IfOk, IfErr, IsTrue, OnOk, length, get_or, option_map, option_to_list};
+ghost use Rattle.std.specs.Prelude.{◌≡◌, ◌≤◌, ◌<◌, ◌⊎◌, ◌++◌, [], ℕ, List, IfOk, IfErr, IfSome, IsTrue, OnOk, length, get_or, option_map, option_to_list};
 ghost use Rattle.city_cut.specs.HeldTexts.{texts_in};
 ghost use Rattle.city_feature.specs.Choice.{IsChosen};
 ghost use Rattle.city_feature.specs.Ended.{IsAppearanceEnd};
@@ -28,22 +28,22 @@ pub(crate) struct Held {
 /// [`Fault::VertexRange`] where one of them cannot be moved so, and [`Fault::Memory`].
 pub(crate) fn texts_of(
     alloc: Global,
-    held: &FeatureTexts,
+    held: &mut FeatureTexts,
     shift: Shift,
     choice: &Choice,
 ) -> Result<ReadyTexts, Fault>
-    requires some { 0 < length held.now.own }
+    requires some { 0 < length held.old.own }
     ensures ok { IfOk result (λ texts.
-        LinesGive (IsChosen choice.now) shift (texts_in held.now) texts) }
-    ensures fewer { IfOk result (λ texts. length texts ≤ length (texts_in held.now)) }
-    ensures refused { IfErr result (λ fault. RefusesLines shift fault (texts_in held.now)) }
+        LinesGive (IsChosen choice.now) shift (texts_in held.old) texts) }
+    ensures fewer { IfOk result (λ texts. length texts ≤ length (texts_in held.old)) }
+    ensures refused { IfErr result (λ fault. RefusesLines shift fault (texts_in held.old)) }
 {
     let shares = is_appearance_end(alloc, held.common());
     let mut texts = Vec::new(alloc);
-    let mut buffer = Line::new(alloc);
+    let mut buffers = Buffers::new(alloc);
     let mut at = 0usize;
     'held: while at < held.len() {
-        let given = text_at(alloc, held, at, shares, shift, choice, &mut buffer)?;
+        let given = text_at(alloc, held, at, shares, shift, choice, &mut buffers)?;
         push_given(given, &mut texts)?;
         at += 1;
     }
@@ -71,49 +71,93 @@ fn sharing(own: Option<Line>) -> Option<ReadyText>
     Some(ReadyText { own, shares: true })
 }
 
+/// Lines to reuse: what they hold is lost.
+#[derive(Drop)]
+struct Buffers {
+    /// For a text that is put together.
+    line: Line,
+    /// For what a text has of its own, where that is made.
+    own: Line,
+}
+
+impl Buffers {
+    fn new(alloc: Global) -> Buffers {
+        Buffers {
+            line: Line::new(alloc),
+            own: Line::new(alloc),
+        }
+    }
+}
+
+/// What [`own_text`] gives of the text at a place up to the end that all share, which is an appearance.
+fn own_at(
+    alloc: Global,
+    held: &mut FeatureTexts,
+    at: usize,
+    shift: Shift,
+    choice: &Choice,
+    buffers: &mut Buffers,
+) -> Result<Option<Option<Line>>, Fault>
+    requires { at < length held.old.own }
+    ensures given { IfOk result (λ found. IfSome found (λ given. (end : List ℕ) → IsAppearanceEnd end
+        → GivesFeature (IsChosen choice.now) shift (get_or held.old.own at [] ++ end)
+        (option_map (λ front. front ++ end) given))) }
+    ensures fault { IfErr result (λ fault. fault ≡ Fault.Memory) }
+    ensures same { held.new ≡ held.old }
+{
+    if let Some(own) = held.held(at) {
+        return Ok(own_text(alloc, own, shift, choice, &mut buffers.line));
+    }
+    buffers.own.truncate(0);
+    held.append_own(alloc, at, &mut buffers.own)?;
+    Ok(own_text(alloc, buffers.own.items(), shift, choice, &mut buffers.line))
+}
+
 /// The text of the feature at a place, where it is chosen when it is moved by the shift. Where all end in an appearance, as
-/// `shares` says, it is mostly found with no look at that. What `buffer` held is lost.
+/// `shares` says, it is mostly found with no look at that.
 fn text_at(
     alloc: Global,
-    held: &FeatureTexts,
+    held: &mut FeatureTexts,
     at: usize,
     shares: bool,
     shift: Shift,
     choice: &Choice,
-    buffer: &mut Line,
+    buffers: &mut Buffers,
 ) -> Result<Option<ReadyText>, Fault>
-    requires within { at < length held.now.own }
-    requires shares { IsTrue shares → IsAppearanceEnd held.now.common }
-    ensures ok { IfOk result (λ given. GivesFeature (IsChosen choice.now) shift (get_or (texts_in held.now) at [])
-        (option_map (text_ready held.now.common) given)) }
+    requires within { at < length held.old.own }
+    requires shares { IsTrue shares → IsAppearanceEnd held.old.common }
+    ensures ok { IfOk result (λ given. GivesFeature (IsChosen choice.now) shift (get_or (texts_in held.old) at [])
+        (option_map (text_ready held.old.common) given)) }
     ensures refused { IfErr result (λ fault. (fault ≡ Fault.Memory)
-        ⊎ RefusesFeatureLine shift fault (get_or (texts_in held.now) at [])) }
+        ⊎ RefusesFeatureLine shift fault (get_or (texts_in held.old) at [])) }
+    ensures same { held.new ≡ held.old }
 {
     if shares {
-        if let Some(own) = own_text(alloc, held.own(at), shift, choice, buffer) {
+        if let Some(own) = own_at(alloc, held, at, shift, choice, buffers)? {
             return Ok(sharing(own));
         }
     }
-    whole_at(alloc, held, at, shift, choice, buffer)
+    whole_at(alloc, held, at, shift, choice, &mut buffers.line)
 }
 
 /// The same of the whole text, put together in the buffer.
 fn whole_at(
     alloc: Global,
-    held: &FeatureTexts,
+    held: &mut FeatureTexts,
     at: usize,
     shift: Shift,
     choice: &Choice,
     buffer: &mut Line,
 ) -> Result<Option<ReadyText>, Fault>
-    requires { at < length held.now.own }
-    ensures ok { IfOk result (λ given. GivesFeature (IsChosen choice.now) shift (get_or (texts_in held.now) at [])
-        (option_map (text_ready held.now.common) given)) }
+    requires { at < length held.old.own }
+    ensures ok { IfOk result (λ given. GivesFeature (IsChosen choice.now) shift (get_or (texts_in held.old) at [])
+        (option_map (text_ready held.old.common) given)) }
     ensures refused { IfErr result (λ fault. (fault ≡ Fault.Memory)
-        ⊎ RefusesFeatureLine shift fault (get_or (texts_in held.now) at [])) }
+        ⊎ RefusesFeatureLine shift fault (get_or (texts_in held.old) at [])) }
+    ensures same { held.new ≡ held.old }
 {
     buffer.truncate(0);
-    held.append_to(at, buffer)?;
+    held.append_to(alloc, at, buffer)?;
     line_text(alloc, buffer.items(), shift, choice, held.common())
 }
 

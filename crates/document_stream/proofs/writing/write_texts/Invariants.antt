@@ -6,7 +6,8 @@ use Rattle.document_stream.proofs.writing.write_texts.Given as goal
 
 abbrev pub invariant-loop-at : goal.invariant-loop-at
 invariant-loop-at g l = record {
+  same : l.texts ≡ l.fn.texts;
   written : Appends (g.W.Sink.taken l.fn.output) (g.W.Sink.taken l.output)
-      (flat_map with_newline (take l.at (texts_in l.texts)));
+      (flat_map with_newline (take l.at (texts_in l.fn.texts)));
   none_failed : g.W.Sink.failures l.output ≡ g.W.Sink.failures l.fn.output;
 }

@@ -8,23 +8,22 @@ use Rattle.city_cut.proofs.CopiedArrays.{ItemsCopied}
 use Rattle.city_cut.proofs.quick.drafts.+copy.Given as goal
 
 abbrev pub decreases-copy_part : goal.decreases-copy_part
-decreases-copy_part l = 2 * l.levels
+decreases-copy_part g l = 2 * l.levels
 
 abbrev pub decreases-copy_items : goal.decreases-copy_items
-decreases-copy_items l = 2 * l.levels + 1
+decreases-copy_items g l = 2 * l.levels + 1
 
 abbrev pub invariant-copy_items-items : goal.invariant-copy_items-items
-invariant-copy_items-items l = record {
+invariant-copy_items-items g l = record {
   onward : l.at ≤ l.i;
   within : l.i ≤ length l.text;
   copied : l.draft.from ≤ l.i;
-  long : length l.numbering.table.items ≡ length l.fn.numbering.table.items;
+  count : g.L.Labels.count l.labels ≡ g.L.Labels.count l.fn.labels;
   goes_on : (items : ItemTrees) (rest : List ℕ) → AreWritableItems items
       → drop l.at l.text ≡ compact_items items ++ close_bracket ∷ rest
-      → ItemsCopied (length l.fn.numbering.table.items) items (drop l.i l.text) rest l.fn.numbering.table.items
-      l.fn.numbering.order.items (shown l.fn.draft.line l.text l.fn.draft.from l.at) l.numbering.table.items
-      l.numbering.order.items (shown l.draft.line l.text l.draft.from l.i);
+      → ItemsCopied g.L.Labels.labelled (g.L.Labels.count l.fn.labels) items (drop l.i l.text) rest l.fn.labels
+      (shown l.fn.draft.line l.text l.fn.draft.from l.at) l.labels (shown l.draft.line l.text l.draft.from l.i);
 }
 
 abbrev pub decreases-copy_items-items : goal.decreases-copy_items-items
-decreases-copy_items-items l = length l.text - l.i
+decreases-copy_items-items g l = length l.text - l.i

@@ -23,9 +23,9 @@ invariant-loop-at l = record {
   made : (pairs : List (List ℕ × Tree)) (appearance : Option Tree) (points : List Triple)
       → StandAt l.vertices.text.now l.vertices.starts.items points
       → IsCompactOf l.text (object (member_trees pairs)) → AreParts 1 l.parts (member_trees pairs)
-      → AreRelated pairs l.kin.children.items l.kin.parents.items → l.fn.tail ≡ tail_text appearance
-      → (features : List FeatureValue) × (map (λ own. own ++ l.fn.tail) (pieces l.draft.line 0 l.ends.items)
-      ≡ texts_of features)
+      → AreRelated pairs l.kin.children.items l.kin.parents.items
+      → (features : List FeatureValue)
+      × (map (λ own. own ++ tail_text appearance) (pieces l.draft.line 0 l.ends.items) ≡ texts_of features)
       × AllZip (IsFeatureOf (member_trees pairs) appearance points) (roots (member_trees (take l.at pairs)))
       features
       × BoundedFrom (length points) (member_trees pairs) (roots (member_trees (take l.at pairs)));

@@ -5,12 +5,12 @@ use Rattle.city_cut.proofs.QuickTexts.{on_some_more}
 use Rattle.city_cut.proofs.quick.items.append_boundary.Goals as goal
 
 pub returns-clause-made : goal.returns-clause-made
-returns-clause-made c =
+returns-clause-made g c =
     let text = c.args.text.now in
     let opens : (0 < length text) × (get_or text 0 0 ≡ open_bracket) = c.byte_is.ensures.0 c.if-not-byte_is.false in
     let end = c.in_ok-end.end in
     on_some_more c.append_text.result (λ appended value writable is.
-    boundary_made _ text _ _ c.args.draft.now.line _ _ c.copy_items.new.draft.line _ c.copy_items.new.draft.from end
+    boundary_made _ text _ c.args.draft.now.line _ c.copy_items.new.draft.line _ c.copy_items.new.draft.from end
     opens.0 opens.1 c.in_ok-end.ensures.made (omega (arith, c.if-end-text.false))
     (appended ∙ ap (λ l. c.copy_items.new.draft.line ++ l) c.in_ok-last.ensures.some) value writable is)
     c.append_text.ensures

@@ -5,13 +5,13 @@ use Rattle.city_cut.proofs.QuickTexts.{slice_back}
 use Rattle.city_cut.proofs.quick.items.append_geometry_at.Goals as goal
 
 pub returns-clause-leaves : goal.returns-clause-leaves
-returns-clause-leaves c =
+returns-clause-leaves g c =
     let text = c.args.text.now in
     let (parts, front) = c.in_ok-end.ensures.is in
     object_leaves text _ parts c.args.at c.in_ok-end.end (slice_back text c.args.at (length text) refl c.requires) front
 
 pub returns-clause-made : goal.returns-clause-made
-returns-clause-made c = λ value of.
+returns-clause-made g c = λ value of.
     let text = c.args.text.now in
     let end = c.in_ok-end.end in
     let count : (c.args.at + end) - c.args.at ≡ end = omega arith in

@@ -5,8 +5,8 @@ use Rattle.city_cut.proofs.QuickTexts.{on_some_more}
 use Rattle.city_cut.proofs.quick.items.append_held.Goals as goal
 
 pub returns-clause-made : goal.returns-clause-made
-returns-clause-made c = on_some_more c.append_text.result (λ appended value of.
-    held_as c.args.holder Address _ _ _ _ _ _ _ value c.in-Address.is
-    (not_array_made _ c.args.text.now _ _ _ _
+returns-clause-made g c = on_some_more c.append_text.result (λ appended value of.
+    held_as c.args.holder Address _ _ _ _ _ value c.in-Address.is
+    (not_array_made _ c.args.text.now _ _ _
     (λ inside here. not_both _ (c.byte_is.ensures.1 (inside, here)) c.if-byte_is.false) appended value of))
     c.append_text.ensures

@@ -1,7 +1,7 @@
-use Rattle.std.proofs.Common.{◌<◌, ◌∙◌, length, map, option_map, arith, ap}
+use Rattle.std.proofs.Common.{◌<◌, ◌∙◌, ap, arith, length, map, option_map, subst}
 use Rattle.std.proofs.lemmas.Bool.Decides.{nat_tests}
 use Rattle.std.proofs.lemmas.Result.{err_from_is_err_and}
-use Rattle.city_cut.specs.HeldTexts.{texts_in}
+use Rattle.city_cut.specs.HeldTexts.{HeldTexts, texts_in}
 use Rattle.city_feature.specs.Choice.{IsChosen}
 use Rattle.tile_stream.specs.Shared.{text_ready}
 use Rattle.tile_stream.proofs.HeldTexts.{made_more, more_mapped, refuses_all, texts_long}
@@ -9,22 +9,26 @@ use Rattle.tile_stream.proofs.tile_reader.held.texts_of.Goals as goal
 
 pub returns-in_err-given-clause-refused : goal.returns-in_err-given-clause-refused
 returns-in_err-given-clause-refused c =
-    let within : c.held.at < length (texts_in c.args.held.now) =
-    grind (arith, nat_tests, c.held-test.true, c.len.ensures, texts_long c.args.held.now) in
+    let now : c.held.at < length (texts_in c.held.held) =
+    grind (arith, nat_tests, c.held-test.true, c.len.ensures, texts_long c.held.held) in
+    let within = subst (λ (held : HeldTexts). c.held.at < length (texts_in held)) c.held.invariant.same now in
     let e = err_from_is_err_and c.from_residual.result c.from_residual.ensures.1 in
     rw (e.1, e.2) (refuses_all c.args.shift c.in_err-given.field-0.0 (texts_in c.args.held.now) c.held.at within
-    c.in_err-given.ensures.refused)
+    (rw c.held.invariant.same at c.in_err-given.ensures.refused))
 
 pub held-preserved : goal.held-preserved
 held-preserved c =
-    let within : c.held.at < length (texts_in c.args.held.now) =
-    grind (arith, nat_tests, c.held-test.true, c.len.ensures, texts_long c.args.held.now) in
+    let now : c.held.at < length (texts_in c.held.held) =
+    grind (arith, nat_tests, c.held-test.true, c.len.ensures, texts_long c.held.held) in
+    let within = subst (λ (held : HeldTexts). c.held.at < length (texts_in held)) c.held.invariant.same now in
     let common = c.args.held.now.common in
     let given = option_map (text_ready common) c.in_ok-given.given in
     record {
+      same = c.in_ok-given.ensures.same ∙ c.held.invariant.same;
       within = omega (arith, within);
       made = made_more (IsChosen c.args.choice.now) c.args.shift (texts_in c.args.held.now) c.held.at
-          (map (text_ready common) c.held.texts.items) c.held.invariant.made within given c.in_ok-given.ensures.ok
+          (map (text_ready common) c.held.texts.items) c.held.invariant.made within given
+          (rw c.held.invariant.same at c.in_ok-given.ensures.ok)
           (map (text_ready common) c.push_given.new.texts.items)
           (ap (map (text_ready common)) c.in_ok-push_given.ensures.ok
           ∙ more_mapped (text_ready common) c.held.texts.items c.in_ok-given.given);

@@ -1,4 +1,4 @@
-use Rattle.std.proofs.Common.{◌≤◌, ◌-◌, length, map, take}
+use Rattle.std.proofs.Common.{◌≡◌, ◌≤◌, ◌-◌, length, map, take}
 use Rattle.city_cut.specs.HeldTexts.{texts_in}
 use Rattle.city_feature.specs.Choice.{IsChosen}
 use Rattle.tile_stream.specs.Shared.{text_ready}
@@ -9,9 +9,10 @@ use Rattle.tile_stream.proofs.tile_reader.held.texts_of.Given as goal
 abbrev pub invariant-held : goal.invariant-held
 invariant-held l =
     record {
-      within : l.at ≤ length (texts_in l.held);
-      made : MadeSoFar (IsChosen l.choice) l.shift (take l.at (texts_in l.held))
-          (map (text_ready l.held.common) l.texts.items);
+      same : l.held ≡ l.fn.held;
+      within : l.at ≤ length (texts_in l.fn.held);
+      made : MadeSoFar (IsChosen l.choice) l.shift (take l.at (texts_in l.fn.held))
+          (map (text_ready l.fn.held.common) l.texts.items);
     }
 
 abbrev pub decreases-held : goal.decreases-held

@@ -1,0 +1,21 @@
+use Rattle.std.proofs.Common.{◌≡◌, ◌<◌, ◌^◌, arith, length, subst}
+use Rattle.city_cut.specs.Made.{Makings}
+use Rattle.city_cut.specs.Skeletons.{AreSkeletons}
+use Rattle.city_cut.proofs.MadeFeatures.{made_own}
+use Rattle.city_cut.proofs.QuickTexts.{if_some_more}
+use Rattle.city_cut.proofs.quick.made_texts.Goals as goal
+
+pub returns : goal.returns
+returns c = if_some_more c.new.result (λ own is pairs appearance points stand of are rel.
+    let makings : Makings = record {
+      skeletons = c.in_ok-skeletons.skeletons;
+      vertices = c.args.vertices.now.text.now;
+      starts = c.args.vertices.now.starts.items;
+      graph = c.args.kin.children.items;
+    } in
+    let count : c.saturating_sub-count.result ≡ length points =
+    omega (arith, stand.long, c.len.ensures, c.saturating_sub-count.ensures) in
+    let small : length points < 2 ^ 64 = omega (arith, stand.long, c.args.vertices.now.starts.small) in
+    made_own pairs appearance points makings c.args.kin.parents.items
+    (subst (λ n. AreSkeletons n c.in_ok-skeletons.skeletons pairs) count (c.in_ok-skeletons.ensures.made pairs of are))
+    stand rel small own is) c.new.ensures

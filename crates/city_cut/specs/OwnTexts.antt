@@ -1,0 +1,8 @@
+-- What each text of a document's features has of its own, held or made.
+use Rattle.std.specs.Prelude.{ℕ, List}
+use Rattle.city_cut.specs.declared.held.OwnTexts.{OwnTexts}
+use Rattle.city_cut.specs.declared.held.OwnTexts.TheVariants.{Held, Made}
+
+abbrev pub own_texts : OwnTexts → List (List ℕ)
+own_texts (Held texts) = texts
+own_texts (Made texts) = texts
