@@ -101,7 +101,8 @@ two_noted holder count text given middle given₂ n line line₁ n₁ line₂ li
     (relabelled_held (other_than holder) change) members))) in
     let uses = held_uses holder value in
     let uses₂ = held_uses (other_than holder) other in
-    let first = noted_first holder count text given n line₁ n₁ line₂ p lies made parts members of are named value is in (
+    let first = noted_first holder count text given n line₁ n₁ line₂ p lies made parts members of are named value is
+    in (
       value,
       other,
       is,

@@ -211,8 +211,8 @@ laid_to count text noted start next next' named same same_leaves laid = record {
 -- of the objects up to `at` each is laid from its place to the next one, the last one up to the end
 abbrev pub AreLaid : ℕ → List ℕ → List LeafPlace → List SkeletonPlace → List (List ℕ × Tree) → Type 0
 AreLaid count line noted places pairs = (k : ℕ) → k < length places
-    → IsLaid count line noted (get_or places k no_place) (get_or (places ++ place_after line noted ∷ []) (k + 1) no_place)
-    (named_at pairs k)
+    → IsLaid count line noted (get_or places k no_place)
+    (get_or (places ++ place_after line noted ∷ []) (k + 1) no_place) (named_at pairs k)
 
 pub laid_none : (count : ℕ) (line : List ℕ) (noted : List LeafPlace) (places : List SkeletonPlace)
     (pairs : List (List ℕ × Tree)) → places ≡ [] → AreLaid count line noted places pairs

@@ -22,8 +22,8 @@ abbrev pub ArePlaced : ℕ → ℕ → List LeafPlace → Type 0
 ArePlaced from end [] = from ≤ end
 ArePlaced from end (leaf ∷ others) = (from ≤ leaf.at) × ArePlaced leaf.at end others
 
--- A text was written after another, and leaves were noted: the text is the one that `own` gives for the texts of leaves.
--- Of the vertices those from the leaf `split` on are named first.
+-- A text was written after another, and leaves were noted: the text is the one that `own` gives for the texts of
+-- leaves. Of the vertices those from the leaf `split` on are named first.
 pub record IsNoted (noted : List LeafPlace) (line : List ℕ) (split : ℕ) (noted' : List LeafPlace) (line' uses : List ℕ) (own : (List ℕ → List ℕ) → List ℕ) : Type 0 where
   pub text : List ℕ
   pub first : List LeafPlace

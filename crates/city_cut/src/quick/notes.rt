@@ -51,7 +51,8 @@ impl NotedLeaves {
     fn note(&mut self, at: usize, vertex: usize) -> Option<()>
         requires { vertex < self.old.count }
         ensures count { OnSome result (self.new.count ≡ self.old.count) }
-        ensures noted { OnSome result (self.new.leaves.items ≡ self.old.leaves.items ++ record { at = at; vertex = vertex } ∷ []) }
+        ensures noted { OnSome result (self.new.leaves.items
+            ≡ self.old.leaves.items ++ record { at = at; vertex = vertex } ∷ []) }
     {
         let leaf = Leaf::new(at, vertex)?;
         let Ok(_) = self.leaves.push(leaf) else {
@@ -67,7 +68,8 @@ impl Labels for NotedLeaves {
 
     ghost count = { λ notes. notes.count };
 
-    ghost labelled = { λ notes line after longer vertex. LeafNoted notes.leaves.items line after.leaves.items longer vertex };
+    ghost labelled = { λ notes line after longer vertex.
+        LeafNoted notes.leaves.items line after.leaves.items longer vertex };
 
     fn count(&self) -> usize {
         self.count
@@ -128,8 +130,8 @@ fn note_two(
     Some(split)
 }
 
-/// Copies an object with geometries and addresses, in the order of its text: how many leaves are noted where those of its
-/// geometries begin.
+/// Copies an object with geometries and addresses, in the order of its text: how many leaves are noted where those of
+/// its geometries begin.
 fn note_both(
     alloc: Global,
     text: &[u8],

@@ -69,9 +69,11 @@ impl Model for Start {
 
     ghost Value = { SkeletonPlace };
 
-    ghost view = { λ start. record { text = start.text; name = start.name; leaves = start.leaves; split = start.split } };
+    ghost view = { λ start.
+        record { text = start.text; name = start.name; leaves = start.leaves; split = start.split } };
 
-    ghost inverse = { λ place. record { text = place.text; name = place.name; leaves = place.leaves; split = place.split } };
+    ghost inverse = { λ place.
+        record { text = place.text; name = place.name; leaves = place.leaves; split = place.split } };
 }
 
 impl Start {
@@ -113,7 +115,8 @@ impl Model for Skeletons {
 
     ghost Value = { SkeletonTexts };
 
-    ghost view = { λ skeletons. record { text = skeletons.text; leaves = skeletons.leaves.items; places = skeletons.places.items } };
+    ghost view = { λ skeletons.
+        record { text = skeletons.text; leaves = skeletons.leaves.items; places = skeletons.places.items } };
 }
 
 /// Copies the object at a place, its name before it, without its leaves: where it begins.

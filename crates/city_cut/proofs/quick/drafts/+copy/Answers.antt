@@ -35,7 +35,8 @@ copy_items-returns-then-byte_is-2-clause-made g t c = λ items rest w is.
     let made = subst (λ n. CopiesPart n (drop c.items.i text) (drop c.in_ok-end.end text)
     (Walks g.L.Labels.labelled c.items.labels (shown c.items.draft.line text c.items.draft.from c.items.i)
     c.copy_part.new.labels
-    (shown c.copy_part.new.draft.line text c.copy_part.new.draft.from c.in_ok-end.end))) c.items.invariant.count c.in_ok-end.ensures.made in
+    (shown c.copy_part.new.draft.line text c.copy_part.new.draft.from c.in_ok-end.end)))
+    c.items.invariant.count c.in_ok-end.ensures.made in
     copied_stop _ items text rest _ _ _ _ _ _ _ c.items.i c.in_ok-end.end so_far made here.0 here.1
     (shown_one c.copy_part.new.draft.line text c.copy_part.new.draft.from c.in_ok-end.end close_bracket
     c.in_ok-end.ensures.copied here.0 here.1)
@@ -48,7 +49,8 @@ copy_items-items-preserved g t c =
     let made = subst (λ n. CopiesPart n (drop c.items.i text) (drop c.in_ok-end.end text)
     (Walks g.L.Labels.labelled c.items.labels (shown c.items.draft.line text c.items.draft.from c.items.i)
     c.copy_part.new.labels
-    (shown c.copy_part.new.draft.line text c.copy_part.new.draft.from c.in_ok-end.end))) c.items.invariant.count c.in_ok-end.ensures.made in
+    (shown c.copy_part.new.draft.line text c.copy_part.new.draft.from c.in_ok-end.end)))
+    c.items.invariant.count c.in_ok-end.ensures.made in
     let so_far : c.args.at ≤ c.items.i = c.items.invariant.onward in
     let onward : c.items.i < c.in_ok-end.end = c.in_ok-end.ensures.onward in
     let kept : c.copy_part.new.draft.from ≤ c.in_ok-end.end = c.in_ok-end.ensures.copied in

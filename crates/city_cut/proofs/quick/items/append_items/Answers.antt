@@ -36,7 +36,8 @@ returns-then-byte_is-2-clause-made g c = on_some_more c.append_text-then-byte_is
     (c.items.invariant.goes_on items of) c.in_ok-end.ensures.leaves c.in_ok-end.ensures.onward
     c.in_ok-end.ensures.within refl
     (λ value given. subst (λ n. ItemMade g.L.Labels.labelled c.args.holder n c.items.labels c.items.draft.line
-    c.append_item.new.labels c.append_item.new.draft.line value) c.items.invariant.count (c.in_ok-end.ensures.made value given)) _
+    c.append_item.new.labels c.append_item.new.draft.line value) c.items.invariant.count
+    (c.in_ok-end.ensures.made value given)) _
     closes.0 closes.1 appended)) c.append_text-then-byte_is-2.ensures
 
 pub items-preserved : goal.items-preserved

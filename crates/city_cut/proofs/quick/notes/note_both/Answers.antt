@@ -13,4 +13,5 @@ returns-then-address-geometry-clause-made c =
 pub returns-clause-made : goal.returns-clause-made
 returns-clause-made c = λ parts members of are geometry address.
     object_noted c.args.notes.now.count _ _ _ _ _ (object members) (object_in_order _ _ _ _ _ members
-    (c.in_ok-append_two.ensures.made parts members of are geometry address)) (omega (arith, c.len-split.ensures, c.args.notes.now.leaves.ok))
+    (c.in_ok-append_two.ensures.made parts members of are geometry address))
+    (omega (arith, c.len-split.ensures, c.args.notes.now.leaves.ok))

@@ -15,7 +15,8 @@ returns-in_default-geometry-clause-made c =
     of_object _ text has.parts has.listed
     (λ members of are. object_noted c.args.notes.now.count c.args.notes.now _ _ c.args.notes.now _ (object members)
     (object_none c.args.notes.now.count text _ _ _ members of.is (none members of are)
-    (missing members of are) c.in_ok-append_text.ensures) (omega (arith, c.len-split.ensures, c.args.notes.now.leaves.ok)))
+    (missing members of are) c.in_ok-append_text.ensures)
+    (omega (arith, c.len-split.ensures, c.args.notes.now.leaves.ok)))
 
 pub returns-in_default-clause-made : goal.returns-in_default-clause-made
 returns-in_default-clause-made c =
@@ -25,8 +26,10 @@ returns-in_default-clause-made c =
     c.in-Some-geometry.is has.geometry in
     let missing = not_found Address text has.parts c.args.held.now.address c.in_default.is has.address in
     of_object _ text has.parts has.listed
-    (λ members of are. object_noted c.args.notes.now.count _ _ _ _ _ (object members) (object_geometry _ _ _ _ _ members (missing members of are)
-    (c.in_ok-append_one.ensures.made has.parts members of are there)) (omega (arith, c.len-split.ensures, c.args.notes.now.leaves.ok)))
+    (λ members of are. object_noted c.args.notes.now.count _ _ _ _ _ (object members)
+    (object_geometry _ _ _ _ _ members (missing members of are)
+    (c.in_ok-append_one.ensures.made has.parts members of are there))
+    (omega (arith, c.len-split.ensures, c.args.notes.now.leaves.ok)))
 
 pub returns-in_default-geometry-2-clause-made : goal.returns-in_default-geometry-2-clause-made
 returns-in_default-geometry-2-clause-made c =
@@ -35,8 +38,10 @@ returns-in_default-geometry-2-clause-made c =
     let none = not_found Geometry text has.parts c.args.held.now.geometry c.in_default-geometry-2.is has.geometry in
     let there = is_found Address text has.parts c.args.held.now.address c.in-Some.address c.in-Some.is has.address in
     of_object _ text has.parts has.listed
-    (λ members of are. object_noted c.args.notes.now.count _ _ _ _ _ (object members) (object_address _ _ _ _ _ members (none members of are)
-    (c.in_ok-append_one-2.ensures.made has.parts members of are there)) (omega (arith, c.len-split.ensures, c.args.notes.now.leaves.ok)))
+    (λ members of are. object_noted c.args.notes.now.count _ _ _ _ _ (object members)
+    (object_address _ _ _ _ _ members (none members of are)
+    (c.in_ok-append_one-2.ensures.made has.parts members of are there))
+    (omega (arith, c.len-split.ensures, c.args.notes.now.leaves.ok)))
 
 pub returns-clause-made : goal.returns-clause-made
 returns-clause-made c = if_some_more c.note_both.result (λ split made.

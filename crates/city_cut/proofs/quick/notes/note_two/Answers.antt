@@ -9,4 +9,5 @@ returns-clause-made c = two_noted c.args.holder _ c.args.text.now c.in_ok-held.h
     c.in_ok-middle.ensures.some c.in_ok-others.ensures.some c.in_ok-middle.ensures.ordered
     c.in_ok-append_front.ensures c.in_ok-append_held.ensures.made c.in_ok-append_text.ensures
     (held_again _ _ _ _ _ _ _ _ _ c.other.ensures c.in_ok-append_held.ensures.count
-    c.in_ok-append_held-2.ensures.made) c.in_ok-append_back.ensures (omega (arith, c.len-split.ensures, c.append_held.new.labels.leaves.ok))
+    c.in_ok-append_held-2.ensures.made) c.in_ok-append_back.ensures
+    (omega (arith, c.len-split.ensures, c.append_held.new.labels.leaves.ok))

@@ -12,7 +12,8 @@ returns-in_default-geometry-clause-made c = on_some_more c.append_text.result (�
     let none = not_found Geometry text has.parts c.args.held.now.geometry c.in_default-geometry.is has.geometry in
     let missing = not_found Address text has.parts c.args.held.now.address c.in_default.is has.address in
     of_object _ text has.parts has.listed
-    (λ members of are. object_numbered (length c.args.numbering.now.table.items) c.args.numbering.now _ c.args.numbering.now _
+    (λ members of are. object_numbered (length c.args.numbering.now.table.items)
+    c.args.numbering.now _ c.args.numbering.now _
     (object members) (object_none _ text _ _ _ members of.is (none members of are)
     (missing members of are) appended))) c.append_text.ensures
 
@@ -24,7 +25,8 @@ returns-in_default-clause-made c = on_some_more c.append_one.result (λ made.
     c.in-Some-geometry.is has.geometry in
     let missing = not_found Address text has.parts c.args.held.now.address c.in_default.is has.address in
     of_object _ text has.parts has.listed
-    (λ members of are. object_numbered (length c.args.numbering.now.table.items) c.args.numbering.now _ _ _ (object members)
+    (λ members of are. object_numbered (length c.args.numbering.now.table.items)
+    c.args.numbering.now _ _ _ (object members)
     (object_geometry _ _ _ _ _ members (missing members of are)
     (made has.parts members of are there)))) c.append_one.ensures.made
 
@@ -35,7 +37,8 @@ returns-in_default-geometry-2-clause-made c = on_some_more c.append_one-in_defau
     let none = not_found Geometry text has.parts c.args.held.now.geometry c.in_default-geometry-2.is has.geometry in
     let there = is_found Address text has.parts c.args.held.now.address c.in-Some.address c.in-Some.is has.address in
     of_object _ text has.parts has.listed
-    (λ members of are. object_numbered (length c.args.numbering.now.table.items) c.args.numbering.now _ _ _ (object members)
+    (λ members of are. object_numbered (length c.args.numbering.now.table.items)
+    c.args.numbering.now _ _ _ (object members)
     (object_address _ _ _ _ _ members (none members of are)
     (made has.parts members of are there)))) c.append_one-in_default-geometry-2.ensures.made
 
