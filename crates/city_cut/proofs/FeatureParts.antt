@@ -50,7 +50,7 @@ same_triple p q x y z =
     let triple : ℤ → ℤ → ℤ → Triple = λ a b c. record { x = a; y = b; z = c } in
     ap (λ a. triple a p.y p.z) x ∙ ap (λ b. triple q.x b p.z) y ∙ ap (λ c. triple q.x q.y c) z
 
-same_vertex : (value : Tree) (p q : Triple) → IsVertex value p → IsVertex value q → p ≡ q
+pub same_vertex : (value : Tree) (p q : Triple) → IsVertex value p → IsVertex value q → p ≡ q
 same_vertex value p q is_p is_q =
     let texts : is_q.0 ≡ is_p.0 = same_texts is_q.0 is_p.0 (sym is_q.1 ∙ is_p.1) in
     let each : Each IsInteger is_p.0 q = subst (λ t. Each IsInteger t q) texts is_q.2 in

@@ -12,8 +12,11 @@ pub mod Gathered
 pub mod Growth
 pub mod HeaderMembers
 pub mod Indices
+mod KeptPlaces
 pub mod Kinship
 pub mod MemberChanges
+pub mod MovedFeatures
+mod MovedVertices
 pub mod Noted
 mod NoteWalks
 mod NotedObjects

@@ -211,7 +211,7 @@ module _ (pairs : List (List ℕ × Tree)) (points : List Triple) (makings : Mak
   abbrev places : List ℕ
   places = family makings.graph root
 
-  abbrev chosen : List (List ℕ × Tree)
+  abbrev pub chosen : List (List ℕ × Tree)
   chosen = map (named_at pairs) places
 
   abbrev order : List ℕ
@@ -220,10 +220,10 @@ module _ (pairs : List (List ℕ × Tree)) (points : List Triple) (makings : Mak
   abbrev label : ℕ → ℕ
   label = place_in order
 
-  abbrev own_objects : List (List ℕ × Tree)
+  abbrev pub own_objects : List (List ℕ × Tree)
   own_objects = relabelled_objects (renumbered label) chosen
 
-  abbrev own_points : List Triple
+  abbrev pub own_points : List Triple
   own_points = map (point_at points) order
 
   inside : All (λ k. k < length pairs) places
@@ -240,7 +240,7 @@ module _ (pairs : List (List ℕ × Tree)) (points : List Triple) (makings : Mak
   uses_inside = All-from_recursion (λ k. k < length points) (flat_map (uses_at makings.skeletons) places)
       (all_below_count (length points) makings.skeletons pairs places each)
 
-  order_inside : AllByRecursion (λ k. k < length points) order
+  pub order_inside : AllByRecursion (λ k. k < length points) order
   order_inside = recursion_from_All (λ k. k < length points) order
       (first_within (flat_map (uses_at makings.skeletons) places) (λ k. k < length points) uses_inside)
 
@@ -248,7 +248,7 @@ module _ (pairs : List (List ℕ × Tree)) (points : List Triple) (makings : Mak
   numbered : (k : ℕ) → Contains (uses chosen) k → (label k < length order) × (slice_index order (label k) ≡ k)
   numbered k c = place_of_use (flat_map (uses_at makings.skeletons) places) k (subst (λ l. Contains l k) same_uses c)
 
-  points_same : SamePoints points chosen own_points own_objects
+  pub points_same : SamePoints points chosen own_points own_objects
   points_same = record {
     label = label;
     but_leaves = refl;
@@ -273,10 +273,10 @@ module _ (pairs : List (List ℕ × Tree)) (points : List Triple) (makings : Mak
   name : id_at makings.skeletons root ≡ quoted (name_at (member_trees pairs) root)
   name = (are.each root root_there).name ∙ ap quoted (object_name pairs root root_there)
 
-  text : made_text makings root
+  pub whole_made : made_text makings root
       ≡ head_text (name_at (member_trees pairs) root) ++ (compact_members (member_trees own_objects)
       ++ (middle_text ++ compact (vertices_tree own_points)))
-  text =
+  whole_made =
       let members = all_members (length points) makings.skeletons pairs label places small each in
       let vertices = all_vertices makings points order stand order_inside in
       let rest : List ℕ → List ℕ → List ℕ = λ objects own.
@@ -307,7 +307,7 @@ module _ (pairs : List (List ℕ × Tree)) (points : List Triple) (makings : Mak
       same_points = points_same;
       is = refl;
     },
-    ap (λ l. l ++ tail_text appearance) text
+    ap (λ l. l ++ tail_text appearance) whole_made
         ∙ feature_text (name_at (member_trees pairs) root) own_objects (vertices_tree own_points) appearance,
   )
 

@@ -88,13 +88,13 @@ roots_utf8 (member id o others) all = by (has_parents o) (roots_utf8 others all.
     by false more = (all.0, more)
 
 -- ---- vertices
-are_vertices : (ps : List Triple) → All IsInRange ps → AreReadAgain ps
+pub are_vertices : (ps : List Triple) → All IsInRange ps → AreReadAgain ps
 are_vertices [] range = tt
 are_vertices (p ∷ ps) range =
     let here = range 0 p (omega arith) in
     (vertex_is_read p here, here, are_vertices ps (All-tail IsInRange p ps range))
 
-vertex_items_good : (ps : List Triple) → All IsInRange ps → AreWritableItems (item_trees (map vertex_tree ps))
+pub vertex_items_good : (ps : List Triple) → All IsInRange ps → AreWritableItems (item_trees (map vertex_tree ps))
     × AreDistinctItems (item_trees (map vertex_tree ps)) × (items_depth (item_trees (map vertex_tree ps)) ≤ 1)
 vertex_items_good [] range = (tt, tt, omega arith)
 vertex_items_good (p ∷ ps) range =

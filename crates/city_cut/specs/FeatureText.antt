@@ -1,8 +1,9 @@
 -- The texts around the objects and the vertices of a feature's text.
-use Rattle.std.specs.Prelude.{◌++◌, ℕ, List, [], ◌∷◌, Option, codes}
+use Rattle.std.specs.Prelude.{◌≡◌, ◌++◌, ℕ, List, [], ◌∷◌, Option, codes}
 use Rattle.city_json.specs.Bytes.{colon, comma, open_brace, close_brace}
 use Rattle.city_json.specs.Compact.{compact_more_members, quoted}
 use Rattle.city_json.specs.Tree.{Tree}
+use Rattle.city_json.specs.Writable.{AreWritableMembers}
 use Rattle.city_cut.specs.Cut.{last_members}
 
 -- what stands before the objects of the feature that the object `id` begins
@@ -17,3 +18,7 @@ middle_text = close_brace ∷ (comma ∷ (quoted (codes "vertices") ++ colon ∷
 -- what stands after the vertices
 abbrev pub tail_text : Option Tree → List ℕ
 tail_text appearance = compact_more_members (last_members appearance) ++ (close_brace ∷ [])
+
+-- what stands there in features with some appearance, or with none
+abbrev pub IsTail : List ℕ → Type 0
+IsTail text = (appearance : Option Tree) × AreWritableMembers (last_members appearance) × (text ≡ tail_text appearance)

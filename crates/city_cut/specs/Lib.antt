@@ -16,6 +16,7 @@ pub mod Kin
 pub mod Leaves
 pub mod Lines
 pub mod Made
+pub mod Moved
 pub mod NumberWalks
 pub mod Numbered
 pub mod Overviews

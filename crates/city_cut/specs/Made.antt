@@ -1,14 +1,20 @@
 -- The texts of features that are made of the skeletons of city objects, of the texts of vertices, and of who is whose
 -- child.
-use Rattle.std.specs.Prelude.{◌≡◌, ◌<◌, ◌+◌, ◌-◌, ◌++◌, ◌∷◌, [], ◌==◌, ◌&&◌, ◌||◌, not, suc, zero, true, false, ℕ, Bool, List, All, Vec, codes, get_or, if◌then◌else◌, length, map, slice_index, slice_range}
+use Rattle.std.specs.Prelude.{◌≡◌, ◌<◌, ◌+◌, ◌-◌, ◌^◌, ◌++◌, ◌∷◌, [], ◌==◌, ◌&&◌, ◌||◌, not, suc, zero, true, false, ℕ, Bool, List, All, Vec, codes, get_or, if◌then◌else◌, length, map, slice_index, slice_range}
 use Rattle.std.specs.Fmt.{decimal}
 use Rattle.std.specs.Global.{Global}
 use Rattle.std.specs.List.{filter, flat_map, list_any}
 use Rattle.city_json.specs.Bytes.{close_bracket, comma, open_bracket}
+use Rattle.city_json.specs.Fits.{IsDistinct}
+use Rattle.city_json.specs.Tree.{Tree, member_trees, object}
+use Rattle.city_json.specs.Writable.{IsWritable}
+use Rattle.city_grid.specs.Axes.{IsInRange, Triple}
 use Rattle.city_cut.specs.FeatureText.{middle_text}
+use Rattle.city_cut.specs.Places.{IsGraph}
 use Rattle.city_cut.specs.Rosters.{RosterState}
 use Rattle.city_cut.specs.Search.{InRange}
-use Rattle.city_cut.specs.Skeletons.{SkeletonTexts, id_at, text_at, uses_at}
+use Rattle.city_cut.specs.Skeletons.{AreSkeletons, SkeletonTexts, id_at, text_at, uses_at}
+use Rattle.city_cut.specs.VertexTexts.{StandAt}
 
 -- the numbers below `count`, in their order
 abbrev pub numbers_below : ℕ → List ℕ
@@ -89,6 +95,18 @@ made_text makings root =
 abbrev pub beginners : List Bool → List ℕ
 beginners parents = filter (λ k. not (get_or parents k true)) (numbers_below (length parents))
 
+-- the makings are those of a document's objects and vertices
+pub record AreMakings (makings : Makings) : Type 0 where
+  pub pairs : List (List ℕ × Tree)
+  pub points : List Triple
+  pub skeletons : AreSkeletons (length points) makings.skeletons pairs
+  pub stand : StandAt makings.vertices makings.starts points
+  pub few : length points < 2 ^ 64
+  pub range : All IsInRange points
+  pub writable : IsWritable (object (member_trees pairs))
+  pub distinct : IsDistinct (object (member_trees pairs))
+  pub linked : IsGraph (member_trees pairs) makings.graph
+
 -- texts that can be made, with room for all numbers
 pub record CanMake (makings : Makings) (roots : List ℕ) (found order : RosterState) : Type 0 where
   pub places : length makings.skeletons.places ≡ length makings.graph + 1
@@ -97,3 +115,4 @@ pub record CanMake (makings : Makings) (roots : List ℕ) (found order : RosterS
   pub leaves : All (λ leaf. leaf.vertex < order.count) makings.skeletons.leaves
   pub objects : found.count ≡ length makings.graph
   pub vertices : order.count ≡ length makings.starts - 1
+  pub document : AreMakings makings

@@ -1,8 +1,14 @@
 -- What each text of a document's features has of its own, held or made.
 use Rattle.std.specs.Prelude.{ℕ, List}
+use Rattle.city_cut.specs.FeatureText.{IsTail}
 use Rattle.city_cut.specs.declared.held.OwnTexts.{OwnTexts}
 use Rattle.city_cut.specs.declared.held.OwnTexts.TheVariants.{Held, Made}
 
 abbrev pub own_texts : OwnTexts → List (List ℕ)
 own_texts (Held texts) = texts
 own_texts (Made texts) = texts
+
+-- texts that are made end in the rest of a feature
+abbrev pub EndIn : List ℕ → OwnTexts → Type 0
+EndIn common (Held texts) = Unit {0}
+EndIn common (Made texts) = IsTail common

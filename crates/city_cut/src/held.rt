@@ -1,15 +1,22 @@
 //! The texts of a document's features. What each has of its own is held, or made when it is asked for; what all of them
 //! end in is held once.
-ghost use Rattle.std.specs.Prelude.{◌≡◌, ◌<◌, ◌≤◌, ◌^◌, ◌++◌, ◌∷◌, [], ℕ, length, get_or, slice_range, take, IfErr, IfSome, OnErr, OnOk};
+ghost use Rattle.std.specs.Prelude.{◌≡◌, ◌<◌, ◌≤◌, ◌^◌, ◌++◌, ◌∷◌, [], ℕ, List, length, map, get_or, slice_range, take, IfErr, IfSome, OnErr, OnOk};
 ghost use Rattle.std.specs.Io.KnownBytes.{Appends};
+ghost use Rattle.std.specs.List.{AllByRecursion, AllZip};
 ghost use Rattle.byte_streams.specs.Failures.{after_call};
+ghost use Rattle.city_feature.specs.Feature.{FeatureValue, IsMovable, moved};
+ghost use Rattle.city_feature.specs.FeatureLine.{SpellsFeature};
+ghost use Rattle.city_cut.specs.FeatureText.{IsTail};
 ghost use Rattle.city_cut.specs.HeldTexts.{AreEnds, pieces, texts_in};
-ghost use Rattle.city_cut.specs.OwnTexts.{own_texts};
+ghost use Rattle.city_cut.specs.Lines.{texts_of};
+ghost use Rattle.city_cut.specs.Moved.{chosen_of};
+ghost use Rattle.city_cut.specs.OwnTexts.{EndIn, own_texts};
 
 mod line_sink;
 
 use crate::quick::made::MadeTexts;
 use byte_streams::{Fault, Line, Sink, write_all};
+use city_grid::Shift;
 use line_sink::LineSink;
 use std::alloc::Global;
 use std::marker::Model;
@@ -159,7 +166,7 @@ impl OwnTexts {
             × Appends (W.taken output.old) (W.taken output.new) (take count (get_or (own_texts self.old) at []))) }
         ensures failures { W.failures output.new ≡ after_call result (W.failures output.old) }
         ensures fault { IfErr result (λ fault. fault ≡ Fault.Write) }
-        ensures same { own_texts self.new ≡ own_texts self.old }
+        ensures same { self.new ≡ self.old }
     {
         match self {
             OwnTexts::Held(texts) => write_all(output, texts.text(at)),
@@ -172,7 +179,7 @@ impl OwnTexts {
         requires { at < length (own_texts self.old) }
         ensures ok { OnOk result (line.new ≡ line.old ++ get_or (own_texts self.old) at []) }
         ensures fault { IfErr result (λ fault. fault ≡ Fault.Memory) }
-        ensures same { own_texts self.new ≡ own_texts self.old }
+        ensures same { self.new ≡ self.old }
     {
         match self {
             OwnTexts::Held(texts) => {
@@ -180,6 +187,41 @@ impl OwnTexts {
                 Ok(())
             }
             OwnTexts::Made(texts) => append_made(alloc, texts, at, line),
+        }
+    }
+
+    /// Moves the vertices of texts that are made by the shift. The only fault is [`Fault::Memory`], of held texts, too.
+    fn move_by(&mut self, alloc: Global, shift: Shift) -> Result<(), Fault>
+        ensures ok { OnOk result ((common : List ℕ) (features : List FeatureValue) → EndIn common self.old
+            → AllZip SpellsFeature (texts_in (record { own = own_texts self.old; common = common })) features
+            → AllByRecursion (λ feature. IsMovable feature shift) features
+            → texts_in (record { own = own_texts self.new; common = common })
+            ≡ texts_of (map (λ feature. moved feature shift) features)) }
+        ensures end { (common : List ℕ) → EndIn common self.old → EndIn common self.new }
+        ensures count { length (own_texts self.new) ≡ length (own_texts self.old) }
+        ensures failed { OnErr result (self.new ≡ self.old) }
+        ensures fault { IfErr result (λ fault. fault ≡ Fault.Memory) }
+    {
+        match self {
+            OwnTexts::Held(_) => Err(Fault::Memory),
+            OwnTexts::Made(texts) => texts.move_by(alloc, shift),
+        }
+    }
+
+    /// Keeps those of the texts that are made at whose places it is true. The only fault is [`Fault::Memory`], where the
+    /// texts are held.
+    fn keep(&mut self, chosen: &[bool]) -> Result<(), Fault>
+        ensures ok { OnOk result (own_texts self.new ≡ chosen_of chosen.now (own_texts self.old)) }
+        ensures end { (common : List ℕ) → EndIn common self.old → EndIn common self.new }
+        ensures failed { OnErr result (self.new ≡ self.old) }
+        ensures fault { IfErr result (λ fault. fault ≡ Fault.Memory) }
+    {
+        match self {
+            OwnTexts::Held(_) => Err(Fault::Memory),
+            OwnTexts::Made(texts) => {
+                texts.keep(chosen);
+                Ok(())
+            }
         }
     }
 }
@@ -193,11 +235,13 @@ pub struct FeatureTexts {
 
 impl Model for FeatureTexts {
     ghost use Rattle.city_cut.specs.HeldTexts.{HeldTexts};
-    ghost use Rattle.city_cut.specs.OwnTexts.{own_texts};
+    ghost use Rattle.city_cut.specs.OwnTexts.{EndIn, own_texts};
 
     ghost Value = { HeldTexts };
 
     ghost view = { λ texts. record { own = own_texts texts.own; common = texts.common } };
+
+    ghost invariant = { λ texts. EndIn texts.common texts.own };
 }
 
 impl FeatureTexts {
@@ -213,6 +257,7 @@ impl FeatureTexts {
 
     /// The texts whose own parts are made when they are asked for.
     pub(crate) fn made(own: MadeTexts, common: Line) -> FeatureTexts
+        requires { IsTail common }
         ensures { result ≡ record { own = own; common = common } }
     {
         FeatureTexts {
@@ -241,6 +286,47 @@ impl FeatureTexts {
         ensures { length self.now.own < 2 ^ 63 }
     {
         self.own.known();
+    }
+
+    /// Whether the texts are made when they are asked for.
+    pub fn is_made(&self) -> bool {
+        match &self.own {
+            OwnTexts::Held(_) => false,
+            OwnTexts::Made(_) => true,
+        }
+    }
+
+    /// Moves the vertices of texts that are made by the shift: the features are what they were, moved, where all of them
+    /// can be. Nothing is changed where it fails.
+    ///
+    /// # Errors
+    ///
+    /// [`Fault::Memory`] where there is not enough memory, or the texts are held ([`FeatureTexts::is_made`]).
+    pub fn move_by(&mut self, alloc: Global, shift: Shift) -> Result<(), Fault>
+        ensures ok { OnOk result ((features : List FeatureValue) → AllZip SpellsFeature (texts_in self.old) features
+            → AllByRecursion (λ feature. IsMovable feature shift) features
+            → texts_in self.new ≡ texts_of (map (λ feature. moved feature shift) features)) }
+        ensures count { length self.new.own ≡ length self.old.own }
+        ensures common { self.new.common ≡ self.old.common }
+        ensures failed { OnErr result (self.new ≡ self.old) }
+        ensures fault { IfErr result (λ fault. fault ≡ Fault.Memory) }
+    {
+        self.own.move_by(alloc, shift)
+    }
+
+    /// Keeps those of the texts that are made at whose places it is true. It takes no memory. Nothing is changed where it
+    /// fails.
+    ///
+    /// # Errors
+    ///
+    /// [`Fault::Memory`] where the texts are held ([`FeatureTexts::is_made`]).
+    pub fn keep(&mut self, chosen: &[bool]) -> Result<(), Fault>
+        ensures ok { OnOk result (self.new
+            ≡ record { own = chosen_of chosen.now self.old.own; common = self.old.common }) }
+        ensures failed { OnErr result (self.new ≡ self.old) }
+        ensures fault { IfErr result (λ fault. fault ≡ Fault.Memory) }
+    {
+        self.own.keep(chosen)
     }
 
     /// What the text at a place has of its own, where that is held. What all of them end in comes after it.

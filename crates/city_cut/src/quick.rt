@@ -11,6 +11,7 @@ mod items;
 mod kin;
 pub(crate) mod made;
 mod members;
+mod moving;
 mod notes;
 mod numbers;
 mod objects;
@@ -40,14 +41,14 @@ ghost use Rattle.city_cut.specs.Boundaries.{IsBounded};
 ghost use Rattle.city_cut.specs.CityObjects.{AllBelong, AreCityObjects, IsReached, LacksChild, roots};
 ghost use Rattle.city_cut.specs.Cut.{AreFeatures, IsCut, IsCuttable};
 ghost use Rattle.city_cut.specs.Families.{AreRelated};
-ghost use Rattle.city_cut.specs.FeatureText.{tail_text};
+ghost use Rattle.city_cut.specs.FeatureText.{IsTail, tail_text};
 ghost use Rattle.city_cut.specs.HeldTexts.{texts_in};
 ghost use Rattle.city_cut.specs.Overviews.{AreHolders, HasChildrenIn, HasParentsIn};
 ghost use Rattle.city_cut.specs.OwnFeatures.{AreOwnTexts};
 ghost use Rattle.city_cut.specs.Search.{InRange};
 ghost use Rattle.city_cut.specs.Lines.{texts_of};
 ghost use Rattle.city_feature.specs.Texts.{IsCompactOf};
-ghost use Rattle.city_cut.specs.VertexTexts.{HasPoints, StandAt};
+ghost use Rattle.city_cut.specs.VertexTexts.{HasPoints, HoldVertices, StandAt};
 
 use crate::cuts::CutTexts;
 use crate::families::{Kin, check_belonging};
@@ -145,6 +146,9 @@ fn made_texts(
     requires places { length kin.children.items ≡ length places.now }
     requires graph { InRange kin.children.items (length kin.children.items) }
     requires parents { length kin.parents.items ≡ length kin.children.items }
+    requires objects { (pairs : List (List ℕ × Tree)) × IsCompactOf text.now (object (member_trees pairs))
+        × AreParts 1 places.now (member_trees pairs) × AreRelated pairs kin.children.items kin.parents.items }
+    requires vertices { HoldVertices vertices.now.text.now vertices.now.starts.items }
     ensures { IfSome result (λ own. (pairs : List (List ℕ × Tree)) (appearance : Option Tree) (points : List Triple)
         → StandAt vertices.now.text.now vertices.now.starts.items points
         → IsCompactOf text.now (object (member_trees pairs)) → AreParts 1 places.now (member_trees pairs)
@@ -163,7 +167,9 @@ fn texts_on(
     vertices: &VertexTexts<'_>,
     tail: Line,
 ) -> Option<FeatureTexts>
-    requires { (value : Tree) × IsCompactOf objects.now value }
+    requires objects { (value : Tree) × IsCompactOf objects.now value }
+    requires vertices { HoldVertices vertices.now.text.now vertices.now.starts.items }
+    requires tail { IsTail tail }
     ensures { IfSome result (λ texts. (value : Tree) (appearance : Option Tree) (points : List Triple)
         → IsCompactOf objects.now value → StandAt vertices.now.text.now vertices.now.starts.items points
         → tail ≡ tail_text appearance
@@ -200,7 +206,8 @@ fn cut_on(
     parts: &[Part],
     vertices: &VertexTexts<'_>,
 ) -> Option<CutTexts>
-    requires { (members : MemberTrees) × IsCompactOf line.now (object members) × AreParts 1 parts.now members }
+    requires members { (members : MemberTrees) × IsCompactOf line.now (object members) × AreParts 1 parts.now members }
+    requires vertices { HoldVertices vertices.now.text.now vertices.now.starts.items }
     ensures { IfSome result (λ cut. (members : MemberTrees) (points : List Triple)
         → IsCompactOf line.now (object members) → AreParts 1 parts.now members → HasPoints members points
         → StandAt vertices.now.text.now vertices.now.starts.items points

@@ -12,9 +12,9 @@ use city_json::{CompactedFeature, compact_given};
 use std::alloc::{AllocError, AllocGlobal, Global};
 use std::process::Abort;
 
-fn is_plain(alloc: Global, cut: &CutTexts, document: &str) -> bool {
+fn is_plain(alloc: Global, cut: &mut CutTexts, document: &str) -> bool {
     let mut stream = Line::new(alloc);
-    put_texts(&mut stream, cut).is_ok() && texts_are(alloc, document, stream.items(), None)
+    put_texts(&mut stream, alloc, cut).is_ok() && texts_are(alloc, document, stream.items(), None)
 }
 
 /// The document in its compact text, in which its triples are noted.
@@ -48,14 +48,14 @@ fn given_cut(alloc: Global, document: &str) -> Option<CutTexts> {
 
 fn is_some_plain(alloc: Global, answer: Option<CutTexts>, document: &str) -> bool {
     match answer {
-        Some(cut) => is_plain(alloc, &cut, document),
+        Some(mut cut) => is_plain(alloc, &mut cut, document),
         None => false,
     }
 }
 
 /// Whether the quick cut answers the document with the texts of the plain one, also where its compact text is known, and
 /// where its triples are.
-fn is_answered(alloc: Global, document: &str) -> bool {
+pub(crate) fn is_answered(alloc: Global, document: &str) -> bool {
     is_some_plain(alloc, quick_cut(alloc, document.as_bytes()), document)
         && is_some_plain(alloc, compacted_cut(alloc, document), document)
         && is_some_plain(alloc, given_cut(alloc, document), document)

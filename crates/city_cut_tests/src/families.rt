@@ -1,6 +1,6 @@
 //! Objects that are in more than one family, or in none.
-use crate::answers::{expect_answers, is_left};
-use crate::texts::{cut_text, expect, filled};
+use crate::answers::{expect_answers, is_answered, is_left};
+use crate::texts::{cut_text, expect, filled, texts_are, with_repeated};
 use byte_streams::Fault;
 use city_cut::quick_cut;
 use std::alloc::{AllocError, Global};
@@ -35,6 +35,63 @@ const ANSWERED: &str =
 fn objects_stand_in_each_of_their_families(rt: HostRuntime) {
     expect(&rt, OBJECTS, OF_OBJECTS, SHARED);
     expect_answers(&rt, OBJECTS, ANSWERED);
+}
+
+/// A chain of five, the middle one without boundaries; two groups with one building; an address before the geometries of the
+/// object that both name, and after them, and one alone; vertices that objects of two families name in different order; and
+/// names with escapes.
+const MADE: &str =
+    r#"{"a":{"children":["b"],"geometry":[{"boundaries":[3]}]},"b":{"children":["c"],"geometry":[{"boundaries":[[1],[3]]}]},"c":{"children":["d"]},"d":{"children":["e"],"geometry":[{"boundaries":[0,1]}]},"e":{"geometry":[{"boundaries":[]},{"boundaries":[2,0]}]}} =>  {"type":"CityJSONFeature","id":"a","CityObjects":{"a":{"children":["b"],"geometry":[{"boundaries":[0]}]},"b":{"children":["c"],"geometry":[{"boundaries":[[1],[0]]}]},"c":{"children":["d"]},"d":{"children":["e"],"geometry":[{"boundaries":[2,1]}]},"e":{"geometry":[{"boundaries":[]},{"boundaries":[3,2]}]}},"vertices":[[3,3,3],[1,1,1],[0,0,0],[2,2,2]]} {"type":"CityJSONFeature","id":"b","CityObjects":{"b":{"children":["c"],"geometry":[{"boundaries":[[0],[1]]}]},"c":{"children":["d"]},"d":{"children":["e"],"geometry":[{"boundaries":[2,0]}]},"e":{"geometry":[{"boundaries":[]},{"boundaries":[3,2]}]}},"vertices":[[1,1,1],[3,3,3],[0,0,0],[2,2,2]]} {"type":"CityJSONFeature","id":"c","CityObjects":{"c":{"children":["d"]},"d":{"children":["e"],"geometry":[{"boundaries":[0,1]}]},"e":{"geometry":[{"boundaries":[]},{"boundaries":[2,0]}]}},"vertices":[[0,0,0],[1,1,1],[2,2,2]]} {"type":"CityJSONFeature","id":"d","CityObjects":{"d":{"children":["e"],"geometry":[{"boundaries":[0,1]}]},"e":{"geometry":[{"boundaries":[]},{"boundaries":[2,0]}]}},"vertices":[[0,0,0],[1,1,1],[2,2,2]]} {"type":"CityJSONFeature","id":"e","CityObjects":{"e":{"geometry":[{"boundaries":[]},{"boundaries":[0,1]}]}},"vertices":[[2,2,2],[0,0,0]]}
+{"g":{"type":"CityObjectGroup","children":["x","s"]},"h":{"type":"CityObjectGroup","children":["s","y"]},"x":{"parents":["g"],"geometry":[{"boundaries":[0]}]},"s":{"parents":["g","h"],"geometry":[{"boundaries":[2,1]}]},"y":{"parents":["h"],"geometry":[{"boundaries":[1,3]}]}} =>  {"type":"CityJSONFeature","id":"g","CityObjects":{"g":{"type":"CityObjectGroup","children":["x","s"]},"x":{"parents":["g"],"geometry":[{"boundaries":[0]}]},"s":{"parents":["g","h"],"geometry":[{"boundaries":[1,2]}]}},"vertices":[[0,0,0],[2,2,2],[1,1,1]]} {"type":"CityJSONFeature","id":"h","CityObjects":{"h":{"type":"CityObjectGroup","children":["s","y"]},"s":{"parents":["g","h"],"geometry":[{"boundaries":[0,1]}]},"y":{"parents":["h"],"geometry":[{"boundaries":[1,2]}]}},"vertices":[[2,2,2],[1,1,1],[3,3,3]]}
+{"a":{"children":["s"]},"b":{"children":["s"],"geometry":[{"boundaries":[2]}]},"s":{"parents":["a","b"],"address":[{"location":{"boundaries":[3,1]}}],"geometry":[{"boundaries":[1,0]}]}} =>  {"type":"CityJSONFeature","id":"a","CityObjects":{"a":{"children":["s"]},"s":{"parents":["a","b"],"address":[{"location":{"boundaries":[2,0]}}],"geometry":[{"boundaries":[0,1]}]}},"vertices":[[1,1,1],[0,0,0],[3,3,3]]} {"type":"CityJSONFeature","id":"b","CityObjects":{"b":{"children":["s"],"geometry":[{"boundaries":[0]}]},"s":{"parents":["a","b"],"address":[{"location":{"boundaries":[3,1]}}],"geometry":[{"boundaries":[1,2]}]}},"vertices":[[2,2,2],[1,1,1],[0,0,0],[3,3,3]]}
+{"a":{"children":["s"],"address":[{"location":{"boundaries":[1]}}]},"b":{"children":["s"]},"s":{"parents":["a"],"geometry":[{"boundaries":[3]}],"address":[{"location":{"boundaries":[2,3]}}]}} =>  {"type":"CityJSONFeature","id":"a","CityObjects":{"a":{"children":["s"],"address":[{"location":{"boundaries":[0]}}]},"s":{"parents":["a"],"geometry":[{"boundaries":[1]}],"address":[{"location":{"boundaries":[2,1]}}]}},"vertices":[[1,1,1],[3,3,3],[2,2,2]]} {"type":"CityJSONFeature","id":"b","CityObjects":{"b":{"children":["s"]},"s":{"parents":["a"],"geometry":[{"boundaries":[0]}],"address":[{"location":{"boundaries":[1,0]}}]}},"vertices":[[3,3,3],[2,2,2]]}
+{"a":{"children":["c"],"geometry":[{"boundaries":[1,2]}]},"b":{"geometry":[{"boundaries":[2,1]}],"children":["c"]},"c":{"parents":["b","a"],"geometry":[{"boundaries":[1]},{"boundaries":[[2,3]]}]}} =>  {"type":"CityJSONFeature","id":"a","CityObjects":{"a":{"children":["c"],"geometry":[{"boundaries":[0,1]}]},"c":{"parents":["b","a"],"geometry":[{"boundaries":[0]},{"boundaries":[[1,2]]}]}},"vertices":[[1,1,1],[2,2,2],[3,3,3]]} {"type":"CityJSONFeature","id":"b","CityObjects":{"b":{"geometry":[{"boundaries":[0,1]}],"children":["c"]},"c":{"parents":["b","a"],"geometry":[{"boundaries":[1]},{"boundaries":[[0,2]]}]}},"vertices":[[2,2,2],[1,1,1],[3,3,3]]}
+{"\n\"":{"children":["s"]},"é":{"children":["s"]},"s":{"parents":["é"],"geometry":[{"boundaries":[1]}]}} =>  {"type":"CityJSONFeature","id":"\n\"","CityObjects":{"\n\"":{"children":["s"]},"s":{"parents":["é"],"geometry":[{"boundaries":[0]}]}},"vertices":[[1,1,1]]} {"type":"CityJSONFeature","id":"é","CityObjects":{"é":{"children":["s"]},"s":{"parents":["é"],"geometry":[{"boundaries":[0]}]}},"vertices":[[1,1,1]]}"#;
+
+#[test]
+fn features_are_made_of_objects_that_they_share(rt: HostRuntime) {
+    expect(&rt, OBJECTS, OF_OBJECTS, MADE);
+    for row in MADE.lines() {
+        assert!(rt; is_given_answered(rt.alloc(), row) == Ok(true), "{row}");
+    }
+}
+
+/// Whether the quick cut answers what the row gives.
+fn is_given_answered(alloc: Global, row: &str) -> Result<bool, AllocError> {
+    let Some((given, _)) = row.split_once(" => ") else {
+        return Ok(false);
+    };
+    Ok(is_answered(alloc, &filled(alloc, OBJECTS, given)?))
+}
+
+/// Twenty features that name all vertices, whose texts are longer together than what is held of such.
+const ALL_VERTICES: &str = r#"HEAD,"CityObjects":{"o":{}OBJECTS},"vertices":VERTICES}"#;
+
+const OF_ALL_VERTICES: &str =
+    r#"HEAD,"CityObjects":{},"vertices":[]} {"type":"CityJSONFeature","id":"o","CityObjects":{"o":{}},"vertices":[]}FEATURES"#;
+
+const LONG_VERTICES: &str =
+    "[[9007199254740991,-9007199254740991,9007199254740990],[9007199254740991,-9007199254740991,9007199254740989],[9007199254740991,-9007199254740991,9007199254740988],[9007199254740991,-9007199254740991,9007199254740987],[9007199254740991,-9007199254740991,9007199254740986],[9007199254740991,-9007199254740991,9007199254740985],[9007199254740991,-9007199254740991,9007199254740984],[9007199254740991,-9007199254740991,9007199254740983]]";
+
+/// Whether each feature has all vertices, also where the quick cut answers.
+fn are_all_vertices_kept(alloc: Global) -> Result<bool, AllocError> {
+    let object = r#","oNUMBER":{"geometry":[{"boundaries":[0,1,2,3,4,5,6,7]}]}"#;
+    let feature =
+        r#" {"type":"CityJSONFeature","id":"oNUMBER","CityObjects":{"oNUMBER":{"geometry":[{"boundaries":[0,1,2,3,4,5,6,7]}]}},"vertices":VERTICES}"#;
+    let given = with_repeated(alloc, ALL_VERTICES, "OBJECTS", object, 20)?;
+    let wanted = with_repeated(alloc, OF_ALL_VERTICES, "FEATURES", feature, 20)?;
+    let given = filled(alloc, &given.replace(alloc, "VERTICES", LONG_VERTICES)?, "")?;
+    let wanted = filled(
+        alloc,
+        &wanted.replace(alloc, "VERTICES", LONG_VERTICES)?,
+        "",
+    )?;
+    Ok(texts_are(alloc, &given, wanted.as_bytes(), None) && is_answered(alloc, &given))
+}
+
+#[test]
+fn features_are_made_where_they_share_their_vertices(rt: HostRuntime) {
+    assert!(rt; are_all_vertices_kept(rt.alloc()) == Ok(true));
 }
 
 /// A wrong index at the end of a chain; an object in no family, before it and after it; a child that is not there.

@@ -9,6 +9,8 @@ mod families;
 #[cfg(test)]
 mod geometries;
 #[cfg(test)]
+mod moving;
+#[cfg(test)]
 mod refusals;
 #[cfg(test)]
 mod shapes;

@@ -63,11 +63,11 @@ fn put_features(stream: &mut Line, alloc: Global, cut: &Cut) -> Result<(), Fault
 }
 
 /// The same of the texts of features.
-pub(crate) fn put_texts(stream: &mut Line, cut: &CutTexts) -> Result<(), Fault> {
+pub(crate) fn put_texts(stream: &mut Line, alloc: Global, cut: &mut CutTexts) -> Result<(), Fault> {
     print(cut.header.json(), stream)?;
     for at in 0..cut.texts.len() {
         stream.append(b" ")?;
-        cut.texts.append_to(at, stream)?;
+        cut.texts.append_to(alloc, at, stream)?;
     }
     Ok(())
 }
@@ -79,7 +79,8 @@ fn cut_into_features(stream: &mut Line, alloc: Global, document: &str) -> Result
 fn cut_into_texts(stream: &mut Line, alloc: Global, document: &str) -> Result<(), Fault> {
     put_texts(
         stream,
-        &cut_texts(alloc, read(alloc, document.as_bytes())?)?,
+        alloc,
+        &mut cut_texts(alloc, read(alloc, document.as_bytes())?)?,
     )
 }
 

@@ -88,7 +88,7 @@ fn what_is_left_of_a_refused_source_is_not_taken(rt: HostRuntime) {
 }
 
 /// Whether the front of the stream is written that the writer has room for.
-fn write_fails(alloc: Global, stream: &[u8], room: usize, write: usize) -> bool {
+fn write_fails(alloc: Global, document: &str, stream: &[u8], room: usize, write: usize) -> bool {
     let way = Way {
         read: 100,
         fails: false,
@@ -97,13 +97,13 @@ fn write_fails(alloc: Global, stream: &[u8], room: usize, write: usize) -> bool 
         flush_fails: false,
     };
     let written = &stream[..room.min(stream.len())];
-    gives(alloc, DOCUMENT.as_bytes(), &way, written, "Write") == Ok(true)
+    gives(alloc, document.as_bytes(), &way, written, "Write") == Ok(true)
 }
 
-fn writes_fail(alloc: Global, stream: &[u8], write: usize) -> bool {
+fn writes_fail(alloc: Global, document: &str, stream: &[u8], write: usize) -> bool {
     let mut agree = true;
     for room in 0..stream.len() {
-        agree = agree && write_fails(alloc, stream, room, write);
+        agree = agree && write_fails(alloc, document, stream, room, write);
     }
     agree
 }
@@ -113,15 +113,33 @@ fn fails_anywhere(alloc: Global) -> Result<bool, AllocError> {
     let stream = spelled(alloc, "HEADER;FEATURE;")?;
     let bytes = stream.as_bytes();
     Ok(
-        writes_fail(alloc, bytes, 1)
-            && writes_fail(alloc, bytes, 100)
-            && writes_fail(alloc, bytes, 4096),
+        writes_fail(alloc, DOCUMENT, bytes, 1)
+            && writes_fail(alloc, DOCUMENT, bytes, 100)
+            && writes_fail(alloc, DOCUMENT, bytes, 4096),
     )
 }
 
 #[test]
 fn a_failed_write_leaves_a_front_of_the_stream(rt: HostRuntime) {
     assert!(rt; fails_anywhere(rt.alloc()) == Ok(true));
+}
+
+/// A document of two objects that name each other, and the stream of its features.
+const SHARED: &str =
+    r#"{"type":"CityJSON","version":"2.0","transform":{"scale":[0.001,0.001,0.001],"translate":[0,0,0]},"CityObjects":{"a":{"children":["b"],"geometry":[{"boundaries":[[2,0]]}]},"b":{"children":["a"],"geometry":[{"boundaries":[0]}]}},"vertices":[[0,0,0],[9,9,9],[1,-1,1]]}"#;
+
+const OF_SHARED: &str =
+    r#"HEADER;{"type":"CityJSONFeature","id":"a","CityObjects":{"a":{"children":["b"],"geometry":[{"boundaries":[[0,1]]}]},"b":{"children":["a"],"geometry":[{"boundaries":[1]}]}},"vertices":[[1,-1,1],[0,0,0]]};{"type":"CityJSONFeature","id":"b","CityObjects":{"a":{"children":["b"],"geometry":[{"boundaries":[[0,1]]}]},"b":{"children":["a"],"geometry":[{"boundaries":[1]}]}},"vertices":[[1,-1,1],[0,0,0]]};"#;
+
+/// Whether a write of features that share their objects may fail at each byte.
+fn fails_where_shared(alloc: Global) -> Result<bool, AllocError> {
+    let stream = spelled(alloc, OF_SHARED)?;
+    Ok(writes_fail(alloc, SHARED, stream.as_bytes(), 9))
+}
+
+#[test]
+fn a_failed_write_of_what_is_made_leaves_a_front_of_the_stream(rt: HostRuntime) {
+    assert!(rt; fails_where_shared(rt.alloc()) == Ok(true));
 }
 
 /// Whether these lines are written by so many bytes a write, and then a write or the flush fails.

@@ -524,32 +524,32 @@ fn documents_are_cut(rt: &(impl AllocGlobal + Eprint)) -> Result<bool, Fault> {
 }
 
 /// Whether this is the only text, that of the building.
-fn is_building(alloc: Global, texts: &FeatureTexts) -> Result<bool, Fault> {
+fn is_building(alloc: Global, texts: &mut FeatureTexts) -> Result<bool, Fault> {
     if texts.len() != 1 {
         return Ok(false);
     }
     let mut text = Line::new(alloc);
-    texts.append_to(0, &mut text)?;
+    texts.append_to(alloc, 0, &mut text)?;
     Ok(text.items() == BUILDING.as_bytes())
 }
 
-fn are_cut_texts(alloc: Global, found: &CutTexts) -> Result<bool, Fault> {
+fn are_cut_texts(alloc: Global, found: &mut CutTexts) -> Result<bool, Fault> {
     Ok(
-        is_building(alloc, &found.texts)?
+        is_building(alloc, &mut found.texts)?
             && is_printed(alloc, found.header.json(), HEADER.as_bytes())?,
     )
 }
 
 fn document_is_cut_into_texts(rt: &(impl AllocGlobal + Eprint)) -> Result<bool, Fault> {
     match cut_texts(rt.alloc(), read(rt.alloc(), DOCUMENT.as_bytes())?) {
-        Ok(found) => are_cut_texts(rt.alloc(), &found),
+        Ok(mut found) => are_cut_texts(rt.alloc(), &mut found),
         Err(fault) => refused(rt, Call("cut_texts"), fault),
     }
 }
 
 fn document_is_cut_at_once(rt: &(impl AllocGlobal + Eprint)) -> Result<bool, Fault> {
     match quick_cut(rt.alloc(), DOCUMENT.as_bytes()) {
-        Some(found) => are_cut_texts(rt.alloc(), &found),
+        Some(mut found) => are_cut_texts(rt.alloc(), &mut found),
         None => refused(rt, Call("quick_cut"), Fault::Memory),
     }
 }
@@ -564,13 +564,13 @@ const OF_SHARED: [&str; 2] = [
 ];
 
 /// Whether the texts are those of the objects that name each other.
-fn are_shared(alloc: Global, texts: &FeatureTexts) -> Result<bool, Fault> {
+fn are_shared(alloc: Global, texts: &mut FeatureTexts) -> Result<bool, Fault> {
     if texts.len() != OF_SHARED.len() {
         return Ok(false);
     }
     for at in 0..texts.len() {
         let mut text = Line::new(alloc);
-        texts.append_to(at, &mut text)?;
+        texts.append_to(alloc, at, &mut text)?;
         if text.items() != OF_SHARED[at].as_bytes() {
             return Ok(false);
         }
@@ -580,14 +580,14 @@ fn are_shared(alloc: Global, texts: &FeatureTexts) -> Result<bool, Fault> {
 
 fn shared_objects_are_cut_into_texts(rt: &(impl AllocGlobal + Eprint)) -> Result<bool, Fault> {
     match cut_texts(rt.alloc(), read(rt.alloc(), SHARED.as_bytes())?) {
-        Ok(found) => are_shared(rt.alloc(), &found.texts),
+        Ok(mut found) => are_shared(rt.alloc(), &mut found.texts),
         Err(fault) => refused(rt, Call("cut_texts"), fault),
     }
 }
 
 fn shared_objects_are_cut_at_once(rt: &(impl AllocGlobal + Eprint)) -> Result<bool, Fault> {
     match quick_cut(rt.alloc(), SHARED.as_bytes()) {
-        Some(found) => are_shared(rt.alloc(), &found.texts),
+        Some(mut found) => are_shared(rt.alloc(), &mut found.texts),
         None => refused(rt, Call("quick_cut"), Fault::Memory),
     }
 }

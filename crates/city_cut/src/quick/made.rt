@@ -1,18 +1,27 @@
 //! Features that are written from what the objects of a document are held by.
 //!
 //! All memory was taken before: while a feature is made, nothing but a write fails.
-ghost use Rattle.std.specs.Prelude.{◌≡◌, ◌<◌, ◌+◌, ◌-◌, ◌^◌, ◌++◌, ◌∷◌, [], ℕ, List, All, IfErr, IfSome, OnErr, OnOk, codes, get_or, length, map, slice_index, slice_range, take};
+ghost use Rattle.std.specs.Prelude.{◌≡◌, ◌<◌, ◌+◌, ◌-◌, ◌^◌, ◌++◌, ◌∷◌, [], ℕ, List, Option, All, IfErr, IfSome, OnErr, OnOk, codes, get_or, length, map, slice_index, slice_range, take};
 ghost use Rattle.std.specs.Fmt.{decimal};
 ghost use Rattle.std.specs.Io.KnownBytes.{Appends};
-ghost use Rattle.std.specs.List.{flat_map};
+ghost use Rattle.std.specs.List.{AllByRecursion, AllZip, flat_map};
 ghost use Rattle.byte_streams.specs.Failures.{after_call};
 ghost use Rattle.city_json.specs.Bytes.{close_bracket, open_bracket};
-ghost use Rattle.city_cut.specs.FeatureText.{middle_text};
-ghost use Rattle.city_cut.specs.Made.{beginners, comma_before, feature_text, first_uses, listed, made_text, place_in, vertex_in};
+ghost use Rattle.city_json.specs.Tree.{Tree};
+ghost use Rattle.city_json.specs.Writable.{AreWritableMembers};
+ghost use Rattle.city_feature.specs.Feature.{FeatureValue, IsMovable, moved};
+ghost use Rattle.city_feature.specs.FeatureLine.{SpellsFeature};
+ghost use Rattle.city_cut.specs.Cut.{last_members};
+ghost use Rattle.city_cut.specs.FeatureText.{middle_text, tail_text};
+ghost use Rattle.city_cut.specs.HeldTexts.{texts_in};
+ghost use Rattle.city_cut.specs.Lines.{texts_of};
+ghost use Rattle.city_cut.specs.Made.{AreMakings, beginners, comma_before, feature_text, first_uses, listed, made_text, place_in, vertex_in};
+ghost use Rattle.city_cut.specs.Moved.{chosen_of};
 ghost use Rattle.city_cut.specs.Search.{InRange};
 ghost use Rattle.city_cut.specs.Skeletons.{text_at, uses_at, woven};
 ghost use Rattle.city_cut.specs.Written.{Wrote};
 
+use super::moving::moved_vertices;
 use super::points::VertexTexts;
 use super::ranges::between;
 use super::skeletons::{Leaf, Skeletons};
@@ -20,6 +29,7 @@ use crate::families::Kin;
 use crate::gathering::gather;
 use crate::rosters::Roster;
 use byte_streams::{Fault, Line, Sink, write_all};
+use city_grid::Shift;
 use itoa::write_digits;
 use std::alloc::Global;
 use std::marker::Model;
@@ -29,9 +39,9 @@ const DIGITS: usize = 20;
 
 /// The text of a document's vertices, and where in it each begins.
 #[derive(Debug, Drop)]
-struct Vertices {
-    text: Line,
-    starts: Vec<u32>,
+pub(super) struct Vertices {
+    pub text: Line,
+    pub starts: Vec<u32>,
 }
 
 impl Vertices {
@@ -51,7 +61,7 @@ impl Vertices {
     }
 
     /// The text of a vertex.
-    fn vertex(&self, at: usize) -> &[u8]
+    pub(super) fn vertex(&self, at: usize) -> &[u8]
         requires { at + 1 < length self.now.starts.items }
         ensures { result.now ≡ vertex_in self.now.text self.now.starts.items at }
     {
@@ -342,6 +352,22 @@ fn beginners_of(alloc: Global, parents: &[bool]) -> Option<Vec<usize>>
     Some(found)
 }
 
+/// Keeps those of the places at which it is true.
+fn keep_chosen(roots: &mut Vec<usize>, chosen: &[bool])
+    ensures { roots.new.items ≡ chosen_of chosen.now roots.old.items }
+{
+    let count = roots.len().min(chosen.len());
+    let mut kept = 0usize;
+    for at in 0..count {
+        if !chosen[at] {
+            continue;
+        }
+        roots[kept] = roots[at];
+        kept += 1;
+    }
+    roots.truncate(kept);
+}
+
 /// The texts of a document's features, each up to its vertices, which are made when they are written.
 #[derive(Debug, Drop)]
 pub(crate) struct MadeTexts {
@@ -386,6 +412,12 @@ impl MadeTexts {
         requires leaves { All (λ leaf. leaf.vertex < length vertices.now.starts.items - 1) skeletons.leaves }
         requires graph { InRange kin.children.items (length kin.children.items) }
         requires parents { length kin.parents.items ≡ length kin.children.items }
+        requires document { AreMakings (record {
+          skeletons = skeletons;
+          vertices = vertices.now.text.now;
+          starts = vertices.now.starts.items;
+          graph = kin.children.items;
+        }) }
         ensures { IfSome result (λ made. made ≡ map (made_text (record {
           skeletons = skeletons;
           vertices = vertices.now.text.now;
@@ -444,5 +476,33 @@ impl MadeTexts {
             &self.order,
             output,
         )
+    }
+
+    /// Moves all vertices by the shift; one that would leave the range, and which no feature has that can be moved, stays
+    /// where it was. Nothing is changed where it fails.
+    ///
+    /// # Errors
+    ///
+    /// [`Fault::Memory`] where there is not enough memory.
+    pub(crate) fn move_by(&mut self, alloc: Global, shift: Shift) -> Result<(), Fault>
+        ensures ok { OnOk result ((appearance : Option Tree) (features : List FeatureValue)
+            → AreWritableMembers (last_members appearance)
+            → AllZip SpellsFeature (texts_in (record { own = self.old; common = tail_text appearance })) features
+            → AllByRecursion (λ feature. IsMovable feature shift) features
+            → texts_in (record { own = self.new; common = tail_text appearance })
+            ≡ texts_of (map (λ feature. moved feature shift) features)) }
+        ensures count { length self.new ≡ length self.old }
+        ensures failed { OnErr result (self.new ≡ self.old) }
+        ensures fault { IfErr result (λ fault. fault ≡ Fault.Memory) }
+    {
+        self.vertices = moved_vertices(alloc, &self.vertices, shift)?;
+        Ok(())
+    }
+
+    /// Keeps the texts at whose places it is true.
+    pub(crate) fn keep(&mut self, chosen: &[bool])
+        ensures { self.new ≡ chosen_of chosen.now self.old }
+    {
+        keep_chosen(&mut self.roots, chosen);
     }
 }

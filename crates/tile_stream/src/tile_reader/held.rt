@@ -132,10 +132,11 @@ fn text_at(
         ⊎ RefusesFeatureLine shift fault (get_or (texts_in held.old) at [])) }
     ensures same { held.new ≡ held.old }
 {
-    if shares {
-        if let Some(own) = own_at(alloc, held, at, shift, choice, buffers)? {
-            return Ok(sharing(own));
-        }
+    if !shares {
+        return whole_at(alloc, held, at, shift, choice, &mut buffers.line);
+    }
+    if let Some(own) = own_at(alloc, held, at, shift, choice, buffers)? {
+        return Ok(sharing(own));
     }
     whole_at(alloc, held, at, shift, choice, &mut buffers.line)
 }

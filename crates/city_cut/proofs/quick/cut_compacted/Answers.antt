@@ -3,6 +3,16 @@ use Rattle.city_cut.proofs.QuickPoints.{stand_anew}
 use Rattle.city_cut.proofs.QuickTexts.{if_some_more}
 use Rattle.city_cut.proofs.quick.cut_compacted.Goals as goal
 
+pub cut_on-requires-clause-vertices : goal.cut_on-requires-clause-vertices
+cut_on-requires-clause-vertices c =
+    let (points, written, range, stand) = c.in-Some.ensures in
+    (points, stand, range)
+
+pub cut_on-requires-2-clause-vertices : goal.cut_on-requires-2-clause-vertices
+cut_on-requires-2-clause-vertices c =
+    let (points, written, range, stand) = c.in_ok-starts.ensures in
+    (points, stand, range)
+
 pub returns-in-Some : goal.returns-in-Some
 returns-in-Some c = if_some_more c.cut_on.result (λ cut holds members of are.
     let (points, written, range, stand) = c.in-Some.ensures in

@@ -2,15 +2,24 @@ use Rattle.std.proofs.Common.{refl, codes}
 use Rattle.city_json.specs.Members.{first_named}
 use Rattle.city_json.specs.Tree.{no_members, object, tree}
 use Rattle.city_feature.proofs.QuickLines.{utf8}
+use Rattle.city_cut.proofs.MovedFeatures.{last_writable}
 use Rattle.city_cut.proofs.QuickDocuments.{no_objects, whole}
 use Rattle.city_cut.proofs.quick.cut_on.Goals as goal
 
-pub texts_on-requires : goal.texts_on-requires
-texts_on-requires c =
-    let (members, of, are) = c.requires in (
+pub texts_on-requires-clause-objects : goal.texts_on-requires-clause-objects
+texts_on-requires-clause-objects c =
+    let (members, of, are) = c.requires.members in (
       _,
       c.in_ok-objects.ensures members of are (codes "CityObjects") (utf8 (codes "CityObjects") refl) refl
           (object no_members) no_objects,
+    )
+
+pub texts_on-requires-clause-tail : goal.texts_on-requires-clause-tail
+texts_on-requires-clause-tail c =
+    let (members, of, are) = c.requires.members in (
+      first_named (codes "appearance") members,
+      last_writable members of.writable,
+      c.in_ok-tail.ensures members of are,
     )
 
 pub returns : goal.returns

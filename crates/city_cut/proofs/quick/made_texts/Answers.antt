@@ -5,6 +5,25 @@ use Rattle.city_cut.proofs.MadeFeatures.{made_own}
 use Rattle.city_cut.proofs.QuickTexts.{if_some_more}
 use Rattle.city_cut.proofs.quick.made_texts.Goals as goal
 
+pub new-requires-clause-document : goal.new-requires-clause-document
+new-requires-clause-document c =
+    let (pairs, of, are, rel) = c.requires.objects in
+    let (points, stand, range) = c.requires.vertices in
+    let count : c.saturating_sub-count.result ≡ length points =
+    omega (arith, stand.long, c.len.ensures, c.saturating_sub-count.ensures) in
+    record {
+      pairs = pairs;
+      points = points;
+      skeletons = subst (λ n. AreSkeletons n c.in_ok-skeletons.skeletons pairs) count
+          (c.in_ok-skeletons.ensures.made pairs of are);
+      stand = stand;
+      few = omega (arith, stand.long, c.args.vertices.now.starts.small);
+      range = range;
+      writable = of.writable;
+      distinct = of.distinct;
+      linked = rel.linked;
+    }
+
 pub returns : goal.returns
 returns c = if_some_more c.new.result (λ own is pairs appearance points stand of are rel.
     let makings : Makings = record {

@@ -9,7 +9,7 @@ use Rattle.city_cut.proofs.quick.texts_on.Goals as goal
 
 pub kin_of-requires-clause-objects : goal.kin_of-requires-clause-objects
 kin_of-requires-clause-objects c =
-    let (value, of) = c.requires in
+    let (value, of) = c.requires.objects in
     let there = objects_there c.args.objects.now c.in_ok-places.field-0.places.items value of
     c.in_ok-places.ensures.places in (
       there.pairs,
@@ -33,7 +33,7 @@ returns-in-Some c = λ value appearance points of stand tail.
 
 pub made_texts-requires-clause-places : goal.made_texts-requires-clause-places
 made_texts-requires-clause-places c =
-    let (value, of) = c.requires in
+    let (value, of) = c.requires.objects in
     let there = objects_there c.args.objects.now c.in_ok-places.field-0.places.items value of
     c.in_ok-places.ensures.places in
     let objects = member_trees there.pairs in
@@ -41,6 +41,17 @@ made_texts-requires-clause-places c =
     (subst (λ p. AreParts 1 p objects) (sym c.deref.ensures.value) there.are) in
     let listed = subst (λ p. AreParts 1 p objects) (sym c.deref-3.ensures.value) there.are in
     omega (arith, as_many_pairs there.pairs _ _ rel, as_many_parts 1 c.deref-3.result.now there.pairs listed)
+
+pub made_texts-requires-clause-objects : goal.made_texts-requires-clause-objects
+made_texts-requires-clause-objects c =
+    let (value, of) = c.requires.objects in
+    let there = objects_there c.args.objects.now c.in_ok-places.field-0.places.items value of
+    c.in_ok-places.ensures.places in
+    let objects = member_trees there.pairs in
+    let (city, lacks, belong, rel) = c.in_ok-kin.ensures.kin there.pairs there.of
+    (subst (λ p. AreParts 1 p objects) (sym c.deref.ensures.value) there.are) in
+    let listed = subst (λ p. AreParts 1 p objects) (sym c.deref-3.ensures.value) there.are in
+    (there.pairs, there.of, listed, rel)
 
 pub returns : goal.returns
 returns c = λ value appearance points of stand tail.

@@ -1,5 +1,5 @@
-use Rattle.std.proofs.Common.{length}
-use Rattle.city_cut.specs.HeldTexts.{texts_in}
+use Rattle.std.proofs.Common.{◌∙◌, ap, length}
+use Rattle.city_cut.specs.HeldTexts.{HeldTexts, texts_in}
 use Rattle.tile_stream.specs.Stream as lines
 use Rattle.document_stream.proofs.AllWritten.{all_written, some_written}
 use Rattle.document_stream.proofs.cat.cat_source.Goals as goal
@@ -17,4 +17,6 @@ returns-in-Ok-write_stream-clause-ok g c =
     let stream = c.in-Ok.stream in
     all_written (g.R.Source.gives c.args.source.now) (length stream.texts.own)
     (lines.stream stream.header (texts_in stream.texts)) c.in-Ok.ensures.ok (g.W.Sink.taken c.args.output.now)
-    (g.W.Sink.taken c.write_stream.new.output) c.len.result c.len.ensures c.in-Ok-write_stream.ensures.ok
+    (g.W.Sink.taken c.write_stream.new.output) c.len.result
+    (c.len.ensures ∙ ap (λ (texts : HeldTexts). length texts.own) c.in-Ok-write_stream.ensures.same)
+    c.in-Ok-write_stream.ensures.ok

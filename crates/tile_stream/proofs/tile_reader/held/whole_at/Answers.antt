@@ -1,5 +1,6 @@
-use Rattle.std.proofs.Common.{◌≡◌, ◌⊎◌, option_map, sym, subst, IfOk, IfErr}
+use Rattle.std.proofs.Common.{◌≡◌, ◌∙◌, ◌⊎◌, ap, option_map, sym, subst, IfOk, IfErr}
 use Rattle.byte_streams.specs.declared.fault.Fault.TheVariants.{Memory}
+use Rattle.city_cut.specs.HeldTexts.{HeldTexts}
 use Rattle.city_feature.specs.Choice.{IsChosen}
 use Rattle.city_feature.specs.FeatureLine.{GivesFeature, RefusesFeatureLine}
 use Rattle.tile_stream.specs.Shared.{text_ready}
@@ -13,7 +14,9 @@ returns-clause-ok c =
     subst (λ line. IfOk c.line_text.result (λ given. GivesFeature (IsChosen c.args.choice.now) c.args.shift line
     (option_map (text_ready c.args.held.now.common) given))) (sym text)
     (subst (λ end. IfOk c.line_text.result (λ given. GivesFeature (IsChosen c.args.choice.now) c.args.shift
-    c.items.result.now (option_map (text_ready end) given))) c.common.ensures c.line_text.ensures.ok)
+    c.items.result.now (option_map (text_ready end) given)))
+    (c.common.ensures ∙ ap (λ (held : HeldTexts). held.common) c.in_ok-append_to.ensures.same)
+    c.line_text.ensures.ok)
 
 pub returns-clause-refused : goal.returns-clause-refused
 returns-clause-refused c =
