@@ -10,8 +10,8 @@ use std::alloc::Global;
 
 /// Reads a document to its end, and writes the stream of the features that it is cut into: the header's
 /// line, and one for each feature, in order. Answers how many features were written. The document and then
-/// its compact text and what is written are held in memory, the appearance once, and nothing is written before it was
-/// cut.
+/// its compact text are held in memory, and what is written, the appearance once: but where features share objects, or
+/// many vertices, their texts are made when they are written. Nothing is written before the document was cut.
 ///
 /// # Errors
 ///

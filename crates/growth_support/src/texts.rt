@@ -47,6 +47,48 @@ macro_rules! document {
     };
 }
 
+/// A document of three objects, each with the next one as its child, that name no parents, of this translation.
+macro_rules! chain {
+    ($translate:literal) => {
+        concat!(
+            r#"{"type":"CityJSON","version":"2.0","transform":{"scale":[0.001,0.001,0.001],"translate":["#,
+            $translate,
+            r#",0,0]},"CityObjects":{"a":{"type":"Building","children":["b"],"geometry":[{"type":"MultiPoint","lod":"1","boundaries":[1,0]}]},"b":{"type":"Road","children":["c"],"geometry":[{"type":"MultiPoint","lod":"1","boundaries":[2,1]}]},"c":{"type":"Bridge","geometry":[{"type":"MultiPoint","lod":"1","boundaries":[0]}]}},"vertices":[[1,2,3],[4,5,6],[7,8,9]]}"#
+        )
+    };
+}
+
+/// What it is cut into: the features of its first object, its second and its third, with these vertices.
+macro_rules! first_of_chain {
+    ($vertices:literal) => {
+        concat!(
+            r#"{"type":"CityJSONFeature","id":"a","CityObjects":{"a":{"type":"Building","children":["b"],"geometry":[{"type":"MultiPoint","lod":"1","boundaries":[0,1]}]},"b":{"type":"Road","children":["c"],"geometry":[{"type":"MultiPoint","lod":"1","boundaries":[2,0]}]},"c":{"type":"Bridge","geometry":[{"type":"MultiPoint","lod":"1","boundaries":[1]}]}},"vertices":"#,
+            $vertices,
+            "}"
+        )
+    };
+}
+
+macro_rules! second_of_chain {
+    ($vertices:literal) => {
+        concat!(
+            r#"{"type":"CityJSONFeature","id":"b","CityObjects":{"b":{"type":"Road","children":["c"],"geometry":[{"type":"MultiPoint","lod":"1","boundaries":[0,1]}]},"c":{"type":"Bridge","geometry":[{"type":"MultiPoint","lod":"1","boundaries":[2]}]}},"vertices":"#,
+            $vertices,
+            "}"
+        )
+    };
+}
+
+macro_rules! third_of_chain {
+    ($vertices:literal) => {
+        concat!(
+            r#"{"type":"CityJSONFeature","id":"c","CityObjects":{"c":{"type":"Bridge","geometry":[{"type":"MultiPoint","lod":"1","boundaries":[0]}]}},"vertices":"#,
+            $vertices,
+            "}"
+        )
+    };
+}
+
 pub const HEADER: &str = header!("0.001", "0", "");
 
 pub const FAR_HEADER: &str = header!("0.001", "1.5", "");
@@ -137,6 +179,24 @@ pub const SHADED_X: &str =
 
 pub const SHADED_Y: &str =
     r#"{"type":"CityJSONFeature","id":"y","CityObjects":{"y":{"type":"Road","geometry":[{"type":"MultiPoint","lod":"1","boundaries":[0]}]}},"vertices":[[20,0,0]],"appearance":{"materials":[{"name":"brick"}]}}"#;
+
+/// A document whose features share objects, and what it is cut into.
+pub const CHAIN: &str = chain!("0");
+
+pub const CHAIN_A: &str = first_of_chain!("[[4,5,6],[1,2,3],[7,8,9]]");
+
+pub const CHAIN_B: &str = second_of_chain!("[[7,8,9],[4,5,6],[1,2,3]]");
+
+pub const CHAIN_C: &str = third_of_chain!("[[1,2,3]]");
+
+/// The same on another grid, and its features on the grid of the first.
+pub const FAR_CHAIN: &str = chain!("1.5");
+
+pub const FAR_CHAIN_A: &str = first_of_chain!("[[1504,5,6],[1501,2,3],[1507,8,9]]");
+
+pub const FAR_CHAIN_B: &str = second_of_chain!("[[1507,8,9],[1504,5,6],[1501,2,3]]");
+
+pub const FAR_CHAIN_C: &str = third_of_chain!("[[1501,2,3]]");
 
 /// Headers that join, or do not: of scales that are written otherwise, reference systems and extensions.
 pub const SCALED: &str = header!("1e-3", "0", "");

@@ -6,7 +6,8 @@ use crate::tiles::{
 use byte_streams::{Bin, Device, Fault, MergeFault};
 use city_feature::{Base, Choice};
 use growth_support::texts::{
-    A, A1, A2, A3, B, B1, C1, C2, CUT, FAR_B, FAR_HEADER, HEADER, POINTS, X, Y,
+    A, A1, A2, A3, B, B1, C1, C2, CUT, FAR_B, FAR_CHAIN, FAR_CHAIN_A, FAR_CHAIN_B, FAR_CHAIN_C,
+    FAR_HEADER, HEADER, POINTS, X, Y,
 };
 use growth_support::{Call, expect, is_gone, wanted};
 use std::alloc::{AllocError, Global};
@@ -81,6 +82,21 @@ const WITH_DOCUMENT: [Tile<'static>; 3] = [
         input: &[FAR_HEADER, B],
         header: 1,
         texts: &[(2, FAR_B)],
+    },
+    NONE,
+];
+
+/// The second is a document whose features share objects.
+const WITH_CHAIN: [Tile<'static>; 3] = [
+    Tile {
+        input: &[HEADER, A1],
+        header: 1,
+        texts: &[(2, A1)],
+    },
+    Tile {
+        input: &[FAR_CHAIN, B],
+        header: 1,
+        texts: &[(1, FAR_CHAIN_A), (1, FAR_CHAIN_B), (1, FAR_CHAIN_C), (2, FAR_B)],
     },
     NONE,
 ];
@@ -300,6 +316,7 @@ enum Case {
     Three,
     Faulty,
     WithDocument,
+    WithChain,
 }
 
 fn merged_of(case: Case) -> Merged<'static> {
@@ -320,23 +337,29 @@ fn merged_of(case: Case) -> Merged<'static> {
             tiles: WITH_DOCUMENT,
             comes: Ok([3u64, 1].as_slice()),
         },
+        Case::WithChain => Merged {
+            tiles: WITH_CHAIN,
+            comes: Ok([1u64, 4].as_slice()),
+        },
     }
 }
 
 /// What is merged in turn, and how many texts are held of each tile.
-const IN_TURN: [(Case, u32); 5] = [
+const IN_TURN: [(Case, u32); 6] = [
     (Case::Two, 64),
     (Case::Three, 1),
     (Case::Three, 2),
     (Case::Faulty, 64),
     (Case::WithDocument, 2),
+    (Case::WithChain, 2),
 ];
 
 /// The same with a thread for each tile.
-const BESIDE: [(Case, u32); 3] = [
+const BESIDE: [(Case, u32); 4] = [
     (Case::Three, 1),
     (Case::Faulty, 64),
     (Case::WithDocument, 2),
+    (Case::WithChain, 2),
 ];
 
 #[test]

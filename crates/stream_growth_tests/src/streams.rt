@@ -9,8 +9,9 @@ use city_grid::Shift;
 use city_json::{Json, print};
 use document_stream::{cat_document, cat_source};
 use growth_support::texts::{
-    A1, A2, B1, BLANKS, BLANKS_CUT, BUILDING, CHILDLESS, DOCUMENT, EMPTY_A, EMPTY_B, FIRST,
-    FIRST_FEATURE, HEADER, ORPHANED, POINTS, SHADED_POINTS, SHADED_X, SHADED_Y, UNBOUNDED, X, Y,
+    A1, A2, B1, BLANKS, BLANKS_CUT, BUILDING, CHAIN, CHAIN_A, CHAIN_B, CHAIN_C, CHILDLESS,
+    DOCUMENT, EMPTY_A, EMPTY_B, FIRST, FIRST_FEATURE, HEADER, ORPHANED, POINTS, SHADED_POINTS,
+    SHADED_X, SHADED_Y, UNBOUNDED, X, Y,
 };
 use growth_support::{Call, expect, is_fault, is_gone, refused, wanted};
 use std::alloc::{AllocError, Global};
@@ -315,6 +316,16 @@ fn shaded_document_is_filtered(
     is_filtered(rt, step, &input, 1, &wanted, Ok(3))
 }
 
+/// A document whose features share objects, all of them and those that are chosen.
+fn chain_is_filtered(rt: &(impl AllocGlobal + Eprint), step: usize) -> Result<bool, Fault> {
+    let input = bytes_of(rt.alloc(), &[CHAIN, A1])?;
+    let wanted = [(1, CHAIN_A), (1, CHAIN_B), (1, CHAIN_C), (2, A1)];
+    let others = choice_of(rt.alloc(), true)?;
+    let tiles = alone(1, &wanted[1..3]);
+    Ok(is_filtered(rt, step, &input, 1, &wanted, Ok(4))?
+        && stream_is_filtered(rt, step, &input, &others, &tiles, Ok(2))?)
+}
+
 /// Want of memory of this call at this line, or a wrong answer.
 fn is_refused(
     rt: &(impl AllocGlobal + Eprint),
@@ -346,7 +357,7 @@ fn takes_head(
 }
 
 /// Whether this is all that is held.
-fn is_held(alloc: Global, texts: &ReadyTexts, text: &str) -> Result<bool, Fault> {
+fn is_held(alloc: Global, mut texts: ReadyTexts, text: &str) -> Result<bool, Fault> {
     let mut output = Bin::new(alloc, 4096, 100, false)?;
     texts.write(&mut output)?;
     Ok(texts.len() == 1 && after_line(output.bytes(), text) == Some([].as_slice()))
@@ -358,7 +369,7 @@ fn takes_held(
     choice: &Choice,
 ) -> Result<bool, Fault> {
     match tile.take_held(rt.alloc(), Shift::zero(), choice) {
-        Ok(texts) => is_held(rt.alloc(), &texts, X),
+        Ok(texts) => is_held(rt.alloc(), texts, X),
         Err(told) => is_refused(rt, Call("TileReader::take_held"), told, 1),
     }
 }
@@ -426,11 +437,15 @@ fn is_cat(
     call: Call,
     answer: Result<u64, MergeFault>,
     written: &[u8],
+    features: &[&str],
 ) -> Result<bool, Fault> {
     match answer {
         Ok(count) => {
-            let left = after_line(written, HEADER).unwrap_or(b"");
-            Ok(count == 1 && after_line(left, BUILDING) == Some([].as_slice()))
+            let mut left = after_line(written, HEADER).unwrap_or(b"?");
+            for feature in features {
+                left = after_line(left, feature).unwrap_or(b"?");
+            }
+            Ok(count == features.len() as u64 && left.is_empty())
         }
         Err(told) if (told.tile, told.line) == (1, 0) && written.is_empty() => {
             refused(rt, call, told.fault)
@@ -439,22 +454,43 @@ fn is_cat(
     }
 }
 
-fn document_becomes(rt: &(impl AllocGlobal + Eprint), text: &str) -> Result<bool, Fault> {
+fn document_becomes(
+    rt: &(impl AllocGlobal + Eprint),
+    text: &str,
+    features: &[&str],
+) -> Result<bool, Fault> {
     let mut output = Bin::new(rt.alloc(), 4096, 100, false)?;
     let reader = tape_of(rt.alloc(), text.as_bytes(), IN_PARTS)?;
     let answer = cat_document(rt.alloc(), reader, &mut output);
-    is_cat(rt, Call("cat_document"), answer, output.bytes())
+    is_cat(rt, Call("cat_document"), answer, output.bytes(), features)
 }
 
-fn source_becomes(rt: &(impl AllocGlobal + Eprint), text: &str) -> Result<bool, Fault> {
+fn source_becomes(
+    rt: &(impl AllocGlobal + Eprint),
+    text: &str,
+    features: &[&str],
+) -> Result<bool, Fault> {
     let mut output = Bin::new(rt.alloc(), 4096, 100, false)?;
     let mut source = tape_of(rt.alloc(), text.as_bytes(), IN_PARTS)?;
     let answer = cat_source(rt.alloc(), &mut source, &mut output);
-    is_cat(rt, Call("cat_source"), answer, output.bytes())
+    is_cat(rt, Call("cat_source"), answer, output.bytes(), features)
 }
 
 fn document_is_cat(rt: &(impl AllocGlobal + Eprint)) -> Result<bool, Fault> {
-    Ok(document_becomes(rt, DOCUMENT)? && source_becomes(rt, DOCUMENT)?)
+    Ok(document_becomes(rt, DOCUMENT, &[BUILDING])? && source_becomes(rt, DOCUMENT, &[BUILDING])?)
+}
+
+/// A document in which two objects name each other, of which one has an address before its geometries.
+const SHARED: &str =
+    r#"{"type":"CityJSON","version":"2.0","transform":{"scale":[0.001,0.001,0.001],"translate":[0,0,0]},"CityObjects":{"a":{"children":["b"],"geometry":[{"boundaries":[2]}]},"b":{"children":["a"],"address":[{"location":{"boundaries":[0]}}],"geometry":[{"boundaries":[[1,2]]}]}},"vertices":[[0,0,0],[1,1,1],[2,2,2]]}"#;
+
+const OF_SHARED: [&str; 2] = [
+    r#"{"type":"CityJSONFeature","id":"a","CityObjects":{"a":{"children":["b"],"geometry":[{"boundaries":[0]}]},"b":{"children":["a"],"address":[{"location":{"boundaries":[2]}}],"geometry":[{"boundaries":[[1,0]]}]}},"vertices":[[2,2,2],[1,1,1],[0,0,0]]}"#,
+    r#"{"type":"CityJSONFeature","id":"b","CityObjects":{"a":{"children":["b"],"geometry":[{"boundaries":[0]}]},"b":{"children":["a"],"address":[{"location":{"boundaries":[2]}}],"geometry":[{"boundaries":[[1,0]]}]}},"vertices":[[2,2,2],[1,1,1],[0,0,0]]}"#,
+];
+
+fn shared_document_is_cat(rt: &(impl AllocGlobal + Eprint)) -> Result<bool, Fault> {
+    Ok(document_becomes(rt, SHARED, &OF_SHARED)? && source_becomes(rt, SHARED, &OF_SHARED)?)
 }
 
 /// Documents, and why they are refused.
@@ -466,8 +502,8 @@ const NO_DOCUMENTS: [(&str, Fault); 3] = [
 
 fn documents_are_refused(rt: &(impl AllocGlobal + Eprint)) -> Result<bool, Fault> {
     for (text, fault) in NO_DOCUMENTS.iter() {
-        let is_refused = is_fault(document_becomes(rt, text), *fault)?;
-        if !(is_refused && is_fault(source_becomes(rt, text), *fault)?) {
+        let is_refused = is_fault(document_becomes(rt, text, &[]), *fault)?;
+        if !(is_refused && is_fault(source_becomes(rt, text, &[]), *fault)?) {
             return Ok(false);
         }
     }
@@ -486,8 +522,10 @@ fn streams_are_read_filtered_and_made_of_documents(rt: HostRuntime) -> Result<()
     expect!(rt; features_are_chosen(&rt, IN_PARTS));
     expect!(rt; document_is_filtered(&rt, IN_PARTS));
     expect!(rt; shaded_document_is_filtered(&rt, IN_PARTS));
+    expect!(rt; chain_is_filtered(&rt, IN_PARTS));
     expect!(rt; tile_is_taken(&rt));
     expect!(rt; document_is_cat(&rt));
+    expect!(rt; shared_document_is_cat(&rt));
     expect!(rt; documents_are_refused(&rt));
     Ok(())
 }
@@ -503,5 +541,6 @@ fn whole_lines_are_filtered(rt: HostRuntime) -> Result<(), Fault> {
     expect!(rt; features_are_chosen(&rt, WHOLE));
     expect!(rt; document_is_filtered(&rt, WHOLE));
     expect!(rt; shaded_document_is_filtered(&rt, WHOLE));
+    expect!(rt; chain_is_filtered(&rt, WHOLE));
     Ok(())
 }

@@ -104,6 +104,7 @@ BARE_DOCUMENT A1 => BARE_HEADER BARE A1 => 2
 SHADED_DOCUMENT A1 => EXTENT_HEADER SHADED A1 => 2
 SHADED_POINTS A1 => HEADER SHADED_X SHADED_Y SHADED_Z A1 => 4
 TEMPLATES_POINTS => SHADED_TEMPLATES_HEADER SHADED_X SHADED_Y SHADED_Z => 3
+CHAIN A1 => HEADER CHAIN_A CHAIN_B CHAIN_C A1 => 4
 ";
 
 /// The road alone is chosen, with the appearance.
@@ -111,12 +112,14 @@ const FILTERED_ROADS: &str = "
 POINTS A1 Y => HEADER Y Y => 2
 SHADED_POINTS A1 Y => HEADER SHADED_Y Y => 2
 TEMPLATES_POINTS => SHADED_TEMPLATES_HEADER SHADED_Y => 1
+CHAIN A1 Y => HEADER CHAIN_B Y => 2
 ";
 
 /// Of a document of which nothing is chosen its header is written.
 const FILTERED_BRIDGES: &str = "
 POINTS A1 => HEADER => 0
 SHADED_POINTS A1 => HEADER => 0
+CHAIN A1 => HEADER CHAIN_C => 1
 ";
 
 /// A document alone is cut where it stands first, and what is faulty after it leaves its features written.
@@ -203,12 +206,15 @@ HEADER A1 | POINTS X Y Z => HEADER A1 X Y Z X Y Z => [1, 6] => A1 | X Y Z X Y Z
 VERTEX_HEADER | HEADER A1 | VERTEX_HEADER B1 => HEADER A1 B1 => [0, 1, 1] =>  | A1 | B1
 VERTEX_ALONE_HEADER A1 | VERTEX_ALONE_HEADER B1 => NO_VERTEX_HEADER A1 B1 => [1, 1] => A1 | B1
 HEADER A1 | SHADED_FAR_POINTS => HEADER A1 SHADED_FAR_X SHADED_FAR_Y SHADED_FAR_Z => [1, 3] => A1 | SHADED_FAR_X SHADED_FAR_Y SHADED_FAR_Z
+HEADER A1 B1 | ONE_CHAIN => HEADER A1 ONE_CHAIN_A B1 ONE_CHAIN_B ONE_CHAIN_C => [2, 3] => A1 B1 | ONE_CHAIN_A ONE_CHAIN_B ONE_CHAIN_C
+CHAIN | SHADED_ONE_CHAIN => HEADER CHAIN_A SHADED_ONE_CHAIN_A CHAIN_B SHADED_ONE_CHAIN_B CHAIN_C SHADED_ONE_CHAIN_C => [3, 3] => CHAIN_A CHAIN_B CHAIN_C | SHADED_ONE_CHAIN_A SHADED_ONE_CHAIN_B SHADED_ONE_CHAIN_C
 ";
 
 /// A document gives all of its features or none, and what is faulty after it leaves its features written.
 const REFUSED: &str = "
 HEADER A1 | LAST_DOCUMENT => HEADER A1 => tile 2 line 1: VertexRange => A1 |
 HEADER A1 | SHADED_LAST_POINTS => HEADER A1 => tile 2 line 1: VertexRange => A1 |
+HEADER A1 | LAST_CHAIN => HEADER A1 => tile 2 line 1: VertexRange => A1 |
 HEADER A1 | EMPTY SPACE LAST_POINTS B1 { | HEADER C1 => HEADER A1 C1 => tile 2 line 3: VertexRange => A1 |  | C1
 HEADER A1 B1 | POINTS C1 CUT => HEADER A1 X B1 Y Z C1 => tile 2 line 3: Syntax => A1 B1 | X Y Z C1
 ";
@@ -241,6 +247,15 @@ SHADED_POINTS | SHADED_FAR_POINTS A1 => HEADER SHADED_FAR_Y => [0, 1] =>  | SHAD
 const ROADS: &str = "
 DOCUMENT | POINTS | DOCUMENT A1 => HEADER Y => [0, 1, 0] =>  | Y |
 SHADED_POINTS | DOCUMENT | SHADED_FAR_POINTS => HEADER SHADED_Y SHADED_FAR_Y => [1, 0, 1] => SHADED_Y |  | SHADED_FAR_Y
+CHAIN | SHADED_ONE_CHAIN => HEADER CHAIN_B SHADED_ONE_CHAIN_B => [1, 1] => CHAIN_B | SHADED_ONE_CHAIN_B
+";
+
+/// The last of three features that share objects is chosen. What is not chosen tells, too, where it leaves the range; of a
+/// vertex that no boundary names it does not matter.
+const BRIDGES: &str = "
+HEADER | ONE_CHAIN => HEADER ONE_CHAIN_C => [0, 1] =>  | ONE_CHAIN_C
+HEADER | LAST_CHAIN => HEADER => tile 2 line 1: VertexRange =>  |
+HEADER | UNUSED_LAST_CHAIN => HEADER NEXT_CHAIN_C => [0, 1] =>  | NEXT_CHAIN_C
 ";
 
 #[test]
@@ -251,6 +266,7 @@ fn documents_are_merged(rt: HostRuntime) {
     expect_both_ways(&rt, &of_types("Building"), REFUSED_BUILDINGS);
     expect_both_ways(&rt, &IN_AREA, CHOSEN);
     expect_both_ways(&rt, &of_types("Road"), ROADS);
+    expect_both_ways(&rt, &of_types("Bridge"), BRIDGES);
 }
 
 /// The header of a document is that of its cut, and is joined as others are. Of a vertex that no boundary names it

@@ -16,7 +16,7 @@ pub record MadeSoFar (IsWanted : FeatureValue → Type 0) (k : Triple) (lines : 
   pub give : LinesGive IsWanted k lines texts
   pub few : length texts ≤ length lines
 
-at_most_one : (given : Option (List ℕ)) → length (option_to_list given) ≤ 1
+pub at_most_one : (given : Option (List ℕ)) → length (option_to_list given) ≤ 1
 at_most_one None = omega (arith)
 at_most_one (Some text) = omega (arith)
 

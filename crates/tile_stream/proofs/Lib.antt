@@ -12,3 +12,4 @@ pub mod HeldTexts
 pub mod Leaving
 pub mod Steps
 pub mod StandingLines
+pub mod WantedTexts

@@ -1,5 +1,5 @@
 -- City objects that the first line of a tile holds itself: features that come before those of the lines after it.
-use Rattle.std.specs.Prelude.{◌≡◌, ◌≢◌, ◌⊎◌, ◌++◌, ℕ, List, [], ◌∷◌, Any, Option, Some, None, option_to_list}
+use Rattle.std.specs.Prelude.{◌≡◌, ◌≢◌, ◌⊎◌, ◌++◌, ℕ, Bool, List, [], ◌∷◌, Any, Option, Some, None, is_some, option_to_list}
 use Rattle.std.specs.List.{AllZip}
 use Rattle.byte_streams.specs.declared.fault.Fault.{Fault}
 use Rattle.byte_streams.specs.declared.fault.Fault.TheVariants.{VertexRange, Memory}
@@ -55,6 +55,15 @@ LinesGive IsWanted k (line ∷ others) texts =
     × GivesFeature IsWanted k line given
     × LinesGive IsWanted k others more
     × (texts ≡ option_to_list given ++ more)
+
+-- whether the line gives a text
+abbrev pub TellsWanted : (FeatureValue → Type 0) → Triple → List ℕ → Bool → Type 0
+TellsWanted IsWanted k line wanted =
+    (given : Option (List ℕ)) × GivesFeature IsWanted k line given × (wanted ≡ is_some given)
+
+-- which of the lines do
+abbrev pub TellWanted : (FeatureValue → Type 0) → Triple → List (List ℕ) → List Bool → Type 0
+TellWanted IsWanted k lines wanted = AllZip (TellsWanted IsWanted k) lines wanted
 
 abbrev pub RefusesLines : Triple → Fault → List (List ℕ) → Type 0
 RefusesLines k fault lines =

@@ -1,6 +1,7 @@
 pub mod Ahead
 pub mod Coming
 pub mod Filtered
+pub mod GivenTexts
 pub mod Head
 pub mod Held
 pub mod Progress

@@ -181,7 +181,7 @@ fn write_held<R: Source, W: Sink>(
         ≡ failures_after_filter result (W.failures output.old) }
     ensures lines { tile.new.lines ≡ tile.old.lines }
 {
-    let texts = match tile.take_held(alloc, Shift::zero(), choice) {
+    let mut texts = match tile.take_held(alloc, Shift::zero(), choice) {
         Ok(texts) => texts,
         Err(at) => return Err(MergeFault::of_line(at.line, at.fault)),
     };

@@ -171,13 +171,15 @@ impl<R: Source> TileReader<R> {
         if self.held.texts.len() == 0 {
             return Ok(ReadyTexts::none(alloc));
         }
-        let mut held = mem::replace(&mut self.held.texts, FeatureTexts::none(alloc));
-        match texts_of(alloc, &mut held, shift, choice) {
-            Ok(texts) => Ok(texts),
-            Err(fault) => Err(LineFault {
-                line: self.held.line,
-                fault,
-            }),
+        let held = mem::replace(&mut self.held.texts, FeatureTexts::none(alloc));
+        match texts_of(alloc, held, shift, choice) {
+            Ok(texts) => return Ok(texts),
+            Err(fault) => {
+                return Err(LineFault {
+                    line: self.held.line,
+                    fault,
+                });
+            }
         }
     }
 

@@ -3,7 +3,7 @@ ghost use Rattle.city_cut.specs.HeldTexts.{texts_in};
 ghost use Rattle.city_feature.specs.Choice.{IsChosen};
 ghost use Rattle.city_feature.specs.Ended.{IsAppearanceEnd};
 ghost use Rattle.city_feature.specs.FeatureLine.{GivesFeature, RefusesFeatureLine};
-ghost use Rattle.tile_stream.specs.Held.{LinesGive, RefusesLines};
+ghost use Rattle.tile_stream.specs.Held.{LinesGive, RefusesLines, TellWanted};
 ghost use Rattle.tile_stream.specs.Shared.{text_ready};
 
 use crate::tile_reader::ready::{ReadyText, ReadyTexts, ready_text};
@@ -21,12 +21,77 @@ pub(crate) struct Held {
     pub(crate) texts: FeatureTexts,
 }
 
-/// The texts of those features that are chosen when they are moved by the shift, with their common end once.
+/// The texts of those features that are chosen when they are moved by the shift. All are moved before the first is given.
 ///
 /// # Errors
 ///
 /// [`Fault::VertexRange`] where one of them cannot be moved so, and [`Fault::Memory`].
 pub(crate) fn texts_of(
+    alloc: Global,
+    held: FeatureTexts,
+    shift: Shift,
+    choice: &Choice,
+) -> Result<ReadyTexts, Fault>
+    requires some { 0 < length held.own }
+    ensures ok { IfOk result (λ texts.
+        LinesGive (IsChosen choice.now) shift (texts_in held) texts) }
+    ensures fewer { IfOk result (λ texts. length texts ≤ length (texts_in held)) }
+    ensures refused { IfErr result (λ fault. RefusesLines shift fault (texts_in held)) }
+{
+    let mut held = held;
+    if held.is_made() {
+        return made_texts(alloc, held, shift, choice);
+    }
+    stored_texts(alloc, &mut held, shift, choice)
+}
+
+/// The same of texts that are made when they are asked for: what is given is made of moved vertices.
+fn made_texts(
+    alloc: Global,
+    held: FeatureTexts,
+    shift: Shift,
+    choice: &Choice,
+) -> Result<ReadyTexts, Fault>
+    requires some { 0 < length held.own }
+    ensures ok { IfOk result (λ texts.
+        LinesGive (IsChosen choice.now) shift (texts_in held) texts) }
+    ensures fewer { IfOk result (λ texts. length texts ≤ length (texts_in held)) }
+    ensures refused { IfErr result (λ fault. RefusesLines shift fault (texts_in held)) }
+{
+    let mut held = held;
+    let wanted = wanted_of(alloc, &mut held, shift, choice)?;
+    held.move_by(alloc, shift)?;
+    held.keep(&wanted)?;
+    Ok(ReadyTexts::made(held))
+}
+
+/// Which of the features are chosen when they are moved by the shift, as all can be.
+fn wanted_of(
+    alloc: Global,
+    held: &mut FeatureTexts,
+    shift: Shift,
+    choice: &Choice,
+) -> Result<Vec<bool>, Fault>
+    requires some { 0 < length held.old.own }
+    ensures ok { IfOk result (λ wanted.
+        TellWanted (IsChosen choice.now) shift (texts_in held.old) wanted.items) }
+    ensures refused { IfErr result (λ fault. RefusesLines shift fault (texts_in held.old)) }
+    ensures same { held.new ≡ held.old }
+{
+    let shares = is_appearance_end(alloc, held.common());
+    let mut wanted = Vec::with_capacity(alloc, held.len())?;
+    let mut buffers = Buffers::new(alloc);
+    let mut at = 0usize;
+    'held: while at < held.len() {
+        let text = text_at(alloc, held, at, shares, shift, choice, &mut buffers)?;
+        wanted.push(text.is_some())?;
+        at += 1;
+    }
+    Ok(wanted)
+}
+
+/// The same texts, held with their common end once.
+fn stored_texts(
     alloc: Global,
     held: &mut FeatureTexts,
     shift: Shift,

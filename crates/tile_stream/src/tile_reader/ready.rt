@@ -2,12 +2,15 @@
 ghost use Rattle.std.specs.Prelude.{◌≡◌, ◌<◌, ◌^◌, ◌++◌, [], ℕ, flat_map, get_or, length, map, take, IfOk, IfErr, IfSome, OnOk, OnErr};
 ghost use Rattle.std.specs.Io.KnownBytes.{Appends};
 ghost use Rattle.byte_streams.specs.Failures.{after_call};
+ghost use Rattle.city_cut.specs.HeldTexts.{texts_in};
+ghost use Rattle.tile_stream.specs.GivenTexts.{given_texts};
 ghost use Rattle.tile_stream.specs.Ready.{whole_text};
 ghost use Rattle.tile_stream.specs.Shared.{text_ready};
 ghost use Rattle.tile_stream.specs.Stream.{with_newline};
 
-use crate::filter::write_parts;
+use crate::filter::{write_parts, write_text};
 use byte_streams::{Fault, Line, Sink};
+use city_cut::FeatureTexts;
 use std::alloc::{AllocError, Global};
 use std::marker::Model;
 
@@ -18,21 +21,95 @@ pub(super) struct ReadyText {
     pub(super) shares: bool,
 }
 
-/// The texts of those features of a first line that are chosen, moved, in their order. The end that they have in common
-/// is held once.
+/// Texts that are held. The end that they have in common is held once.
 #[derive(Debug, Drop)]
-pub struct ReadyTexts {
+struct StoredTexts {
     texts: Vec<ReadyText>,
     common: Line,
 }
 
-impl Model for ReadyTexts {
+impl Model for StoredTexts {
     ghost use Rattle.std.specs.Prelude.{ℕ, List, map};
     ghost use Rattle.tile_stream.specs.Ready.{whole_text};
 
     ghost Value = { List (List ℕ) };
 
     ghost view = { λ ready. map (λ one. whole_text ready.common one.shares one.own) ready.texts.items };
+}
+
+impl StoredTexts {
+    fn len(&self) -> usize
+        ensures count { result ≡ length self.now }
+        ensures few { result < 2 ^ 63 }
+    {
+        self.texts.len()
+    }
+
+    /// What the text at a place has of its own, and what stands after that.
+    fn parts_at(&self, at: usize) -> (&[u8], &[u8])
+        requires { at < length self.now }
+        ensures { get_or self.now at [] ≡ result.0.now ++ result.1.now }
+    {
+        let text = &self.texts[at];
+        let end: &[u8] = if text.shares {
+            self.common.items()
+        } else {
+            b""
+        };
+        (text.own.items(), end)
+    }
+
+    /// Writes the text at a place, and its newline.
+    fn write_at<W: Sink>(&self, at: usize, output: &mut W) -> Result<(), Fault>
+        requires { at < length self.now }
+        ensures ok { OnOk result (Appends (W.taken output.old) (W.taken output.new)
+            (with_newline (get_or self.now at []))) }
+        ensures some { OnErr result ((count : ℕ) × Appends (W.taken output.old) (W.taken output.new)
+            (take count (with_newline (get_or self.now at [])))) }
+        ensures failures { W.failures output.new ≡ after_call result (W.failures output.old) }
+        ensures fault { IfErr result (λ fault. fault ≡ Fault.Write) }
+    {
+        let (own, end) = self.parts_at(at);
+        write_parts(own, end, output)
+    }
+}
+
+/// Writes the text at a place, which is made for that, and its newline.
+fn write_made<W: Sink>(texts: &mut FeatureTexts, at: usize, output: &mut W) -> Result<(), Fault>
+    requires { at < length texts.old.own }
+    ensures ok { OnOk result (Appends (W.taken output.old) (W.taken output.new)
+        (with_newline (get_or (texts_in texts.old) at []))) }
+    ensures some { OnErr result ((count : ℕ) × Appends (W.taken output.old) (W.taken output.new)
+        (take count (with_newline (get_or (texts_in texts.old) at [])))) }
+    ensures failures { W.failures output.new ≡ after_call result (W.failures output.old) }
+    ensures fault { IfErr result (λ fault. fault ≡ Fault.Write) }
+    ensures same { texts.new ≡ texts.old }
+{
+    texts.write_own(at, output)?;
+    write_text(output, texts.common())
+}
+
+/// Texts that are held, or made when they are written.
+#[derive(Debug, Drop)]
+enum GivenTexts {
+    Stored(StoredTexts),
+    Made(FeatureTexts),
+}
+
+/// The texts of those features of a first line that are chosen, moved, in their order. Where objects belong to several of
+/// them, each is made when it is written.
+#[derive(Debug, Drop)]
+pub struct ReadyTexts {
+    texts: GivenTexts,
+}
+
+impl Model for ReadyTexts {
+    ghost use Rattle.std.specs.Prelude.{ℕ, List};
+    ghost use Rattle.tile_stream.specs.GivenTexts.{given_texts};
+
+    ghost Value = { List (List ℕ) };
+
+    ghost view = { λ ready. given_texts ready.texts };
 }
 
 fn copied(alloc: Global, bytes: &[u8]) -> Result<Line, AllocError>
@@ -83,10 +160,19 @@ impl ReadyTexts {
         ensures texts { IfOk result (λ ready. ready ≡ map (text_ready common.now) texts.items) }
         ensures fault { IfErr result (λ fault. fault ≡ Fault.Memory) }
     {
+        let common = copied(alloc, common)?;
         Ok(ReadyTexts {
-            texts,
-            common: copied(alloc, common)?,
+            texts: GivenTexts::Stored(StoredTexts { texts, common }),
         })
+    }
+
+    /// These texts, each made when it is written.
+    pub(super) fn made(texts: FeatureTexts) -> ReadyTexts
+        ensures { result ≡ texts_in texts }
+    {
+        ReadyTexts {
+            texts: GivenTexts::Made(texts),
+        }
     }
 
     /// No texts.
@@ -94,8 +180,10 @@ impl ReadyTexts {
         ensures { result ≡ [] }
     {
         ReadyTexts {
-            texts: Vec::new(alloc),
-            common: Line::new(alloc),
+            texts: GivenTexts::Stored(StoredTexts {
+                texts: Vec::new(alloc),
+                common: Line::new(alloc),
+            }),
         }
     }
 
@@ -104,21 +192,13 @@ impl ReadyTexts {
         ensures count { result ≡ length self.now }
         ensures few { result < 2 ^ 63 }
     {
-        self.texts.len()
-    }
-
-    /// What the text at a place has of its own, and what stands after that.
-    fn parts_at(&self, at: usize) -> (&[u8], &[u8])
-        requires { at < length self.now }
-        ensures { get_or self.now at [] ≡ result.0.now ++ result.1.now }
-    {
-        let text = &self.texts[at];
-        let end: &[u8] = if text.shares {
-            self.common.items()
-        } else {
-            b""
-        };
-        (text.own.items(), end)
+        match &self.texts {
+            GivenTexts::Stored(texts) => texts.len(),
+            GivenTexts::Made(texts) => {
+                texts.known();
+                texts.len()
+            }
+        }
     }
 
     /// Writes the text at a place, from 0, and its newline. It takes no memory.
@@ -126,17 +206,20 @@ impl ReadyTexts {
     /// # Errors
     ///
     /// [`Fault::Write`] where a write failed; some first bytes were written then.
-    pub fn write_at<W: Sink>(&self, at: usize, output: &mut W) -> Result<(), Fault>
-        requires { at < length self.now }
+    pub fn write_at<W: Sink>(&mut self, at: usize, output: &mut W) -> Result<(), Fault>
+        requires { at < length self.old }
         ensures ok { OnOk result (Appends (W.taken output.old) (W.taken output.new)
-            (with_newline (get_or self.now at []))) }
+            (with_newline (get_or self.old at []))) }
         ensures some { OnErr result ((count : ℕ) × Appends (W.taken output.old) (W.taken output.new)
-            (take count (with_newline (get_or self.now at [])))) }
+            (take count (with_newline (get_or self.old at [])))) }
         ensures failures { W.failures output.new ≡ after_call result (W.failures output.old) }
         ensures fault { IfErr result (λ fault. fault ≡ Fault.Write) }
+        ensures same { self.new ≡ self.old }
     {
-        let (own, end) = self.parts_at(at);
-        write_parts(own, end, output)
+        match &mut self.texts {
+            GivenTexts::Stored(texts) => texts.write_at(at, output),
+            GivenTexts::Made(texts) => write_made(texts, at, output),
+        }
     }
 
     /// Writes the texts, each with its newline. It takes no memory.
@@ -144,13 +227,14 @@ impl ReadyTexts {
     /// # Errors
     ///
     /// [`Fault::Write`] where a write failed; some first bytes were written then.
-    pub fn write<W: Sink>(&self, output: &mut W) -> Result<(), Fault>
+    pub fn write<W: Sink>(&mut self, output: &mut W) -> Result<(), Fault>
         ensures ok { OnOk result (Appends (W.taken output.old) (W.taken output.new)
-            (flat_map with_newline self.now)) }
+            (flat_map with_newline self.old)) }
         ensures some { OnErr result ((count : ℕ) × Appends (W.taken output.old) (W.taken output.new)
-            (take count (flat_map with_newline self.now))) }
+            (take count (flat_map with_newline self.old))) }
         ensures failures { W.failures output.new ≡ after_call result (W.failures output.old) }
         ensures fault { IfErr result (λ fault. fault ≡ Fault.Write) }
+        ensures same { self.new ≡ self.old }
     {
         for at in 0..self.len() {
             self.write_at(at, output)?;

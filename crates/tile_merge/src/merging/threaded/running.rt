@@ -172,11 +172,12 @@ impl<R: Source + Drop> RunningTile<R> {
     /// # Errors
     ///
     /// [`Fault::Write`] where a write failed; some first bytes were written then.
-    pub(super) fn write_first<W: Sink>(&self, output: &mut W) -> Result<(), Fault>
-        ensures written { WroteUnless result (flat_map with_newline self.now.begun.first)
+    pub(super) fn write_first<W: Sink>(&mut self, output: &mut W) -> Result<(), Fault>
+        ensures written { WroteUnless result (flat_map with_newline self.old.begun.first)
             (W.taken output.old) (W.taken output.new) }
         ensures failures { W.failures output.new ≡ after_call result (W.failures output.old) }
         ensures fault { IfErr result (λ fault. fault ≡ Fault.Write) }
+        ensures same { self.new ≡ self.old }
     {
         self.first.write(output)
     }

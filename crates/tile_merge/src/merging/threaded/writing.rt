@@ -58,17 +58,18 @@ pub(super) fn write_stream<H: Wait, R: Source + Drop, W: Sink>(
 /// [`Fault::Write`] where a write failed; some first bytes were written then.
 fn write_first<R: Source + Drop, W: Sink>(
     header: Line,
-    tiles: &[RunningTile<R>],
+    tiles: &mut [RunningTile<R>],
     output: &mut W,
 ) -> Result<(), Fault>
-    ensures written { WroteUnless result (stream header (first_texts tiles.now))
+    ensures written { WroteUnless result (stream header (first_texts tiles.old))
         (W.taken output.old) (W.taken output.new) }
     ensures failures { W.failures output.new ≡ after_call result (W.failures output.old) }
     ensures fault { IfErr result (λ fault. fault ≡ Fault.Write) }
+    ensures same { tiles.new ≡ tiles.old }
 {
     write_line(output, header)?;
-    'tiles: for tile in tiles.iter() {
-        tile.write_first(output)?;
+    'tiles: for at in 0..tiles.len() {
+        tiles[at].write_first(output)?;
     }
     Ok(())
 }

@@ -1,4 +1,4 @@
-use Rattle.std.proofs.Common.{refl}
+use Rattle.std.proofs.Common.{◌∙◌, ap, length, refl}
 use Rattle.city_feature.specs.Choice.{IsChosen}
 use Rattle.city_feature.specs.Quick.{no_steps}
 use Rattle.tile_stream.specs.Coming.{LinesMayComeTo, MayComeTo}
@@ -36,8 +36,8 @@ returns-in-Ok-pass_on-clause-ok g c =
     let old = g.W.Sink.taken c.args.output.now in
     let mid = g.W.Sink.taken c.write.new.output in
     let gives = rw c.zero.ensures at c.in-Ok.ensures.texts in
-    let so_far = all_given before after old c.in-Ok.texts gives c.len.result c.len.ensures.count mid
-    c.in-Ok-write.ensures.ok in
+    let so_far = all_given before after old c.in-Ok.texts gives c.len.result
+    (c.len.ensures.count ∙ ap length c.in-Ok-write.ensures.same) mid c.in-Ok-write.ensures.ok in
     at_skipped before old after c.len.result mid so_far after (λ texts outcome came. came)
     (g.W.Sink.taken c.pass_on.new.output) c.pass_on.ensures.bytes
 

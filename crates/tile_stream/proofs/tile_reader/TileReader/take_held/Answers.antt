@@ -46,8 +46,8 @@ returns-in-Ok-clause-some g c =
     lines_come g.R.Source.gives (IsChosen c.args.choice.now) c.args.shift g.met.R.Source.gives_something
     c.self.inside.lines c.self.invariant
 
-pub returns-clause-refused : goal.returns-clause-refused
-returns-clause-refused g c =
+pub returns-in-Err-clause-refused : goal.returns-in-Err-clause-refused
+returns-in-Err-clause-refused g c =
     let s = c.self.inside in
     let before : TileState g.row.R.Denot = record {
       held = record { line = s.held.line; texts = texts_in s.held.texts };
@@ -61,7 +61,7 @@ returns-clause-refused g c =
     subst Stops c.self.view_is (held_stops g.R.Source.gives (IsChosen c.args.choice.now) c.args.shift before
     (some.0, (some.1, some.2)) c.in-Err.fault refused)
 
-pub returns-clause-some : goal.returns-clause-some
-returns-clause-some g c =
+pub returns-in-Err-clause-some : goal.returns-in-Err-clause-some
+returns-in-Err-clause-some g c =
     lines_come g.R.Source.gives (IsChosen c.args.choice.now) c.args.shift g.met.R.Source.gives_something
     c.self.inside.lines c.self.invariant

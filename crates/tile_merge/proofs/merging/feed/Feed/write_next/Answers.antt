@@ -42,12 +42,12 @@ returns-then-self-len-clause-ok g c =
     let fewer = rw (← c.self.view_is) at c.read_ahead.ensures.fewer in
     let some = rw (← c.self.view_is) at c.read_ahead.ensures.some in
     let within : inside.written < length inside.first = omega (arith, c.if-self-len.true, c.len.ensures.count) in
-    wrote_turn g.R.Source.gives (IsChosen c.args.choice.now) c.args.self.now mid
+    rw c.in-Ok-write_at.ensures.same (wrote_turn g.R.Source.gives (IsChosen c.args.choice.now) c.args.self.now mid
     (behind (drop (inside.written + 1) inside.first) (queue_of inside.notes 0))
     (get_or inside.first inside.written []) none fewer some
     (first_left inside.first inside.written within (queue_of inside.notes 0)) refl
     (g.W.Sink.taken c.args.output.now) (g.W.Sink.taken c.read_ahead.new.output) (g.W.Sink.taken c.write_at.new.output)
-    c.read_ahead.ensures.bytes c.in-Ok-write_at.ensures.ok
+    c.read_ahead.ensures.bytes c.in-Ok-write_at.ensures.ok)
 
 pub returns-in-Ok-write_line-clause-ok : goal.returns-in-Ok-write_line-clause-ok
 returns-in-Ok-write_line-clause-ok g c =

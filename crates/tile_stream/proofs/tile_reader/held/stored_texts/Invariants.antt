@@ -3,7 +3,7 @@ use Rattle.city_cut.specs.HeldTexts.{texts_in}
 use Rattle.city_feature.specs.Choice.{IsChosen}
 use Rattle.tile_stream.specs.Shared.{text_ready}
 use Rattle.tile_stream.proofs.HeldTexts.{MadeSoFar}
-use Rattle.tile_stream.proofs.tile_reader.held.texts_of.Given as goal
+use Rattle.tile_stream.proofs.tile_reader.held.stored_texts.Given as goal
 
 -- the texts of the features so far were made
 abbrev pub invariant-held : goal.invariant-held

@@ -5,7 +5,7 @@ use Rattle.city_cut.specs.HeldTexts.{HeldTexts, texts_in}
 use Rattle.city_feature.specs.Choice.{IsChosen}
 use Rattle.tile_stream.specs.Shared.{text_ready}
 use Rattle.tile_stream.proofs.HeldTexts.{made_more, more_mapped, refuses_all, texts_long}
-use Rattle.tile_stream.proofs.tile_reader.held.texts_of.Goals as goal
+use Rattle.tile_stream.proofs.tile_reader.held.stored_texts.Goals as goal
 
 pub returns-in_err-given-clause-refused : goal.returns-in_err-given-clause-refused
 returns-in_err-given-clause-refused c =
