@@ -106,6 +106,10 @@ uncancelled_set (tile ∷ tiles) (suc i) default new kept none = (none.0, uncanc
 
 -- ---- one tile ----
 
+-- an item that is exchanged for itself
+pub set_itself : {X : Type 0} (xs all : List X) (i : ℕ) (d new : X) → xs ≡ all → new ≡ get_or xs i d → set xs i new ≡ all
+set_itself xs all i d new same is = ap (set xs i) is ∙ (set-get_or xs i d ∙ same)
+
 module _ {R : Type 0} where
   abbrev begun_in : RunningState R → Begun R
   begun_in tile = tile.begun
