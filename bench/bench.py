@@ -24,7 +24,7 @@ Eleven parts, each of which can be left out:
   cuts          instructions for each byte and peak memory of `citymerge cat` on documents that are cut on their
                 text, with textures, with addresses, beside the same documents with a -0 (valgrind)
   worst         the peak memory of the worst lines, documents and headers, in times of their size, valid and refused ones
-                apart, and how memory and time grow from 0.5 to 4 MB; where features share objects, beside what is written
+                apart, and how memory and time grow from 0.5 to 4 MB; where features share objects, from 50 to 200 kB
 
 Status 0: all is right. 1: an output is wrong, the peak memory grows with the stream or is above its bound for a
 worst case, a stream or a document takes more instructions than is wanted, a merge is too slow beside the filter, one

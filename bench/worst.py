@@ -5,8 +5,8 @@ the input, the most of the four; how that grows from the smallest to the largest
 seconds of the largest, and how these grow from a half of it. Valid and refused ones stand apart: a valid document is cut
 on its text, and one at fault by its value, up to the fault.
 
-Where features share city objects, the stream that `cat` writes may grow as the square of its document, and so may what it
-holds: such shapes are measured in times of what is read and written.
+Where features share city objects, the stream may grow as the square of its document, and the time with it, but not the
+memory: such shapes are measured apart, in smaller sizes.
 """
 
 import os
@@ -23,10 +23,10 @@ from streams import HEADER
 MEGA = 1_000_000
 SIZES = tuple(int(size * MEGA) for size in (0.5, 1, 2, 4))
 # Those whose stream grows as the square of the document.
-SMALL_SIZES = tuple(int(size * MEGA) for size in (0.025, 0.05, 0.1, 0.2))
+SMALL_SIZES = tuple(int(size * MEGA) for size in (0.05, 0.1, 0.2))
 
 # Peak memory in times of the input, as README.md states it: of a valid line and one at fault, of a valid document and one
-# at fault, of the headers of a merge; and in times of what is read and written, where features share objects.
+# at fault, of the headers of a merge, and of a valid document whose features share objects.
 LINE, REFUSED_LINE, DOCUMENT, REFUSED_DOCUMENT, HEADERS, SHARED = 12.5, 25.5, 34.5, 34.5, 26.5, 2.5
 
 # The peak, in times of the input, grows at most so much from the smallest size to the largest: tables that double give
@@ -327,7 +327,10 @@ OVERLAPPING = (
     Worst("cat: a chain of objects, each the child of the one before", "cat", chain, SHARED),
     Worst("cat: objects that name one long child", "cat", heavy_child, SHARED),
     Worst("cat: buildings in two groups each", "cat", groups, SHARED),
+    Worst("a first line: a chain of objects", "filter", chain, SHARED),
     Worst("a first line: objects that name one long child", "filter", heavy_child, SHARED),
+    Worst("a first line of a merged tile: the same", "merge", heavy_child, SHARED),
+    Worst("a first line of a tile merged in turn: the same", "merge --in-turn", heavy_child, SHARED),
 )
 
 
@@ -340,33 +343,30 @@ def count_of(worst, size):
 
 class Measured(typing.NamedTuple):
     read: int
-    written: int
     peak: int
     seconds: float
 
 
-def run_of(bench, words, given, target=os.devnull):
+def run_of(bench, words, given):
     """A run with a limit of memory, and its peak, which `time` tells: a child of this script begins with its pages."""
     told = bench.path("peak")
     limited = ("time", "-q", "-f", "%M", "-o", told, "sh", "-c", 'ulimit -v %d && exec "$0" "$@"' % MOST_KILOBYTES)
-    run = Run([*limited, bench.program, *words], given, target)
+    run = Run([*limited, bench.program, *words], given, os.devnull)
     with open(told) as peak:
         return run, 1024 * int(peak.read())
 
 
-def measured(bench, worst, size, idle, is_counted=False):
+def measured(bench, worst, size, idle):
     """A run on an input of this size, or None where it ended in another way than it should."""
-    path, target = bench.write("worst", worst.make(count_of(worst, size))), bench.path("worst_output") if is_counted else os.devnull
+    path = bench.write("worst", worst.make(count_of(worst, size)))
     words, given = ([path], os.devnull) if "merge" in worst.command else ([], path)
-    run, peak = run_of(bench, [*worst.command.split(), *words], given, target)
-    read, written = os.path.getsize(path), os.path.getsize(target)
+    run, peak = run_of(bench, [*worst.command.split(), *words], given)
+    read = os.path.getsize(path)
     os.remove(path)
-    if is_counted:
-        os.remove(target)
     if (run.status, worst.fault in run.errors) != (1 if worst.fault else 0, True):
         bench.fail("%s: %s" % (worst.name, run.trouble()))
         return None
-    return Measured(read, written, max(0, peak - idle), run.processor)
+    return Measured(read, max(0, peak - idle), run.processor)
 
 
 def slower_by(runs):
@@ -377,7 +377,9 @@ def is_slower(runs):
     return slower_by(runs) > MAX_SLOWER and runs[-1].seconds > LEAST_SECONDS
 
 
-def tell(bench, worst, runs, times):
+def tell(bench, worst, runs):
+    """Tells how much memory was taken, and how it and the time grew."""
+    times = [run.peak / run.read for run in runs]
     growth, slower = times[-1] / max(times[0], 1), slower_by(runs)
     bench.say(
         "  %-72s %6.2f MB: %7.1f times (grows %4.1f), %6.2f s (grows %4.1f)"
@@ -387,12 +389,10 @@ def tell(bench, worst, runs, times):
         bench.fail("%s: %.1f times, at most %g are wanted" % (worst.name, max(times), worst.most))
     if growth > MAX_GROWTH:
         bench.fail("%s: from %.1f to %.1f times, so memory grows faster than the size" % (worst.name, times[0], times[-1]))
-    if is_slower(runs):
-        bench.fail("%s: twice the size takes %.1f times as long" % (worst.name, slower))
 
 
 def measure(bench, worst, idle):
-    """Told in times of what is read."""
+    """Neither memory nor time may grow faster than the size."""
     runs = [measured(bench, worst, size, idle) for size in SIZES]
     # a load on the machine makes single times longer: those that grow too much are taken again
     for _ in range(TURNS):
@@ -402,22 +402,18 @@ def measure(bench, worst, idle):
         if None in again:
             return
         runs[-2:] = [old if old.seconds < new.seconds else new for old, new in zip(runs[-2:], again)]
-    if None not in runs:
-        tell(bench, worst, runs, [run.peak / run.read for run in runs])
+    if None in runs:
+        return
+    tell(bench, worst, runs)
+    if is_slower(runs):
+        bench.fail("%s: twice the size takes %.1f times as long" % (worst.name, slower_by(runs)))
 
 
 def measure_overlapping(bench, worst, idle):
-    """Told in times of what is read and written."""
-    runs = [measured(bench, worst, size, idle, True) for size in SMALL_SIZES]
-    if None in runs:
-        return
-    times = [run.peak / (run.read + run.written) for run in runs]
-    bench.say(
-        "  %-72s %6.2f MB: %7.1f times what is read and written, %8.1f MB written"
-        % (worst.name, runs[-1].read / MEGA, max(times), runs[-1].written / MEGA)
-    )
-    if times[-1] > worst.most:
-        bench.fail("%s: %.1f times, at most %g are wanted" % (worst.name, times[-1], worst.most))
+    """The memory may not grow faster than the size; what is written, and with it the time, does."""
+    runs = [measured(bench, worst, size, idle) for size in SMALL_SIZES]
+    if None not in runs:
+        tell(bench, worst, runs)
 
 
 def worst_memory(bench):
@@ -428,6 +424,6 @@ def worst_memory(bench):
     idle = run_of(bench, ["filter"], bench.write("idle", (HEADER,)))[1]
     for worst in (*LINES, *DOCUMENTS, *JOINED):
         measure(bench, worst, idle)
-    bench.say("Where features share objects (25, 50, 100 and 200 kB)")
+    bench.say("Where features share objects (50, 100 and 200 kB)")
     for worst in OVERLAPPING:
         measure_overlapping(bench, worst, idle)

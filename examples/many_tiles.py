@@ -44,13 +44,13 @@ PACKED = {b"\x1f\x8b": "gzip", b"\x28\xb5\x2f\xfd": "zstd", b"\xfd7zXZ": "xz", b
 ENDING_SIGNALS = (signal.SIGINT, signal.SIGTERM, signal.SIGHUP)
 FAULT_LINE = re.compile(r"citymerge: (?:tile (?P<tile>\d+)(?: line (?P<line>\d+))?: )?(?P<text>.*)")
 
-ABOUT = "Merges any number of tiles into one CityJSONSeq stream."
+ABOUT = "Merge any number of tiles into one CityJSONSeq stream."
 DESCRIPTION = (
     """\
-The tiles are files as `citymerge merge` takes them, as many as there are. Their headers
-are compared first: every tile that does not fit the first one is told by its name, and
-then nothing is merged. A line at fault later ends its own tile, which is told, too; all
-other tiles are written whole, and the status is 1.""",
+The tiles are files as `citymerge merge` takes them, any number of them. Their headers
+are compared first: all tiles that do not fit the first one are named, and then nothing
+is merged. A line at fault later ends its own tile, which is told, too; all other tiles
+are written whole, and the status is 1.""",
     """\
 All merges run at once, with pipes between them, so no file is written but the result.
 Each is a process, with a thread and an open file for each of its tiles (with --in-turn
@@ -58,8 +58,8 @@ one thread). Where the limits of the machine are too low for that, nothing is st
     """\
 With --plan=FOLDER nothing is merged. FOLDER is made, with a Makefile of one rule for each
 merge and links to the tiles; `make -C FOLDER -j8` then writes FOLDER/merged.city.jsonl.
-Where it is broken off, it goes on with what is missing when it is started again. A line
-at fault ends the plan at the merge of its tile: mend the tile, and start it again.""",
+If `make` is stopped, start it again: it goes on with what is missing. A line at fault
+ends the plan at the merge of its tile: mend the tile, and start `make` again.""",
 )
 STATUSES = (
     "0  done: the stream or the plan is whole, or help was asked for",
@@ -153,7 +153,7 @@ def argument_parser() -> argparse.ArgumentParser:
         "A file, in the order of the stream; the grid is that of the first. Without any, standard input gives the "
         "names, one a line."))
     own.add_argument("--null", action="store_true", help=(
-        "On standard input a name ends in a zero byte, as `find -print0` writes it."))
+        "Names on standard input end in a zero byte, as `find -print0` writes them."))
     own.add_argument("--output", metavar="FILE", help=(
         "Write to this file. It is put in place only when all went well; until then it stays as it was."))
     own.add_argument("--plan", metavar="FOLDER", help="Write a Makefile into this new folder, and merge nothing.")
@@ -166,7 +166,7 @@ def argument_parser() -> argparse.ArgumentParser:
                          type="--cotype={}".format, help="Only features of these types.")
     merging.add_argument("--bbox", metavar="MINX,MINY,MAXX,MAXY", dest="choice", action="append",
                          type="--bbox={}".format, help=(
-                             "Only features that meet this area, whose whole numbers are steps of the stream's grid."))
+                             "Only features that meet this area, in grid units of the output, not metres."))
     merging.add_argument("--exclude", dest="choice", action="append_const", const="--exclude", help=(
         "Only the features that the other options do not choose."))
     merging.add_argument("--in-turn", dest="order", action="append_const", const="--in-turn", default=[], help=(

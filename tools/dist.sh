@@ -24,7 +24,8 @@ machine=$(uname -m)
 debian_machine=$(dpkg-deb --version >/dev/null && dpkg --print-architecture)
 archive=citymerge-$version-linux-$machine
 package=citymerge_${version}_$debian_machine
-maintainer='The citymerge authors <authors@citymerge.invalid>'
+# there is no address to write to
+maintainer='The citymerge authors'
 libc=$(grep -aoE 'GLIBC_[0-9.]+' build/citymerge | sort -Vu | tail -n 1)
 
 rm -rf "$stage"
@@ -66,7 +67,7 @@ rm "$documents/LICENSE"
 sed -i 's/(LICENSE)/(copyright)/' "$documents/README.md"
 {
     printf 'citymerge (%s) stable; urgency=low\n\n  * The changes of this release are in CHANGELOG.md.\n\n' "$version"
-    printf ' -- %s  %s\n' "$maintainer" "$(date -u -R -d "@$SOURCE_DATE_EPOCH")"
+    printf ' -- %s <>  %s\n' "$maintainer" "$(date -u -R -d "@$SOURCE_DATE_EPOCH")"
 } | gzip -9n >"$documents/changelog.gz"
 {
     echo 'Format: https://www.debian.org/doc/packaging-manuals/copyright-format/1.0/'
@@ -77,9 +78,14 @@ sed -i 's/(LICENSE)/(copyright)/' "$documents/README.md"
     echo 'License: Expat'
     sed '1,/^Copyright/d; /./!d' LICENSE | sed 's/^/ /'
 } >"$documents/copyright"
-# the program is given byte for byte as it was built, with the names in it
 mkdir -p "$deb/usr/share/lintian/overrides"
-echo 'citymerge: unstripped-binary-or-object [usr/bin/citymerge]' >"$deb/usr/share/lintian/overrides/citymerge"
+cat >"$deb/usr/share/lintian/overrides/citymerge" <<'OVERRIDES'
+# the program is given byte for byte as it was built, with the names in it
+citymerge: unstripped-binary-or-object [usr/bin/citymerge]
+# there is no address to write to
+citymerge: malformed-contact Maintainer *
+citymerge: bogus-mail-host-in-debian-changelog *
+OVERRIDES
 cat >"$deb/DEBIAN/control" <<CONTROL
 Package: citymerge
 Version: $version
@@ -90,7 +96,7 @@ Maintainer: $maintainer
 Installed-Size: $(($(find "$deb/usr" -type f -printf '%s\n' | awk '{ s += int(($1 + 1023) / 1024) } END { print s }')))
 Depends: libc6 (>= ${libc#GLIBC_}), python3 (>= 3.9)
 Suggests: make
-Description: merge, filter and make streams of 3D city features (CityJSONSeq)
+Description: merge, filter and make CityJSONSeq streams of city models
  citymerge joins the tiles of a city into one stream of CityJSON 2.0, moving
  each vertex exactly by whole steps of the grid, chooses features by their type
  and by where they lie, and cuts documents into streams. It names what does not

@@ -57,6 +57,9 @@ expect 'the programs of the package' "$wanted" "$(tried "$room/empty/usr/bin" 2>
 expect 'the commands of its documents, in an empty folder with no clone' 'The commands of the installed documents: N right, 0 wrong' \
     "$(python3 tools/commands_test.py --package "$room/empty" | tail -n 1 | sed 's/: [1-9][0-9]* right/: N right/')"
 expect 'the version of the package' "$version" "$(dpkg-deb -f "$room/here"/*.deb Version)"
+expect 'its maintainer, with no address that does not exist' 'The citymerge authors' "$(dpkg-deb -f "$room/here"/*.deb Maintainer)"
+expect 'what it is, as its manual page says' "$(sed -n 's/^citymerge .- //p' crates/manual/stdout)" \
+    "$(dpkg-deb -f "$room/here"/*.deb Description | head -n 1)"
 for file in man/man1/citymerge.1.gz man/man1/citymerge-many.1.gz bash-completion/completions/citymerge \
     zsh/vendor-completions/_citymerge fish/vendor_completions.d/citymerge.fish \
     doc/citymerge/README.md doc/citymerge/GUIDE.md doc/citymerge/FAULTS.md doc/citymerge/copyright \

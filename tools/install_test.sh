@@ -86,12 +86,15 @@ if command -v man >/dev/null; then
         MANWIDTH=80 man --warnings -l "$share/man/man1/$page.1" 2>&1 | col -bx >"$room/$page"
         expect "the parts of the page of $page" 'NAME SYNOPSIS DESCRIPTION EXIT STATUS FILES SEE ALSO ' \
             "$(grep -xE 'NAME|SYNOPSIS|DESCRIPTION|EXIT STATUS|FILES|SEE ALSO' "$room/$page" | tr '\n' ' ')"
+        expect "what $page is, on one line" "$page - merge" "$(grep -A 2 -x NAME "$room/$page" | tr '\n' '|' |
+            sed -n 's/^NAME| *\([a-z-]* - [a-z]*\)[^|]*[^.|]||$/\1/p')"
         expect "lines above 80 columns in that of $page" '' "$(awk 'length > 80' "$room/$page")"
         expect "the day of the release in that of $page" "$(sed -n 's/^## [^ ]* (\(.*\))$/\1/p' CHANGELOG.md | head -n 1)" \
             "$(tail -n 1 "$room/$page" | grep -oE '[0-9]{4}-[0-9]{2}-[0-9]{2}')"
     done
-    expect 'texts of faults that the page lacks' '' "$(sed -n 's/^| [0-9]* | `\([^`]*\)`.*/\1/p' docs/FAULTS.md |
-        while read -r text; do grep -qF "$text" "$room/citymerge" || echo "$text"; done)"
+    expect 'the texts of faults in the page are those that come' "$(sed -n 's/^| [0-9]* | `\([^`]*\)` | now |.*/\1/p' docs/FAULTS.md)" \
+        "$(sed -n 's/^| [0-9]* | `\([^`]*\)`.*/\1/p' docs/FAULTS.md |
+            while read -r text; do grep -F "$text" "$room/citymerge" | sed 's/^ *//'; done)"
 else
     echo 'man is not installed: the manual page was not tried'
 fi

@@ -24,32 +24,33 @@ macro_rules! with_statuses {
 
 static PROGRAM_END: &str = with_statuses!(
     "A tile is a CityJSONSeq stream of CityJSON 2.0: a header on its first line,
-then one feature a line. In place of the header may stand a whole CityJSON
-document, which is cut as by `cat`; its features come first then.
+then one feature per line. A whole CityJSON document may stand in place of the
+header; it is cut as by `cat`, and its features come first.
 
-Streams are written to standard output, all messages to standard error. One of
-a refusal is `citymerge: tile T line L: TEXT`; tiles and lines are counted
-from 1. More than 64 tiles go through `citymerge-many`.
+Streams are written to standard output, all messages to standard error. A
+refusal is told as `citymerge: tile T line L: TEXT`; tiles and lines are
+counted from 1. `citymerge-many` merges any number of tiles.
 
 Examples:
   citymerge merge west.city.jsonl east.city.jsonl > both.city.jsonl
   citymerge filter --cotype=Building < tile.city.jsonl > part.city.jsonl
   citymerge cat < town.city.json > town.city.jsonl
 
-`citymerge help COMMAND` says more of a command."
+`citymerge help COMMAND` tells more about a command."
 );
 
 static MERGE_END: &str = with_statuses!(
-    "The tiles are put on the grid of the first, and are joined only where nothing
-is rounded: the same scale and reference system, and translations that lie a
-whole number of grid units apart. Else the tile that does not fit is named,
-and nothing is written. A line at fault later ends its own tile; all others
-are written whole. A feature is written where all options choose it.
+    "All tiles are moved onto the grid of the first, with nothing rounded: they
+need the same scale and reference system, and translations that lie a whole
+number of grid units apart. A tile that does not fit is named, and nothing is
+written. A line at fault later ends its own tile; all others are written
+whole. A feature is written where all options choose it; features with the
+same identifier in two tiles are both written.
 
-The header is the first tile's, its title with it, but with the extensions of
-all tiles and without the geographical extent.
+The header is that of the first tile with its title, but with the extensions
+of all tiles and without the geographical extent.
 
-A TILE that begins with - stands after --, and - itself is a file so named.
+The output must not be one of the tiles: the shell would empty it first.
 
 Examples:
   citymerge merge west.city.jsonl east.city.jsonl > both.city.jsonl
@@ -57,13 +58,12 @@ Examples:
 );
 
 static FILTER_END: &str = with_statuses!(
-    "The stream is a header, then one feature a line. In place of the header may
-stand a whole CityJSON document, whose features come first then. The stream
-ends at the first line at fault; what was chosen of the lines before it is
-written.
+    "A stream is a header, then one feature per line. A whole CityJSON document may
+stand in place of the header; its features come first. The output ends at the
+first line at fault; what was chosen of the lines before it is written.
 
-A feature is written where all options that are given choose it. With no
-option all features are written.
+A feature is written where all given options choose it; without options all
+are written.
 
 Examples:
   citymerge filter --cotype=Building,Road < tile.city.jsonl > part.city.jsonl
@@ -71,50 +71,52 @@ Examples:
 );
 
 static CAT_END: &str = with_statuses!(
-    "A feature is a city object without parents, with all that are reached from it
-through children, and with vertices of its own. A document may be spread over
-lines, and have 2^28 bytes. It is held in memory. One that is at fault is
-refused whole, with nothing written.
+    "Each city object without parents becomes a feature, with all objects that are
+reached from it through children, and with vertices of its own. A document may
+be spread over lines, and may have up to 2^28 bytes; it is held in memory. A
+document at fault is refused whole, and nothing is written.
+
+The stream may be many times as long as its document, up to its square: each
+feature bears the whole appearance, and where objects are parts of several
+features, each of these has them all.
 
 Example:
   citymerge cat < town.city.json > town.city.jsonl"
 );
 
-static TILE_HELP: &str = "A file with a CityJSONSeq stream: a header,
-then one feature a line. In place of the
-header may stand a whole CityJSON document.
-At most 64.";
+static TILE_HELP: &str = "A file with a CityJSONSeq stream: a header, then one feature per
+line. A whole CityJSON document may stand in place of the header.
+At most 64. /dev/stdin is standard input, `-` a file of that
+name; put `--` before a name that begins with `-`.";
 
 static IN_TURN_HELP: &str = "One feature of each tile in turn, in the
 order of the tiles, so that the same tiles
-give the same stream. Else features are
-written as they come.";
+give the same stream. Otherwise features
+are written as they come.";
 
 static LEAST_HELP: &str = "Move the origin of the grid to the least
 translation of the tiles in x, y and z, so
-that no vertex is moved below 0. The area
-is in units of that grid.";
+that no vertex is moved below 0. Then
+--bbox is in units of that grid.";
 
-static TYPES_HELP: &str = "Only features of these types, with commas
-between: the type of the city object that
+static TYPES_HELP: &str = "Only features of these types, separated by
+commas: the type of the city object that
 the feature's id names. No blanks, as in
---cotype=Building,Bridge. Any name is
-taken, and compared as it is written:
-there is no type building.";
+--cotype=Building,Bridge. Names are taken
+as written: `building` finds nothing.";
 
 static AREA_HELP: &str = "Only features whose extent in x and y
-meets this area, if only at an edge. Four
-whole numbers: the least x and y, then the
-greatest, in grid units, as vertices have
-after the shift onto the grid of the
-output. Coordinates come to them by
-(coordinate - translate) / scale, rounded;
-GUIDE.md has a line that does it. As in
---bbox=0,0,20000,10000, and below 0 with
-the =, as in --bbox=-5,0,10,10";
+meets this area, even if only at an edge.
+Give the least x and y, then the greatest,
+in grid units: the whole numbers of
+vertices in the output, not metres. They
+are (coordinate - translate) / scale,
+rounded; GUIDE.md shows how. As in
+--bbox=0,0,20000,10000; keep the = before
+a number below 0, as in --bbox=-5,0,10,10";
 
 static EXCLUDE_HELP: &str = "Only the features that the other options
-do not choose. Without others, none.";
+do not choose. Alone, it chooses none.";
 
 /// All commands of the program, as `clap` takes them.
 pub fn citymerge_command<'a>(alloc: Global) -> Result<Command<'a>, AllocError>
@@ -134,7 +136,7 @@ fn above_command<'a>(alloc: Global) -> Command<'a>
 {
     Command::new(alloc, "citymerge")
         .version(VERSION)
-        .about("Merges, filters and makes streams of CityJSON features (CityJSONSeq).")
+        .about("Merge, filter and make CityJSONSeq streams of city models.")
         .after_help(PROGRAM_END)
         .subcommand_required(true)
 }
@@ -146,7 +148,7 @@ fn merge_command<'a>(alloc: Global) -> Result<Command<'a>, AllocError>
     let command = merging_command(alloc)?;
     Ok(
         command
-            .about("Joins the streams of several files into one.")
+            .about("Join the streams of several files into one.")
             .after_help(MERGE_END),
     )
 }
@@ -171,7 +173,7 @@ fn filter_command<'a>(alloc: Global) -> Result<Command<'a>, AllocError>
     let command = choosing_command(alloc, "filter")?;
     Ok(
         command
-            .about("Writes the chosen features of a stream on standard input.")
+            .about("Choose features from a stream on standard input.")
             .override_usage("citymerge filter [OPTIONS] < TILE")
             .after_help(FILTER_END),
     )
@@ -182,7 +184,7 @@ fn cat_command<'a>(alloc: Global) -> Command<'a>
     ensures local { (fields_of result).has_globals ≡ false }
 {
     Command::new(alloc, "cat")
-        .about("Writes a CityJSON document on standard input as a stream.")
+        .about("Cut a CityJSON document on standard input into a stream.")
         .override_usage("citymerge cat < DOCUMENT")
         .after_help(CAT_END)
 }

@@ -40,7 +40,7 @@ fn entries_of<'a>(alloc: Global, program: &Command<'a>) -> Result<Vec<Entry<'a>>
         kind: Kind::Program,
         command: program.get_name(),
         option: "",
-        help: program.get_about().unwrap_or(""),
+        help: sentence(program.get_about()),
     })?;
     for command in program.get_subcommands() {
         add_command(&mut entries, command)?;

@@ -65,6 +65,7 @@ fn add_filled(out: &mut Output, text: &str, escapes: &[(char, &str)], entry: &En
             "command" => out.add(entry.command),
             "option" => out.add(entry.option),
             "help" => out.add_escaped(entry.help, escapes),
+            "purpose" => out.add_uncapitalized(entry.help),
             "types" => out.add(TYPES),
             _ => add_told(out, part, entry.command),
         }

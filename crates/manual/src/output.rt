@@ -32,6 +32,15 @@ impl Output {
         }
     }
 
+    /// Adds a text with a small letter at its beginning.
+    pub(crate) fn add_uncapitalized(&mut self, text: &str) {
+        let mut rest = text.chars();
+        if let Some(first) = rest.next() {
+            self.is_whole &= self.text.push(first.to_ascii_lowercase()).is_ok();
+            self.add(rest.as_str());
+        }
+    }
+
     /// Says that something could not be added.
     pub(crate) fn fail(&mut self) {
         self.is_whole = false;

@@ -12,7 +12,7 @@ pub(crate) static SECTIONS: &[Section<'_>] = &[
         program: "==> citymerge.1
 .TH CITYMERGE 1 \"2026-11-24\" \"~version~\" \"User Commands\"
 .SH NAME
-citymerge \\- ~help~
+citymerge \\- ~purpose~
 .SH SYNOPSIS
 ",
         command: "~usage~",
@@ -31,19 +31,19 @@ citymerge \\- ~help~
 
 const END: &str = ".SH EXIT STATUS
 ~status~.SH DIAGNOSTICS
-What is wrong with a value of an option is told, and the status is 2:
+A bad value of an option is told by one of these lines, with status 2:
 ~bad type~~bad box~.PP
-A refusal is told with one of these texts, and the status is 1:
+A refusal is told by one of these texts, with status 1:
 .PP
 .nf
 ~faults~.fi
 .PP
-FAULTS.md says of each when it comes and what to do about it.
+FAULTS.md tells when each comes, and what to do about it.
 .SH FILES
-Below the folder that the program was installed in, as /usr or /usr/local:
+Below the folder of the installation, as /usr or /usr/local:
 .TP
 share/doc/citymerge/GUIDE.md
-From the tiles of a publisher to one stream, and a part of it.
+From a publisher\\(aqs tiles to one stream, or to a part of it.
 .TP
 share/doc/citymerge/FAULTS.md
 All texts of refusals, with what to do about each.
@@ -110,11 +110,16 @@ fn add_line(out: &mut Output, line: &str) {
 }
 
 fn add_faults(out: &mut Output) {
-    for number in 1..=u8::MAX {
-        if let Some(fault) = Fault::of(number) {
+    for fault in (1..=u8::MAX).filter_map(Fault::of) {
+        if is_answered(fault) {
             add_line(out, fault.text());
         }
     }
+}
+
+/// Whether a command can be refused with this fault.
+fn is_answered(fault: Fault) -> bool {
+    !matches!(fault, Fault::HeaderNotEmpty | Fault::Handoff)
 }
 
 /// What the program says to these words: help, or what is wrong with them.

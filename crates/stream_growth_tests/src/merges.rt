@@ -96,7 +96,12 @@ const WITH_CHAIN: [Tile<'static>; 3] = [
     Tile {
         input: &[FAR_CHAIN, B],
         header: 1,
-        texts: &[(1, FAR_CHAIN_A), (1, FAR_CHAIN_B), (1, FAR_CHAIN_C), (2, FAR_B)],
+        texts: &[
+            (1, FAR_CHAIN_A),
+            (1, FAR_CHAIN_B),
+            (1, FAR_CHAIN_C),
+            (2, FAR_B),
+        ],
     },
     NONE,
 ];

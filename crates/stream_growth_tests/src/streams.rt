@@ -322,8 +322,10 @@ fn chain_is_filtered(rt: &(impl AllocGlobal + Eprint), step: usize) -> Result<bo
     let wanted = [(1, CHAIN_A), (1, CHAIN_B), (1, CHAIN_C), (2, A1)];
     let others = choice_of(rt.alloc(), true)?;
     let tiles = alone(1, &wanted[1..3]);
-    Ok(is_filtered(rt, step, &input, 1, &wanted, Ok(4))?
-        && stream_is_filtered(rt, step, &input, &others, &tiles, Ok(2))?)
+    Ok(
+        is_filtered(rt, step, &input, 1, &wanted, Ok(4))?
+            && stream_is_filtered(rt, step, &input, &others, &tiles, Ok(2))?,
+    )
 }
 
 /// Want of memory of this call at this line, or a wrong answer.

@@ -104,7 +104,13 @@ fn features_that_share_objects_are_moved_and_chosen(rt: HostRuntime) -> Result<(
     let alloc = rt.alloc();
     assert!(rt; gives(alloc, &every_feature(), &MOVED)?);
     assert!(rt; gives(alloc, &choice_of(alloc, "Road", "", false)?, &MOVED[1..2])?);
-    assert!(rt; gives(alloc, &choice_of(alloc, "Road", "", true)?, &[MOVED[0], MOVED[2]])?);
+    assert!(rt;
+        gives(
+            alloc,
+            &choice_of(alloc, "Road", "", true)?,
+            &[MOVED[0], MOVED[2]]
+        )?
+    );
     assert!(rt; gives(alloc, &choice_of(alloc, "TINRelief", "", false)?, &[])?);
     Ok(())
 }
