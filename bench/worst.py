@@ -27,7 +27,7 @@ SMALL_SIZES = tuple(int(size * MEGA) for size in (0.05, 0.1, 0.2))
 
 # Peak memory in times of the input, as README.md states it: of a valid line and one at fault, of a valid document and one
 # at fault, of the headers of a merge, and of a valid document whose features share objects.
-LINE, REFUSED_LINE, DOCUMENT, REFUSED_DOCUMENT, HEADERS, SHARED = 12.5, 25.5, 34.5, 34.5, 26.5, 2.5
+LINE, REFUSED_LINE, DOCUMENT, REFUSED_DOCUMENT, HEADERS, SHARED = 12.5, 25.5, 26.5, 26.5, 26.5, 9.5
 
 # The peak, in times of the input, grows at most so much from the smallest size to the largest: tables that double give
 # up to 2, the square of the size would give 8.
@@ -278,9 +278,9 @@ DOCUMENTS = (
     Worst("cat: indices and vertices", "cat", wide_boundary, 9),
     Worst("cat: vertices that none names", "cat", lambda n: document(listed(('"a":{}',)), vertices(n)), 9),
     Worst("cat: vertices of -0", "cat", minus_zero_vertices, 9),
-    Worst("cat: long vertices that each object names", "cat", long_vertices, DOCUMENT),
+    Worst("cat: long vertices that each object names", "cat", long_vertices, 9),
     Worst("cat: empty objects", "cat", bare, DOCUMENT),
-    Worst("cat: objects that name one child", "cat", with_child, 17),
+    Worst("cat: objects that name one child", "cat", with_child, 10),
     Worst("cat: buildings with a large appearance", "cat", large_appearance, 4),
     Worst("cat: an appearance of arrays 100 deep", "cat", lambda n: textured(DEEP, n), 4),
     Worst("cat: an appearance of arrays of one item", "cat", lambda n: textured(b"[0]", n), 4),
@@ -301,7 +301,7 @@ DOCUMENTS = (
     Worst("a first line: small objects", "filter", apart, 9),
     Worst("a first line: arrays of one index", "filter", nested_leaf, 9),
     Worst("a first line: empty objects", "filter", bare, DOCUMENT),
-    Worst("a first line: long vertices that each object names", "filter", long_vertices, DOCUMENT),
+    Worst("a first line: long vertices that each object names", "filter", long_vertices, 9),
     Worst("a first line: buildings with a large appearance", "filter", large_appearance, 4),
     Worst("a first line: as many buildings, none of them chosen", NONE, lambda n: with_appearance(n, n), 4),
     Worst("a first line: an appearance of arrays 100 deep", "filter", lambda n: textured(DEEP, n), 4),
@@ -311,7 +311,7 @@ DOCUMENTS = (
     Worst("a first line, refused: small objects", "filter", orphan(apart), REFUSED_DOCUMENT, ORPHAN),
     Worst("a first line of a merged tile: small objects", "merge", apart, 9),
     Worst("a first line of a merged tile: empty objects", "merge", bare, DOCUMENT),
-    Worst("a first line of a merged tile: objects that name one child", "merge", with_child, 17),
+    Worst("a first line of a merged tile: objects that name one child", "merge", with_child, 10),
     Worst("a first line of a merged tile: buildings with a large appearance", "merge", large_appearance, 4),
     Worst("a first line of a tile merged in turn: the same", "merge --in-turn", large_appearance, 4),
 )
@@ -377,18 +377,16 @@ def is_slower(runs):
     return slower_by(runs) > MAX_SLOWER and runs[-1].seconds > LEAST_SECONDS
 
 
-def tell(bench, worst, runs):
+def tell(bench, worst, runs, most_of=max):
     """Tells how much memory was taken, and how it and the time grew."""
     times = [run.peak / run.read for run in runs]
-    growth, slower = times[-1] / max(times[0], 1), slower_by(runs)
+    most, growth, slower = most_of(times), times[-1] / max(times[0], 1), slower_by(runs)
     bench.say(
         "  %-72s %6.2f MB: %7.1f times (grows %4.1f), %6.2f s (grows %4.1f)"
-        % (worst.name, runs[-1].read / MEGA, max(times), growth, runs[-1].seconds, slower)
+        % (worst.name, runs[-1].read / MEGA, most, growth, runs[-1].seconds, slower)
     )
-    if max(times) > worst.most:
-        bench.fail("%s: %.1f times, at most %g are wanted" % (worst.name, max(times), worst.most))
-    if growth > MAX_GROWTH:
-        bench.fail("%s: from %.1f to %.1f times, so memory grows faster than the size" % (worst.name, times[0], times[-1]))
+    if most > worst.most:
+        bench.fail("%s: %.1f times, at most %g are wanted" % (worst.name, most, worst.most))
 
 
 def measure(bench, worst, idle):
@@ -405,15 +403,19 @@ def measure(bench, worst, idle):
     if None in runs:
         return
     tell(bench, worst, runs)
+    first, last = (run.peak / run.read for run in (runs[0], runs[-1]))
+    if last / max(first, 1) > MAX_GROWTH:
+        bench.fail("%s: from %.1f to %.1f times, so memory grows faster than the size" % (worst.name, first, last))
     if is_slower(runs):
         bench.fail("%s: twice the size takes %.1f times as long" % (worst.name, slower_by(runs)))
 
 
 def measure_overlapping(bench, worst, idle):
-    """The memory may not grow faster than the size; what is written, and with it the time, does."""
+    """What is written, and with it the time, grows as the square; were the memory to, the largest would take thousands of
+    times its size. It alone is held against what is wanted: threads and buffers take some hundred kilobytes."""
     runs = [measured(bench, worst, size, idle) for size in SMALL_SIZES]
     if None not in runs:
-        tell(bench, worst, runs)
+        tell(bench, worst, runs, lambda times: times[-1])
 
 
 def worst_memory(bench):
