@@ -568,7 +568,10 @@ fn are_shared(alloc: Global, texts: &mut FeatureTexts) -> Result<bool, Fault> {
     if texts.len() != OF_SHARED.len() {
         return Ok(false);
     }
-    for at in 0..texts.len() {
+    for at in 0..OF_SHARED.len() {
+        if at >= texts.len() {
+            return Ok(false);
+        }
         let mut text = Line::new(alloc);
         texts.append_to(alloc, at, &mut text)?;
         if text.items() != OF_SHARED[at].as_bytes() {
