@@ -8,7 +8,7 @@ use Rattle.city_cut.specs.HeldTexts.{HeldTexts, texts_in}
 use Rattle.city_cut.specs.Lines.{texts_of}
 use Rattle.city_cut.specs.Moved.{chosen_of}
 use Rattle.city_feature.specs.Feature.{FeatureValue, IsMovable, moved}
-use Rattle.city_feature.specs.FeatureLine.{GivesFeature, IsTextOf, SpellsFeature}
+use Rattle.city_feature.specs.FeatureLine.{GivesFeature, SpellsFeature}
 use Rattle.city_grid.specs.Axes.{Triple}
 use Rattle.tile_stream.proofs.HeldTexts.{at_most_one}
 use Rattle.tile_stream.specs.Held.{LinesGive, TellsWanted, TellWanted}
