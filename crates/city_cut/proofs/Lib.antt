@@ -26,8 +26,10 @@ pub mod Pieces
 pub mod FirstUses
 pub mod MadeFeatures
 mod QuickAddresses
+mod QuickBounds
 mod QuickCopies
 mod QuickDocuments
+mod QuickFaults
 mod QuickFeatures
 mod QuickGeometries
 mod QuickHeaders

@@ -39,12 +39,12 @@ points_there given members ps of (items, written, writable, vertices) =
     (items, compact-tells value (array items) of.writable writable (sym of.is ∙ written), vertices)
 
 -- a member that may be absent
-items_or : (found : Option Tree) (items : ItemTrees) → unwrap_or found (array no_items) ≡ array items
+pub items_or : (found : Option Tree) (items : ItemTrees) → unwrap_or found (array no_items) ≡ array items
     → WhereThere IsArray found × (items_in found ≡ items)
 items_or None items is = (tt, ap (λ v. items_in (Some v)) is)
 items_or (Some value) items is = (subst IsArray (sym is) tt, ap (λ v. items_in (Some v)) is)
 
-members_or : (found : Option Tree) (members : MemberTrees) → unwrap_or found (object no_members) ≡ object members
+pub members_or : (found : Option Tree) (members : MemberTrees) → unwrap_or found (object no_members) ≡ object members
     → WhereThere IsObject found × (members_in found ≡ members)
 members_or None members is = (tt, ap (λ v. members_in (Some v)) is)
 members_or (Some value) members is = (subst IsObject (sym is) tt, ap (λ v. members_in (Some v)) is)
@@ -101,7 +101,7 @@ pub pairs_are : (members : MemberTrees) → member_trees (pairs_of members) ≡ 
 pairs_are no_members = refl
 pairs_are (member name value others) = ap (member name value) (pairs_are others)
 
-as_many : (items : ItemTrees) (ps : List Triple) → AreVertices items ps → length ps ≡ item_count items
+pub as_many : (items : ItemTrees) (ps : List Triple) → AreVertices items ps → length ps ≡ item_count items
 as_many no_items [] all = refl
 as_many no_items (p ∷ ps) all = absurd all
 as_many (item value others) [] all = absurd all

@@ -1,6 +1,6 @@
 -- The children of city objects, found by the texts of their names.
 use Rattle.std.proofs.Common.{◌≡◌, ◌∙◌, ◌++◌, ◌<◌, ◌+◌, ℕ, zero, suc, Bool, List, [], ◌∷◌, Option, Some, None, IsUtf8, length, map, take, get_or, unwrap_or, refl, sym, ap, subst, arith, codes}
-use Rattle.std.proofs.lemmas.List.{length-map, map-append, take_more}
+use Rattle.std.proofs.lemmas.List.{get_or_default, length-map, map-append, take_more}
 use Rattle.std.proofs.lemmas.Option.{slice_get-map, slice_get-get_or}
 use Rattle.std.specs.Borrow.{Bor}
 use Rattle.std.specs.Global.{Global}
@@ -17,7 +17,7 @@ use Rattle.city_feature.specs.Shapes.{WhereThere}
 use Rattle.city_cut.specs.Chosen.{named_at}
 use Rattle.city_cut.specs.CityObjects.{AreCityObjects, AreTexts, children, has_parents}
 use Rattle.city_cut.specs.Families.{AreRelated}
-use Rattle.city_cut.specs.Graphs.{HasRow, HaveRows}
+use Rattle.city_cut.specs.Graphs.{AllNameTexts, HasRow, HaveRows, NamesMissing, SomeNamesMissing}
 use Rattle.city_cut.specs.Items.{item_list, items_of, values}
 use Rattle.city_cut.specs.Kin.{AreQuoted, HasChildrenText, HasParents, IsQuoted}
 use Rattle.city_cut.specs.Overviews.{HasChildrenIn, HasParentsIn}
@@ -26,6 +26,7 @@ use Rattle.city_cut.specs.Table.{IsTable}
 use Rattle.city_feature.specs.Texts.{IsCompactOf}
 use Rattle.city_cut.proofs.FeatureList.{zip_long}
 use Rattle.city_cut.proofs.Kinship.{names_pairs, placed_more}
+use Rattle.city_cut.proofs.QuickFeatures.{all_push}
 use Rattle.city_cut.proofs.QuickNames.{are_texts}
 use Rattle.city_cut.proofs.QuickOverviews.{said_all}
 use Rattle.city_cut.proofs.Seeking.{zip_push}
@@ -116,6 +117,21 @@ text_among (x ∷ xs) (t ∷ ts) quotes (suc i) zip within is =
       utf8 = later.utf8;
     }
 
+quoted_among : (given : List (Bor (List ℕ))) (trees : List Tree) (one : Bor (List ℕ)) (i : ℕ)
+    → AllZip IsQuoted given trees → i < length given → get_or given i one ≡ one → IsTextAmong trees one.now
+quoted_among [] trees one i zip within is = absurd (omega (arith, within))
+quoted_among (x ∷ xs) [] one i zip within is = absurd zip
+quoted_among (x ∷ xs) (t ∷ ts) one zero zip within is =
+    first_text x t ts one.now zip.0 (ap (λ (b : Bor (List ℕ)). b.now) is)
+quoted_among (x ∷ xs) (t ∷ ts) one (suc i) zip within is =
+    let later = quoted_among xs ts one i zip.1 (omega (arith, within)) is in
+    record {
+      text = later.text;
+      among = (suc later.among.0, omega (arith, later.among.1), later.among.2);
+      is_text = later.is_text;
+      utf8 = later.utf8;
+    }
+
 first_given : (one : Bor (List ℕ)) (value : Tree) (name : List ℕ) → IsQuoted one value → value ≡ string name
     → (string one.now ≡ string (quoted name)) × IsUtf8 name
 first_given one (string text) name is same =
@@ -177,6 +193,37 @@ row_said all given value places utf8 (items, is, zip) placed = (
       (unmarked all given (item_list items) places utf8 zip placed),
 )
 
+-- ---- names that are not there
+pub name_texts_more : (texts : List (Bor (List ℕ))) (i : ℕ) (d : Bor (List ℕ)) (found : List (Bor (List ℕ)))
+    → AllNameTexts (take i texts) → i < length texts
+    → ((value : Tree) → IsCompactOf (get_or texts i d).now value → AreQuoted found value)
+    → AllNameTexts (take (i + 1) texts)
+name_texts_more texts i d found all within made = rw (take_more texts i d within)
+    (all_push (λ (text : Bor (List ℕ)). (value : Tree) → IsCompactOf text.now value → AreTexts value) (take i texts)
+    (get_or texts i d) all (λ value of. are_texts found value (made value of)))
+
+pub missing_here : (names : List (List ℕ)) (given : List (Bor (List ℕ))) (i : ℕ) (d : Bor (List ℕ)) → i < length given
+    → ((k : ℕ) → slice_get names k ≡ Some (get_or given i d).now → ⊥) → (one : Bor (List ℕ)) × Contains given one
+    × ((k : ℕ) → slice_get names k ≡ Some one.now → ⊥)
+missing_here names given i d within none =
+    (get_or given i d, (i, within, get_or_default given i (get_or given i d) d within), none)
+
+pub missing_said : (all : List (List ℕ)) (given : List (Bor (List ℕ))) (value : Tree) → AreQuoted given value
+    → ((one : Bor (List ℕ)) × Contains given one × ((k : ℕ) → slice_get (map quoted all) k ≡ Some one.now → ⊥))
+    → (name : List ℕ) × Contains (items_of (Some value)) (string name) × (Contains all name → ⊥)
+missing_said all given value (items, is, zip) (one, among, none) =
+    let text = quoted_among given (item_list items) one among.0 zip among.1 among.2 in (
+      text.text,
+      subst (λ v. Contains (items_of (Some v)) (string text.text)) (sym is) text.among,
+      λ there. none there.0 (rw (slice_get-map, slice_get-get_or all there.0 text.text there.1)
+          (ap Some (ap quoted there.2 ∙ sym text.is_text))),
+    )
+
+pub some_missing : (all : List (List ℕ)) (texts : List (Bor (List ℕ))) (i : ℕ) (d : Bor (List ℕ)) → i < length texts
+    → NamesMissing all (get_or texts i d).now → SomeNamesMissing all texts
+some_missing all texts i d within missing =
+    (get_or texts i d, (i, within, get_or_default texts i (get_or texts i d) d within), missing)
+
 -- ---- what was found of each object is so of the objects
 parents_are : (parents : List Bool) (pairs : List (List ℕ × Tree))
     → AllZip (λ (has : Bool) (pair : List ℕ × Tree). HasParents pair.1 has) parents pairs
@@ -237,12 +284,12 @@ city_objects_are all (x ∷ xs) [] (p ∷ ps) said rows = absurd rows
 city_objects_are all (x ∷ xs) (r ∷ rs) (p ∷ ps) said rows =
     ((said.0.is_object, said.0.texts, rows.0.0), city_objects_are all xs rs ps said.1 rows.1)
 
-quoted_names : (pairs : List (List ℕ × Tree))
+pub quoted_names : (pairs : List (List ℕ × Tree))
     → map (λ (pair : List ℕ × Tree). quoted pair.0) pairs ≡ map quoted (names (member_trees pairs))
 quoted_names [] = refl
 quoted_names (p ∷ ps) = ap (λ l. quoted p.0 ∷ l) (quoted_names ps)
 
-names_utf8 : (pairs : List (List ℕ × Tree)) → AreWritableMembers (member_trees pairs)
+pub names_utf8 : (pairs : List (List ℕ × Tree)) → AreWritableMembers (member_trees pairs)
     → AllByRecursion IsUtf8 (names (member_trees pairs))
 names_utf8 [] w = tt
 names_utf8 (p ∷ ps) w = (w.0, names_utf8 ps w.2)

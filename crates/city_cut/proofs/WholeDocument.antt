@@ -39,7 +39,7 @@ pub counted : (values : List Json) → item_count (items_tree values) ≡ length
 counted [] = refl
 counted (v ∷ vs) = let e = counted vs in omega (arith, e)
 
-no_orphan : (objects : MemberTrees) → AllBelong objects → HasOrphan objects → ⊥
+pub no_orphan : (objects : MemberTrees) → AllBelong objects → HasOrphan objects → ⊥
 no_orphan objects belong orphan =
     let there = belong orphan.0 orphan.1 in
     orphan.2 there.0 there.1 there.2

@@ -1,9 +1,9 @@
 -- The children of objects, found by the texts that name them.
-use Rattle.std.specs.Prelude.{ℕ, List, Some, Vec}
+use Rattle.std.specs.Prelude.{ℕ, List, Some, Contains, Vec}
 use Rattle.std.specs.Borrow.{Bor}
 use Rattle.std.specs.Global.{Global}
-use Rattle.std.specs.List.{AllZip}
-use Rattle.city_json.specs.Tree.{Tree}
+use Rattle.std.specs.List.{AllByRecursion, AllZip}
+use Rattle.city_json.specs.Tree.{Tree, string}
 use Rattle.city_cut.specs.CityObjects.{AreTexts}
 use Rattle.city_cut.specs.Items.{items_of}
 use Rattle.city_cut.specs.Places.{ArePlaced}
@@ -17,3 +17,17 @@ HasRow names text row = (value : Tree) → IsCompactOf text value
 -- the same of the children of objects
 abbrev pub HaveRows : List (List ℕ) → List (Bor (List ℕ)) → List (Vec ℕ Global) → Type 0
 HaveRows names texts rows = AllZip (λ (text : Bor (List ℕ)) (row : Vec ℕ Global). HasRow names text.now row) texts rows
+
+-- whatever values have these texts, they are arrays of texts
+abbrev pub AllNameTexts : List (Bor (List ℕ)) → Type 0
+AllNameTexts texts = AllByRecursion
+    (λ (text : Bor (List ℕ)). (value : Tree) → IsCompactOf text.now value → AreTexts value) texts
+
+-- whatever value has this text, some text in it is none of the names
+abbrev pub NamesMissing : List (List ℕ) → List ℕ → Type 0
+NamesMissing names text = (value : Tree) → IsCompactOf text value
+    → (name : List ℕ) × Contains (items_of (Some value)) (string name) × ¬ Contains names name
+
+-- the same of one of the texts
+abbrev pub SomeNamesMissing : List (List ℕ) → List (Bor (List ℕ)) → Type 0
+SomeNamesMissing names texts = (text : Bor (List ℕ)) × Contains texts text × NamesMissing names text.now

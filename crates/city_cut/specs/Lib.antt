@@ -5,6 +5,7 @@ pub mod CityObjects
 pub mod Copied
 pub mod Cut
 pub mod Families
+pub mod Faults
 pub mod FeatureText
 pub mod FrontMembers
 pub mod Graphs

@@ -2,7 +2,9 @@
 //!
 //! It decides no refusal: of a document at fault, or where memory runs out, its caller goes on with the plain cut.
 
+mod bounds;
 mod drafts;
+pub(crate) mod faults;
 mod features;
 mod graph;
 mod headers;

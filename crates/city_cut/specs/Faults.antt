@@ -1,0 +1,17 @@
+-- Why city objects are refused.
+use Rattle.std.specs.Prelude.{ℕ}
+use Rattle.std.specs.List.{AllByRecursion}
+use Rattle.byte_streams.specs.declared.fault.Fault.{Fault}
+use Rattle.byte_streams.specs.declared.fault.Fault.TheVariants.{ChildMissing, Orphan, BoundaryIndex}
+use Rattle.city_json.specs.Tree.{MemberTrees}
+use Rattle.city_cut.specs.Boundaries.{IsBounded}
+use Rattle.city_cut.specs.CityObjects.{HasOrphan, LacksChild}
+use Rattle.city_cut.specs.Items.{values}
+
+-- a child names no object; or an object is in no feature; or a boundary is none, of so many vertices
+abbrev pub RefusesObjects : Fault → ℕ → MemberTrees → Type 0
+RefusesObjects ChildMissing count objects = LacksChild objects
+RefusesObjects Orphan count objects = (¬ LacksChild objects) × HasOrphan objects
+RefusesObjects BoundaryIndex count objects =
+    (¬ LacksChild objects) × (¬ HasOrphan objects) × ¬ AllByRecursion (IsBounded count) (values objects)
+RefusesObjects other count objects = ⊥
