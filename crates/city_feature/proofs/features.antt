@@ -9,3 +9,5 @@ pub mod FirstTypes
 pub mod TriplesAreVertices
 pub mod TripleVertices
 pub mod EndedTexts
+pub mod ThreeNumbers
+pub mod FirstFaults
