@@ -11,3 +11,4 @@ pub mod TripleVertices
 pub mod EndedTexts
 pub mod ThreeNumbers
 pub mod FirstFaults
+pub mod LineFaults

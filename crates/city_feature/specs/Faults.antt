@@ -10,6 +10,7 @@ use Rattle.city_json.specs.Tree.{Tree, number, ItemTrees, item}
 use Rattle.city_json.specs.Writable.{AreWritableItems}
 use Rattle.city_grid.specs.Axes.{IsInRange, Texts, Triple, three}
 use Rattle.city_feature.specs.Feature.{IsFeature, RefusesFeature, moved_vertices}
+use Rattle.city_feature.specs.Quick.{SpellsVertices}
 
 -- an array of three numbers, however they are written
 abbrev pub AreThreeNumbers : Tree → Type 0
@@ -43,3 +44,7 @@ abbrev pub RefusesMoved : Triple → Fault → Tree → Type 0
 RefusesMoved k fault value =
     RefusesFeature fault value
     ⊎ ((fault ≡ VertexRange) × ((ps : List Triple) × IsFeature value ps × ¬ All IsInRange (moved_vertices ps k)))
+
+-- the text spells vertices, and one of them leaves the range when it is moved by k
+abbrev pub SpellsLeaving : Triple → List ℕ → Type 0
+SpellsLeaving k text = (ps : List Triple) × SpellsVertices text ps × ¬ All IsInRange (moved_vertices ps k)
