@@ -1,16 +1,19 @@
 -- Why a feature's line is refused, by the texts of its members.
-use Rattle.std.proofs.Common.{◌≡◌, ◌∙◌, ◌↔◌, ℕ, Bool, List, false, Option, Some, None, IsTrue, codes, unwrap_or, ap, sym, subst, refl, inl, inr}
+use Rattle.std.proofs.Common.{◌≡◌, ◌∙◌, ◌↔◌, ◌++◌, ◌<◌, ◌∷◌, [], ℕ, Bool, List, true, false, not, Option, Some, None, IsTrue, codes, length, get_or, unwrap_or, ap, sym, subst, refl, inl, inr, arith}
 use Rattle.byte_streams.specs.declared.fault.Fault.{Fault}
 use Rattle.byte_streams.specs.declared.fault.Fault.TheVariants.{VertexRange}
 use Rattle.city_json.proofs.CompactLaws.{compact-tells}
+use Rattle.city_json.proofs.Scanning.{after_white-blank}
 use Rattle.city_json.proofs.SpelledWritable.{spelled_writable}
+use Rattle.city_json.specs.Bytes.{open_brace, close_brace}
 use Rattle.city_json.specs.Compact.{compact, quoted}
 use Rattle.city_json.specs.Depth.{IsDeep}
 use Rattle.city_json.specs.Fits.{Fits}
 use Rattle.city_json.specs.Grammar.{Spells}
 use Rattle.city_json.specs.Members.{first_named}
 use Rattle.city_json.specs.Parts.{AreParts}
-use Rattle.city_json.specs.Tree.{Tree, null, string, array, object, ItemTrees, MemberTrees}
+use Rattle.city_json.specs.Reading.{after_white}
+use Rattle.city_json.specs.Tree.{Tree, null, boolean, number, string, array, object, ItemTrees, MemberTrees}
 use Rattle.city_json.specs.declared.compacting.parts.Part.{Part}
 use Rattle.city_grid.specs.Axes.{Triple}
 use Rattle.city_feature.specs.Faults.{RefusesMoved, SpellsLeaving}
@@ -21,6 +24,10 @@ use Rattle.city_feature.specs.Texts.{IsCompactOf}
 use Rattle.city_feature.proofs.QuickLines.{utf8}
 use Rattle.city_feature.proofs.features.FeatureVertices.{feature_refused}
 use Rattle.city_feature.proofs.features.QuickMoves.{not_both}
+
+-- this byte stands first
+abbrev Begins : List ℕ → ℕ → Type 0
+Begins text mark = (0 < length text) × (get_or text 0 0 ≡ mark)
 
 -- the type of a feature, by its text
 pub is_type_here : (text : List ℕ) (value : Tree) → IsCompactOf text value
@@ -125,3 +132,43 @@ refuses_line k fault bytes line items parts passed same_line same_parts
     told (inl no_feature) = inr (inl (object members, spells, fits, no_feature))
     told (inr (same, (ps, is, leaves))) =
         inr (inr (same, (record { value = object members; vertices = ps }, (spells, fits, is), leaves)))
+
+-- ---- no object
+no_member_of : (value : Tree) → ¬ IsObject value → HasFeatureShape value → ⊥
+no_member_of (object members) other shape = other tt
+no_member_of null other shape = absurd (none_is shape.0)
+  where
+    none_is : None ≡ Some (string (codes "CityJSONFeature")) → ⊥
+    none_is same = cc
+no_member_of (boolean b) other shape = absurd shape.1
+no_member_of (number n) other shape = absurd shape.1
+no_member_of (string text) other shape = absurd shape.1
+no_member_of (array items) other shape = absurd shape.1
+
+-- an opening brace stands first in the text of an object
+opened : (bytes : List ℕ) (members : MemberTrees) → Spells bytes (object members)
+    → Begins (after_white bytes) open_brace
+opened bytes members (utf8, (before, inner, after, is, blank, (content, written, spells), end)) =
+    let rest : List ℕ = (content ++ close_brace ∷ []) ++ after in
+    let whole : bytes ≡ before ++ open_brace ∷ rest =
+    is ∙ ap (λ l. before ++ (l ++ after)) written in
+    let clear : after_white bytes ≡ open_brace ∷ rest =
+    ap after_white whole ∙ after_white-blank before (open_brace ∷ rest) blank refl in
+    (omega (arith, ap length clear), ap (λ l. get_or l 0 0) clear)
+
+pub no_object : (bytes rest : List ℕ) → rest ≡ after_white bytes → ¬ Begins rest open_brace → (value : Tree)
+    → Spells bytes value → ¬ HasFeatureShape value
+no_object bytes rest same other value spells = no_member_of value (is_none value spells)
+  where
+    is_none : (value : Tree) → Spells bytes value → ¬ IsObject value
+    is_none (object members) spells =
+        λ is. other (subst (λ l. Begins l open_brace) (sym same) (opened bytes members spells))
+    is_none (array items) spells = λ is. is
+    is_none (string text) spells = λ is. is
+    is_none (number n) spells = λ is. is
+    is_none (boolean b) spells = λ is. is
+    is_none null spells = λ is. is
+
+pub negated : (b : Bool) → IsTrue (not b) → IsTrue b → ⊥
+negated true not_so so = not_both false refl not_so
+negated false not_so so = not_both false refl so
