@@ -9,3 +9,6 @@ pub mod FirstTypes
 pub mod TriplesAreVertices
 pub mod TripleVertices
 pub mod EndedTexts
+pub mod ThreeNumbers
+pub mod FirstFaults
+pub mod LineFaults

@@ -3,6 +3,7 @@ pub mod Changes
 pub mod Choice
 pub mod Ended
 pub mod Extent
+pub mod Faults
 pub mod Feature
 pub mod FeatureLine
 pub mod Header

@@ -3,6 +3,8 @@ ghost use Rattle.city_json.specs.Tree.{tree};
 ghost use Rattle.city_feature.specs.Feature.{IsFeature};
 
 pub(crate) mod ended;
+pub(crate) mod faults;
+pub(crate) mod line_faults;
 pub(crate) mod lines;
 pub(crate) mod moving;
 pub(crate) mod quick;

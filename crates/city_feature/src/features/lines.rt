@@ -7,6 +7,7 @@ ghost use Rattle.city_feature.specs.Values.{feature_value};
 use crate::choices::Choice;
 use crate::choices::selecting::selects;
 use crate::features::Feature;
+use crate::features::line_faults::line_fault;
 use crate::features::moving::shifted;
 use crate::features::quick::{quick_line, quick_text};
 use crate::features::reader::feature;
@@ -25,7 +26,8 @@ fn moved_feature(alloc: Global, bytes: &[u8], shift: Shift) -> Result<Feature, F
     shifted(alloc, feature, shift)
 }
 
-/// The same by way of the value: it says why there is no text.
+/// The same for a line that is not answered at once: why there is no text is told by the line's compact text where that
+/// can be, else by its value.
 #[inline(never)]
 fn plain_line(
     alloc: Global,
@@ -41,6 +43,9 @@ fn plain_line(
     ensures err { OnErr result (text.new ≡ text.old) }
     ensures refusal { IfErr result (λ fault. RefusesFeatureLine shift fault bytes.now) }
 {
+    if let Some(fault) = line_fault(alloc, bytes, shift) {
+        return Err(fault);
+    }
     let moved = moved_feature(alloc, bytes, shift)?;
     if !selects(choice, &moved) {
         return Ok(false);

@@ -1,0 +1,174 @@
+-- Why a feature's line is refused, by the texts of its members.
+use Rattle.std.proofs.Common.{◌≡◌, ◌∙◌, ◌↔◌, ◌++◌, ◌<◌, ◌∷◌, [], ℕ, Bool, List, true, false, not, Option, Some, None, IsTrue, codes, length, get_or, unwrap_or, ap, sym, subst, refl, inl, inr, arith}
+use Rattle.byte_streams.specs.declared.fault.Fault.{Fault}
+use Rattle.byte_streams.specs.declared.fault.Fault.TheVariants.{VertexRange}
+use Rattle.city_json.proofs.CompactLaws.{compact-tells}
+use Rattle.city_json.proofs.Scanning.{after_white-blank}
+use Rattle.city_json.proofs.SpelledWritable.{spelled_writable}
+use Rattle.city_json.specs.Bytes.{open_brace, close_brace}
+use Rattle.city_json.specs.Compact.{compact, quoted}
+use Rattle.city_json.specs.Depth.{IsDeep}
+use Rattle.city_json.specs.Fits.{Fits}
+use Rattle.city_json.specs.Grammar.{Spells}
+use Rattle.city_json.specs.Members.{first_named}
+use Rattle.city_json.specs.Parts.{AreParts}
+use Rattle.city_json.specs.Reading.{after_white}
+use Rattle.city_json.specs.Tree.{Tree, null, boolean, number, string, array, object, ItemTrees, MemberTrees}
+use Rattle.city_json.specs.declared.compacting.parts.Part.{Part}
+use Rattle.city_grid.specs.Axes.{Triple}
+use Rattle.city_feature.specs.Faults.{RefusesMoved, SpellsLeaving}
+use Rattle.city_feature.specs.Feature.{HasFeatureShape, RefusesFirst}
+use Rattle.city_feature.specs.FeatureLine.{RefusesFeatureLine}
+use Rattle.city_feature.specs.Shapes.{IsArray, IsObject, IsText, IsThere}
+use Rattle.city_feature.specs.Texts.{IsCompactOf}
+use Rattle.city_feature.proofs.QuickLines.{utf8}
+use Rattle.city_feature.proofs.features.FeatureVertices.{feature_refused}
+use Rattle.city_feature.proofs.features.QuickMoves.{not_both}
+
+-- this byte stands first
+abbrev Begins : List ℕ → ℕ → Type 0
+Begins text mark = (0 < length text) × (get_or text 0 0 ≡ mark)
+
+-- the type of a feature, by its text
+pub is_type_here : (text : List ℕ) (value : Tree) → IsCompactOf text value
+    → (text ≡ quoted (codes "CityJSONFeature")) ↔ (value ≡ string (codes "CityJSONFeature"))
+is_type_here text value of = (
+  λ same. compact-tells value (string (codes "CityJSONFeature")) of.writable (utf8 (codes "CityJSONFeature") refl)
+      (sym of.is ∙ same),
+  λ is. of.is ∙ ap compact is,
+)
+
+-- ---- members, where `null` stands for one that is not there
+says_or : (there : Option Tree) (text : List ℕ) → (unwrap_or there null ≡ string text) ↔ (there ≡ Some (string text))
+says_or None text = (λ same. absurd (no_text same), λ same. absurd (none same))
+  where
+    no_text : null ≡ string text → ⊥
+    no_text same = cc
+
+    none : None ≡ Some (string text) → ⊥
+    none same = cc
+says_or (Some value) text = (λ same. ap Some same, λ same. ap (λ o. unwrap_or o null) same)
+
+there_or : (Shape : Tree → Type 0) → (Shape null → ⊥) → (there : Option Tree)
+    → Shape (unwrap_or there null) ↔ IsThere Shape there
+there_or Shape other None = (λ is. absurd (other is), λ is. absurd is)
+there_or Shape other (Some value) = (λ is. is, λ is. is)
+
+abbrev pub value_of : List ℕ → MemberTrees → Tree
+value_of name members = unwrap_or (first_named name members) null
+
+module _ (members : MemberTrees) where
+  pub has_shape : (value_of (codes "type") members ≡ string (codes "CityJSONFeature"))
+      → IsText (value_of (codes "id") members) → IsObject (value_of (codes "CityObjects") members)
+      → IsArray (value_of (codes "vertices") members) → HasFeatureShape (object members)
+  has_shape kind id objects vertices = (
+    (says_or (first_named (codes "type") members) (codes "CityJSONFeature")).0 kind,
+    (there_or IsText (λ is. is) (first_named (codes "id") members)).0 id,
+    (there_or IsObject (λ is. is) (first_named (codes "CityObjects") members)).0 objects,
+    (there_or IsArray (λ is. is) (first_named (codes "vertices") members)).0 vertices,
+  )
+
+  pub of_shape : HasFeatureShape (object members)
+      → (value_of (codes "type") members ≡ string (codes "CityJSONFeature"))
+      × IsText (value_of (codes "id") members) × IsObject (value_of (codes "CityObjects") members)
+      × IsArray (value_of (codes "vertices") members)
+  of_shape shape = (
+    (says_or (first_named (codes "type") members) (codes "CityJSONFeature")).1 shape.0,
+    (there_or IsText (λ is. is) (first_named (codes "id") members)).1 shape.1,
+    (there_or IsObject (λ is. is) (first_named (codes "CityObjects") members)).1 shape.2,
+    (there_or IsArray (λ is. is) (first_named (codes "vertices") members)).1 shape.3,
+  )
+
+-- what a feature has is wanting
+pub unshaped : (members : MemberTrees) (P : Type 0) (b : Bool) → b ≡ false → IsTrue b ↔ P
+    → (HasFeatureShape (object members) → P) → IsTrue false ↔ HasFeatureShape (object members)
+unshaped members P b is_false test part =
+    (λ never. absurd (not_both false refl never), λ shape. absurd (not_both b is_false (test.1 (part shape))))
+
+array_there : (there : Option Tree) → IsThere IsArray there → (items : ItemTrees) × (there ≡ Some (array items))
+array_there (Some (array items)) is = (items, refl)
+array_there other is = absurd is
+
+-- ---- the vertices
+module _ (members : MemberTrees) (text : List ℕ) (shape : HasFeatureShape (object members))
+    (of : IsCompactOf text (value_of (codes "vertices") members)) where
+  array_here : (items : ItemTrees) × (first_named (codes "vertices") members ≡ Some (array items))
+      × IsCompactOf text (array items)
+  array_here =
+      let (items, is) = array_there (first_named (codes "vertices") members) shape.3 in
+      (items, is, subst (λ o. IsCompactOf text (unwrap_or o null)) is of)
+
+  pub refuses_vertex : (k : Triple) (fault : Fault)
+      → ((items : ItemTrees) → IsCompactOf text (array items) → RefusesFirst fault items)
+      → RefusesMoved k fault (object members)
+  refuses_vertex k fault refused =
+      let (items, is, here) = array_here in
+      inl (feature_refused (object members) items fault shape is (inr (refused items here)))
+
+  pub refuses_move : (k : Triple) (fault : Fault) → (fault ≡ VertexRange) × SpellsLeaving k text
+      → RefusesMoved k fault (object members)
+  refuses_move k fault (same, (ps, (found, written, writable, vertices), leaves)) =
+      let (items, is, here) = array_here in
+      let all : array items ≡ array found = compact-tells (array items) (array found) here.writable writable
+      (sym here.is ∙ written) in
+      inr (same, (ps, (shape, (found, is ∙ ap Some all, vertices)), leaves))
+
+-- ---- the line
+pub refuses_line : (k : Triple) (fault : Fault) (bytes line items : List ℕ) (parts passed : List Part) → items ≡ line
+    → passed ≡ parts → ((members : MemberTrees) × Spells bytes (object members) × Fits (object members) × (¬ IsDeep bytes)
+    × (line ≡ compact (object members)) × AreParts 1 parts members)
+    → ((members : MemberTrees) → IsCompactOf items (object members) → AreParts 1 passed members
+    → RefusesMoved k fault (object members)) → RefusesFeatureLine k fault bytes
+refuses_line k fault bytes line items parts passed same_line same_parts
+    (members, spells, fits, shallow, written, are) refused =
+    told (refused members (record {
+      is = same_line ∙ written;
+      writable = spelled_writable bytes (object members) spells;
+      distinct = fits.1;
+      within = fits.0;
+    }) (subst (λ l. AreParts 1 l members) (sym same_parts) are))
+  where
+    told : RefusesMoved k fault (object members) → RefusesFeatureLine k fault bytes
+    told (inl no_feature) = inr (inl (object members, spells, fits, no_feature))
+    told (inr (same, (ps, is, leaves))) =
+        inr (inr (same, (record { value = object members; vertices = ps }, (spells, fits, is), leaves)))
+
+-- ---- no object
+no_member_of : (value : Tree) → ¬ IsObject value → HasFeatureShape value → ⊥
+no_member_of (object members) other shape = other tt
+no_member_of null other shape = absurd (none_is shape.0)
+  where
+    none_is : None ≡ Some (string (codes "CityJSONFeature")) → ⊥
+    none_is same = cc
+no_member_of (boolean b) other shape = absurd shape.1
+no_member_of (number n) other shape = absurd shape.1
+no_member_of (string text) other shape = absurd shape.1
+no_member_of (array items) other shape = absurd shape.1
+
+-- an opening brace stands first in the text of an object
+opened : (bytes : List ℕ) (members : MemberTrees) → Spells bytes (object members)
+    → Begins (after_white bytes) open_brace
+opened bytes members (utf8, (before, inner, after, is, blank, (content, written, spells), end)) =
+    let rest : List ℕ = (content ++ close_brace ∷ []) ++ after in
+    let whole : bytes ≡ before ++ open_brace ∷ rest =
+    is ∙ ap (λ l. before ++ (l ++ after)) written in
+    let clear : after_white bytes ≡ open_brace ∷ rest =
+    ap after_white whole ∙ after_white-blank before (open_brace ∷ rest) blank refl in
+    (omega (arith, ap length clear), ap (λ l. get_or l 0 0) clear)
+
+pub no_object : (bytes rest : List ℕ) → rest ≡ after_white bytes → ¬ Begins rest open_brace → (value : Tree)
+    → Spells bytes value → ¬ HasFeatureShape value
+no_object bytes rest same other value spells = no_member_of value (is_none value spells)
+  where
+    is_none : (value : Tree) → Spells bytes value → ¬ IsObject value
+    is_none (object members) spells =
+        λ is. other (subst (λ l. Begins l open_brace) (sym same) (opened bytes members spells))
+    is_none (array items) spells = λ is. is
+    is_none (string text) spells = λ is. is
+    is_none (number n) spells = λ is. is
+    is_none (boolean b) spells = λ is. is
+    is_none null spells = λ is. is
+
+pub negated : (b : Bool) → IsTrue (not b) → IsTrue b → ⊥
+negated true not_so so = not_both false refl not_so
+negated false not_so so = not_both false refl so
