@@ -3,6 +3,7 @@ ghost use Rattle.city_json.specs.Tree.{tree};
 ghost use Rattle.city_feature.specs.Header.{IsHeader};
 
 pub(crate) mod reader;
+pub(crate) mod texts;
 
 use city_grid::Transform;
 use city_json::Json;

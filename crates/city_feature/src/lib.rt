@@ -33,4 +33,5 @@ pub use features::texts::{SpelledVertices, append_vertices, vertices_of};
 pub use features::writer::line;
 pub use headers::Header;
 pub use headers::reader::{header, is_city_json, is_document, is_version_2, transform_of};
+pub use headers::texts::holds_city;
 pub use joining::{HeaderFault, Joined, Shifts, join_headers};

@@ -1,10 +1,12 @@
 -- The head of a tile, from its first line.
-use Rattle.std.proofs.Common.{◌≡◌, ◌≢◌, ◌<◌, ◌^◌, length, ℕ, Bool, true, false, List, [], ◌∷◌, Option, Some, None, Result, Ok, Err, IfOk, IfErr, refl, sym, ap, subst, ◌∙◌, inl, inr, arith}
+use Rattle.std.proofs.Common.{◌≡◌, ◌≢◌, ◌<◌, ◌^◌, length, ℕ, Bool, true, false, List, [], ◌∷◌, Option, Some, None, Result, Ok, Err, IfOk, IfErr, IfSome, refl, sym, ap, subst, ◌∙◌, inl, inr, arith}
 use Rattle.city_json.specs.Compact.{compact}
 use Rattle.city_json.specs.Fits.{Fits}
 use Rattle.city_json.specs.Grammar.{Spells}
 use Rattle.city_json.specs.Members.{member_of}
-use Rattle.city_json.specs.Tree.{Tree, tree}
+use Rattle.city_json.specs.Parts.{AreParts}
+use Rattle.city_json.specs.Tree.{MemberTrees, Tree, object, tree}
+use Rattle.city_json.specs.declared.compacting.parts.Part as member_part
 use Rattle.city_json.specs.declared.json.Json.{Json}
 use Rattle.byte_streams.specs.declared.fault.Fault.{Fault}
 use Rattle.byte_streams.specs.declared.fault.Fault.TheVariants.{NoHeader, Memory, Write}
@@ -17,6 +19,7 @@ use Rattle.city_cut.proofs.SpelledFeatures.{texts_spell}
 use Rattle.std.specs.List.{AllZip}
 use Rattle.city_feature.specs.Header.{HeaderValue, HoldsCity, IsHeader}
 use Rattle.std.specs.Prelude.{codes}
+use Rattle.city_feature.specs.Texts.{IsCompactOf}
 use Rattle.city_feature.specs.Values.{HeaderJson, header_value}
 use Rattle.tile_stream.specs.Head.{SpellsHead, SpellsHeadOf, HoldsHead, RefusesHeadValue, RefusesHead, HasNoHead, LinesHaveNoHead, SomeTile, GivesHead, GivesHeld}
 use Rattle.tile_stream.specs.Held.{HeldLine}
@@ -74,6 +77,29 @@ module _ (line : List ℕ) (value : Tree) (spells : Spells line value) (fits : F
       → IfErr result (λ fault. RefusesHead fault line)
   head_refused (Ok x) is = tt
   head_refused (Err fault) is = inr (value, spells, fits, is)
+
+-- an object that the line spells was taken as a head on its text, or refused
+module _ (line text : List ℕ) (parts : List member_part.Part) (members : MemberTrees) (spells : Spells line (object members))
+    (fits : Fits (object members)) (of : IsCompactOf text (object members)) (are : AreParts 1 parts members)
+    {X : Type 0} where
+  pub head_found : length line < 2 ^ 64 → (header : X → HeaderValue) (texts : X → List (List ℕ))
+      (result : Result (Option X) Fault)
+      → IfOk result (λ found. IfSome found (λ x. (members : MemberTrees) → IsCompactOf text (object members)
+      → AreParts 1 parts members → (features : List FeatureValue) × HoldsHead (object members) (header x) features
+      × (texts x ≡ texts_of features)))
+      → IfOk result (λ found. IfSome found (λ x. SpellsHeadOf line (header x) (texts x)))
+  head_found short header texts (Ok (Some x)) stands =
+      let (features, holds, is) = stands members of are in
+      spells_head line (object members) spells fits short (header x) features (texts x) holds is
+  head_found short header texts (Ok None) stands = tt
+  head_found short header texts (Err fault) stands = tt
+
+  pub head_not_found : (result : Result (Option X) Fault)
+      → IfErr result (λ fault. (members : MemberTrees) → IsCompactOf text (object members) → AreParts 1 parts members
+      → RefusesHeadValue fault (object members))
+      → IfErr result (λ fault. RefusesHead fault line)
+  head_not_found (Ok found) is = tt
+  head_not_found (Err fault) is = inr (object members, spells, fits, is members of are)
 
 memory_in : (lines : List Part) (fault : Option LineFault) (last number : ℕ) → 0 < number
     → ComesFrom number lines fault last → LinesHaveNoHead lines fault last (at_line number Memory)
@@ -149,14 +175,3 @@ module _ (before after : TileLines → Type 0) (header : HeaderValue) (held : He
       let Refused : LineFault → Type 0 = λ at. SomeTile before (λ tile. HasNoHead tile (at_line at.line at.fault)) in
       subst Refused (sym (is ∙ ap (λ n. record { line = n; fault = Memory }) at))
       (no_memory (omega (arith, at, counted)) left leaves)
-
--- features that were cut on the text
-pub quick_head : (line : List ℕ) (document : Tree) (header : HeaderValue) (features : List FeatureValue)
-    (texts : List (List ℕ)) → length line < 2 ^ 64 → Spells line document → Fits document → IsCuttable document
-    → IsCut document header features → texts ≡ texts_of features → 0 < length texts
-    → SpellsHeadOf line header texts
-quick_head line document header features texts short spells fits cuttable cut is filled =
-    let some : features ≢ [] = λ none. omega (arith, filled, ap length (is ∙ ap texts_of none)) in
-    let holds : HoldsCity document = inl (some_objects (member_of (codes "CityObjects") document) features
-    (IsFeatureOf (objects_of document) (member_of (codes "appearance") document) cut.0.0.0) cut.0.0.2 some) in
-    spells_head line document spells fits short header features texts (inl (holds, cuttable, cut)) is

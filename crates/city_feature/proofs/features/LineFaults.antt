@@ -49,7 +49,7 @@ says_or None text = (λ same. absurd (no_text same), λ same. absurd (none same)
     none same = cc
 says_or (Some value) text = (λ same. ap Some same, λ same. ap (λ o. unwrap_or o null) same)
 
-there_or : (Shape : Tree → Type 0) → (Shape null → ⊥) → (there : Option Tree)
+pub there_or : (Shape : Tree → Type 0) → (Shape null → ⊥) → (there : Option Tree)
     → Shape (unwrap_or there null) ↔ IsThere Shape there
 there_or Shape other None = (λ is. absurd (other is), λ is. absurd is)
 there_or Shape other (Some value) = (λ is. is, λ is. is)

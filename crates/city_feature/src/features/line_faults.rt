@@ -38,14 +38,14 @@ fn is_text(text: &[u8]) -> bool
 }
 
 /// The same for an object.
-fn is_object(text: &[u8]) -> bool
+pub(crate) fn is_object(text: &[u8]) -> bool
     ensures { (value : Tree) → IsCompactOf text.now value → (IsTrue result ↔ IsObject value) }
 {
     byte_is(text, 0, b'{')
 }
 
 /// The same for an array.
-fn is_array(text: &[u8]) -> bool
+pub(crate) fn is_array(text: &[u8]) -> bool
     ensures { (value : Tree) → IsCompactOf text.now value → (IsTrue result ↔ IsArray value) }
 {
     byte_is(text, 0, b'[')
@@ -53,7 +53,7 @@ fn is_array(text: &[u8]) -> bool
 
 /// The compact text of the value of a member, of `null` where there is none; its name is given as in
 /// [`part_named`](super::quick::part_named).
-fn value_named<'a>(line: &'a [u8], parts: &[Part], name: &[u8]) -> Option<&'a [u8]>
+pub(crate) fn value_named<'a>(line: &'a [u8], parts: &[Part], name: &[u8]) -> Option<&'a [u8]>
     ensures { IfSome result (λ found. (members : MemberTrees) → IsCompactOf line.now (object members)
         → AreParts 1 parts.now members → (named : List ℕ) → IsUtf8 named → name.now ≡ quoted named ++ colon ∷ []
         → IsCompactOf found.now (unwrap_or (first_named named members) null)) }

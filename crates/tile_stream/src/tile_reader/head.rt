@@ -1,16 +1,20 @@
-ghost use Rattle.std.specs.Prelude.{◌≡◌, List, IfOk, IfErr, IfSome};
+ghost use Rattle.std.specs.Prelude.{◌≡◌, List, IfOk, IfErr, IfSome, IsTrue};
 ghost use Rattle.city_json.specs.Fits.{IsDistinct};
-ghost use Rattle.city_json.specs.Tree.{tree};
+ghost use Rattle.city_json.specs.Parts.{AreParts};
+ghost use Rattle.city_json.specs.Tree.{MemberTrees, object, tree};
+ghost use Rattle.city_json.specs.Triples.{HasTriples};
 ghost use Rattle.city_cut.specs.HeldTexts.{texts_in};
 ghost use Rattle.city_cut.specs.Lines.{texts_of};
 ghost use Rattle.city_feature.specs.Feature.{FeatureValue};
+ghost use Rattle.city_feature.specs.Header.{HoldsCity};
+ghost use Rattle.city_feature.specs.Texts.{IsCompactOf};
 ghost use Rattle.city_feature.specs.Values.{header_value};
 ghost use Rattle.tile_stream.specs.Head.{SpellsHeadOf, RefusesHead, HoldsHead, RefusesHeadValue};
 
-use byte_streams::Fault;
-use city_cut::{CutTexts, FeatureTexts, cut_texts, quick_cut};
-use city_feature::{Header, header, is_document};
-use city_json::{Json, read};
+use byte_streams::{Fault, Line};
+use city_cut::{CutTexts, FeatureTexts, cut_compacted_triples, cut_fault, cut_texts};
+use city_feature::{Header, header, holds_city, is_document};
+use city_json::{Json, Part, Span, check, compact_lent, read};
 use std::alloc::Global;
 
 /// The header of a tile, and the number of the line that spells it, from 1.
@@ -37,22 +41,66 @@ pub(crate) fn read_first_line(alloc: Global, bytes: &[u8]) -> Result<FirstLine, 
         SpellsHeadOf bytes.now (header_value first.header) (texts_in first.texts)) }
     ensures refused { IfErr result (λ fault. RefusesHead fault bytes.now) }
 {
-    if let Some(first) = quick_first_line(alloc, bytes) {
+    if let Some(first) = quick_first_line(alloc, bytes)? {
         return Ok(first);
     }
     first_line(alloc, read(alloc, bytes)?)
 }
 
-/// The same of a document with features, on its text. `None`: undecided, or out of memory.
-fn quick_first_line(alloc: Global, bytes: &[u8]) -> Option<FirstLine>
-    ensures { IfSome result (λ first.
-        SpellsHeadOf bytes.now (header_value first.header) (texts_in first.texts)) }
+/// The same of a document with city objects or vertices, on its text, and why the line spells no value. Nothing in it: it
+/// is none, or undecided.
+fn quick_first_line(alloc: Global, bytes: &[u8]) -> Result<Option<FirstLine>, Fault>
+    ensures ok { IfOk result (λ found. IfSome found (λ first.
+        SpellsHeadOf bytes.now (header_value first.header) (texts_in first.texts))) }
+    ensures refused { IfErr result (λ fault. RefusesHead fault bytes.now) }
 {
-    let CutTexts { header, texts } = quick_cut(alloc, bytes)?;
-    if texts.len() == 0 {
-        return None;
+    let Some(found) = compact_lent(alloc, bytes, Line::new(alloc)) else {
+        check(alloc, bytes)?;
+        return Ok(None);
+    };
+    document_line(alloc, found.text.bytes(), &found.parts, found.triples)
+}
+
+/// The same of the object whose compact text this is, whose members lie in these parts, and in which these triples stand.
+fn document_line(
+    alloc: Global,
+    text: &[u8],
+    parts: &[Part],
+    triples: Span,
+) -> Result<Option<FirstLine>, Fault>
+    requires members { (members : MemberTrees) × IsCompactOf text.now (object members) × AreParts 1 parts.now members }
+    requires triples { HasTriples text.now triples }
+    ensures ok { IfOk result (λ found. IfSome found (λ first. (members : MemberTrees)
+        → IsCompactOf text.now (object members) → AreParts 1 parts.now members
+        → (features : List FeatureValue) × HoldsHead (object members) (header_value first.header) features
+        × (texts_in first.texts ≡ texts_of features))) }
+    ensures refused { IfErr result (λ fault. (members : MemberTrees) → IsCompactOf text.now (object members)
+        → AreParts 1 parts.now members → RefusesHeadValue fault (object members)) }
+{
+    if !is_document_text(text, parts) {
+        return Ok(None);
     }
-    Some(FirstLine { header, texts })
+    if let Some(cut) = cut_compacted_triples(alloc, text, parts, triples) {
+        return Ok(Some(FirstLine {
+            header: cut.header,
+            texts: cut.texts,
+        }));
+    }
+    match cut_fault(alloc, text, parts) {
+        Some(fault) => Err(fault),
+        None => Ok(None),
+    }
+}
+
+/// Whether the object whose compact text this is holds city objects or vertices. No: it does not, or undecided.
+fn is_document_text(text: &[u8], parts: &[Part]) -> bool
+    ensures { IsTrue result → (members : MemberTrees) → IsCompactOf text.now (object members)
+        → AreParts 1 parts.now members → HoldsCity (object members) }
+{
+    match holds_city(text, parts) {
+        Some(holds) => holds,
+        None => false,
+    }
 }
 
 /// Cuts a document; takes any other value as a header.
