@@ -10,6 +10,7 @@ pub mod DecodedText
 pub mod DepthLaws
 pub mod DepthLemmas
 pub mod DigitRuns
+pub mod EndedNames
 pub mod Fronts
 pub mod GivenTexts
 pub mod HeldNames
@@ -46,6 +47,7 @@ pub mod Starts
 pub mod StringEnds
 pub mod StringSteps
 pub mod Texts
+pub mod Told
 pub mod TripleFronts
 pub mod TripleSums
 pub mod Triples

@@ -1,5 +1,6 @@
 pub mod BracketRun
 pub mod Bytes
+pub mod Checking
 pub mod Compact
 pub mod CompactEnds
 pub mod CompactMembers
@@ -16,6 +17,7 @@ pub mod NamePrint
 pub mod Nested
 pub mod Number
 pub mod NumberAt
+pub mod OpenNames
 pub mod Parts
 pub mod PlainRun
 pub mod ReadString

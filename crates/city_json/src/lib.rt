@@ -2,6 +2,7 @@
 //! one compact text of a value, and [`compact`] goes from the one text to the other in one pass.
 #![tactic(auto)]
 
+mod checking;
 mod compacting;
 mod comparing;
 mod json;
@@ -15,6 +16,7 @@ mod text;
 pub use byte_streams::{
     Bin, Device, Fault, Intake, Line, Sequence, Sink, Source, Stop, Tape, read_all, write_all,
 };
+pub use checking::check;
 pub use compacting::{
     Compacted, CompactedFeature, LentFeature, LentText, Part, Span, compact, compact_given,
     compact_lent, compact_parts, members_of_compact, string_end, value_end,

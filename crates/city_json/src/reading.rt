@@ -52,7 +52,7 @@ pub(crate) enum Mark {
     Neither,
 }
 
-fn start_of(byte: u8) -> Start
+pub(crate) fn start_of(byte: u8) -> Start
     ensures { result ≡ start_of byte }
 {
     match byte {
@@ -67,7 +67,7 @@ fn start_of(byte: u8) -> Start
     }
 }
 
-fn after_white(bytes: &[u8]) -> &[u8]
+pub(crate) fn after_white(bytes: &[u8]) -> &[u8]
     ensures { result.now ≡ after_white bytes.now }
 {
     let mut rest = bytes;
@@ -77,7 +77,7 @@ fn after_white(bytes: &[u8]) -> &[u8]
     rest
 }
 
-fn mark_at(close: u8, bytes: &[u8]) -> (Mark, &[u8])
+pub(crate) fn mark_at(close: u8, bytes: &[u8]) -> (Mark, &[u8])
     ensures { (result.0, result.1.now) ≡ mark_at close bytes.now }
 {
     match bytes {
@@ -87,7 +87,7 @@ fn mark_at(close: u8, bytes: &[u8]) -> (Mark, &[u8])
     }
 }
 
-fn after_byte(wanted: u8, bytes: &[u8]) -> Option<&[u8]>
+pub(crate) fn after_byte(wanted: u8, bytes: &[u8]) -> Option<&[u8]>
     ensures { option_map (λ rest. rest.now) result ≡ after_byte wanted bytes.now }
 {
     match bytes {

@@ -7,6 +7,8 @@ mod blocks;
 #[cfg(test)]
 mod chance;
 #[cfg(test)]
+mod checking;
+#[cfg(test)]
 mod compacting;
 #[cfg(test)]
 mod depth;

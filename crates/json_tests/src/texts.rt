@@ -1,6 +1,6 @@
-//! Texts for the tests of both paths: the reader and printer, and the one pass.
+//! Texts for the tests of both paths, the reader and printer and the one pass, and of the check with no value.
 use byte_streams::{Fault, Line};
-use city_json::{compact, print, read};
+use city_json::{check, compact, print, read};
 use std::alloc::{AllocError, Global};
 use std::process::Abort;
 
@@ -71,22 +71,30 @@ fn is_passed(alloc: Global, text: &[u8], wanted: &[u8]) -> bool {
     }
 }
 
-/// Whether both paths give this compact text.
+/// Whether both paths give this compact text, and the check takes the text.
 pub(crate) fn is_compacted(alloc: Global, text: &[u8], wanted: &[u8]) -> bool {
-    is_written(alloc, text, wanted) && is_passed(alloc, text, wanted)
+    is_written(alloc, text, wanted) && is_passed(alloc, text, wanted) && check(alloc, text).is_ok()
 }
 
-/// Whether the reader has this fault, and the pass says nothing.
+/// Whether the reader and the check have this fault, and the pass says nothing.
 pub(crate) fn is_refused(alloc: Global, text: &[u8], fault: Fault) -> bool {
-    read(alloc, text).err() == Some(fault) && passed(alloc, text).is_none()
+    read(alloc, text).err() == Some(fault)
+        && check(alloc, text) == Err(fault)
+        && passed(alloc, text).is_none()
 }
 
-/// Whether the pass answers for what the reader takes, with the same text, and for nothing else.
+/// Whether the pass answers for what the reader takes, with the same text, and for nothing else, and the check says of
+/// the text what the reader says.
 pub(crate) fn has_one_answer(alloc: Global, text: &[u8]) -> bool {
     match written(alloc, text) {
-        Ok(line) => is_passed(alloc, text, line.items()),
-        Err(_) => passed(alloc, text).is_none(),
+        Ok(line) => is_passed(alloc, text, line.items()) && check(alloc, text).is_ok(),
+        Err(fault) => passed(alloc, text).is_none() && check(alloc, text) == Err(fault),
     }
+}
+
+/// Whether the check says of the text what the reader says.
+pub(crate) fn is_checked_as_read(alloc: Global, text: &[u8]) -> bool {
+    check(alloc, text).err() == read(alloc, text).err()
 }
 
 /// Whether the text is refused for this fault, or is as it is where there is none.

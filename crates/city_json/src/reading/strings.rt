@@ -16,7 +16,7 @@ const COMMON_LEN: usize = 64;
 
 /// What a run of bytes that stand for themselves ends at.
 #[derive(Clone, Copy)]
-enum End {
+pub(crate) enum End {
     Closing,
     Escape,
     Broken,
@@ -35,22 +35,32 @@ pub(crate) fn string(alloc: Global, bytes: &[u8]) -> Result<(Str, &[u8]), Fault>
 }
 
 /// The same where an escape stands in the string.
-#[tactic(auto, using(crate::proofs::StringSteps::escapes))]
 fn escaped_string(alloc: Global, bytes: &[u8]) -> Result<(Str, &[u8]), Fault>
     ensures { Gives (λ p. (p.0, p.1.now)) result (string_at bytes.now) }
 {
     let mut text = Vec::with_capacity(alloc, COMMON_LEN)?;
+    let rest = decode(bytes, &mut text)?;
+    finished(alloc, &text, rest)
+}
+
+/// What follows the string whose opening quotation mark stands before the bytes. What it spells is put into `to`, whose
+/// memory is taken; whether that is UTF-8 is not looked at.
+#[tactic(auto, using(crate::proofs::StringSteps::escapes))]
+pub(crate) fn decode<'a>(bytes: &'a [u8], to: &mut Vec<u8>) -> Result<&'a [u8], Fault>
+    ensures { Gives (λ rest. (to.new.items, rest.now)) result (decoded bytes.now) }
+{
+    to.clear();
     let mut rest = bytes;
-    loop {
+    'pieces: loop {
         let (run, end, after) = split_run(rest);
-        text.extend_from_slice(run)?;
+        to.extend_from_slice(run)?;
         match end {
-            End::Closing => return finished(alloc, &text, after),
+            End::Closing => return Ok(after),
             End::Escape => {
                 let Some((c, after)) = escape(after) else {
                     return Err(Fault::Syntax);
                 };
-                text.extend_from_slice(c.encode_utf8(&mut [0; 4]).as_bytes())?;
+                to.extend_from_slice(c.encode_utf8(&mut [0; 4]).as_bytes())?;
                 rest = after;
             }
             End::Broken => return Err(Fault::Syntax),
@@ -58,36 +68,16 @@ fn escaped_string(alloc: Global, bytes: &[u8]) -> Result<(Str, &[u8]), Fault>
     }
 }
 
-/// What follows the string whose opening quotation mark stands before the bytes. What it spells is put into `to`, whose
-/// memory is taken; whether that is UTF-8 is not looked at.
-#[tactic(auto, using(crate::proofs::StringSteps::escapes))]
+/// The same, with no word of why nothing was decoded.
 pub(crate) fn decode_into<'a>(bytes: &'a [u8], to: &mut Vec<u8>) -> Option<&'a [u8]>
     ensures { IfSome result (λ rest. decoded bytes.now ≡ Some (to.new.items, rest.now)) }
 {
-    to.clear();
-    let mut rest = bytes;
-    'pieces: loop {
-        let (run, end, after) = split_run(rest);
-        let Ok(_) = to.extend_from_slice(run) else {
-            return None;
-        };
-        match end {
-            End::Closing => return Some(after),
-            End::Escape => {
-                let (c, after) = escape(after)?;
-                let Ok(_) = to.extend_from_slice(c.encode_utf8(&mut [0; 4]).as_bytes()) else {
-                    return None;
-                };
-                rest = after;
-            }
-            End::Broken => return None,
-        }
-    }
+    decode(bytes, to).ok()
 }
 
 /// The bytes at the front that stand for themselves, what they end at, and what follows that.
 #[tactic(auto, using(crate::proofs::StringSteps::runs))]
-fn split_run(bytes: &[u8]) -> (&[u8], End, &[u8])
+pub(crate) fn split_run(bytes: &[u8]) -> (&[u8], End, &[u8])
     ensures { IsPlainRun bytes.now result.0.now result.1 result.2.now }
 {
     let at = plain_len(bytes);
