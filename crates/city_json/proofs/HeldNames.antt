@@ -1,163 +1,290 @@
 -- Names of open objects, of which those with escapes are held in the order in which they are listed.
-use Rattle.std.proofs.Common.{◌≡◌, ◌∙◌, ◌≤◌, ◌<◌, ◌+◌, ◌-◌, ℕ, zero, suc, List, [], ◌∷◌, ◌++◌, Some, length, take, drop, map, refl, ap, sym, subst, arith, length-append, length-take-le}
-use Rattle.std.proofs.lemmas.List.{map-append, take-map, take_rest}
-use Rattle.std.specs.Borrow.{Bor}
-use Rattle.std.specs.Global.{Global}
-use Rattle.std.specs.List.{slice_get}
-use Rattle.std.specs.Prelude.{Vec}
-use Rattle.city_json.specs.MemberName.{AreHeld, held_before, held_bytes, name_bytes}
+use Rattle.std.proofs.Common.{◌≡◌, ◌∙◌, ◌≤◌, ◌<◌, ◌+◌, ◌-◌, ℕ, zero, suc, Bool, true, false, List, [], ◌∷◌, ◌++◌, length, take, drop, map, refl, ap, sym, subst, arith, length-append, length-take-le, length-drop, nat_lt}
+use Rattle.std.proofs.lemmas.Bool.Decides.{nat_tests}
+use Rattle.std.proofs.Math.Seq.{drop-append_seam}
+use Rattle.std.proofs.lemmas.List.{drop-append-le, map-append, take-append-drop, take-append-le, take-map, take_all, take_rest}
+use Rattle.std.proofs.lemmas.Simd.{map-map}
+use Rattle.std.specs.List.{All, slice_range}
+use Rattle.std.specs.Prelude.{if◌then◌else◌}
+use Rattle.city_json.specs.ListedNames.{ListedName, as_decoded, as_written, bytes_in, names_in}
+use Rattle.city_json.specs.MemberName.{AreListed, IsWithin, LieInOrder, after_name, first_held, listed_name, name_bytes}
 use Rattle.city_json.specs.declared.compacting.name.Name.{Name}
-use Rattle.city_json.specs.declared.compacting.name.Name.TheVariants.{AsWritten, Held}
 
--- ---- how many are held
-none_fewer : (listed : List Name) (before count : ℕ) → AreHeld before listed count → before ≤ count
-none_fewer [] before count are = omega (arith, are)
-none_fewer (AsWritten name ∷ others) before count are = none_fewer others before count are
-none_fewer (Held place ∷ others) before count are = omega (arith, none_fewer others (before + 1) count are.1)
+-- ---- in which order they are held
+after : (text_len from : ℕ) (name : Name) → name.from ≤ name.end → (text_len ≤ name.end → from ≤ name.from)
+    → from ≤ after_name text_len from name
+after text_len from name ordered apart = grind (arith, nat_tests)
 
-pub one_written : (listed : List Name) (name : Bor (List ℕ)) (before count : ℕ) → AreHeld before listed count
-    → AreHeld before (listed ++ AsWritten name ∷ []) count
-one_written [] name before count are = are
-one_written (AsWritten other ∷ others) name before count are = one_written others name before count are
-one_written (Held place ∷ others) name before count are = (are.0, one_written others name (before + 1) count are.1)
+none_fewer : (listed : List Name) (text_len from end : ℕ) → LieInOrder text_len from listed end → from ≤ end
+none_fewer [] text_len from end are = are
+none_fewer (name ∷ others) text_len from end are =
+    omega (arith, after text_len from name are.0 are.1,
+    none_fewer others text_len (after_name text_len from name) end are.2)
 
-pub one_held : (listed : List Name) (before count : ℕ) → AreHeld before listed count
-    → AreHeld before (listed ++ Held count ∷ []) (count + 1)
-one_held [] before count are = (sym are, ap (λ n. n + 1) are)
-one_held (AsWritten other ∷ others) before count are = one_held others before count are
-one_held (Held place ∷ others) before count are = (are.0, one_held others (before + 1) count are.1)
+longer : (listed : List Name) (text_len from end end₂ : ℕ) → LieInOrder text_len from listed end → end ≤ end₂
+    → LieInOrder text_len from listed end₂
+longer [] text_len from end end₂ are more = omega (arith, are, more)
+longer (name ∷ others) text_len from end end₂ are more =
+    (are.0, are.1, longer others text_len (after_name text_len from name) end end₂ are.2 more)
 
-next_is : (listed : List Name) (before count : ℕ) → AreHeld before listed count → before ≡ held_before listed count
-next_is [] before count are = are
-next_is (AsWritten name ∷ others) before count are = next_is others before count are
-next_is (Held place ∷ others) before count are = sym are.0
+first_after : (listed : List Name) (text_len from end : ℕ) → LieInOrder text_len from listed end
+    → from ≤ first_held text_len listed end
+first_after [] text_len from end are = are
+first_after (name ∷ others) text_len from end are =
+    let further : after_name text_len from name ≤ first_held text_len others end =
+    first_after others text_len (after_name text_len from name) end are.2 in
+    let here = are.1 in
+    grind (arith, nat_tests)
+
+first_within : (listed : List Name) (text_len from end : ℕ) → LieInOrder text_len from listed end
+    → first_held text_len listed end ≤ end
+first_within [] text_len from end are = omega arith
+first_within (name ∷ others) text_len from end are =
+    let further : first_held text_len others end ≤ end =
+    first_within others text_len (after_name text_len from name) end are.2 in
+    let ordered = are.0 in
+    let last : after_name text_len from name ≤ end =
+    none_fewer others text_len (after_name text_len from name) end are.2 in
+    grind (arith, nat_tests)
 
 -- those at the front, where the others are left out
-pub stay_held : (listed : List Name) (base before count : ℕ) → AreHeld before listed count
-    → AreHeld before (take base listed) (held_before (drop base listed) count)
-stay_held listed zero before count are = next_is listed before count are
-stay_held [] (suc base) before count are = are
-stay_held (AsWritten name ∷ others) (suc base) before count are = stay_held others base before count are
-stay_held (Held place ∷ others) (suc base) before count are = (are.0, stay_held others base (before + 1) count are.1)
+stay : (listed : List Name) (base text_len from end : ℕ) → LieInOrder text_len from listed end
+    → LieInOrder text_len from (take base listed) (first_held text_len (drop base listed) end)
+stay listed zero text_len from end are = first_after listed text_len from end are
+stay [] (suc base) text_len from end are = are
+stay (name ∷ others) (suc base) text_len from end are =
+    (are.0, are.1, stay others base text_len (after_name text_len from name) end are.2)
 
-pub none_held : (listed : List Name) (base before : ℕ) → AreHeld before listed before
-    → AreHeld before (take base listed) before
-none_held listed zero before are = refl
-none_held [] (suc base) before are = refl
-none_held (AsWritten name ∷ others) (suc base) before are = none_held others base before are
-none_held (Held place ∷ others) (suc base) before are =
-    absurd (omega (arith, none_fewer others (before + 1) before are.1))
+rest_within : (listed : List Name) (base text_len from end : ℕ) → LieInOrder text_len from listed end
+    → first_held text_len (drop base listed) end ≤ end
+rest_within listed zero text_len from end are = first_within listed text_len from end are
+rest_within [] (suc base) text_len from end are = omega arith
+rest_within (name ∷ others) (suc base) text_len from end are =
+    rest_within others base text_len (after_name text_len from name) end are.2
 
-pub fewer_before : (listed : List Name) (base before count : ℕ) → AreHeld before listed count
-    → held_before (drop base listed) count ≤ count
-fewer_before [] zero before count are = omega arith
-fewer_before (AsWritten name ∷ others) zero before count are = fewer_before others zero before count are
-fewer_before (Held place ∷ others) zero before count are =
-    omega (arith, are.0, none_fewer others (before + 1) count are.1)
-fewer_before [] (suc base) before count are = omega arith
-fewer_before (AsWritten name ∷ others) (suc base) before count are = fewer_before others base before count are
-fewer_before (Held place ∷ others) (suc base) before count are = fewer_before others base (before + 1) count are.1
+-- one more after them
+one_written : (listed : List Name) (name : Name) (text_len from end : ℕ) → LieInOrder text_len from listed end
+    → name.from ≤ name.end → name.end < text_len → LieInOrder text_len from (listed ++ name ∷ []) end
+one_written [] name text_len from end are ordered inside =
+    let same : after_name text_len from name ≡ from = grind (arith, nat_tests) in
+    (ordered, λ held. absurd (omega (arith, held, inside)), omega (arith, are, same))
+one_written (other ∷ others) name text_len from end are ordered inside =
+    (are.0, are.1, one_written others name text_len (after_name text_len from other) end are.2 ordered inside)
+
+one_held : (listed : List Name) (name : Name) (text_len from end : ℕ) → LieInOrder text_len from listed end
+    → end ≤ name.from → name.from ≤ name.end → LieInOrder text_len from (listed ++ name ∷ []) name.end
+one_held [] name text_len from end are further ordered =
+    let last : after_name text_len from name ≤ name.end = grind (arith, nat_tests) in
+    (ordered, λ held. omega (arith, are, further), last)
+one_held (other ∷ others) name text_len from end are further ordered =
+    (are.0, are.1, one_held others name text_len (after_name text_len from other) end are.2 further ordered)
+
+-- ---- each lies in the text or in what is held
+within_here : (name : Name) (text_len from end held_len : ℕ) → text_len ≤ from → end ≤ text_len + held_len
+    → name.from ≤ name.end → (text_len ≤ name.end → from ≤ name.from) → after_name text_len from name ≤ end
+    → IsWithin text_len held_len name
+within_here name text_len from end held_len behind enough ordered apart last = record {
+  ordered = ordered;
+  inside = grind (arith, nat_tests);
+  apart = λ held. omega (arith, behind, apart held);
+}
+
+each_within : (listed : List Name) (text_len from end held_len : ℕ) → LieInOrder text_len from listed end
+    → text_len ≤ from → end ≤ text_len + held_len → All (IsWithin text_len held_len) listed
+each_within [] text_len from end held_len are behind enough k d inside = absurd (omega (arith, inside))
+each_within (name ∷ others) text_len from end held_len are behind enough zero d inside =
+    within_here name text_len from end held_len behind enough are.0 are.1
+    (none_fewer others text_len (after_name text_len from name) end are.2)
+each_within (name ∷ others) text_len from end held_len are behind enough (suc k) d inside =
+    each_within others text_len (after_name text_len from name) end held_len are.2
+    (omega (arith, behind, after text_len from name are.0 are.1)) enough k d (omega (arith, inside))
+
+pub all_within : (listed : List Name) (text_len held_len : ℕ) → AreListed text_len listed held_len
+    → All (IsWithin text_len held_len) listed
+all_within listed text_len held_len are =
+    each_within listed text_len text_len (text_len + held_len) held_len are.in_order (omega arith) (omega arith)
 
 -- ---- their bytes
-found_front : {X : Type 0} (xs ys : List X) (k : ℕ) → k < length xs → slice_get xs k ≡ slice_get (xs ++ ys) k
-found_front [] ys k inside = absurd (omega arith)
-found_front (x ∷ xs) ys zero inside = refl
-found_front (x ∷ xs) ys (suc k) inside = found_front xs ys k (omega arith)
+front_range : (xs ys : List ℕ) (a b : ℕ) → a ≤ b → b ≤ length xs → slice_range xs a b ≡ slice_range (xs ++ ys) a b
+front_range xs ys a b ordered inside =
+    let left : length (drop a xs) ≡ length xs - a = length-drop a xs in
+    sym (ap (take (b - a)) (drop-append-le a xs ys (omega (arith, ordered, inside)))
+    ∙ take-append-le (b - a) (drop a xs) ys (omega (arith, ordered, inside, left)))
 
-found_last : {X : Type 0} (xs : List X) (y : X) → slice_get (xs ++ y ∷ []) (length xs) ≡ Some y
-found_last [] y = refl
-found_last (x ∷ xs) y = found_last xs y
+same_name : (name : Name) (text_len : ℕ) (held more : List ℕ) → name.from ≤ name.end
+    → name.end ≤ text_len + length held → listed_name text_len held name ≡ listed_name text_len (held ++ more) name
+same_name name text_len held more ordered inside = by (nat_lt name.end text_len)
+  where
+    by : (b : Bool) → (if b then as_written name.from name.end
+        else as_decoded (slice_range held (name.from - text_len) (name.end - text_len)))
+        ≡ (if b then as_written name.from name.end
+        else as_decoded (slice_range (held ++ more) (name.from - text_len) (name.end - text_len)))
+    by true = refl
+    by false = ap as_decoded (front_range held more (name.from - text_len) (name.end - text_len)
+        (omega (arith, ordered)) (omega (arith, inside)))
 
-found_taken : {X : Type 0} (xs : List X) (n k : ℕ) → k < n → slice_get xs k ≡ slice_get (take n xs) k
-found_taken xs zero k inside = absurd (omega arith)
-found_taken [] (suc n) k inside = refl
-found_taken (x ∷ xs) (suc n) zero inside = refl
-found_taken (x ∷ xs) (suc n) (suc k) inside = found_taken xs n k (omega arith)
+-- the same names, where more is held
+same_names : (listed : List Name) (text_len from end : ℕ) (held more : List ℕ) → LieInOrder text_len from listed end
+    → text_len ≤ from → end ≤ text_len + length held
+    → map (listed_name text_len held) listed ≡ map (listed_name text_len (held ++ more)) listed
+same_names [] text_len from end held more are behind enough = refl
+same_names (name ∷ others) text_len from end held more are behind enough =
+    let here : IsWithin text_len (length held) name =
+    within_here name text_len from end (length held) behind enough are.0 are.1
+    (none_fewer others text_len (after_name text_len from name) end are.2) in
+    ap (λ n. n ∷ map (listed_name text_len held) others) (same_name name text_len held more here.ordered here.inside)
+    ∙ ap (λ l. listed_name text_len (held ++ more) name ∷ l)
+    (same_names others text_len (after_name text_len from name) end held more are.2
+    (omega (arith, behind, after text_len from name are.0 are.1)) enough)
 
--- the same names, where as many are held alike
-same_names : (listed : List Name) (held held₂ : List (Vec ℕ Global)) (before count : ℕ) → AreHeld before listed count
-    → ((k : ℕ) → k < count → slice_get held k ≡ slice_get held₂ k)
-    → map (name_bytes held) listed ≡ map (name_bytes held₂) listed
-same_names [] held held₂ before count are same = refl
-same_names (AsWritten name ∷ others) held held₂ before count are same =
-    ap (λ l. name.now ∷ l) (same_names others held held₂ before count are same)
-same_names (Held place ∷ others) held held₂ before count are same =
-    let inside : place < count = omega (arith, are.0, none_fewer others (before + 1) count are.1) in
-    ap (λ found. held_bytes found ∷ map (name_bytes held) others) (same place inside)
-    ∙ ap (λ l. held_bytes (slice_get held₂ place) ∷ l) (same_names others held held₂ (before + 1) count are.1 same)
+-- ---- after a push
+pub pushed_written : (listed listed₂ : List Name) (name : Name) (text_len held_len : ℕ)
+    → AreListed text_len listed held_len → listed₂ ≡ listed ++ name ∷ [] → name.from ≤ name.end → name.end < text_len
+    → AreListed text_len listed₂ held_len
+pushed_written listed listed₂ name text_len held_len are now ordered inside = record {
+  short = are.short;
+  in_order = subst (λ l. LieInOrder text_len text_len l (text_len + held_len)) (sym now)
+      (one_written listed name text_len text_len (text_len + held_len) are.in_order ordered inside);
+}
 
-pub one_more_held : (listed : List Name) (held : List (Vec ℕ Global)) (name : Vec ℕ Global)
-    → AreHeld 0 listed (length held)
-    → map (name_bytes (held ++ name ∷ [])) (listed ++ Held (length held) ∷ [])
-    ≡ map (name_bytes held) listed ++ name.items ∷ []
-one_more_held listed held name are =
-    map-append (name_bytes (held ++ name ∷ [])) listed (Held (length held) ∷ [])
-    ∙ (ap (λ found. map (name_bytes (held ++ name ∷ [])) listed ++ held_bytes found ∷ []) (found_last held name)
-    ∙ ap (λ l. l ++ name.items ∷ [])
-    (sym (same_names listed held (held ++ name ∷ []) 0 (length held) are (found_front held (name ∷ [])))))
+pub more_held : (listed : List Name) (held held₂ bytes : List ℕ) (text_len : ℕ)
+    → AreListed text_len listed (length held) → held₂ ≡ held ++ bytes → AreListed text_len listed (length held₂)
+more_held listed held held₂ bytes text_len are kept =
+    let long : length held₂ ≡ length held + length bytes = ap length kept ∙ length-append held bytes in
+    record {
+      short = are.short;
+      in_order = longer listed text_len text_len (text_len + length held) (text_len + length held₂) are.in_order
+          (omega (arith, long));
+    }
 
-pub fewer_names : (listed : List Name) (held : List (Vec ℕ Global)) (base count : ℕ) → AreHeld 0 listed count
-    → map (name_bytes (take (held_before (drop base listed) count) held)) (take base listed)
-    ≡ take base (map (name_bytes held) listed)
-fewer_names listed held base count are =
-    let stay = held_before (drop base listed) count in
-    sym (same_names (take base listed) held (take stay held) 0 stay (stay_held listed base 0 count are)
-    (λ k inside. found_taken held stay k inside)) ∙ sym (take-map (name_bytes held) base listed)
+pub pushed_held : (listed listed₂ : List Name) (name : Name) (held held₂ bytes : List ℕ) (text_len : ℕ)
+    → AreListed text_len listed (length held) → listed₂ ≡ listed ++ name ∷ [] → held₂ ≡ held ++ bytes
+    → name.from ≡ text_len + length held → name.end ≡ text_len + length held + length bytes
+    → AreListed text_len listed₂ (length held₂)
+pushed_held listed listed₂ name held held₂ bytes text_len are now kept from end =
+    let long : length held₂ ≡ length held + length bytes = ap length kept ∙ length-append held bytes in
+    record {
+      short = are.short;
+      in_order = subst (λ l. LieInOrder text_len text_len l (text_len + length held₂)) (sym now)
+          (subst (LieInOrder text_len text_len (listed ++ name ∷ [])) (omega (arith, end, long))
+          (one_held listed name text_len text_len (text_len + length held) are.in_order (omega (arith, from))
+          (omega (arith, from, end))));
+    }
 
--- ---- after a push, and after a truncate
-pub pushed : (listed listed₂ : List Name) (held held₂ : List (Vec ℕ Global)) (name : Vec ℕ Global) (place : ℕ)
-    → AreHeld 0 listed (length held) → place ≡ length held → listed₂ ≡ listed ++ Held place ∷ []
-    → held₂ ≡ held ++ name ∷ [] → AreHeld 0 listed₂ (length held₂)
-pushed listed listed₂ held held₂ name place are last now kept =
-    let count : length held + 1 ≡ length held₂ = sym (ap length kept ∙ length-append held (name ∷ [])) in
-    let names : listed ++ Held (length held) ∷ [] ≡ listed₂ = sym (now ∙ ap (λ n. listed ++ Held n ∷ []) last) in
-    subst (λ l. AreHeld 0 l (length held₂)) names
-    (subst (AreHeld 0 (listed ++ Held (length held) ∷ [])) count (one_held listed 0 (length held) are))
+last_range : (held bytes : List ℕ) (from end : ℕ) → from ≡ length held → end ≡ length held + length bytes
+    → slice_range (held ++ bytes) from end ≡ bytes
+last_range held bytes from end first last =
+    ap (λ a. slice_range (held ++ bytes) a end) first
+    ∙ (ap (take (end - length held)) (drop-append_seam held bytes)
+    ∙ take_all (end - length held) bytes (omega (arith, last)))
 
-pub pushed_names : (listed listed₂ : List Name) (held held₂ : List (Vec ℕ Global)) (name : Vec ℕ Global) (place : ℕ)
-    → AreHeld 0 listed (length held) → place ≡ length held → listed₂ ≡ listed ++ Held place ∷ []
-    → held₂ ≡ held ++ name ∷ [] → map (name_bytes held₂) listed₂ ≡ map (name_bytes held) listed ++ name.items ∷ []
-pushed_names listed listed₂ held held₂ name place are last now kept =
-    ap (λ h. map (name_bytes h) listed₂) kept
-    ∙ (ap (map (name_bytes (held ++ name ∷ []))) (now ∙ ap (λ n. listed ++ Held n ∷ []) last)
-    ∙ one_more_held listed held name are)
+last_name : (name : Name) (held bytes : List ℕ) (text_len : ℕ) → name.from ≡ text_len + length held
+    → name.end ≡ text_len + length held + length bytes
+    → listed_name text_len (held ++ bytes) name ≡ as_decoded bytes
+last_name name held bytes text_len from end =
+    let tells : nat_lt name.end text_len ≡ false = grind (arith, nat_tests) in
+    ap (λ b. if b then as_written name.from name.end
+    else as_decoded (slice_range (held ++ bytes) (name.from - text_len) (name.end - text_len))) tells
+    ∙ ap as_decoded (last_range held bytes (name.from - text_len) (name.end - text_len) (omega (arith, from))
+    (omega (arith, end)))
 
--- how many stay, as the slice of what is listed says
-stay_is : (listed slice : List Name) (base count all stay : ℕ) → slice ≡ listed → count ≡ all
-    → stay ≡ held_before (take (length slice - base) (drop base slice)) count
-    → stay ≡ held_before (drop base listed) all
-stay_is listed slice base count all stay same counted is =
-    is ∙ (ap (λ l. held_before (take (length l - base) (drop base l)) count) same
-    ∙ (ap (λ l. held_before l count) (take_rest listed base) ∙ ap (held_before (drop base listed)) counted))
+pub pushed_names : (listed listed₂ : List Name) (name : Name) (held held₂ bytes : List ℕ) (text_len : ℕ)
+    → AreListed text_len listed (length held) → listed₂ ≡ listed ++ name ∷ [] → held₂ ≡ held ++ bytes
+    → name.from ≡ text_len + length held → name.end ≡ text_len + length held + length bytes
+    → map (listed_name text_len held₂) listed₂ ≡ map (listed_name text_len held) listed ++ as_decoded bytes ∷ []
+pushed_names listed listed₂ name held held₂ bytes text_len are now kept from end =
+    ap (λ h. map (listed_name text_len h) listed₂) kept
+    ∙ (ap (map (listed_name text_len (held ++ bytes))) now
+    ∙ (map-append (listed_name text_len (held ++ bytes)) listed (name ∷ [])
+    ∙ (ap (λ n. map (listed_name text_len (held ++ bytes)) listed ++ n ∷ []) (last_name name held bytes text_len from end)
+    ∙ ap (λ l. l ++ as_decoded bytes ∷ []) (sym (same_names listed text_len text_len (text_len + length held) held bytes
+    are.in_order (omega arith) (omega arith))))))
 
-pub left : (listed slice listed₂ : List Name) (held held₂ : List (Vec ℕ Global)) (base count stay size : ℕ)
-    → AreHeld 0 listed (length held) → slice ≡ listed → count ≡ length held
-    → stay ≡ held_before (take (length slice - base) (drop base slice)) count → listed₂ ≡ take base listed
-    → held₂ ≡ take size held → size ≡ stay → AreHeld 0 listed₂ (length held₂)
-left listed slice listed₂ held held₂ base count stay size are same counted is now cut all =
-    let kept : held₂ ≡ take stay held = cut ∙ ap (λ n. take n held) all in
-    let stays : stay ≡ held_before (drop base listed) (length held) =
-    stay_is listed slice base count (length held) stay same counted is in
-    let few : stay ≤ length held = omega (arith, stays, fewer_before listed base 0 (length held) are) in
-    let long : stay ≡ length held₂ = sym (ap length kept ∙ length-take-le stay held few) in
-    subst (λ l. AreHeld 0 l (length held₂)) (sym now)
-    (subst (AreHeld 0 (take base listed)) (sym stays ∙ long) (stay_held listed base 0 (length held) are))
+-- ---- after a truncate
+pub left_written : (listed listed₂ : List Name) (base text_len held_len : ℕ) → AreListed text_len listed held_len
+    → listed₂ ≡ take base listed → AreListed text_len listed₂ held_len
+left_written listed listed₂ base text_len held_len are now = record {
+  short = are.short;
+  in_order = subst (λ l. LieInOrder text_len text_len l (text_len + held_len)) (sym now)
+      (longer (take base listed) text_len text_len (first_held text_len (drop base listed) (text_len + held_len))
+      (text_len + held_len) (stay listed base text_len text_len (text_len + held_len) are.in_order)
+      (rest_within listed base text_len text_len (text_len + held_len) are.in_order));
+}
 
-pub left_names : (listed slice listed₂ : List Name) (held held₂ : List (Vec ℕ Global)) (base count stay size : ℕ)
-    → AreHeld 0 listed (length held) → slice ≡ listed → count ≡ length held
-    → stay ≡ held_before (take (length slice - base) (drop base slice)) count → listed₂ ≡ take base listed
-    → held₂ ≡ take size held → size ≡ stay
-    → map (name_bytes held₂) listed₂ ≡ take base (map (name_bytes held) listed)
-left_names listed slice listed₂ held held₂ base count stay size are same counted is now cut all =
-    let kept : held₂ ≡ take stay held = cut ∙ ap (λ n. take n held) all in
-    let stays : stay ≡ held_before (drop base listed) (length held) =
-    stay_is listed slice base count (length held) stay same counted is in
-    ap (λ h. map (name_bytes h) listed₂) (kept ∙ ap (λ n. take n held) stays)
-    ∙ (ap (map (name_bytes (take (held_before (drop base listed) (length held)) held))) now
-    ∙ fewer_names listed held base (length held) are)
+-- where what stays ends, as the slice of what is listed says
+stay_is : (listed slice : List Name) (base text_len all end stays : ℕ) → slice ≡ listed → end ≡ all
+    → stays ≡ first_held text_len (take (length slice - base) (drop base slice)) end
+    → stays ≡ first_held text_len (drop base listed) all
+stay_is listed slice base text_len all end stays same counted is =
+    is ∙ (ap (λ l. first_held text_len (take (length l - base) (drop base l)) end) same
+    ∙ (ap (λ l. first_held text_len l end) (take_rest listed base) ∙ ap (first_held text_len (drop base listed)) counted))
 
-pub left_written : (listed listed₂ : List Name) (base count : ℕ) → AreHeld 0 listed count → count ≡ 0
-    → listed₂ ≡ take base listed → AreHeld 0 listed₂ count
-left_written listed listed₂ base count are none now =
-    subst (λ l. AreHeld 0 l count) (sym now)
-    (subst (AreHeld 0 (take base listed)) (sym none) (none_held listed base 0 (subst (AreHeld 0 listed) none are)))
+-- where what stays ends lies in what is held
+pub stay_within : (listed slice : List Name) (base text_len held_len end stays : ℕ) → AreListed text_len listed held_len
+    → slice ≡ listed → end ≡ text_len + held_len
+    → stays ≡ first_held text_len (take (length slice - base) (drop base slice)) end
+    → (text_len ≤ stays) × (stays ≤ text_len + held_len)
+stay_within listed slice base text_len held_len end stays are same counted is =
+    let all = text_len + held_len in
+    let stays_at : stays ≡ first_held text_len (drop base listed) all =
+    stay_is listed slice base text_len all end stays same counted is in (
+      omega (arith, stays_at, none_fewer (take base listed) text_len text_len (first_held text_len (drop base listed) all)
+      (stay listed base text_len text_len all are.in_order)),
+      omega (arith, stays_at, rest_within listed base text_len text_len all are.in_order),
+    )
+
+pub left : (listed slice listed₂ : List Name) (held held₂ : List ℕ) (base text_len end stays size : ℕ)
+    → AreListed text_len listed (length held) → slice ≡ listed → end ≡ text_len + length held
+    → stays ≡ first_held text_len (take (length slice - base) (drop base slice)) end → listed₂ ≡ take base listed
+    → held₂ ≡ take size held → size ≡ stays - text_len → AreListed text_len listed₂ (length held₂)
+left listed slice listed₂ held held₂ base text_len end stays size are same counted is now cut few =
+    let all = text_len + length held in
+    let within = stay_within listed slice base text_len (length held) end stays are same counted is in
+    let stays_at : stays ≡ first_held text_len (drop base listed) all =
+    stay_is listed slice base text_len all end stays same counted is in
+    let long : length held₂ ≡ size = ap length cut ∙ length-take-le size held (omega (arith, few, within.0, within.1)) in
+    let last : first_held text_len (drop base listed) all ≡ text_len + length held₂ =
+    omega (arith, stays_at, long, few, within.0) in
+    record {
+      short = are.short;
+      in_order = subst (λ l. LieInOrder text_len text_len l (text_len + length held₂)) (sym now)
+          (subst (LieInOrder text_len text_len (take base listed)) last
+          (stay listed base text_len text_len all are.in_order));
+    }
+
+pub left_names : (listed slice listed₂ : List Name) (held held₂ : List ℕ) (base text_len end stays size : ℕ)
+    → AreListed text_len listed (length held) → slice ≡ listed → end ≡ text_len + length held
+    → stays ≡ first_held text_len (take (length slice - base) (drop base slice)) end → listed₂ ≡ take base listed
+    → held₂ ≡ take size held → size ≡ stays - text_len
+    → map (listed_name text_len held₂) listed₂ ≡ take base (map (listed_name text_len held) listed)
+left_names listed slice listed₂ held held₂ base text_len end stays size are same counted is now cut few =
+    let left_are : AreListed text_len listed₂ (length held₂) =
+    left listed slice listed₂ held held₂ base text_len end stays size are same counted is now cut few in
+    let whole : held₂ ++ drop size held ≡ held = ap (λ h. h ++ drop size held) cut ∙ take-append-drop size held in
+    same_names listed₂ text_len text_len (text_len + length held₂) held₂ (drop size held) left_are.in_order (omega arith)
+    (omega arith)
+    ∙ (ap (λ h. map (listed_name text_len h) listed₂) whole
+    ∙ (ap (map (listed_name text_len held)) now ∙ sym (take-map (listed_name text_len held) base listed)))
+
+-- ---- what is listed of a text of this length is what lies in it and in what is held
+pub listed_bytes : (text held : List ℕ) (text_len : ℕ) (listed : List Name) → length text ≡ text_len
+    → names_in text (map (listed_name text_len held) listed) ≡ map (name_bytes text held) listed
+listed_bytes text held text_len listed long =
+    map-map (bytes_in text) (listed_name text_len held) listed ∙ each listed
+  where
+    one : (b : Bool) (from end from₂ end₂ : ℕ) → bytes_in text (if b then as_written from end
+        else as_decoded (slice_range held from₂ end₂))
+        ≡ (if b then slice_range text from end else slice_range held from₂ end₂)
+    one true from end from₂ end₂ = refl
+    one false from end from₂ end₂ = refl
+
+    here : (name : Name) → bytes_in text (listed_name text_len held name) ≡ name_bytes text held name
+    here name = one (nat_lt name.end text_len) name.from name.end (name.from - text_len) (name.end - text_len)
+        ∙ ap (λ n. if nat_lt name.end n then slice_range text name.from name.end
+        else slice_range held (name.from - n) (name.end - n)) (sym long)
+
+    each : (names : List Name) → map (λ name. bytes_in text (listed_name text_len held name)) names
+        ≡ map (name_bytes text held) names
+    each [] = refl
+    each (name ∷ others) = ap (λ n. n ∷ map (λ other. bytes_in text (listed_name text_len held other)) others) (here name)
+        ∙ ap (λ l. name_bytes text held name ∷ l) (each others)

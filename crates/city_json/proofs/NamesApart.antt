@@ -1,9 +1,6 @@
 -- The names of members that differ, as the pass holds them.
-use Rattle.std.proofs.Common.{◌≡◌, ◌∙◌, ◌≤◌, ◌<◌, ◌+◌, ◌-◌, ℕ, List, [], ◌∷◌, length, take, drop, map, get_or, ap, sym, subst, arith, Bool, true, false}
-use Rattle.std.proofs.lemmas.Bool.{false≢true}
+use Rattle.std.proofs.Common.{◌≡◌, ◌≢◌, ◌∙◌, ◌≤◌, ◌<◌, ◌+◌, ◌-◌, ℕ, List, [], ◌∷◌, length, take, drop, map, get_or, ap, sym, subst, arith, Bool, true, false}
 use Rattle.std.proofs.lemmas.List.{drop_more, take_rest}
-use Rattle.std.proofs.lemmas.Slice.Eq.{bytes_eq-Decides}
-use Rattle.std.specs.Prelude.{bytes_eq}
 use Rattle.std.proofs.Common.{true≢false, ltb}
 use Rattle.std.proofs.lemmas.Bool.{ltb-true}
 use Rattle.std.proofs.lemmas.Cmp.{nat_cmp_total, eq_by_cmp_equiv}
@@ -49,11 +46,10 @@ abbrev pub AreApart : {A : Type 0} → (A → List ℕ) → List A → Type 0
 AreApart bytes listed = (members : MemberTrees) → names members ≡ map bytes listed → HasDistinctNames members
 
 pub new_step_at : {A : Type 0} (bytes : A → List ℕ) (name : List ℕ) (listed : List A) (i : ℕ) (d : A) (W : Type 0)
-    → i < length listed → false ≡ bytes_eq (bytes (get_or listed i d)) name → (AreNew bytes name (drop i listed) → W)
+    → i < length listed → bytes (get_or listed i d) ≢ name → (AreNew bytes name (drop i listed) → W)
     → AreNew bytes name (drop (i + 1) listed) → W
 new_step_at bytes name listed i d W inside apart before new = before (λ members is.
-    new_step name (bytes (get_or listed i d)) (map bytes (drop (i + 1) listed))
-    (λ same. false≢true (apart ∙ (bytes_eq-Decides (bytes (get_or listed i d)) name).1 same)) new members (is
+    new_step name (bytes (get_or listed i d)) (map bytes (drop (i + 1) listed)) apart new members (is
     ∙ ap (map bytes) (drop_more listed i d inside)))
 
 pub differ_step_at : {A : Type 0} (bytes : A → List ℕ) (rest : List A) (n : ℕ) (d : A) (W : Type 0) → 1 ≤ length rest

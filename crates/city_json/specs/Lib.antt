@@ -11,6 +11,7 @@ pub mod Flat
 pub mod Gives
 pub mod Grammar
 pub mod Lent
+pub mod ListedNames
 pub mod MemberName
 pub mod Members
 pub mod NamePrint

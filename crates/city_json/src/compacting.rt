@@ -47,7 +47,7 @@ pub fn compact(alloc: Global, text: &[u8], line: Line) -> Option<Line>
     if !simdutf8::is_utf8(text) {
         return None;
     }
-    let mut draft = begun(alloc, line);
+    let mut draft = begun(alloc, text.len(), line);
     let at = skip_white(text, 0, &mut draft)?;
     let end = value(text, at, MAX_DEPTH, &mut draft)?;
     let last = skip_white(text, end, &mut draft)?;

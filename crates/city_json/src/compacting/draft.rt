@@ -1,6 +1,7 @@
 //! What the pass has written, and how it goes on over white space.
 ghost use Rattle.std.specs.Prelude.{◌≡◌, ◌<◌, ◌≤◌, ◌+◌, [], length, drop, slice_index, IfSome, OnSome};
 ghost use Rattle.city_json.specs.Compacting.{shown};
+ghost use Rattle.city_json.specs.ListedNames.{names_in};
 ghost use Rattle.city_json.specs.Reading.{after_white};
 
 use super::names::Names;
@@ -13,15 +14,15 @@ const SHORT: usize = 16;
 /// What is written so far: the line, and after it the text from `from` on, which is still to be copied. Beside it
 /// the names of the objects that are open, those of an inner one last.
 #[derive(Drop)]
-pub(super) struct Draft<'a> {
+pub(super) struct Draft {
     pub(super) alloc: Global,
     pub(super) line: Line,
     pub(super) from: usize,
-    pub(super) names: Names<'a>,
+    pub(super) names: Names,
 }
 
-/// A draft with nothing written.
-pub(super) fn begun<'a>(alloc: Global, line: Line) -> Draft<'a>
+/// A draft of a text of this length, with nothing written.
+pub(super) fn begun(alloc: Global, text_len: usize, line: Line) -> Draft
     ensures line { result.line ≡ [] }
     ensures from { result.from ≡ 0 }
     ensures names { result.names ≡ [] }
@@ -32,25 +33,20 @@ pub(super) fn begun<'a>(alloc: Global, line: Line) -> Draft<'a>
         alloc,
         line,
         from: 0,
-        names: Names::new(alloc),
+        names: Names::new(alloc, text_len),
     }
 }
 
 /// Copies the text up to `at`, and goes on from `next`.
 #[inline(always)]
-pub(super) fn copy_to<'a>(
-    text: &'a [u8],
-    at: usize,
-    next: usize,
-    draft: &mut Draft<'a>,
-) -> Option<()>
+pub(super) fn copy_to(text: &[u8], at: usize, next: usize, draft: &mut Draft) -> Option<()>
     requires copied { draft.old.from ≤ at }
     requires order { at ≤ next }
     requires within { next ≤ length text.now }
     ensures line { OnSome result (draft.new.line
         ≡ shown draft.old.line text.now draft.old.from at) }
     ensures from { OnSome result (draft.new.from ≡ next) }
-    ensures names { OnSome result (draft.new.names ≡ draft.old.names) }
+    ensures names { OnSome result (names_in text.now draft.new.names ≡ names_in text.now draft.old.names) }
 {
     let from = draft.from;
     if at - from <= SHORT {
@@ -65,14 +61,14 @@ pub(super) fn copy_to<'a>(
 
 /// The same, whatever the text's length.
 #[inline(never)]
-fn copy_long<'a>(text: &'a [u8], at: usize, next: usize, draft: &mut Draft<'a>) -> Option<()>
+fn copy_long(text: &[u8], at: usize, next: usize, draft: &mut Draft) -> Option<()>
     requires copied { draft.old.from ≤ at }
     requires order { at ≤ next }
     requires within { next ≤ length text.now }
     ensures line { OnSome result (draft.new.line
         ≡ shown draft.old.line text.now draft.old.from at) }
     ensures from { OnSome result (draft.new.from ≡ next) }
-    ensures names { OnSome result (draft.new.names ≡ draft.old.names) }
+    ensures names { OnSome result (names_in text.now draft.new.names ≡ names_in text.now draft.old.names) }
 {
     if draft.line.append(&text[draft.from..at]).is_err() {
         return None;
@@ -102,7 +98,7 @@ fn append_short(text: &[u8], from: usize, at: usize, line: &mut Line) -> Option<
 
 /// The place of the next byte that is no white space; the end of the text: undecided.
 #[inline(always)]
-pub(super) fn skip<'a>(text: &'a [u8], at: usize, draft: &mut Draft<'a>) -> usize
+pub(super) fn skip(text: &[u8], at: usize, draft: &mut Draft) -> usize
     requires copied { draft.old.from ≤ at }
     requires within { at ≤ length text.now }
     ensures within { result ≤ length text.now }
@@ -113,7 +109,7 @@ pub(super) fn skip<'a>(text: &'a [u8], at: usize, draft: &mut Draft<'a>) -> usiz
     ensures is_shown { result < length text.now
         → shown draft.new.line text.now draft.new.from result
         ≡ shown draft.old.line text.now draft.old.from at }
-    ensures names { result < length text.now → draft.new.names ≡ draft.old.names }
+    ensures names { result < length text.now → names_in text.now draft.new.names ≡ names_in text.now draft.old.names }
 {
     if at < text.len() && text[at] > b' ' {
         return at;
@@ -126,7 +122,7 @@ pub(super) fn skip<'a>(text: &'a [u8], at: usize, draft: &mut Draft<'a>) -> usiz
 
 /// The same, where one blank stands at the place and no white space after it.
 #[inline(never)]
-fn skip_blank<'a>(text: &'a [u8], at: usize, draft: &mut Draft<'a>) -> usize
+fn skip_blank(text: &[u8], at: usize, draft: &mut Draft) -> usize
     requires copied { draft.old.from ≤ at }
     requires within { at + 1 < length text.now }
     requires blank { slice_index text.now at ≡ 32 }
@@ -139,7 +135,7 @@ fn skip_blank<'a>(text: &'a [u8], at: usize, draft: &mut Draft<'a>) -> usize
     ensures is_shown { result < length text.now
         → shown draft.new.line text.now draft.new.from result
         ≡ shown draft.old.line text.now draft.old.from at }
-    ensures names { result < length text.now → draft.new.names ≡ draft.old.names }
+    ensures names { result < length text.now → names_in text.now draft.new.names ≡ names_in text.now draft.old.names }
 {
     match copy_to(text, at, at + 1, draft) {
         Some(()) => at + 1,
@@ -149,7 +145,7 @@ fn skip_blank<'a>(text: &'a [u8], at: usize, draft: &mut Draft<'a>) -> usize
 
 /// The same, where there may be white space.
 #[inline(never)]
-fn skip_or_end<'a>(text: &'a [u8], at: usize, draft: &mut Draft<'a>) -> usize
+fn skip_or_end(text: &[u8], at: usize, draft: &mut Draft) -> usize
     requires copied { draft.old.from ≤ at }
     requires within { at ≤ length text.now }
     ensures within { result ≤ length text.now }
@@ -160,7 +156,7 @@ fn skip_or_end<'a>(text: &'a [u8], at: usize, draft: &mut Draft<'a>) -> usize
     ensures is_shown { result < length text.now
         → shown draft.new.line text.now draft.new.from result
         ≡ shown draft.old.line text.now draft.old.from at }
-    ensures names { result < length text.now → draft.new.names ≡ draft.old.names }
+    ensures names { result < length text.now → names_in text.now draft.new.names ≡ names_in text.now draft.old.names }
 {
     match skip_white(text, at, draft) {
         Some(end) => end,
@@ -170,7 +166,7 @@ fn skip_or_end<'a>(text: &'a [u8], at: usize, draft: &mut Draft<'a>) -> usize
 
 /// Leaves out the white space from `at` on: where it ends.
 #[inline(always)]
-pub(super) fn skip_white<'a>(text: &'a [u8], at: usize, draft: &mut Draft<'a>) -> Option<usize>
+pub(super) fn skip_white(text: &[u8], at: usize, draft: &mut Draft) -> Option<usize>
     requires copied { draft.old.from ≤ at }
     requires within { at ≤ length text.now }
     ensures onward { IfSome result (λ end. at ≤ end) }
@@ -179,7 +175,7 @@ pub(super) fn skip_white<'a>(text: &'a [u8], at: usize, draft: &mut Draft<'a>) -
     ensures skipped { IfSome result (λ end. drop end text.now ≡ after_white (drop at text.now)) }
     ensures is_shown { IfSome result (λ end. shown draft.new.line text.now draft.new.from end
         ≡ shown draft.old.line text.now draft.old.from at) }
-    ensures names { OnSome result (draft.new.names ≡ draft.old.names) }
+    ensures names { OnSome result (names_in text.now draft.new.names ≡ names_in text.now draft.old.names) }
 {
     let end = white_end(text, at);
     if end == at {
@@ -206,7 +202,7 @@ pub(super) fn white_end(text: &[u8], at: usize) -> usize
 
 /// How long what is written is, where the text up to `at` is taken.
 #[inline(always)]
-pub(super) fn written_len(text: &[u8], at: usize, draft: &Draft<'_>) -> Option<usize>
+pub(super) fn written_len(text: &[u8], at: usize, draft: &Draft) -> Option<usize>
     requires copied { draft.now.from ≤ at }
     requires within { at ≤ length text.now }
     ensures { IfSome result (λ n. n ≡ length (shown draft.now.line text.now draft.now.from at)) }

@@ -3,6 +3,7 @@ ghost use Rattle.std.specs.Prelude.{◌≡◌, ◌<◌, ◌≤◌, ◌+◌, ℕ,
 ghost use Rattle.city_json.specs.Bytes.{open_bracket};
 ghost use Rattle.city_json.specs.Compacting.{shown, ItemsFrom};
 ghost use Rattle.city_json.specs.Flat.{ItemIsNext, ItemWasTaken};
+ghost use Rattle.city_json.specs.ListedNames.{names_in};
 ghost use Rattle.city_json.specs.Reading.{after_white};
 
 use super::draft::{Draft, copy_to, skip};
@@ -24,14 +25,14 @@ pub(super) struct Place {
 
 /// Goes over whole numbers from `at` on, where an item is next. One blank may stand before each but the first.
 #[inline(always)]
-pub(super) fn numbers<'a>(text: &'a [u8], at: usize, draft: &mut Draft<'a>) -> Option<Run>
+pub(super) fn numbers(text: &[u8], at: usize, draft: &mut Draft) -> Option<Run>
     requires copied { draft.old.from ≤ at }
     requires within { at ≤ length text.now }
     ensures onward { IfSome result (λ run. at ≤ run.at) }
     ensures within { IfSome result (λ run. run.at ≤ length text.now) }
     ensures further { IfSome result (λ run. run.closed ≡ true → at < run.at) }
     ensures copied { IfSome result (λ run. draft.new.from ≤ run.at) }
-    ensures names { OnSome result (draft.new.names ≡ draft.old.names) }
+    ensures names { OnSome result (names_in text.now draft.new.names ≡ names_in text.now draft.old.names) }
     ensures goes_on { IfSome result (λ run. run.closed ≡ false → (levels : ℕ) (rest after : List ℕ)
         → ItemsFrom levels (after_white (drop run.at text.now)) rest
         (shown draft.new.line text.now draft.new.from run.at) after
@@ -69,13 +70,13 @@ pub(super) fn numbers<'a>(text: &'a [u8], at: usize, draft: &mut Draft<'a>) -> O
 
 /// Leaves out a blank that stands before an item: where to go on.
 #[inline(always)]
-fn past_blank<'a>(text: &'a [u8], at: usize, draft: &mut Draft<'a>) -> Option<usize>
+fn past_blank(text: &[u8], at: usize, draft: &mut Draft) -> Option<usize>
     requires copied { draft.old.from ≤ at }
     requires within { at ≤ length text.now }
     ensures onward { IfSome result (λ next. at ≤ next) }
     ensures within { IfSome result (λ next. next ≤ length text.now) }
     ensures copied { IfSome result (λ next. draft.new.from ≤ next) }
-    ensures names { OnSome result (draft.new.names ≡ draft.old.names) }
+    ensures names { OnSome result (names_in text.now draft.new.names ≡ names_in text.now draft.old.names) }
     ensures goes_on { IfSome result (λ next. (levels : ℕ) (rest after : List ℕ)
         → ItemsFrom levels (after_white (drop next text.now)) rest
         (shown draft.new.line text.now draft.new.from next) after
@@ -91,19 +92,14 @@ fn past_blank<'a>(text: &'a [u8], at: usize, draft: &mut Draft<'a>) -> Option<us
 
 /// Goes on after an item that ends at `at`, with so many arrays open: over brackets that close them, and a comma.
 #[inline(always)]
-pub(super) fn after_item<'a>(
-    text: &'a [u8],
-    at: usize,
-    depth: usize,
-    draft: &mut Draft<'a>,
-) -> Option<Place>
+pub(super) fn after_item(text: &[u8], at: usize, depth: usize, draft: &mut Draft) -> Option<Place>
     requires copied { draft.old.from ≤ at }
     requires within { at ≤ length text.now }
     ensures onward { IfSome result (λ next. at ≤ next.at) }
     ensures within { IfSome result (λ next. next.at ≤ length text.now) }
     ensures copied { IfSome result (λ next. draft.new.from ≤ next.at) }
     ensures fewer { IfSome result (λ next. next.depth ≤ depth) }
-    ensures names { OnSome result (draft.new.names ≡ draft.old.names) }
+    ensures names { OnSome result (names_in text.now draft.new.names ≡ names_in text.now draft.old.names) }
     ensures goes_on { IfSome result (λ next. (total : ℕ) (rest after : List ℕ)
         → ItemIsNext next.depth total (drop next.at text.now) rest
         (shown draft.new.line text.now draft.new.from next.at) after

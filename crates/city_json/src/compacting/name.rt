@@ -1,29 +1,39 @@
-//! The name of a member.
-ghost use Rattle.std.specs.Prelude.{◌≡◌};
+//! Where the name of a member lies.
+ghost use Rattle.std.specs.Prelude.{◌≡◌, ◌≢◌, ◌-◌, ◌≤◌, false, length};
+ghost use Rattle.city_json.specs.MemberName.{name_bytes, IsWithin};
 
-/// A name as it stands in the text, or where it is held where an escape stands in it.
+/// The place of a name, in bytes: in the text, where it ends before the text does; else among the names that are held,
+/// whose places go on from the text's end.
 #[derive(Clone, Copy)]
-pub(super) enum Name<'a> {
-    /// The name itself: no escape is in it.
-    AsWritten(&'a [u8]),
-    /// The place of the decoded name among those that are held.
-    Held(usize),
+pub(super) struct Name {
+    pub(super) from: u32,
+    pub(super) end: u32,
 }
 
-impl<'a> Name<'a> {
-    ghost use Rattle.city_json.specs.MemberName.{name_bytes};
-
+impl Name {
     /// The bytes of the decoded name.
     #[inline(always)]
-    pub(super) fn bytes<'b>(&'b self, held: &'b [Vec<u8>]) -> &'b [u8]
-        ensures { result.now ≡ name_bytes held.now self.now }
+    pub(super) fn bytes<'b>(&self, text: &'b [u8], held: &'b [u8]) -> &'b [u8]
+        requires { IsWithin (length text.now) (length held.now) self.now }
+        ensures { result.now ≡ name_bytes text.now held.now self.now }
     {
-        match self {
-            Name::AsWritten(name) => name,
-            Name::Held(place) => match held.get(*place) {
-                Some(name) => name.as_slice(),
-                None => &[],
-            },
+        let (from, end) = (self.from as usize, self.end as usize);
+        if end < text.len() {
+            &text[from..end]
+        } else {
+            &held[from - text.len()..end - text.len()]
         }
+    }
+
+    /// Whether the decoded name has these bytes. Most names that differ have different lengths.
+    #[inline(always)]
+    pub(super) fn has_bytes(&self, bytes: &[u8], text: &[u8], held: &[u8]) -> bool
+        requires { IsWithin (length text.now) (length held.now) self.now }
+        ensures { result ≡ false → name_bytes text.now held.now self.now ≢ bytes.now }
+    {
+        if (self.end - self.from) as usize != bytes.len() {
+            return false;
+        }
+        self.bytes(text, held) == bytes
     }
 }

@@ -1,7 +1,9 @@
 //! The names of the members of the open objects, and whether those of one object differ (RFC 8259, section 4).
 ghost use Rattle.std.specs.Prelude.{◌≡◌, ◌++◌, ◌∷◌, ◌<◌, ◌≤◌, [], take, drop, length, map, IfSome, OnSome, IsTrue};
+ghost use Rattle.std.specs.List.{All};
 ghost use Rattle.city_json.specs.Fits.{IsNewName, HasDistinctNames};
-ghost use Rattle.city_json.specs.MemberName.{held_before, name_bytes};
+ghost use Rattle.city_json.specs.ListedNames.{as_written, as_decoded, names_in};
+ghost use Rattle.city_json.specs.MemberName.{IsWithin, first_held, name_bytes};
 ghost use Rattle.city_json.specs.Members.{names};
 ghost use Rattle.city_json.specs.NamePrint.{print_of, short_print_of};
 ghost use Rattle.city_json.specs.Tree.{MemberTrees};
@@ -32,32 +34,44 @@ const FEW_SIEVED: usize = 64;
 /// Of more it is likelier that the prints have to be sorted, whatever the sieve did.
 const MAX_SIEVED: usize = 512;
 
-/// The names of the members of the open objects, in their order. Those with escapes are held decoded, in their order, too.
+/// The names of the members of the open objects of a text, in their order. Each is listed by its place in the text; those
+/// with escapes are held decoded, one after another, and their places go on from the text's end.
 #[derive(Drop)]
-pub(super) struct Names<'a> {
-    listed: Vec<Name<'a>>,
-    held: Vec<Vec<u8>>,
+pub(super) struct Names {
+    /// The text's length, or [`u32::MAX`] of a longer text, no name of which is listed that ends after it.
+    text_len: usize,
+    listed: Vec<Name>,
+    held: Vec<u8>,
 }
 
-impl<'a> Model for Names<'a> {
-    ghost use Rattle.std.specs.Prelude.{List, ℕ, length, map};
-    ghost use Rattle.city_json.specs.MemberName.{name_bytes, AreHeld};
+impl Model for Names {
+    ghost use Rattle.std.specs.Prelude.{List, length, map};
+    ghost use Rattle.city_json.specs.ListedNames.{ListedName};
 
-    ghost Value = { List (List ℕ) };
+    ghost Value = { List ListedName };
 
-    ghost view = { λ names. map (name_bytes names.held.items) names.listed.items };
+    ghost use Rattle.city_json.specs.MemberName.{AreListed, listed_name};
 
-    ghost invariant = { λ names. AreHeld 0 names.listed.items (length names.held.items) };
+    ghost view = { λ names. map (listed_name names.text_len names.held.items) names.listed.items };
+
+    ghost invariant = { λ names. AreListed names.text_len names.listed.items (length names.held.items) };
 }
 
-impl<'a> Names<'a> {
-    pub(super) fn new(alloc: Global) -> Names<'a>
+impl Names {
+    /// Of a text of this length none.
+    pub(super) fn new(alloc: Global, text_len: usize) -> Names
         ensures { result ≡ [] }
     {
+        let text_len = text_len.min(u32::MAX as usize);
         let held = Vec::new(alloc);
         match Vec::with_capacity(alloc, COMMON_NAMES) {
-            Ok(listed) => Names { listed, held },
+            Ok(listed) => Names {
+                text_len,
+                listed,
+                held,
+            },
             Err(_) => Names {
+                text_len,
                 listed: Vec::new(alloc),
                 held,
             },
@@ -71,27 +85,37 @@ impl<'a> Names<'a> {
         self.listed.len()
     }
 
-    /// Puts a name without escapes after the others.
+    /// Puts a name without escapes, which is in the text from `from` on up to `end`, after the others. `None`: out of
+    /// memory, or the place is after [`u32::MAX`].
     #[inline(always)]
-    pub(super) fn push(&mut self, name: &'a [u8]) -> Option<()>
-        ensures { OnSome result (self.new ≡ self.old ++ name.now ∷ []) }
+    pub(super) fn push(&mut self, from: usize, end: usize) -> Option<()>
+        requires { from ≤ end }
+        ensures { OnSome result (self.new ≡ self.old ++ as_written from end ∷ []) }
     {
-        let Ok(()) = self.listed.push(Name::AsWritten(name)) else {
+        if end >= self.text_len {
+            return None;
+        }
+        let (from, end) = (from as u32, end as u32);
+        let Ok(()) = self.listed.push(Name { from, end }) else {
             return None;
         };
         Some(())
     }
 
-    /// Puts a name with escapes, decoded, after the others.
-    pub(super) fn push_held(&mut self, name: Vec<u8>) -> Option<()>
-        ensures { OnSome result (self.new ≡ self.old ++ name.items ∷ []) }
+    /// Puts a name with escapes, decoded, after the others. `None`: out of memory, or the place is after [`u32::MAX`].
+    pub(super) fn push_held(&mut self, name: &[u8]) -> Option<()>
+        ensures { OnSome result (self.new ≡ self.old ++ as_decoded name.now ∷ []) }
     {
-        let place = self.held.len();
-        let Ok(()) = self.held.push(name) else {
+        let from = self.text_len + self.held.len();
+        let end = from.checked_add(name.len())?;
+        if end > u32::MAX as usize {
+            return None;
+        }
+        let (from, end) = (from as u32, end as u32);
+        let Ok(_) = self.held.extend_from_slice(name) else {
             return None;
         };
-        let Ok(()) = self.listed.push(Name::Held(place)) else {
-            self.held.truncate(place);
+        let Ok(()) = self.listed.push(Name { from, end }) else {
             return None;
         };
         Some(())
@@ -116,48 +140,54 @@ impl<'a> Names<'a> {
         requires { base ≤ length self.old }
         ensures { self.new ≡ take base self.old }
     {
-        let stay = held_before(&self.listed[base..], self.held.len());
-        self.held.truncate(stay);
+        let end = self.text_len + self.held.len();
+        let stay = first_held(self.text_len, &self.listed[base..], end);
+        self.held.truncate(stay - self.text_len);
         self.listed.truncate(base);
     }
 
-    /// Whether the names from `base` on are pairwise different. `false` may also mean out of memory.
+    /// Whether the names from `base` on are pairwise different in this text. `false` may also mean out of memory, or a
+    /// text that is not as long as the one that they are listed of.
     /// The time is near linear in the names' bytes, whatever they are.
-    pub(super) fn are_apart_from(&self, alloc: Global, base: usize) -> bool
+    pub(super) fn are_apart_from(&self, alloc: Global, text: &[u8], base: usize) -> bool
         requires { base ≤ length self.now }
-        ensures { IsTrue result → (members : MemberTrees) → names members ≡ drop base self.now
+        ensures { IsTrue result → (members : MemberTrees) → names members ≡ drop base (names_in text.now self.now)
             → HasDistinctNames members }
     {
+        if text.len() != self.text_len {
+            return false;
+        }
         let listed = &self.listed[base..];
         if listed.len() <= MAX_COMPARED_AT_ONCE {
-            few_are_apart(listed, &self.held)
+            few_are_apart(listed, text, &self.held)
         } else {
-            many_are_apart(alloc, listed, &self.held)
+            many_are_apart(alloc, listed, text, &self.held)
         }
     }
 }
 
-/// How many names are held before these, of so many in all, where none is listed after these.
-fn held_before(listed: &[Name<'_>], count: usize) -> usize
-    ensures { result ≡ held_before listed.now count }
+/// Where the first of these names begins that is held, or else `end`.
+fn first_held(text_len: usize, listed: &[Name], end: usize) -> usize
+    ensures { result ≡ first_held text_len listed.now end }
 {
     for name in listed {
-        if let Name::Held(place) = name {
-            return *place;
+        if name.end as usize >= text_len {
+            return name.from as usize;
         }
     }
-    count
+    end
 }
 
 /// Whether the names are pairwise different: each is compared with each.
 #[inline(always)]
-fn few_are_apart(listed: &[Name<'_>], held: &[Vec<u8>]) -> bool
-    ensures { IsTrue result → (members : MemberTrees) → names members ≡ map (name_bytes held.now) listed.now
+fn few_are_apart(listed: &[Name], text: &[u8], held: &[u8]) -> bool
+    requires within { All (IsWithin (length text.now) (length held.now)) listed.now }
+    ensures { IsTrue result → (members : MemberTrees) → names members ≡ map (name_bytes text.now held.now) listed.now
         → HasDistinctNames members }
 {
     let mut rest = listed;
     while let [first, others @ ..] = rest {
-        if !is_new(first.bytes(held), others, held) {
+        if !is_new(first.bytes(text, held), others, text, held) {
             return false;
         }
         rest = others;
@@ -167,12 +197,13 @@ fn few_are_apart(listed: &[Name<'_>], held: &[Vec<u8>]) -> bool
 
 /// Whether the name is none of these.
 #[inline(always)]
-fn is_new(name: &[u8], listed: &[Name<'_>], held: &[Vec<u8>]) -> bool
-    ensures { IsTrue result → (members : MemberTrees) → names members ≡ map (name_bytes held.now) listed.now
+fn is_new(name: &[u8], listed: &[Name], text: &[u8], held: &[u8]) -> bool
+    requires within { All (IsWithin (length text.now) (length held.now)) listed.now }
+    ensures { IsTrue result → (members : MemberTrees) → names members ≡ map (name_bytes text.now held.now) listed.now
         → IsNewName name.now members }
 {
     for other in listed {
-        if other.bytes(held) == name {
+        if other.has_bytes(name, text, held) {
             return false;
         }
     }
@@ -181,81 +212,86 @@ fn is_new(name: &[u8], listed: &[Name<'_>], held: &[Vec<u8>]) -> bool
 
 /// Whether the names are pairwise different: by their prints, and where two of these are equal by the names themselves.
 #[inline(never)]
-fn many_are_apart(alloc: Global, listed: &[Name<'_>], held: &[Vec<u8>]) -> bool
-    ensures { IsTrue result → (members : MemberTrees) → names members ≡ map (name_bytes held.now) listed.now
+fn many_are_apart(alloc: Global, listed: &[Name], text: &[u8], held: &[u8]) -> bool
+    requires within { All (IsWithin (length text.now) (length held.now)) listed.now }
+    ensures { IsTrue result → (members : MemberTrees) → names members ≡ map (name_bytes text.now held.now) listed.now
         → HasDistinctNames members }
 {
     let are_few = listed.len() <= MAX_COMPARED;
-    if are_few && is_any_held(listed, held) {
-        return few_are_apart(listed, held);
+    if are_few && is_any_held(listed, text, held) {
+        return few_are_apart(listed, text, held);
     }
-    if are_sieved_apart(listed, held) {
+    if are_sieved_apart(listed, text, held) {
         return true;
     }
     if are_few {
-        return few_are_apart(listed, held);
+        return few_are_apart(listed, text, held);
     }
-    let Some(prints) = prints_of(alloc, listed, held) else {
+    let Some(prints) = prints_of(alloc, listed, text, held) else {
         return false;
     };
     if rise_when_sorted(prints) {
         return true;
     }
-    let Some(all) = bytes_of(alloc, listed, held) else {
+    let Some(all) = bytes_of(alloc, listed, text, held) else {
         return false;
     };
     are_apart_when_sorted(all)
 }
 
 /// Whether an escape stands in any of the names. Where no name of an open object has one, none is looked at.
-fn is_any_held(listed: &[Name<'_>], held: &[Vec<u8>]) -> bool {
-    !held.is_empty() && listed.iter().any(|name| matches!(name, Name::Held(_)))
+fn is_any_held(listed: &[Name], text: &[u8], held: &[u8]) -> bool {
+    !held.is_empty() && listed.iter().any(|name| name.end as usize >= text.len())
 }
 
 /// Whether a sieve tells each name from all before it. Where names are too many for that, none is looked at.
-fn are_sieved_apart(listed: &[Name<'_>], held: &[Vec<u8>]) -> bool
-    ensures { IsTrue result → (members : MemberTrees) → names members ≡ map (name_bytes held.now) listed.now
+fn are_sieved_apart(listed: &[Name], text: &[u8], held: &[u8]) -> bool
+    requires within { All (IsWithin (length text.now) (length held.now)) listed.now }
+    ensures { IsTrue result → (members : MemberTrees) → names members ≡ map (name_bytes text.now held.now) listed.now
         → HasDistinctNames members }
 {
     if listed.len() <= FEW_SIEVED {
-        return pass_small(listed, held);
+        return pass_small(listed, text, held);
     }
     if listed.len() <= MAX_SIEVED {
-        return pass_large(listed, held);
+        return pass_large(listed, text, held);
     }
     false
 }
 
 /// Whether each name is told from all before it by two sets of 2,048 bits.
 #[inline(never)]
-fn pass_small(listed: &[Name<'_>], held: &[Vec<u8>]) -> bool
-    ensures { IsTrue result → (members : MemberTrees) → names members ≡ map (name_bytes held.now) listed.now
+fn pass_small(listed: &[Name], text: &[u8], held: &[u8]) -> bool
+    requires within { All (IsWithin (length text.now) (length held.now)) listed.now }
+    ensures { IsTrue result → (members : MemberTrees) → names members ≡ map (name_bytes text.now held.now) listed.now
         → HasDistinctNames members }
 {
     let (mut first, mut second) = ([0; 32], [0; 32]);
-    pass(listed, held, &mut first, &mut second)
+    pass(listed, text, held, &mut first, &mut second)
 }
 
 /// The same by two sets of 16,384 bits.
 #[inline(never)]
-fn pass_large(listed: &[Name<'_>], held: &[Vec<u8>]) -> bool
-    ensures { IsTrue result → (members : MemberTrees) → names members ≡ map (name_bytes held.now) listed.now
+fn pass_large(listed: &[Name], text: &[u8], held: &[u8]) -> bool
+    requires within { All (IsWithin (length text.now) (length held.now)) listed.now }
+    ensures { IsTrue result → (members : MemberTrees) → names members ≡ map (name_bytes text.now held.now) listed.now
         → HasDistinctNames members }
 {
     let (mut first, mut second) = ([0; 256], [0; 256]);
-    pass(listed, held, &mut first, &mut second)
+    pass(listed, text, held, &mut first, &mut second)
 }
 
 /// Whether each name is told from all before it by these two sets.
 #[inline(always)]
-fn pass(listed: &[Name<'_>], held: &[Vec<u8>], first: &mut [u64], second: &mut [u64]) -> bool
+fn pass(listed: &[Name], text: &[u8], held: &[u8], first: &mut [u64], second: &mut [u64]) -> bool
+    requires within { All (IsWithin (length text.now) (length held.now)) listed.now }
     requires first { 0 < length first.old }
     requires second { 0 < length second.old }
-    ensures { IsTrue result → (members : MemberTrees) → names members ≡ map (name_bytes held.now) listed.now
+    ensures { IsTrue result → (members : MemberTrees) → names members ≡ map (name_bytes text.now held.now) listed.now
         → HasDistinctNames members }
 {
     for name in listed {
-        let print = print_of(name.bytes(held));
+        let print = print_of(name.bytes(text, held));
         if !mark(first, second, print) {
             return false;
         }
@@ -263,28 +299,35 @@ fn pass(listed: &[Name<'_>], held: &[Vec<u8>], first: &mut [u64], second: &mut [
     true
 }
 
-fn prints_of(alloc: Global, listed: &[Name<'_>], held: &[Vec<u8>]) -> Option<Vec<u64>>
+fn prints_of(alloc: Global, listed: &[Name], text: &[u8], held: &[u8]) -> Option<Vec<u64>>
+    requires within { All (IsWithin (length text.now) (length held.now)) listed.now }
     ensures { IfSome result (λ prints. prints.items ≡ map
-        (λ name. print_of (name_bytes held.now name)) listed.now) }
+        (λ name. print_of (name_bytes text.now held.now name)) listed.now) }
 {
     let Ok(mut prints) = Vec::with_capacity(alloc, listed.len()) else {
         return None;
     };
     for name in listed {
-        prints.push_reserved(print_of(name.bytes(held)));
+        prints.push_reserved(print_of(name.bytes(text, held)));
     }
     Some(prints)
 }
 
-fn bytes_of<'b>(alloc: Global, listed: &'b [Name<'_>], held: &'b [Vec<u8>]) -> Option<Vec<&'b [u8]>>
+fn bytes_of<'b>(
+    alloc: Global,
+    listed: &[Name],
+    text: &'b [u8],
+    held: &'b [u8],
+) -> Option<Vec<&'b [u8]>>
+    requires within { All (IsWithin (length text.now) (length held.now)) listed.now }
     ensures { IfSome result (λ all. map (λ name. name.now) all.items
-        ≡ map (name_bytes held.now) listed.now) }
+        ≡ map (name_bytes text.now held.now) listed.now) }
 {
     let Ok(mut all) = Vec::with_capacity(alloc, listed.len()) else {
         return None;
     };
     for name in listed {
-        all.push_reserved(name.bytes(held));
+        all.push_reserved(name.bytes(text, held));
     }
     Some(all)
 }

@@ -5,6 +5,7 @@ ghost use Rattle.city_json.specs.Compacting.{shown, Taken, TakenPart, TakenParts
 ghost use Rattle.city_json.specs.Depth.{IsDeep};
 ghost use Rattle.city_json.specs.Fits.{Fits};
 ghost use Rattle.city_json.specs.Grammar.{Spells};
+ghost use Rattle.city_json.specs.ListedNames.{names_in};
 ghost use Rattle.city_json.specs.Parts.{AreParts};
 ghost use Rattle.city_json.specs.Triples.{HasTriples, IsTriplesText};
 ghost use Rattle.city_json.specs.Tree.{MemberTrees, object};
@@ -152,7 +153,7 @@ pub(super) fn pass(alloc: Global, text: &[u8], line: Line) -> Option<Passed>
     if !simdutf8::is_utf8(text) {
         return None;
     }
-    let mut draft = begun(alloc, line);
+    let mut draft = begun(alloc, text.len(), line);
     let mut parts = Vec::with_capacity(alloc, COMMON_PARTS).ok()?;
     let mut triples = NO_TRIPLES;
     let at = skip_white(text, 0, &mut draft)?;
@@ -180,18 +181,18 @@ pub(super) fn pass(alloc: Global, text: &[u8], line: Line) -> Option<Passed>
 }
 
 /// The members after the first brace, and the closing one: where it ends.
-fn members<'a>(
-    text: &'a [u8],
+fn members(
+    text: &[u8],
     at: usize,
     levels: usize,
-    draft: &mut Draft<'a>,
+    draft: &mut Draft,
     parts: &mut Vec<Part>,
     triples: &mut Span,
 ) -> Option<usize>
     requires utf8 { IsUtf8 text.now }
     requires copied { draft.old.from ≤ at }
     requires within { at ≤ length text.now }
-    requires none { draft.old.names ≡ [] }
+    requires none { names_in text.now draft.old.names ≡ [] }
     requires no_parts { parts.old.items ≡ [] }
     requires triples { HasTriples (shown draft.old.line text.now draft.old.from at) triples.old }
     ensures onward { IfSome result (λ end. at < end) }
@@ -218,7 +219,7 @@ fn members<'a>(
             return None;
         }
         if text[place] == b'}' {
-            if !draft.names.are_apart_from(draft.alloc, 0) {
+            if !draft.names.are_apart_from(draft.alloc, text, 0) {
                 return None;
             }
             return Some(place + 1);
@@ -235,11 +236,11 @@ fn members<'a>(
 
 /// A member that begins at `at`: where it ends. Its name stands last among the names, its place last among the parts.
 /// Where its value is triples, that is noted.
-fn member<'a>(
-    text: &'a [u8],
+fn member(
+    text: &[u8],
     at: usize,
     levels: usize,
-    draft: &mut Draft<'a>,
+    draft: &mut Draft,
     parts: &mut Vec<Part>,
     triples: &mut Span,
 ) -> Option<usize>
@@ -253,7 +254,7 @@ fn member<'a>(
     ensures taken { IfSome result (λ end. TakenPart levels (drop at text.now) (drop end text.now)
         (shown draft.old.line text.now draft.old.from at)
         (shown draft.new.line text.now draft.new.from end)
-        draft.old.names draft.new.names parts.old.items parts.new.items) }
+        (names_in text.now draft.old.names) (names_in text.now draft.new.names) parts.old.items parts.new.items) }
     ensures triples { IfSome result (λ end.
         HasTriples (shown draft.new.line text.now draft.new.from end) triples.new) }
 {
@@ -289,19 +290,14 @@ fn noted(before: Span, are_triples: bool, from: usize, end: usize) -> Span
 
 /// The value of a member of the whole object that begins at `at`.
 #[inline(always)]
-fn top_value<'a>(
-    text: &'a [u8],
-    at: usize,
-    levels: usize,
-    draft: &mut Draft<'a>,
-) -> Option<TopValue>
+fn top_value(text: &[u8], at: usize, levels: usize, draft: &mut Draft) -> Option<TopValue>
     requires utf8 { IsUtf8 text.now }
     requires copied { draft.old.from ≤ at }
     requires within { at ≤ length text.now }
     ensures onward { IfSome result (λ value. at < value.end) }
     ensures within { IfSome result (λ value. value.end ≤ length text.now) }
     ensures copied { IfSome result (λ value. draft.new.from ≤ value.end) }
-    ensures names { OnSome result (draft.new.names ≡ draft.old.names) }
+    ensures names { OnSome result (names_in text.now draft.new.names ≡ names_in text.now draft.old.names) }
     ensures taken { IfSome result (λ value. Taken levels (drop at text.now) (drop value.end text.now)
         (shown draft.old.line text.now draft.old.from at)
         (shown draft.new.line text.now draft.new.from value.end)) }

@@ -1,12 +1,14 @@
 //! Strings and names: as they stand where no escape is in them, else written anew.
-ghost use Rattle.std.specs.Prelude.{◌≡◌, ◌+◌, ◌<◌, ◌≤◌, Some, List, ℕ, length, drop, slice_index, IfSome, OnSome, IsUtf8};
+ghost use Rattle.std.specs.Prelude.{◌≡◌, ◌+◌, ◌++◌, ◌∷◌, ◌<◌, ◌≤◌, [], Some, List, ℕ, length, drop, slice_index, IfSome, OnSome, IsUtf8};
 ghost use Rattle.std.specs.List.{flat_map};
 ghost use Rattle.city_json.specs.Bytes.{quotation_mark};
 ghost use Rattle.city_json.specs.Compact.{written};
 ghost use Rattle.city_json.specs.Compacting.{shown, Taken, TakenAnew, TakenEscape, TakenName, TakenStart};
+ghost use Rattle.city_json.specs.ListedNames.{as_decoded, names_in};
 ghost use Rattle.city_json.specs.ReadString.{decoded};
 
 use super::draft::{Draft, copy_to, skip};
+use super::names::Names;
 use super::scalars::plain_string;
 use crate::printing::put_character;
 use crate::reading::plain::plain_len;
@@ -15,12 +17,7 @@ use std::alloc::Global;
 
 /// A string whose opening mark is at `at`: where it ends.
 #[inline(always)]
-pub(super) fn text_value<'a>(
-    text: &'a [u8],
-    at: usize,
-    levels: usize,
-    draft: &mut Draft<'a>,
-) -> Option<usize>
+pub(super) fn text_value(text: &[u8], at: usize, levels: usize, draft: &mut Draft) -> Option<usize>
     requires utf8 { IsUtf8 text.now }
     requires copied { draft.old.from ≤ at }
     requires within { at < length text.now }
@@ -28,7 +25,7 @@ pub(super) fn text_value<'a>(
     ensures onward { IfSome result (λ end. at < end) }
     ensures within { IfSome result (λ end. end ≤ length text.now) }
     ensures copied { IfSome result (λ end. draft.new.from ≤ end) }
-    ensures names { OnSome result (draft.new.names ≡ draft.old.names) }
+    ensures names { OnSome result (names_in text.now draft.new.names ≡ names_in text.now draft.old.names) }
     ensures taken { IfSome result (λ end. Taken levels (drop at text.now) (drop end text.now)
         (shown draft.old.line text.now draft.old.from at)
         (shown draft.new.line text.now draft.new.from end)) }
@@ -41,7 +38,7 @@ pub(super) fn text_value<'a>(
 
 /// A string whose opening mark is at `at`, written in its one spelling piece by piece: where it ends.
 #[inline(never)]
-fn respelled<'a>(text: &'a [u8], at: usize, draft: &mut Draft<'a>) -> Option<usize>
+fn respelled(text: &[u8], at: usize, draft: &mut Draft) -> Option<usize>
     requires utf8 { IsUtf8 text.now }
     requires copied { draft.old.from ≤ at }
     requires within { at < length text.now }
@@ -49,7 +46,7 @@ fn respelled<'a>(text: &'a [u8], at: usize, draft: &mut Draft<'a>) -> Option<usi
     ensures onward { IfSome result (λ end. at < end) }
     ensures within { IfSome result (λ end. end ≤ length text.now) }
     ensures copied { IfSome result (λ end. draft.new.from < end) }
-    ensures names { OnSome result (draft.new.names ≡ draft.old.names) }
+    ensures names { OnSome result (names_in text.now draft.new.names ≡ names_in text.now draft.old.names) }
     ensures taken { IfSome result (λ end. TakenAnew text.now at end
         (shown draft.old.line text.now draft.old.from at)
         (shown draft.new.line text.now draft.new.from end)) }
@@ -72,13 +69,13 @@ fn respelled<'a>(text: &'a [u8], at: usize, draft: &mut Draft<'a>) -> Option<usi
 
 /// An escape whose backslash is at `at`, as its character is written: where it ends.
 #[inline(always)]
-fn respelled_escape<'a>(text: &'a [u8], at: usize, draft: &mut Draft<'a>) -> Option<usize>
+fn respelled_escape(text: &[u8], at: usize, draft: &mut Draft) -> Option<usize>
     requires copied { draft.old.from ≤ at }
     requires within { at < length text.now }
     ensures onward { IfSome result (λ end. at < end) }
     ensures within { IfSome result (λ end. end ≤ length text.now) }
     ensures copied { IfSome result (λ end. draft.new.from ≤ end) }
-    ensures names { OnSome result (draft.new.names ≡ draft.old.names) }
+    ensures names { OnSome result (names_in text.now draft.new.names ≡ names_in text.now draft.old.names) }
     ensures taken { IfSome result (λ end. TakenEscape (drop (at + 1) text.now) (drop end text.now)
         (shown draft.old.line text.now draft.old.from at)
         (shown draft.new.line text.now draft.new.from end)) }
@@ -94,7 +91,7 @@ fn respelled_escape<'a>(text: &'a [u8], at: usize, draft: &mut Draft<'a>) -> Opt
 
 /// A name with escapes whose opening mark is at `at`: where it ends. It stands last among the names.
 #[inline(never)]
-fn respelled_name<'a>(text: &'a [u8], at: usize, draft: &mut Draft<'a>) -> Option<usize>
+fn respelled_name(text: &[u8], at: usize, draft: &mut Draft) -> Option<usize>
     requires utf8 { IsUtf8 text.now }
     requires copied { draft.old.from ≤ at }
     requires within { at < length text.now }
@@ -105,40 +102,38 @@ fn respelled_name<'a>(text: &'a [u8], at: usize, draft: &mut Draft<'a>) -> Optio
     ensures taken { IfSome result (λ end. TakenName (drop at text.now) (drop end text.now)
         (shown draft.old.line text.now draft.old.from at)
         (shown draft.new.line text.now draft.new.from end)
-        draft.old.names draft.new.names) }
+        (names_in text.now draft.old.names) (names_in text.now draft.new.names)) }
 {
     copy_to(text, at, at, draft)?;
     let mark = draft.line.items().len();
     let end = respelled(text, at, draft)?;
     copy_to(text, end - 1, end - 1, draft)?;
-    let content = content_of(
+    push_content(
         draft.alloc,
         &text[at + 1..],
         &draft.line.items()[mark + 1..],
+        &mut draft.names,
     )?;
-    draft.names.push_held(content)?;
     Some(end)
 }
 
-/// The content of the string whose opening mark stands before `bytes`, and whose characters are written as in `line`.
-fn content_of(alloc: Global, bytes: &[u8], line: &[u8]) -> Option<Vec<u8>>
-    ensures { IfSome result (λ name. (content rest : List ℕ) → decoded bytes.now ≡ Some (content, rest)
-        → flat_map written content ≡ line.now → content ≡ name.items) }
+/// Puts the content of the string whose opening mark stands before `bytes`, and whose characters are written as in
+/// `line`, after the names.
+fn push_content(alloc: Global, bytes: &[u8], line: &[u8], names: &mut Names) -> Option<()>
+    ensures { OnSome result ((content rest : List ℕ) → decoded bytes.now ≡ Some (content, rest)
+        → flat_map written content ≡ line.now → names.new ≡ names.old ++ as_decoded content ∷ []) }
 {
     if plain_len(line) == line.len() {
-        let Ok(name) = line.to_vec(alloc) else {
-            return None;
-        };
-        return Some(name);
+        return names.push_held(line);
     }
-    let mut name = Vec::new(alloc);
-    decode_into(bytes, &mut name)?;
-    Some(name)
+    let mut content = Vec::new(alloc);
+    decode_into(bytes, &mut content)?;
+    names.push_held(&content)
 }
 
 /// A member's name whose opening mark is at `at`: where it ends. It stands last among the names.
 #[inline(always)]
-fn name<'a>(text: &'a [u8], at: usize, draft: &mut Draft<'a>) -> Option<usize>
+fn name(text: &[u8], at: usize, draft: &mut Draft) -> Option<usize>
     requires utf8 { IsUtf8 text.now }
     requires copied { draft.old.from ≤ at }
     requires within { at < length text.now }
@@ -149,11 +144,11 @@ fn name<'a>(text: &'a [u8], at: usize, draft: &mut Draft<'a>) -> Option<usize>
     ensures taken { IfSome result (λ end. TakenName (drop at text.now) (drop end text.now)
         (shown draft.old.line text.now draft.old.from at)
         (shown draft.new.line text.now draft.new.from end)
-        draft.old.names draft.new.names) }
+        (names_in text.now draft.old.names) (names_in text.now draft.new.names)) }
 {
     match plain_string(text, at + 1) {
         Some(close) => {
-            draft.names.push(&text[at + 1..close])?;
+            draft.names.push(at + 1, close)?;
             Some(close + 1)
         }
         None => respelled_name(text, at, draft),
@@ -162,7 +157,7 @@ fn name<'a>(text: &'a [u8], at: usize, draft: &mut Draft<'a>) -> Option<usize>
 
 /// A member's name that begins at `at`, and the colon: where the member's value begins.
 #[inline(always)]
-pub(super) fn name_and_colon<'a>(text: &'a [u8], at: usize, draft: &mut Draft<'a>) -> Option<usize>
+pub(super) fn name_and_colon(text: &[u8], at: usize, draft: &mut Draft) -> Option<usize>
     requires utf8 { IsUtf8 text.now }
     requires copied { draft.old.from ≤ at }
     requires within { at ≤ length text.now }
@@ -172,7 +167,7 @@ pub(super) fn name_and_colon<'a>(text: &'a [u8], at: usize, draft: &mut Draft<'a
     ensures taken { IfSome result (λ start. TakenStart (drop at text.now) (drop start text.now)
         (shown draft.old.line text.now draft.old.from at)
         (shown draft.new.line text.now draft.new.from start)
-        draft.old.names draft.new.names) }
+        (names_in text.now draft.old.names) (names_in text.now draft.new.names)) }
 {
     if at == text.len() || text[at] != b'"' {
         return None;

@@ -2,6 +2,7 @@
 ghost use Rattle.std.specs.Prelude.{◌≡◌, ◌+◌, ◌<◌, ◌≤◌, ℕ, List, length, drop, IfSome, OnSome, IsUtf8};
 ghost use Rattle.city_json.specs.Compacting.{shown, Taken, TakenItems, ItemsFrom, TakenMembers, TakenMember};
 ghost use Rattle.city_json.specs.Flat.{ItemIsNext};
+ghost use Rattle.city_json.specs.ListedNames.{names_in};
 ghost use Rattle.city_json.specs.Reading.{after_white};
 
 use super::draft::{Draft, skip};
@@ -19,11 +20,11 @@ fn may_end(text: &[u8], at: usize) -> bool {
 /// A member's value that begins at `at`, most often a string or a whole number: where it ends.
 #[cycle(value)]
 #[inline(always)]
-pub(super) fn member_value<'a>(
-    text: &'a [u8],
+pub(super) fn member_value(
+    text: &[u8],
     at: usize,
     levels: usize,
-    draft: &mut Draft<'a>,
+    draft: &mut Draft,
 ) -> Option<usize>
     requires utf8 { IsUtf8 text.now }
     requires copied { draft.old.from ≤ at }
@@ -31,7 +32,7 @@ pub(super) fn member_value<'a>(
     ensures onward { IfSome result (λ end. at < end) }
     ensures within { IfSome result (λ end. end ≤ length text.now) }
     ensures copied { IfSome result (λ end. draft.new.from ≤ end) }
-    ensures names { OnSome result (draft.new.names ≡ draft.old.names) }
+    ensures names { OnSome result (names_in text.now draft.new.names ≡ names_in text.now draft.old.names) }
     ensures taken { IfSome result (λ end. Taken levels (drop at text.now) (drop end text.now)
         (shown draft.old.line text.now draft.old.from at)
         (shown draft.new.line text.now draft.new.from end)) }
@@ -48,19 +49,14 @@ pub(super) fn member_value<'a>(
 
 /// A value that begins at `at` and nests at most `levels` deep: where it ends.
 #[cycle(value)]
-pub(super) fn value<'a>(
-    text: &'a [u8],
-    at: usize,
-    levels: usize,
-    draft: &mut Draft<'a>,
-) -> Option<usize>
+pub(super) fn value(text: &[u8], at: usize, levels: usize, draft: &mut Draft) -> Option<usize>
     requires utf8 { IsUtf8 text.now }
     requires copied { draft.old.from ≤ at }
     requires within { at ≤ length text.now }
     ensures onward { IfSome result (λ end. at < end) }
     ensures within { IfSome result (λ end. end ≤ length text.now) }
     ensures copied { IfSome result (λ end. draft.new.from ≤ end) }
-    ensures names { OnSome result (draft.new.names ≡ draft.old.names) }
+    ensures names { OnSome result (names_in text.now draft.new.names ≡ names_in text.now draft.old.names) }
     ensures taken { IfSome result (λ end. Taken levels (drop at text.now) (drop end text.now)
         (shown draft.old.line text.now draft.old.from at)
         (shown draft.new.line text.now draft.new.from end)) }
@@ -88,14 +84,14 @@ pub(super) fn value<'a>(
 
 /// The items after an opening bracket, and the closing one: where it ends.
 #[cycle(value)]
-fn array<'a>(text: &'a [u8], at: usize, levels: usize, draft: &mut Draft<'a>) -> Option<usize>
+fn array(text: &[u8], at: usize, levels: usize, draft: &mut Draft) -> Option<usize>
     requires utf8 { IsUtf8 text.now }
     requires copied { draft.old.from ≤ at }
     requires within { at ≤ length text.now }
     ensures onward { IfSome result (λ end. at < end) }
     ensures within { IfSome result (λ end. end ≤ length text.now) }
     ensures copied { IfSome result (λ end. draft.new.from ≤ end) }
-    ensures names { OnSome result (draft.new.names ≡ draft.old.names) }
+    ensures names { OnSome result (names_in text.now draft.new.names ≡ names_in text.now draft.old.names) }
     ensures taken { IfSome result (λ end. TakenItems levels (drop at text.now) (drop end text.now)
         (shown draft.old.line text.now draft.old.from at)
         (shown draft.new.line text.now draft.new.from end)) }
@@ -116,14 +112,14 @@ fn array<'a>(text: &'a [u8], at: usize, levels: usize, draft: &mut Draft<'a>) ->
 
 /// One or more items from `at` on, and the closing bracket: where it ends.
 #[cycle(value)]
-fn items<'a>(text: &'a [u8], at: usize, levels: usize, draft: &mut Draft<'a>) -> Option<usize>
+fn items(text: &[u8], at: usize, levels: usize, draft: &mut Draft) -> Option<usize>
     requires utf8 { IsUtf8 text.now }
     requires copied { draft.old.from ≤ at }
     requires within { at ≤ length text.now }
     ensures onward { IfSome result (λ end. at < end) }
     ensures within { IfSome result (λ end. end ≤ length text.now) }
     ensures copied { IfSome result (λ end. draft.new.from ≤ end) }
-    ensures names { OnSome result (draft.new.names ≡ draft.old.names) }
+    ensures names { OnSome result (names_in text.now draft.new.names ≡ names_in text.now draft.old.names) }
     ensures taken { IfSome result (λ end. ItemsFrom levels (after_white (drop at text.now))
         (drop end text.now)
         (shown draft.old.line text.now draft.old.from at)
@@ -142,19 +138,14 @@ fn items<'a>(text: &'a [u8], at: usize, levels: usize, draft: &mut Draft<'a>) ->
 }
 
 /// The same of the items after others. Most often they are whole numbers, or arrays of them.
-pub(super) fn more_items<'a>(
-    text: &'a [u8],
-    at: usize,
-    levels: usize,
-    draft: &mut Draft<'a>,
-) -> Option<usize>
+pub(super) fn more_items(text: &[u8], at: usize, levels: usize, draft: &mut Draft) -> Option<usize>
     requires utf8 { IsUtf8 text.now }
     requires copied { draft.old.from ≤ at }
     requires within { at ≤ length text.now }
     ensures onward { IfSome result (λ end. at < end) }
     ensures within { IfSome result (λ end. end ≤ length text.now) }
     ensures copied { IfSome result (λ end. draft.new.from ≤ end) }
-    ensures names { OnSome result (draft.new.names ≡ draft.old.names) }
+    ensures names { OnSome result (names_in text.now draft.new.names ≡ names_in text.now draft.old.names) }
     ensures taken { IfSome result (λ end. ItemsFrom levels (after_white (drop at text.now))
         (drop end text.now)
         (shown draft.old.line text.now draft.old.from at)
@@ -170,12 +161,12 @@ pub(super) fn more_items<'a>(
 /// Goes over the item that is next at `at`, or into it where it is an array, with so many arrays open.
 #[cycle(value)]
 #[inline(always)]
-fn next_item<'a>(
-    text: &'a [u8],
+fn next_item(
+    text: &[u8],
     at: usize,
     depth: usize,
     levels: usize,
-    draft: &mut Draft<'a>,
+    draft: &mut Draft,
 ) -> Option<Place>
     requires utf8 { IsUtf8 text.now }
     requires copied { draft.old.from ≤ at }
@@ -185,7 +176,7 @@ fn next_item<'a>(
     ensures onward { IfSome result (λ next. at < next.at) }
     ensures within { IfSome result (λ next. next.at ≤ length text.now) }
     ensures copied { IfSome result (λ next. draft.new.from ≤ next.at) }
-    ensures names { OnSome result (draft.new.names ≡ draft.old.names) }
+    ensures names { OnSome result (names_in text.now draft.new.names ≡ names_in text.now draft.old.names) }
     ensures few { IfSome result (λ next. next.depth ≤ levels + 1) }
     ensures goes_on { IfSome result (λ next. (rest after : List ℕ)
         → ItemIsNext next.depth (levels + 1) (drop next.at text.now) rest
@@ -219,14 +210,14 @@ fn next_item<'a>(
 
 /// The members after an opening brace, and the closing one: where it ends.
 #[cycle(value)]
-fn object<'a>(text: &'a [u8], at: usize, levels: usize, draft: &mut Draft<'a>) -> Option<usize>
+fn object(text: &[u8], at: usize, levels: usize, draft: &mut Draft) -> Option<usize>
     requires utf8 { IsUtf8 text.now }
     requires copied { draft.old.from ≤ at }
     requires within { at ≤ length text.now }
     ensures onward { IfSome result (λ end. at < end) }
     ensures within { IfSome result (λ end. end ≤ length text.now) }
     ensures copied { IfSome result (λ end. draft.new.from ≤ end) }
-    ensures names { OnSome result (draft.new.names ≡ draft.old.names) }
+    ensures names { OnSome result (names_in text.now draft.new.names ≡ names_in text.now draft.old.names) }
     ensures taken { IfSome result (λ end. TakenMembers levels (drop at text.now) (drop end text.now)
         (shown draft.old.line text.now draft.old.from at)
         (shown draft.new.line text.now draft.new.from end)) }
@@ -246,7 +237,7 @@ fn object<'a>(text: &'a [u8], at: usize, levels: usize, draft: &mut Draft<'a>) -
             return None;
         }
         if text[place] == b'}' {
-            if !draft.names.are_apart_from(draft.alloc, base) {
+            if !draft.names.are_apart_from(draft.alloc, text, base) {
                 return None;
             }
             draft.names.truncate(base);
@@ -264,7 +255,7 @@ fn object<'a>(text: &'a [u8], at: usize, levels: usize, draft: &mut Draft<'a>) -
 
 /// A member that begins at `at`: where it ends. Its name stands last among the names.
 #[cycle(value)]
-fn member<'a>(text: &'a [u8], at: usize, levels: usize, draft: &mut Draft<'a>) -> Option<usize>
+fn member(text: &[u8], at: usize, levels: usize, draft: &mut Draft) -> Option<usize>
     requires utf8 { IsUtf8 text.now }
     requires copied { draft.old.from ≤ at }
     requires within { at ≤ length text.now }
@@ -274,7 +265,7 @@ fn member<'a>(text: &'a [u8], at: usize, levels: usize, draft: &mut Draft<'a>) -
     ensures taken { IfSome result (λ end. TakenMember levels (drop at text.now) (drop end text.now)
         (shown draft.old.line text.now draft.old.from at)
         (shown draft.new.line text.now draft.new.from end)
-        draft.old.names draft.new.names) }
+        (names_in text.now draft.old.names) (names_in text.now draft.new.names)) }
 {
     let start = name_and_colon(text, at, draft)?;
     let end = member_value(text, start, levels, draft)?;

@@ -1,6 +1,7 @@
 use Rattle.std.proofs.Common.{◌≡◌, ◌≤◌, List, ℕ, length, drop}
 use Rattle.city_json.specs.Compacting.{shown}
 use Rattle.city_json.specs.Flat.{ItemWasTaken}
+use Rattle.city_json.specs.ListedNames.{names_in}
 use Rattle.city_json.proofs.compacting.flat.after_item.Given as goal
 
 abbrev pub invariant-closing : goal.invariant-closing
@@ -9,7 +10,7 @@ invariant-closing l = record {
   within : l.end ≤ length l.text;
   copied : l.draft.from ≤ l.end;
   fewer : l.left ≤ l.depth;
-  names : l.draft.names ≡ l.fn.draft.names;
+  names : names_in l.text l.draft.names ≡ names_in l.text l.fn.draft.names;
   goes_on : (total : ℕ) (rest after : List ℕ)
       → ItemWasTaken l.left total (drop l.end l.text) rest (shown l.draft.line l.text l.draft.from l.end) after
       → ItemWasTaken l.depth total (drop l.at l.text) rest (shown l.fn.draft.line l.text l.fn.draft.from l.at) after;

@@ -5,6 +5,6 @@ use Rattle.city_json.proofs.compacting.names.bytes_of.Given as goal
 
 abbrev pub invariant-loop-name : goal.invariant-loop-name
 invariant-loop-name l =
-    (map (λ name. name.now) l.all.items ≡ map (name_bytes l.held) (take l.name-index l.listed))
+    (map (λ name. name.now) l.all.items ≡ map (name_bytes l.text l.held) (take l.name-index l.listed))
     × (vec_len l.all ≡ l.name-index)
     × (length l.listed ≤ vec_capacity l.all)

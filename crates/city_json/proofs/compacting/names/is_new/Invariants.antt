@@ -4,5 +4,5 @@ use Rattle.city_json.proofs.NamesApart.{AreNew}
 use Rattle.city_json.proofs.compacting.names.is_new.Given as goal
 
 abbrev pub invariant-loop-other : goal.invariant-loop-other
-invariant-loop-other l = AreNew (name_bytes l.held) l.name (drop l.other-index l.listed)
-    → AreNew (name_bytes l.held) l.name l.listed
+invariant-loop-other l = AreNew (name_bytes l.text l.held) l.name (drop l.other-index l.listed)
+    → AreNew (name_bytes l.text l.held) l.name l.listed

@@ -7,4 +7,4 @@ use Rattle.city_json.proofs.compacting.names.many_are_apart.Goals as goal
 pub returns-then-rise_when_sorted : goal.returns-then-rise_when_sorted
 returns-then-rise_when_sorted c = λ so members is.
     c.rise_when_sorted.ensures c.if-rise_when_sorted.true members (ap (map print_of) is
-    ∙ (map-map print_of (name_bytes c.args.held.now) c.args.listed.now ∙ sym c.in-Some.ensures))
+    ∙ (map-map print_of (name_bytes c.args.text.now c.args.held.now) c.args.listed.now ∙ sym c.in-Some.ensures))

@@ -9,5 +9,5 @@ invariant-loop-name l = record {
   first : 0 < length l.first;
   second : 0 < length l.second;
   told : AreTold l.first l.second
-      (map (λ name. print_of (name_bytes l.held name)) (take l.name-index l.listed));
+      (map (λ name. print_of (name_bytes l.text l.held name)) (take l.name-index l.listed));
 }

@@ -2,6 +2,7 @@ use Rattle.std.proofs.Common.{◌≡◌, ◌∙◌, ◌++◌, ◌∷◌, true, �
 use Rattle.city_json.specs.Bytes.{colon}
 use Rattle.city_json.specs.Compact.{compact, quoted}
 use Rattle.city_json.specs.Compacting.{shown, TakenMember}
+use Rattle.city_json.specs.ListedNames.{names_in}
 use Rattle.city_json.specs.Triples.{HasTriples}
 use Rattle.city_json.proofs.GivenTexts.{triples_after, triples_noted}
 use Rattle.city_json.proofs.PassMembers.{member_taken}
@@ -16,10 +17,10 @@ returns-clause-taken c =
     let mid : List ℕ = shown c.name_and_colon.new.draft.line text c.name_and_colon.new.draft.from c.in_ok-start.start in
     let after : List ℕ = shown c.top_value.new.draft.line text c.top_value.new.draft.from c.in_ok-value.value.end in
     let taken : TakenMember c.args.levels (drop c.args.at text)
-    (drop c.in_ok-value.value.end text) before after c.args.draft.now.names c.top_value.new.draft.names =
+    (drop c.in_ok-value.value.end text) before after (names_in text c.args.draft.now.names) (names_in text c.top_value.new.draft.names) =
     member_taken c.args.levels (drop c.args.at text) (drop c.in_ok-start.start text)
-    (drop c.in_ok-value.value.end text) before mid after c.args.draft.now.names c.name_and_colon.new.draft.names
-    c.top_value.new.draft.names
+    (drop c.in_ok-value.value.end text) before mid after (names_in text c.args.draft.now.names) (names_in text c.name_and_colon.new.draft.names)
+    (names_in text c.top_value.new.draft.names)
     c.in_ok-start.ensures.taken c.in_ok-value.ensures.taken c.in_ok-value.ensures.names in
     let part = c.in_ok-list_part.ensures in
     record {
@@ -41,9 +42,9 @@ returns-clause-triples c =
     let mid : List ℕ = shown was.line text was.from start in
     let after : List ℕ = shown draft.line text draft.from found.end in
     let taken : TakenMember c.args.levels (drop c.args.at text)
-    (drop found.end text) before after c.args.draft.now.names draft.names =
+    (drop found.end text) before after (names_in text c.args.draft.now.names) (names_in text draft.names) =
     member_taken c.args.levels (drop c.args.at text) (drop start text) (drop found.end text) before mid after
-    c.args.draft.now.names was.names draft.names c.in_ok-start.ensures.taken c.in_ok-value.ensures.taken
+    (names_in text c.args.draft.now.names) (names_in text was.names) (names_in text draft.names) c.in_ok-start.ensures.taken c.in_ok-value.ensures.taken
     c.in_ok-value.ensures.names in
     let some : found.are_triples ≡ true → HasTriples after c.noted.result = λ are.
     let (t, line_is, from_is) = c.in_ok-value.ensures.triples are in

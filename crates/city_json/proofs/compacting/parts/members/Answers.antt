@@ -1,6 +1,7 @@
 use Rattle.std.proofs.Common.{◌≡◌, ◌++◌, ◌≤◌, ◌<◌, ◌+◌, ◌∙◌, length, drop, get_or, refl, sym, arith, subst, append-nil, [], ◌∷◌}
 use Rattle.city_json.specs.Bytes.{comma, close_brace}
 use Rattle.city_json.specs.Compacting.{shown, TakenParts}
+use Rattle.city_json.specs.ListedNames.{names_in}
 use Rattle.city_json.specs.Triples.{HasTriples}
 use Rattle.city_json.proofs.GivenTexts.{triples_more}
 use Rattle.city_json.proofs.PassMembers.{names_more}
@@ -40,7 +41,7 @@ members-init c =
           c.requires.triples;
       goes_on = λ rest after listed parts from.
           parts_start c.args.levels (drop c.args.at text)
-          (drop c.skip-i.result text) rest _ _ after c.skip-i.new.draft.names listed c.args.parts.now.items parts
+          (drop c.skip-i.result text) rest _ _ after (names_in text c.skip-i.new.draft.names) listed c.args.parts.now.items parts
           (c.skip-i.ensures.skipped inside) (c.skip-i.ensures.is_shown inside)
           (c.skip-i.ensures.names inside ∙ c.requires.none) c.requires.no_parts from;
     }
@@ -58,7 +59,7 @@ members-preserved c =
     let is_comma : get_or text c.skip-place.result 0 ≡ comma = omega (arith, c.if-text-place-ne44.false) in
     let so_far : c.args.at ≤ c.members.i = c.members.invariant.onward in
     let draft = c.skip-place.new.draft in
-    let same : c.skip-i-in-members.new.draft.names ≡ c.member.new.draft.names =
+    let same : (names_in text c.skip-i-in-members.new.draft.names) ≡ (names_in text c.member.new.draft.names) =
     c.skip-i-in-members.ensures.names inside₂ ∙ c.skip-place.ensures.names inside in
     let t = c.in_ok-end.ensures.taken in
     record {
@@ -72,11 +73,11 @@ members-preserved c =
           subst (λ l. PartsWhole c.args.levels (drop c.args.at text) rest
           (shown c.args.draft.now.line text c.args.draft.now.from c.args.at) after l
           (c.member.new.parts.items ++ parts))
-          (names_more 0 c.members.draft.names c.member.new.draft.names c.skip-i-in-members.new.draft.names t.taken.name
+          (names_more 0 (names_in text c.members.draft.names) (names_in text c.member.new.draft.names) (names_in text c.skip-i-in-members.new.draft.names) t.taken.name
           listed (omega arith) t.taken.names_are same)
           (subst (λ l. PartsWhole c.args.levels (drop c.args.at text) rest
           (shown c.args.draft.now.line text c.args.draft.now.from c.args.at) after
-          (c.members.draft.names ++ (t.taken.name ∷ listed)) l)
+          ((names_in text c.members.draft.names) ++ (t.taken.name ∷ listed)) l)
           (parts_more c.members.parts.items c.member.new.parts.items t.part parts t.parts_are)
           (c.members.invariant.goes_on rest after (t.taken.name ∷ listed) (t.part ∷ parts)
           (parts_step c.args.levels (drop c.members.i text) (drop c.in_ok-end.end text)
@@ -104,9 +105,9 @@ returns-then-text-place-eq125-clause-taken c =
     (c.skip-place.ensures.skipped inside) inside c.if-text-place-eq125.true) (c.skip-place.ensures.is_shown inside)
     (mark_shown draft.line text _ draft.from c.skip-place.result close_brace
     (c.skip-place.ensures.copied inside) inside c.if-text-place-eq125.true refl)) in
-    let listed = names_more 0 c.members.draft.names c.member.new.draft.names draft.names t.taken.name []
+    let listed = names_more 0 (names_in text c.members.draft.names) (names_in text c.member.new.draft.names) (names_in text draft.names) t.taken.name []
     (omega arith) t.taken.names_are (c.skip-place.ensures.names inside) in
-    let all_listed = all.names_are ∙ (listed ∙ append-nil draft.names) in
+    let all_listed = all.names_are ∙ (listed ∙ append-nil (names_in text draft.names)) in
     subst (λ l. TakenParts c.args.levels (drop c.args.at text) (drop (c.skip-place.result + 1) text)
     (shown c.args.draft.now.line text c.args.draft.now.from c.args.at)
     (shown draft.line text draft.from (c.skip-place.result + 1)) l) (sym t.parts_are)

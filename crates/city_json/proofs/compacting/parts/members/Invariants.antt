@@ -1,5 +1,6 @@
 use Rattle.std.proofs.Common.{◌++◌, ◌≤◌, ◌-◌, List, ℕ, length, drop}
 use Rattle.city_json.specs.Compacting.{shown}
+use Rattle.city_json.specs.ListedNames.{names_in}
 use Rattle.city_json.specs.Triples.{HasTriples}
 use Rattle.city_json.specs.declared.compacting.parts.Part.{Part}
 use Rattle.city_json.proofs.PassParts.{PartsFrom, PartsWhole}
@@ -14,7 +15,7 @@ invariant-members l = record {
   goes_on : (rest after : List ℕ) (listed : List (List ℕ)) (parts : List Part)
       → PartsFrom l.levels (drop l.i l.text) rest (shown l.draft.line l.text l.draft.from l.i) after listed parts
       → PartsWhole l.levels (drop l.at l.text) rest (shown l.fn.draft.line l.text l.fn.draft.from l.at) after
-      (l.draft.names ++ listed) (l.parts.items ++ parts);
+      (names_in l.text l.draft.names ++ listed) (l.parts.items ++ parts);
 }
 
 abbrev pub decreases-members : goal.decreases-members

@@ -1,6 +1,7 @@
 use Rattle.std.proofs.Common.{◌≡◌, ◌≤◌, ◌<◌, ◌+◌, ◌∙◌, length, drop, get_or, refl, arith}
 use Rattle.city_json.specs.Bytes.{colon}
 use Rattle.city_json.specs.Compacting.{shown}
+use Rattle.city_json.specs.ListedNames.{names_in}
 use Rattle.city_json.proofs.PassStrings.{start_taken}
 use Rattle.city_json.proofs.Places.{at_mark, mark_shown}
 use Rattle.city_json.proofs.compacting.strings.name_and_colon.Goals as goal
@@ -16,8 +17,8 @@ returns-clause-taken c =
     let draft = c.skip-colon.new.draft in
     start_taken (drop c.args.at text) (drop c.in_ok-end.end text) (drop (c.skip-colon.result + 1) text)
     (drop c.skip-start.result text) _ _ (shown draft.line text draft.from c.skip-colon.result)
-    (shown draft.line text draft.from (c.skip-colon.result + 1)) _ c.args.draft.now.names c.name.new.draft.names
-    c.skip-start.new.draft.names
+    (shown draft.line text draft.from (c.skip-colon.result + 1)) _ (names_in text c.args.draft.now.names) (names_in text c.name.new.draft.names)
+    (names_in text c.skip-start.new.draft.names)
     c.in_ok-end.ensures.taken (at_mark text (drop c.in_ok-end.end text) c.skip-colon.result colon
     (c.skip-colon.ensures.skipped colon_inside) colon_inside is_colon) (c.skip-colon.ensures.is_shown colon_inside)
     (mark_shown draft.line text _ draft.from c.skip-colon.result colon

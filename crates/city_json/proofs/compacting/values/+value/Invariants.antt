@@ -1,6 +1,7 @@
 use Rattle.std.proofs.Common.{◌≡◌, ◌++◌, ◌≤◌, ◌<◌, ◌-◌, ◌+◌, ◌*◌, List, ℕ, length, take, drop}
 use Rattle.city_json.specs.Compacting.{shown, ItemsFrom}
 use Rattle.city_json.specs.Flat.{ItemIsNext}
+use Rattle.city_json.specs.ListedNames.{names_in}
 use Rattle.city_json.specs.Reading.{after_white}
 use Rattle.city_json.proofs.PassMembers.{MembersFrom, MembersWhole}
 use Rattle.city_json.proofs.compacting.values.+value.Given as goal
@@ -31,7 +32,7 @@ invariant-items-items l = record {
   onward : l.at ≤ l.i;
   within : l.i ≤ length l.text;
   copied : l.draft.from ≤ l.i;
-  names : l.draft.names ≡ l.fn.draft.names;
+  names : names_in l.text l.draft.names ≡ names_in l.text l.fn.draft.names;
   some : 0 < l.depth;
   few : l.depth ≤ l.levels + 1;
   goes_on : (rest after : List ℕ)
@@ -48,12 +49,12 @@ invariant-object-members l = record {
   onward : l.at ≤ l.i;
   within : l.i ≤ length l.text;
   copied : l.draft.from ≤ l.i;
-  few : l.base ≤ length l.draft.names;
-  names : take l.base l.draft.names ≡ l.fn.draft.names;
+  few : l.base ≤ length (names_in l.text l.draft.names);
+  names : take l.base (names_in l.text l.draft.names) ≡ names_in l.text l.fn.draft.names;
   goes_on : (rest after : List ℕ) (listed : List (List ℕ))
       → MembersFrom l.levels (drop l.i l.text) rest (shown l.draft.line l.text l.draft.from l.i) after listed
       → MembersWhole l.levels (drop l.at l.text) rest (shown l.fn.draft.line l.text l.fn.draft.from l.at) after
-      (drop l.base l.draft.names ++ listed);
+      (drop l.base (names_in l.text l.draft.names) ++ listed);
 }
 
 abbrev pub decreases-object-members : goal.decreases-object-members
