@@ -18,7 +18,7 @@ use byte_streams::limits::MAX_LINE_BYTES;
 use byte_streams::{Fault, Line, Source, Stop, read_all};
 use city_cut::{CutTexts, FeatureTexts, cut_compacted_triples, cut_texts};
 use city_feature::Header;
-use city_json::{Compacted, Json, Span, compact_given, print, read};
+use city_json::{Compacted, Json, Span, check, compact_given, print, read};
 use std::alloc::Global;
 
 /// The stream of a document that was cut.
@@ -101,12 +101,13 @@ fn cut_text(alloc: Global, text: Vec<u8>) -> Result<CutTexts, Fault>
     }
 }
 
-/// Cuts the document that a text spells by its value.
+/// Cuts the document that a text spells by its value, once it is known to spell one.
 fn plain_cut(alloc: Global, text: &[u8]) -> Result<CutTexts, Fault>
     requires { ¬ IsBlank text.now }
     ensures ok { IfOk result (λ cut. HasCut text.now (header_value cut.header) (texts_in cut.texts)) }
     ensures refused { IfErr result (λ fault. RefusesCutting fault text.now) }
 {
+    check(alloc, text)?;
     let document = read(alloc, text)?;
     cut_texts(alloc, document)
 }

@@ -19,7 +19,7 @@ use crate::features::quick::member_or;
 use crate::features::texts::vertices_of;
 use byte_streams::{Fault, Line};
 use city_grid::{Shift, byte_is};
-use city_json::{Part, compact_lent};
+use city_json::{Part, check, compact_lent};
 use std::alloc::Global;
 
 /// Whether the value whose compact text this is is the type of a feature.
@@ -130,9 +130,24 @@ fn after_white(bytes: &[u8]) -> &[u8]
 }
 
 /// Whether what the bytes spell, if they spell a value, is no object: no brace opens after white space.
-pub(super) fn spells_no_object(bytes: &[u8]) -> bool
+fn spells_no_object(bytes: &[u8]) -> bool
     ensures { IsTrue result → (value : Tree) → Spells bytes.now value → RefusesFeature Fault.NotAFeature value }
 {
     let rest = after_white(bytes);
     !byte_is(rest, 0, b'{')
+}
+
+/// Refuses a line that gives no feature which is moved by the shift, as far as that is told with no value of it; the faults
+/// are those of [`feature_line`](super::lines::feature_line).
+pub(super) fn check_line(alloc: Global, bytes: &[u8], shift: Shift) -> Result<(), Fault>
+    ensures { IfErr result (λ fault. RefusesFeatureLine shift fault bytes.now) }
+{
+    if let Some(fault) = line_fault(alloc, bytes, shift) {
+        return Err(fault);
+    }
+    check(alloc, bytes)?;
+    if spells_no_object(bytes) {
+        return Err(Fault::NotAFeature);
+    }
+    Ok(())
 }

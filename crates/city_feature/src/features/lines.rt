@@ -7,7 +7,7 @@ ghost use Rattle.city_feature.specs.Values.{feature_value};
 use crate::choices::Choice;
 use crate::choices::selecting::selects;
 use crate::features::Feature;
-use crate::features::line_faults::line_fault;
+use crate::features::line_faults::check_line;
 use crate::features::moving::shifted;
 use crate::features::quick::{quick_line, quick_text};
 use crate::features::reader::feature;
@@ -43,9 +43,7 @@ fn plain_line(
     ensures err { OnErr result (text.new ≡ text.old) }
     ensures refusal { IfErr result (λ fault. RefusesFeatureLine shift fault bytes.now) }
 {
-    if let Some(fault) = line_fault(alloc, bytes, shift) {
-        return Err(fault);
-    }
+    check_line(alloc, bytes, shift)?;
     let moved = moved_feature(alloc, bytes, shift)?;
     if !selects(choice, &moved) {
         return Ok(false);
