@@ -313,4 +313,5 @@ pub record FoundText (found : Option Tree) (distinct : Bool) : Type 0 where
 pub text_found : (found : Option Tree) (distinct : Bool) → option_map is_distinct found ≡ Some distinct
     → FoundText found distinct
 text_found None distinct told = cc
-text_found (Some value) distinct told = record { value = value; is = refl; distinct_is = some_same (is_distinct value) distinct told }
+text_found (Some value) distinct told =
+    record { value = value; is = refl; distinct_is = some_same (is_distinct value) distinct told }
