@@ -1,14 +1,12 @@
 -- What checking keeps of what reading gives.
-use Rattle.std.proofs.Common.{◌≡◌, ◌↔◌, ◌&&◌, ◌++◌, ◌∙◌, ℕ, zero, suc, Bool, true, false, List, [], ◌∷◌, Option, Some, None, codes, option_and_then, option_map, length, take, drop, refl, sym, ap, not}
+use Rattle.std.proofs.Common.{◌≡◌, ◌↔◌, ◌&&◌, ◌++◌, ◌∙◌, ℕ, zero, suc, Bool, true, false, List, [], ◌∷◌, Option, Some, None, codes, option_and_then, option_map, length, drop, refl, sym, ap, not}
 use Rattle.std.proofs.lemmas.Bool.{false≢true}
 use Rattle.std.proofs.lemmas.List.{append_assoc}
 use Rattle.std.proofs.lemmas.Slice.Eq.{bytes_eq-Decides}
-use Rattle.std.proofs.Math.Seq.{drop-append_seam, take-append_seam}
 use Rattle.std.specs.Prelude.{bytes_eq, nat_eq, if◌then◌else◌}
 use Rattle.city_json.specs.Bytes.{close_bracket, close_brace}
 use Rattle.city_json.specs.Checking.{is_new_name, are_apart, is_distinct, are_distinct_items, are_distinct_members, left, value_told, items_told, member_told, members_told}
 use Rattle.city_json.specs.Fits.{IsNewName, HasDistinctNames, IsDistinct, AreDistinctItems, AreDistinctMembers}
-use Rattle.city_json.specs.Gives.{Refuses}
 use Rattle.city_json.specs.Members.{names}
 use Rattle.city_json.specs.NumberAt.{number_at}
 use Rattle.city_json.specs.ReadString.{string_at}
@@ -18,8 +16,6 @@ use Rattle.city_json.specs.declared.reading.Mark.{Mark}
 use Rattle.city_json.specs.declared.reading.Mark.TheVariants as mark
 use Rattle.city_json.specs.declared.reading.Start.{Start}
 use Rattle.city_json.specs.declared.reading.Start.TheVariants as start
-use Rattle.byte_streams.specs.declared.fault.Fault.{Fault}
-use Rattle.city_json.proofs.Fronts.{refused}
 use Rattle.std.specs.List.{starts_with}
 
 -- ---- both tests
@@ -270,46 +266,6 @@ pub members-none : (value : List ℕ → Option (Tree × List ℕ)) (open_names 
 unfolding members_at
 members-none value open_names so_far n bytes none = rw none refl
 
--- ---- whole arrays and objects
-pub array_told : (found : Option (ItemTrees × List ℕ))
-    → value_told (option_and_then (λ p. Some (array p.0, p.1)) found) ≡ items_told found
-array_told None = refl
-array_told (Some p) = refl
-
--- the names of an object that closes are the last
-pub object_told : (open_names after : List (List ℕ)) (found : Option (MemberTrees × List ℕ)) (distinct : Bool)
-    (rest : List ℕ) → members_told open_names found ≡ Some (after, distinct, rest)
-    → value_told (option_and_then (λ p. Some (object p.0, p.1)) found)
-    ≡ Some (are_apart (drop (length open_names) after) && distinct, rest)
-object_told open_names after None distinct rest told = cc
-object_told open_names after (Some p) distinct rest told =
-    let same = some_same {A = List (List ℕ) × Bool × List ℕ} (open_names ++ names p.0, are_distinct_members p.0, p.1)
-    (after, distinct, rest) told in
-    let now : open_names ++ names p.0 ≡ after = ap (λ q. q.0) same in
-    let last : names p.0 ≡ drop (length open_names) after =
-    sym (drop-append_seam open_names (names p.0)) ∙ ap (drop (length open_names)) now in
-    let are : are_distinct_members p.0 ≡ distinct = ap (λ q. q.1) same in
-    let behind : p.1 ≡ rest = ap (λ q. q.2) same in
-    ap (λ l. Some (are_apart l && are_distinct_members p.0, p.1)) last
-    ∙ ap (λ b. Some (are_apart (drop (length open_names) after) && b, p.1)) are
-    ∙ ap (λ l. Some (are_apart (drop (length open_names) after) && distinct, l)) behind
-
-pub object_refused : (open_names : List (List ℕ)) (found : Option (MemberTrees × List ℕ))
-    → members_told open_names found ≡ None
-    → value_told (option_and_then (λ p. Some (object p.0, p.1)) found) ≡ None
-object_refused open_names None told = refl
-object_refused open_names (Some p) told = cc
-
-pub names_before : (open_names after : List (List ℕ)) (found : Option (MemberTrees × List ℕ)) (distinct : Bool)
-    (rest : List ℕ) → members_told open_names found ≡ Some (after, distinct, rest)
-    → take (length open_names) after ≡ open_names
-names_before open_names after None distinct rest told = cc
-names_before open_names after (Some p) distinct rest told =
-    let same = some_same {A = List (List ℕ) × Bool × List ℕ} (open_names ++ names p.0, are_distinct_members p.0, p.1)
-    (after, distinct, rest) told in
-    let now : open_names ++ names p.0 ≡ after = ap (λ q. q.0) same in
-    ap (take (length open_names)) (sym now) ∙ take-append_seam open_names (names p.0)
-
 -- ---- scalars
 pub number_left : (bytes : List ℕ) → left (number_value_at bytes) ≡ left (number_at bytes)
 number_left bytes = by (number_at bytes)
@@ -348,11 +304,6 @@ scalar_told start.List bytes rest told = cc
 scalar_told start.Map bytes rest told = cc
 scalar_told start.Other bytes rest told = cc
 
-pub scalar_refused : (fault : Fault) (found : Option (Tree × List ℕ)) → Refuses fault (left found)
-    → Refuses fault (value_told found)
-scalar_refused fault found = refused fault (left found) (value_told found)
-    (λ none. ap value_told (none_found _ found none))
-
 -- ---- the whole text
 pub record FoundText (found : Option Tree) (distinct : Bool) : Type 0 where
   pub value : Tree
@@ -362,4 +313,5 @@ pub record FoundText (found : Option Tree) (distinct : Bool) : Type 0 where
 pub text_found : (found : Option Tree) (distinct : Bool) → option_map is_distinct found ≡ Some distinct
     → FoundText found distinct
 text_found None distinct told = cc
-text_found (Some value) distinct told = record { value = value; is = refl; distinct_is = some_same (is_distinct value) distinct told }
+text_found (Some value) distinct told =
+    record { value = value; is = refl; distinct_is = some_same (is_distinct value) distinct told }

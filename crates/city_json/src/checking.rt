@@ -240,6 +240,7 @@ pub fn check(alloc: Global, bytes: &[u8]) -> Result<(), Fault>
     check_whole(alloc, bytes)
 }
 
+/// Whether the text is taken, and why not.
 fn check_whole(alloc: Global, bytes: &[u8]) -> Result<(), Fault>
     ensures taken { OnOk result ((value : Tree) × Spells bytes.now value × Fits value
         × ¬ IsDeep bytes.now) }

@@ -1,5 +1,6 @@
-//! JSON texts (RFC 8259) and their values: [`read`] takes exactly the texts that fit, [`print`] gives the
-//! one compact text of a value, and [`compact`] goes from the one text to the other in one pass.
+//! JSON texts (RFC 8259) and their values: [`read`] takes exactly the texts that fit, [`check`] says which these are
+//! with no value held, [`print`] gives the one compact text of a value, and [`compact`] goes from the one text to the
+//! other in one pass.
 #![tactic(auto)]
 
 mod checking;

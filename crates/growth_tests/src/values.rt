@@ -2,7 +2,8 @@
 
 use byte_streams::{Bin, Fault, Line, Sequence, Stop, Tape, read_all, write_all};
 use city_json::{
-    Json, NumText, Part, Str, compact, compact_given, compact_lent, compact_parts, print, read,
+    Json, NumText, Part, Str, check, compact, compact_given, compact_lent, compact_parts, print,
+    read,
 };
 use growth_support::{Call, expect, is_fault, refused, wanted};
 use std::alloc::{AllocError, Global};
@@ -152,6 +153,31 @@ const NO_TEXTS: [(&str, Fault); 3] = [
 fn no_texts_are_read(rt: &(impl AllocGlobal + Eprint)) -> Result<bool, Fault> {
     for (text, fault) in NO_TEXTS.iter() {
         if !is_fault(is_read(rt, text.as_bytes(), b""), *fault)? {
+            return Ok(false);
+        }
+    }
+    Ok(true)
+}
+
+fn is_checked(rt: &(impl AllocGlobal + Eprint), text: &str) -> Result<bool, Fault> {
+    match check(rt.alloc(), text.as_bytes()) {
+        Ok(()) => Ok(true),
+        Err(fault) => refused(rt, Call("check"), fault),
+    }
+}
+
+fn texts_are_checked(rt: &(impl AllocGlobal + Eprint)) -> Result<bool, Fault> {
+    for (text, _) in TEXTS.iter() {
+        if !is_checked(rt, text)? {
+            return Ok(false);
+        }
+    }
+    Ok(true)
+}
+
+fn no_texts_are_checked(rt: &(impl AllocGlobal + Eprint)) -> Result<bool, Fault> {
+    for (text, fault) in NO_TEXTS.iter() {
+        if !is_fault(is_checked(rt, text), *fault)? {
             return Ok(false);
         }
     }
@@ -392,6 +418,8 @@ fn bytes_values_and_texts(rt: HostRuntime) -> Result<(), Fault> {
     expect!(rt; reader_gives_all(&rt));
     expect!(rt; texts_are_read(&rt));
     expect!(rt; no_texts_are_read(&rt));
+    expect!(rt; texts_are_checked(&rt));
+    expect!(rt; no_texts_are_checked(&rt));
     expect!(rt; deepest_is_read(&rt));
     expect!(rt; deepest_is_refused(&rt));
     expect!(rt; value_is_printed(&rt));

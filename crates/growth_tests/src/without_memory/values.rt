@@ -3,7 +3,7 @@
 use byte_streams::{
     Bin, Device, Fault, Line, LineFault, MergeFault, Sequence, Sink, Source, Tape, write_all,
 };
-use city_json::{Json, NumText, Str, read, same};
+use city_json::{Json, NumText, Str, check, read, same};
 use growth_support::{give, take};
 use std::alloc::Global;
 
@@ -267,4 +267,26 @@ fn numbers_and_texts_are_lent(rt: HostRuntime) -> Result<(), Fault> {
         assert!(rt; is_no_number(rt.alloc(), text), "{text}");
     }
     Ok(())
+}
+
+/// Texts in which there is no name and no string with an escape, and their faults.
+const WITHOUT_NAMES: [(&str, Option<Fault>); 6] = [
+    (r#"[[1,-2.5e3,[true]],"café",null,{}]"#, None),
+    (r#""a text""#, None),
+    ("12345678901234567890", None),
+    ("[1,2,]", Some(Fault::Syntax)),
+    (r#""a text"#, Some(Fault::Syntax)),
+    (r#"[[1],[2]],"#, Some(Fault::Syntax)),
+];
+
+#[test]
+fn texts_without_names_are_checked(rt: HostRuntime) {
+    let gone = take(rt.alloc());
+    for (text, fault) in WITHOUT_NAMES.iter() {
+        assert!(rt;
+            check(rt.alloc(), text.as_bytes()).err() == *fault,
+            "{text}"
+        );
+    }
+    assert!(rt; give(rt.alloc(), gone));
 }

@@ -19,22 +19,24 @@ check_items-returns-in-Close-clause-told t c =
     items-close (value_at c.args.levels) c.loop.are_distinct c.in_ok-is_distinct.is_distinct _
     (length c.args.bytes.now - c.loop.counter) (length c.args.bytes.now - (c.loop.counter + 1)) c.loop.rest.now
     c.in_ok-is_distinct.after.now c.after_white.result.now c.mark_at-mark.result.1.now c.mark_at-mark.result.0 _
-    (omega arith) c.in_ok-is_distinct.ensures.told c.after_white.ensures c.mark_at-mark.ensures c.loop.invariant.0 refl c.in-Close.is
+    (omega arith) c.in_ok-is_distinct.ensures.told c.after_white.ensures c.mark_at-mark.ensures
+    c.loop.invariant.0 refl c.in-Close.is
 
 pub check_items-returns-in-Neither-clause-told : goal.check_items-returns-in-Neither-clause-told
 check_items-returns-in-Neither-clause-told t c =
     items-neither (value_at c.args.levels) c.loop.are_distinct c.in_ok-is_distinct.is_distinct _
     (length c.args.bytes.now - c.loop.counter) (length c.args.bytes.now - (c.loop.counter + 1)) c.loop.rest.now
     c.in_ok-is_distinct.after.now c.after_white.result.now c.mark_at-mark.result.1.now c.mark_at-mark.result.0 _
-    (omega arith) c.in_ok-is_distinct.ensures.told c.after_white.ensures c.mark_at-mark.ensures c.loop.invariant.0 refl c.in-Neither.is
+    (omega arith) c.in_ok-is_distinct.ensures.told c.after_white.ensures c.mark_at-mark.ensures
+    c.loop.invariant.0 refl c.in-Neither.is
 
 pub check_items-loop-preserved : goal.check_items-loop-preserved
 check_items-loop-preserved t c = (
   items-comma (value_at c.args.levels) c.loop.are_distinct c.in_ok-is_distinct.is_distinct _
       (length c.args.bytes.now - c.loop.counter) (length c.args.bytes.now - (c.loop.counter + 1)) c.loop.rest.now
       c.in_ok-is_distinct.after.now c.after_white.result.now c.mark_at-mark.result.1.now c.mark_at-mark.result.0 _
-      (omega arith) c.in_ok-is_distinct.ensures.told c.after_white.ensures c.mark_at-mark.ensures c.loop.invariant.0 refl c.in-Comma.is
-      c.after_white-rest.result.now c.after_white-rest.ensures,
+      (omega arith) c.in_ok-is_distinct.ensures.told c.after_white.ensures c.mark_at-mark.ensures
+      c.loop.invariant.0 refl c.in-Comma.is c.after_white-rest.result.now c.after_white-rest.ensures,
   c.in_ok-is_distinct.ensures.names ∙ c.loop.invariant.1,
 )
 

@@ -6,7 +6,6 @@ pub text_at-requires-clause-place : goal.text_at-requires-clause-place
 text_at-requires-clause-place c = omega (
   arith,
   c.requires,
-  c.deref-2.ensures.value,
   ap length c.deref-2.ensures.value,
   as_many 0 c.self.inside.ends.items c.self.inside.bytes.items,
   ap length c.self.view_is,
