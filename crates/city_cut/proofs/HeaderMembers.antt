@@ -63,16 +63,19 @@ header_grid document grid has = (
   has.3,
 )
 
+pub stays_city_json : (document : Tree) → IsCityJson document → IsCityJson (header_tree document)
+stays_city_json document city_json = (
+  other_member (codes "type") document refl refl refl ∙ city_json.0,
+  subst (WhereThere IsObject) (sym (other_member (codes "metadata") document refl refl refl)) city_json.1,
+  subst (WhereThere IsObject) (sym (other_member (codes "extensions") document refl refl refl)) city_json.2,
+  subst (WhereThere IsObject) (sym (no_objects document)) (emptied_object _),
+  subst (WhereThere IsArray) (sym (no_vertices document)) (emptied_array _),
+)
+
 pub is_header : (document : Tree) (grid : Grid) → IsCityJson document → IsVersion2 document → HasGrid document grid
     → IsHeader (header_tree document) grid
 is_header document grid city_json version has = (
-  (
-    other_member (codes "type") document refl refl refl ∙ city_json.0,
-    subst (WhereThere IsObject) (sym (other_member (codes "metadata") document refl refl refl)) city_json.1,
-    subst (WhereThere IsObject) (sym (other_member (codes "extensions") document refl refl refl)) city_json.2,
-    subst (WhereThere IsObject) (sym (no_objects document)) (emptied_object _),
-    subst (WhereThere IsArray) (sym (no_vertices document)) (emptied_array _),
-  ),
+  stays_city_json document city_json,
   other_member (codes "version") document refl refl refl ∙ version,
   (has.0, other_member (codes "transform") document refl refl refl ∙ has.1, has.2, has.3),
 )

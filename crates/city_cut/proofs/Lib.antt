@@ -1,7 +1,9 @@
 pub mod Answered
+mod ArraysOfTexts
 pub mod Assembly
 pub mod Checking
 pub mod Choosing
+mod CityShapes
 mod CopiedArrays
 mod CopiedLeaves
 mod CopiedTexts

@@ -16,12 +16,12 @@ use Rattle.city_grid.specs.Axes.{Triple}
 use Rattle.city_grid.specs.Transform.{Grid}
 use Rattle.city_feature.proofs.QuickLines.{utf8}
 use Rattle.city_feature.specs.Feature.{AreVertices, FeatureValue, item_count}
-use Rattle.city_feature.specs.Header.{HasGrid, IsHeader}
+use Rattle.city_feature.specs.Header.{HasGrid, IsCityJson, IsHeader}
 use Rattle.city_feature.specs.Quick.{IsPartNamed, SpellsVertices}
 use Rattle.city_feature.specs.Shapes.{IsArray, IsObject, WhereThere}
 use Rattle.city_cut.specs.Boundaries.{IsBounded}
 use Rattle.city_cut.specs.CityObjects.{AllBelong, AreCityObjects, IsReached, LacksChild, objects_of, roots, vertices_of}
-use Rattle.city_cut.specs.Cut.{AreFeatures, HasFrame, IsCut, IsCuttable}
+use Rattle.city_cut.specs.Cut.{AreFeatures, HasFrame, IsCut, IsCuttable, IsDocument, header_tree}
 use Rattle.city_cut.specs.FeatureText.{tail_text}
 use Rattle.city_cut.specs.HeaderText.{HasHeader}
 use Rattle.city_cut.specs.Items.{items_in, members_in}
@@ -70,25 +70,31 @@ tail_there text given parts part members none line₁ line₂ line₃ of are nam
     ∙ ap tail_text (sym found.is))))
 
 -- ---- the frame and the header
+pub document_is : (document : Tree) (objects : MemberTrees) (items : ItemTrees) → IsCityJson (header_tree document)
+    → unwrap_or (member_of (codes "CityObjects") document) (object no_members) ≡ object objects
+    → unwrap_or (member_of (codes "vertices") document) (array no_items) ≡ array items → AreCityObjects objects
+    → IsDocument document
+document_is document objects items city_json objects_are vertices_are are =
+    let objects_in = members_or (member_of (codes "CityObjects") document) objects objects_are in
+    let vertices_in = items_or (member_of (codes "vertices") document) items vertices_are in (
+      (
+        sym (other_member (codes "type") document refl refl refl) ∙ city_json.0,
+        subst (WhereThere IsObject) (other_member (codes "metadata") document refl refl refl) city_json.1,
+        subst (WhereThere IsObject) (other_member (codes "extensions") document refl refl refl) city_json.2,
+        objects_in.0,
+        vertices_in.0,
+      ),
+      subst AreCityObjects (sym objects_in.1) are,
+    )
+
 pub frame : (document value : Tree) (grid : Grid) (objects : MemberTrees) (items : ItemTrees)
     → HasHeader document value grid
     → unwrap_or (member_of (codes "CityObjects") document) (object no_members) ≡ object objects
     → unwrap_or (member_of (codes "vertices") document) (array no_items) ≡ array items → AreCityObjects objects
     → HasFrame document
 frame document value grid objects items has objects_are vertices_are are =
-    let objects_in = members_or (member_of (codes "CityObjects") document) objects objects_are in
-    let vertices_in = items_or (member_of (codes "vertices") document) items vertices_are in
     let (city_json, version, has_grid) = subst (λ v. IsHeader v grid) has.0 has.1 in (
-      (
-        (
-          sym (other_member (codes "type") document refl refl refl) ∙ city_json.0,
-          subst (WhereThere IsObject) (other_member (codes "metadata") document refl refl refl) city_json.1,
-          subst (WhereThere IsObject) (other_member (codes "extensions") document refl refl refl) city_json.2,
-          objects_in.0,
-          vertices_in.0,
-        ),
-        subst AreCityObjects (sym objects_in.1) are,
-      ),
+      document_is document objects items city_json objects_are vertices_are are,
       sym (other_member (codes "version") document refl refl refl) ∙ version,
       (grid, header_grid document grid has_grid),
     )
@@ -153,10 +159,11 @@ pub record ObjectsThere (objects : List ℕ) (places : List Part) (value : Tree)
   pub of : IsCompactOf objects (object (member_trees pairs))
   pub are : AreParts 1 places (member_trees pairs)
 
-pub objects_there : (objects : List ℕ) (places : List Part) (value : Tree) → IsCompactOf objects value
-    → HasParts objects places → ObjectsThere objects places value
-objects_there objects places value of listed =
-    let (inner, is_object, placed) = listed value of.writable of.within of.is in
+pub listed_there : (objects : List ℕ) (places : List Part) (value : Tree)
+    → ((v : Tree) → IsCompactOf objects v → (members : MemberTrees) × (v ≡ object members) × AreParts 1 places members)
+    → IsCompactOf objects value → ObjectsThere objects places value
+listed_there objects places value listed of =
+    let (inner, is_object, placed) = listed value of in
     record {
       pairs = pairs_of inner;
       is = is_object ∙ ap object (sym (pairs_are inner));
@@ -164,6 +171,11 @@ objects_there objects places value of listed =
           (subst (IsCompactOf objects) is_object of);
       are = subst (AreParts 1 places) (sym (pairs_are inner)) placed;
     }
+
+pub objects_there : (objects : List ℕ) (places : List Part) (value : Tree) → IsCompactOf objects value
+    → HasParts objects places → ObjectsThere objects places value
+objects_there objects places value of listed =
+    listed_there objects places value (λ v fits. listed v fits.writable fits.within fits.is) of
 
 -- a document without vertices or city objects has none
 pub empty_array : IsCompactOf (open_bracket ∷ close_bracket ∷ []) (array no_items)

@@ -1,63 +1,42 @@
 -- Why a document is not cut, found on its compact text.
-use Rattle.std.proofs.Common.{◌≡◌, ◌∙◌, ◌<◌, ◌⊎◌, inl, inr, ℕ, zero, suc, Bool, List, [], ◌∷◌, Option, Some, None, IsUtf8, length, get_or, map, unwrap_or, refl, sym, ap, subst, arith, codes}
+use Rattle.std.proofs.Common.{◌≡◌, ◌∙◌, ◌<◌, ◌⊎◌, ◌↔◌, inl, inr, ℕ, zero, suc, Bool, true, false, IsTrue, List, [], ◌∷◌, Option, Some, None, Result, Ok, Err, IfErr, OnOk, IsUtf8, length, map, unwrap_or, refl, sym, ap, subst, arith, codes}
 use Rattle.std.specs.Borrow.{Bor}
 use Rattle.std.specs.Global.{Global}
 use Rattle.std.specs.List.{AllByRecursion, AllZip, Contains}
 use Rattle.std.specs.Prelude.{Vec}
 use Rattle.byte_streams.specs.declared.fault.Fault.{Fault}
-use Rattle.byte_streams.specs.declared.fault.Fault.TheVariants.{ChildMissing, Orphan, BoundaryIndex, Memory}
+use Rattle.byte_streams.specs.declared.fault.Fault.TheVariants.{NotCityJson, Version, NoTransform, Decimal, ScaleNotPositive, ChildMissing, Orphan, BoundaryIndex, Memory}
+use Rattle.city_json.proofs.CompactLaws.{compact-tells}
 use Rattle.city_json.specs.Compact.{quoted}
 use Rattle.city_json.specs.CompactMembers.{HasParts}
-use Rattle.city_json.specs.Members.{member_of, names}
+use Rattle.city_json.specs.Members.{first_named, member_of, names}
 use Rattle.city_json.specs.Parts.{AreParts}
 use Rattle.city_json.specs.Tree.{Tree, ItemTrees, MemberTrees, array, no_items, no_members, member_trees, null, object, string}
 use Rattle.city_json.specs.declared.compacting.parts.Part.{Part}
 use Rattle.city_grid.specs.Axes.{Triple}
 use Rattle.city_grid.specs.Transform.{Grid}
-use Rattle.city_feature.specs.Feature.{AreVertices, item_count}
-use Rattle.city_feature.specs.Shapes.{WhereThere}
+use Rattle.city_feature.specs.Feature.{AreVertices, RefusesFirst, item_count}
+use Rattle.city_feature.specs.Header.{HasBadTransform, IsHeader, RefusesGrid, RefusesHeader}
+use Rattle.city_feature.specs.Quick.{SpellsVertices}
+use Rattle.city_feature.specs.Shapes.{IsArray, IsObject, WhereThere}
 use Rattle.city_feature.specs.Texts.{IsCompactOf}
 use Rattle.city_cut.specs.Chosen.{named_at}
-use Rattle.city_cut.specs.CityObjects.{AreCityObjects, AreTexts, LacksChild, children, objects_of, vertices_of}
-use Rattle.city_cut.specs.Cut.{HasValidVertices, RefusesCut}
-use Rattle.city_cut.specs.Faults.{RefusesObjects}
+use Rattle.city_cut.specs.CityObjects.{AreCityObjects, LacksChild, objects_of, vertices_of}
+use Rattle.city_cut.specs.Cut.{HasFrame, HasValidVertices, IsDocument, RefusesCut, RefusesFrame, header_tree}
+use Rattle.city_cut.specs.Faults.{HoldsCityObjects, RefusesObjects}
 use Rattle.city_cut.specs.Families.{AreRelated}
-use Rattle.city_cut.specs.Graphs.{AllNameTexts, HaveRows, SomeNamesMissing}
-use Rattle.city_cut.specs.HeaderText.{HasHeader}
-use Rattle.city_cut.specs.Items.{items_of, values}
-use Rattle.city_cut.specs.Kin.{HasChildrenText, HasParents}
+use Rattle.city_cut.specs.Graphs.{HaveRows, SomeNamesMissing}
+use Rattle.city_cut.specs.Items.{items_of, members_in, values}
+use Rattle.city_cut.specs.Kin.{HasChildrenText}
 use Rattle.city_cut.specs.Overviews.{HasChildrenIn, HasParentsIn}
 use Rattle.city_cut.specs.Table.{IsTable}
 use Rattle.city_cut.proofs.FeatureList.{zip_at}
-use Rattle.city_cut.proofs.QuickDocuments.{ObjectsThere, as_many, frame, items_or, members_or, objects_there}
+use Rattle.city_cut.proofs.Checking.{vertex_refused}
+use Rattle.city_cut.proofs.CopiedTexts.{not_both}
+use Rattle.city_cut.proofs.HeaderMembers.{other_member, stays_city_json}
+use Rattle.city_cut.proofs.QuickDocuments.{ObjectsThere, as_many, document_is, frame, items_or, members_or, objects_there}
 use Rattle.city_cut.proofs.QuickGraphs.{names_utf8, quoted_names, related}
 use Rattle.city_cut.proofs.QuickOverviews.{said_all}
-
--- ---- the shape of city objects
-where_there : (there : Option Tree) → AreTexts (unwrap_or there (array no_items)) → WhereThere AreTexts there
-where_there None are = tt
-where_there (Some value) are = are
-
-shapes_are : (parents : List Bool) (given : List (Bor (List ℕ))) (pairs : List (List ℕ × Tree))
-    → AllZip (λ (has : Bool) (pair : List ℕ × Tree). HasParents pair.1 has) parents pairs
-    → AllZip (λ (x : Bor (List ℕ)) (pair : List ℕ × Tree). HasChildrenText pair.1 x) given pairs
-    → AllNameTexts given → AreCityObjects (member_trees pairs)
-shapes_are parents given [] said texts all = tt
-shapes_are [] given (p ∷ ps) said texts all = absurd said
-shapes_are (x ∷ xs) [] (p ∷ ps) said texts all = absurd texts
-shapes_are (x ∷ xs) (y ∷ ys) (p ∷ ps) said texts all = (
-  (said.0.is_object, said.0.texts, where_there (member_of (codes "children") p.1) (all.0 _ texts.0)),
-  shapes_are xs ys ps said.1 texts.1 all.1,
-)
-
-pub shaped : (text : List ℕ) (places : List Part) (parents : List Bool) (given : List (Bor (List ℕ)))
-    (pairs : List (List ℕ × Tree))
-    → AllZip (HasParentsIn text) places parents → AllZip (HasChildrenIn text) places given → AllNameTexts given
-    → IsCompactOf text (object (member_trees pairs)) → AreParts 1 places (member_trees pairs)
-    → AreCityObjects (member_trees pairs)
-shaped text places parents given pairs in_parts texts all of are =
-    shapes_are parents given pairs (said_all HasParents text places parents pairs in_parts of are)
-    (said_all HasChildrenText text places given pairs texts of are) all
 
 -- ---- the objects that are in a text
 pub related_there : (text : List ℕ) (places listed : List Part) (parents : List Bool)
@@ -133,10 +112,10 @@ child_missing text places given table pairs texts listed missing of are =
     )
 
 -- ---- objects that are refused
-pub objects_refused : (document : Tree) (fault : Fault) (objects : MemberTrees) (count : ℕ)
+refused_so : (document : Tree) (fault : Fault) (objects : MemberTrees) (count : ℕ)
     → HasValidVertices document → objects_of document ≡ objects → item_count (vertices_of document) ≡ count
     → RefusesObjects fault count objects → RefusesCut fault document
-objects_refused document fault objects count valid same many refused =
+refused_so document fault objects count valid same many refused =
     told fault (subst (λ o. RefusesObjects fault (item_count (vertices_of document)) o) (sym same)
     (subst (λ n. RefusesObjects fault n objects) (sym many) refused))
   where
@@ -147,21 +126,121 @@ objects_refused document fault objects count valid same many refused =
     told BoundaryIndex refused = (valid, refused.0, refused.1, refused.2)
     told other refused = absurd refused
 
--- a document of which the header was read, and the objects and the vertices were found right
-pub found_valid : (document value : Tree) (grid : Grid) (objects : MemberTrees) (items : ItemTrees)
-    (points : List Triple) → HasHeader document value grid
-    → unwrap_or (member_of (codes "CityObjects") document) (object no_members) ≡ object objects
-    → unwrap_or (member_of (codes "vertices") document) (array no_items) ≡ array items → AreCityObjects objects
-    → AreVertices items points
-    → HasValidVertices document × (objects_of document ≡ objects) × (item_count (vertices_of document) ≡ length points)
-found_valid document value grid objects items points has objects_are vertices_are are are_points =
-    let same_objects = (members_or (member_of (codes "CityObjects") document) objects objects_are).1 in
-    let same : vertices_of document ≡ items =
-    (items_or (member_of (codes "vertices") document) items vertices_are).1 in (
-      (
-        frame document value grid objects items has objects_are vertices_are are,
-        (points, subst (λ i. AreVertices i points) (sym same) are_points),
-      ),
-      same_objects,
-      ap item_count same ∙ sym (as_many items points are_points),
-    )
+-- ---- what is known of an answer, where it is known which it is
+pub ok_told : {A E P : Type 0} (answer : Result A E) (value : A) → answer ≡ Ok value → OnOk answer P → P
+ok_told {A = A} {E = E} {P = P} answer value is holds = subst (λ (a : Result A E). OnOk a P) is holds
+
+pub err_told : {A E : Type 0} (P : E → Type 0) (answer : Result A E) (fault : E) → answer ≡ Err fault → IfErr answer P
+    → P fault
+err_told {A = A} {E = E} P answer fault is holds = subst (λ (a : Result A E). IfErr a P) is holds
+
+-- ---- the document
+object_or : (there : Option Tree) → WhereThere IsObject there → AreCityObjects (members_in there)
+    → HoldsCityObjects (unwrap_or there (object no_members))
+object_or None is are = (no_members, refl, tt)
+object_or (Some (object members)) is are = (members, refl, are)
+object_or (Some other) is are = absurd is
+
+array_or : (there : Option Tree) → WhereThere IsArray there → IsArray (unwrap_or there (array no_items))
+array_or None is = tt
+array_or (Some value) is = is
+
+array_is : (value : Tree) → IsArray value → (items : ItemTrees) × (value ≡ array items)
+array_is (array items) is = (items, refl)
+array_is other is = absurd is
+
+-- its city objects and its vertices, or none where they are not there
+abbrev pub objects_in : MemberTrees → Tree
+objects_in members = unwrap_or (first_named (codes "CityObjects") members) (object no_members)
+
+abbrev pub vertices_in : MemberTrees → Tree
+vertices_in members = unwrap_or (first_named (codes "vertices") members) (array no_items)
+
+pub other_vertices : (text : List ℕ) (is : Bool) (members : MemberTrees)
+    → ((value : Tree) → IsCompactOf text value → IsTrue is ↔ IsArray value) → is ≡ false
+    → IsCompactOf text (vertices_in members) → IsDocument (object members) → ⊥
+other_vertices text is members test none of document = not_both is
+    ((test (vertices_in members) of).1 (array_or (first_named (codes "vertices") members) document.0.4)) none
+
+pub other_objects : (text : List ℕ) (is : Bool) (members : MemberTrees)
+    → ((value : Tree) → IsCompactOf text value → IsTrue is ↔ HoldsCityObjects value) → is ≡ false
+    → IsCompactOf text (objects_in members) → IsDocument (object members) → ⊥
+other_objects text is members test none of document = not_both is ((test (objects_in members) of).1
+    (object_or (first_named (codes "CityObjects") members) document.0.3 document.1)) none
+
+-- both are well formed
+pub record IsShaped (members : MemberTrees) (text : List ℕ) : Type 0 where
+  pub objects : MemberTrees
+  pub items : ItemTrees
+  pub objects_are : objects_in members ≡ object objects
+  pub vertices_are : vertices_in members ≡ array items
+  pub city : AreCityObjects objects
+  pub of : IsCompactOf text (array items)
+
+pub shaped : (text objects : List ℕ) (is holds : Bool) (members : MemberTrees)
+    → ((value : Tree) → IsCompactOf text value → IsTrue is ↔ IsArray value) → is ≡ true
+    → IsCompactOf text (vertices_in members)
+    → ((value : Tree) → IsCompactOf objects value → IsTrue holds ↔ HoldsCityObjects value) → holds ≡ true
+    → IsCompactOf objects (objects_in members) → IsShaped members text
+shaped text objects is holds members test so of test_objects also of_objects =
+    let (items, vertices_are) = array_is (vertices_in members) ((test (vertices_in members) of).0 so) in
+    let (inner, objects_are, city) = (test_objects (objects_in members) of_objects).0 also in
+    record {
+      objects = inner;
+      items = items;
+      objects_are = objects_are;
+      vertices_are = vertices_are;
+      city = city;
+      of = subst (IsCompactOf text) vertices_are of;
+    }
+
+module _ (members : MemberTrees) (text : List ℕ) (is : IsShaped members text) where
+  grid_is : (fault : Fault) → HasBadTransform fault (header_tree (object members))
+      → RefusesFrame fault (object members)
+  grid_is fault refused = (
+    document_is (object members) is.objects is.items refused.0 is.objects_are is.vertices_are is.city,
+    sym (other_member (codes "version") (object members) refl refl refl) ∙ refused.1,
+    subst (RefusesGrid fault) (other_member (codes "transform") (object members) refl refl refl) refused.2,
+  )
+
+  pub header_refused : (fault : Fault) → RefusesHeader fault (header_tree (object members))
+      → RefusesCut fault (object members)
+  header_refused NotCityJson refused = λ it. refused (stays_city_json (object members) it.0)
+  header_refused Version refused = (
+    document_is (object members) is.objects is.items refused.0 is.objects_are is.vertices_are is.city,
+    λ it. refused.1 (other_member (codes "version") (object members) refl refl refl ∙ it),
+  )
+  header_refused NoTransform refused = grid_is NoTransform refused
+  header_refused Decimal refused = grid_is Decimal refused
+  header_refused ScaleNotPositive refused = grid_is ScaleNotPositive refused
+  header_refused other refused = absurd refused
+
+  pub has_frame : ((grid : Grid) × IsHeader (header_tree (object members)) grid) → HasFrame (object members)
+  has_frame (grid, header) = frame (object members) (header_tree (object members)) grid is.objects is.items
+      (refl, header) is.objects_are is.vertices_are is.city
+
+  same_items : vertices_of (object members) ≡ is.items
+  same_items = (items_or (first_named (codes "vertices") members) is.items is.vertices_are).1
+
+  pub vertices_refused : (fault : Fault) → HasFrame (object members)
+      → ((items : ItemTrees) → IsCompactOf text (array items) → RefusesFirst fault items)
+      → RefusesCut fault (object members)
+  vertices_refused fault framed refused = vertex_refused (object members) fault framed
+      (subst (RefusesFirst fault) (sym same_items) (refused is.items is.of))
+
+  pub objects_refused : (fault : Fault) (value : Tree) (count : ℕ) → HasFrame (object members)
+      → value ≡ objects_in members → ((points : List Triple) × SpellsVertices text points × (length points ≡ count))
+      → ((objects : MemberTrees) × (value ≡ object objects) × RefusesObjects fault count objects)
+      → RefusesCut fault (object members)
+  objects_refused fault value count framed value_is (points, (found, written, writable, vertices), many)
+      (objects, same, refused) =
+      let all : array is.items ≡ array found = compact-tells (array is.items) (array found) is.of.writable writable
+      (sym is.of.is ∙ written) in
+      let as_found : vertices_of (object members) ≡ found =
+      (items_or (first_named (codes "vertices") members) found (is.vertices_are ∙ all)).1 in
+      let as_objects : objects_of (object members) ≡ objects =
+      (members_or (first_named (codes "CityObjects") members) objects (sym value_is ∙ same)).1 in
+      let valid : HasValidVertices (object members) =
+      (framed, (points, subst (λ i. AreVertices i points) (sym as_found) vertices)) in
+      refused_so (object members) fault objects count valid as_objects
+      (ap item_count as_found ∙ (sym (as_many found points vertices) ∙ many)) refused

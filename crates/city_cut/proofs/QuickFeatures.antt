@@ -105,7 +105,7 @@ OthersMade count t o line t' o' line' chosen = AllByRecursion (λ named. IsBound
 pub others_none : (count : ℕ) (t o line : List ℕ) → OthersMade count t o line t o line []
 others_none count t o line = (tt, copies_text t o line line [] (sym (append-nil line)))
 
-pub all_push : {A : Type 0} (P : A → Type 0) (xs : List A) (x : A) → AllByRecursion P xs → P x
+all_push : (P : List ℕ × Tree → Type 0) (xs : List (List ℕ × Tree)) (x : List ℕ × Tree) → AllByRecursion P xs → P x
     → AllByRecursion P (xs ++ x ∷ [])
 all_push P [] x all one = (one, tt)
 all_push P (y ∷ ys) x all one = (all.0, all_push P ys x all.1 one)

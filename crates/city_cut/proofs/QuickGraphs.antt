@@ -17,7 +17,7 @@ use Rattle.city_feature.specs.Shapes.{WhereThere}
 use Rattle.city_cut.specs.Chosen.{named_at}
 use Rattle.city_cut.specs.CityObjects.{AreCityObjects, AreTexts, children, has_parents}
 use Rattle.city_cut.specs.Families.{AreRelated}
-use Rattle.city_cut.specs.Graphs.{AllNameTexts, HasRow, HaveRows, NamesMissing, SomeNamesMissing}
+use Rattle.city_cut.specs.Graphs.{HasRow, HaveRows, NamesMissing, SomeNamesMissing}
 use Rattle.city_cut.specs.Items.{item_list, items_of, values}
 use Rattle.city_cut.specs.Kin.{AreQuoted, HasChildrenText, HasParents, IsQuoted}
 use Rattle.city_cut.specs.Overviews.{HasChildrenIn, HasParentsIn}
@@ -26,7 +26,6 @@ use Rattle.city_cut.specs.Table.{IsTable}
 use Rattle.city_feature.specs.Texts.{IsCompactOf}
 use Rattle.city_cut.proofs.FeatureList.{zip_long}
 use Rattle.city_cut.proofs.Kinship.{names_pairs, placed_more}
-use Rattle.city_cut.proofs.QuickFeatures.{all_push}
 use Rattle.city_cut.proofs.QuickNames.{are_texts}
 use Rattle.city_cut.proofs.QuickOverviews.{said_all}
 use Rattle.city_cut.proofs.Seeking.{zip_push}
@@ -194,14 +193,6 @@ row_said all given value places utf8 (items, is, zip) placed = (
 )
 
 -- ---- names that are not there
-pub name_texts_more : (texts : List (Bor (List ℕ))) (i : ℕ) (d : Bor (List ℕ)) (found : List (Bor (List ℕ)))
-    → AllNameTexts (take i texts) → i < length texts
-    → ((value : Tree) → IsCompactOf (get_or texts i d).now value → AreQuoted found value)
-    → AllNameTexts (take (i + 1) texts)
-name_texts_more texts i d found all within made = rw (take_more texts i d within)
-    (all_push (λ (text : Bor (List ℕ)). (value : Tree) → IsCompactOf text.now value → AreTexts value) (take i texts)
-    (get_or texts i d) all (λ value of. are_texts found value (made value of)))
-
 pub missing_here : (names : List (List ℕ)) (given : List (Bor (List ℕ))) (i : ℕ) (d : Bor (List ℕ)) → i < length given
     → ((k : ℕ) → slice_get names k ≡ Some (get_or given i d).now → ⊥) → (one : Bor (List ℕ)) × Contains given one
     × ((k : ℕ) → slice_get names k ≡ Some one.now → ⊥)

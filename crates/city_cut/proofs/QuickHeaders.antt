@@ -12,14 +12,12 @@ use Rattle.city_json.specs.Parts.{AreParts, with_value}
 use Rattle.city_json.specs.Tree.{Tree, array, no_items, object, MemberTrees, no_members, member}
 use Rattle.city_json.specs.Writable.{AreWritableMembers, IsWritable}
 use Rattle.city_json.specs.declared.compacting.parts.Part.{Part}
-use Rattle.city_grid.specs.Transform.{Grid}
 use Rattle.city_feature.proofs.QuickLines.{utf8}
 use Rattle.city_feature.specs.Changes.{changed_member, changed_named, without_named}
-use Rattle.city_feature.specs.Header.{IsHeader}
 use Rattle.city_feature.specs.Quick.{IsPartNamed}
 use Rattle.city_cut.specs.Boundaries.{changed_members}
-use Rattle.city_cut.specs.Cut.{without_appearance}
-use Rattle.city_cut.specs.HeaderText.{HasHeader, IsBare, IsBareText, emptied}
+use Rattle.city_cut.specs.Cut.{header_tree, without_appearance}
+use Rattle.city_cut.specs.HeaderText.{IsBare, IsBareText, emptied}
 use Rattle.city_cut.specs.Items.{members_in}
 use Rattle.city_feature.specs.Texts.{IsCompactOf}
 use Rattle.city_cut.proofs.MemberChanges.{kept, none_is_unchanged, set_is_changed}
@@ -275,11 +273,10 @@ header_left members None =
     ∙ ap (changed_named (codes "CityObjects") (λ o. object no_members))
     (commute_named (codes "appearance") (codes "vertices") (λ v. array no_items) members refl))
 
-pub has_header : (members : MemberTrees) (before after : Tree) (grid : Grid)
-    → before ≡ object (emptied members)
-    → after ≡ without_appearance (member_of (codes "geometry-templates") before) before → IsHeader after grid
-    → HasHeader (object members) after grid
-has_header members before after grid emptied dropped header =
+header_is : (members : MemberTrees) (before after : Tree) → before ≡ object (emptied members)
+    → after ≡ without_appearance (member_of (codes "geometry-templates") before) before
+    → after ≡ header_tree (object members)
+header_is members before after emptied dropped =
     let turned : changed_member (codes "vertices") (λ v. array no_items)
     (changed_member (codes "CityObjects") (λ o. object no_members) (object members))
     ≡ changed_member (codes "CityObjects") (λ o. object no_members)
@@ -293,12 +290,10 @@ has_header members before after grid emptied dropped header =
     ap (member_of (codes "geometry-templates")) both
     ∙ (kept (codes "CityObjects") (codes "geometry-templates") (λ o. object no_members)
     (changed_member (codes "vertices") (λ v. array no_items) (object members)) refl
-    ∙ kept (codes "vertices") (codes "geometry-templates") (λ v. array no_items) (object members) refl) in (
-      dropped ∙ (ap (λ t. without_appearance t before) templates
-          ∙ (ap (without_appearance (member_of (codes "geometry-templates") (object members))) both
-          ∙ header_left members (member_of (codes "geometry-templates") (object members)))),
-      header,
-    )
+    ∙ kept (codes "vertices") (codes "geometry-templates") (λ v. array no_items) (object members) refl) in
+    dropped ∙ (ap (λ t. without_appearance t before) templates
+    ∙ (ap (without_appearance (member_of (codes "geometry-templates") (object members))) both
+    ∙ header_left members (member_of (codes "geometry-templates") (object members))))
 
 -- ---- the appearance is another
 templates_kept : (members : MemberTrees) → member_of (codes "geometry-templates") (object (emptied members))
@@ -355,12 +350,12 @@ pub bare_read : (line given : List ℕ) (members : MemberTrees) (value : Tree) �
 bare_read line given members value bare given_is spells =
     subst (IsBare members) (read_of_compact given bare.0 value bare.2 (given_is ∙ bare.1) spells) bare.3
 
-pub has_bare_header : (members : MemberTrees) (before after value : Tree) (grid : Grid) → IsBare members before
-    → after ≡ without_appearance (member_of (codes "geometry-templates") before) before → value ≡ after
-    → IsHeader after grid → HasHeader (object members) value grid
-has_bare_header members before after value grid bare dropped same header =
+-- what is left is the header's value, whether or not it is a header
+pub is_bare_header : (members : MemberTrees) (before after : Tree) → IsBare members before
+    → after ≡ without_appearance (member_of (codes "geometry-templates") before) before
+    → after ≡ header_tree (object members)
+is_bare_header members before after bare dropped =
     let rest : Tree = object (emptied members) in
-    let left : after ≡ without_appearance (member_of (codes "geometry-templates") rest) rest =
-    dropped ∙ (ap (λ t. without_appearance t before) bare.templates
-    ∙ (bare.rest ∙ ap (λ t. without_appearance t rest) (sym (templates_kept members)))) in
-    subst (λ v. HasHeader (object members) v grid) (sym same) (has_header members rest after grid refl left header)
+    header_is members rest after refl
+    (dropped ∙ (ap (λ t. without_appearance t before) bare.templates
+    ∙ (bare.rest ∙ ap (λ t. without_appearance t rest) (sym (templates_kept members)))))

@@ -53,7 +53,7 @@ texts_none text found none inside here (item first others) w is =
     absurd (items_some text [] 1 first others inside here w (ap (drop 1) is))
 
 -- a text is taken, and this is left
-record TextTaken (after : List ℕ) (first : Tree) (others : ItemTrees) (one : Bor (List ℕ)) : Type 0 where
+pub record TextTaken (after : List ℕ) (first : Tree) (others : ItemTrees) (one : Bor (List ℕ)) : Type 0 where
   pub is_quoted : IsQuoted one first
   pub is_after : after ≡ compact_more_items others ++ close_bracket ∷ []
 
@@ -61,7 +61,7 @@ content_first : (text more end : List ℕ) → ((flat_map written text ++ quotat
     ≡ flat_map written text ++ quotation_mark ∷ (more ++ end)
 content_first text more end = simp append_assoc
 
-text_taken : (text : List ℕ) (at end : ℕ) (first : Tree) (others : ItemTrees) (one : Bor (List ℕ))
+pub text_taken : (text : List ℕ) (at end : ℕ) (first : Tree) (others : ItemTrees) (one : Bor (List ℕ))
     → at < length text → get_or text at 0 ≡ quotation_mark → at + 1 ≤ end → end ≤ length text
     → LeavesString (drop (at + 1) text) (drop end text) → one.now ≡ slice_range text at end → IsWritable first
     → drop at text ≡ compact_items (item first others) ++ close_bracket ∷ []
@@ -160,7 +160,7 @@ texts_go_on text at end found found' one on there inside here pushed all w is =
     (taken text at end found one all left there) inside here pushed
 
 -- ---- what the texts tell of a city object
-text_said : (one : Bor (List ℕ)) (value : Tree) → IsQuoted one value → IsText value
+pub text_said : (one : Bor (List ℕ)) (value : Tree) → IsQuoted one value → IsText value
 text_said one (string text) is = tt
 text_said one null is = absurd is
 text_said one (boolean b) is = absurd is

@@ -1,12 +1,16 @@
 -- Why city objects are refused.
-use Rattle.std.specs.Prelude.{ℕ}
+use Rattle.std.specs.Prelude.{◌≡◌, ℕ}
 use Rattle.std.specs.List.{AllByRecursion}
 use Rattle.byte_streams.specs.declared.fault.Fault.{Fault}
 use Rattle.byte_streams.specs.declared.fault.Fault.TheVariants.{ChildMissing, Orphan, BoundaryIndex}
-use Rattle.city_json.specs.Tree.{MemberTrees}
+use Rattle.city_json.specs.Tree.{Tree, MemberTrees, object}
 use Rattle.city_cut.specs.Boundaries.{IsBounded}
-use Rattle.city_cut.specs.CityObjects.{HasOrphan, LacksChild}
+use Rattle.city_cut.specs.CityObjects.{AreCityObjects, HasOrphan, LacksChild}
 use Rattle.city_cut.specs.Items.{values}
+
+-- an object of city objects
+abbrev pub HoldsCityObjects : Tree → Type 0
+HoldsCityObjects value = (members : MemberTrees) × (value ≡ object members) × AreCityObjects members
 
 -- a child names no object; or an object is in no feature; or a boundary is none, of so many vertices
 abbrev pub RefusesObjects : Fault → ℕ → MemberTrees → Type 0

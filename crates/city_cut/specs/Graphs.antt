@@ -2,7 +2,7 @@
 use Rattle.std.specs.Prelude.{ℕ, List, Some, Contains, Vec}
 use Rattle.std.specs.Borrow.{Bor}
 use Rattle.std.specs.Global.{Global}
-use Rattle.std.specs.List.{AllByRecursion, AllZip}
+use Rattle.std.specs.List.{AllZip}
 use Rattle.city_json.specs.Tree.{Tree, string}
 use Rattle.city_cut.specs.CityObjects.{AreTexts}
 use Rattle.city_cut.specs.Items.{items_of}
@@ -17,11 +17,6 @@ HasRow names text row = (value : Tree) → IsCompactOf text value
 -- the same of the children of objects
 abbrev pub HaveRows : List (List ℕ) → List (Bor (List ℕ)) → List (Vec ℕ Global) → Type 0
 HaveRows names texts rows = AllZip (λ (text : Bor (List ℕ)) (row : Vec ℕ Global). HasRow names text.now row) texts rows
-
--- whatever values have these texts, they are arrays of texts
-abbrev pub AllNameTexts : List (Bor (List ℕ)) → Type 0
-AllNameTexts texts = AllByRecursion
-    (λ (text : Bor (List ℕ)). (value : Tree) → IsCompactOf text.now value → AreTexts value) texts
 
 -- whatever value has this text, some text in it is none of the names
 abbrev pub NamesMissing : List (List ℕ) → List ℕ → Type 0

@@ -18,7 +18,7 @@ fn is_plain(alloc: Global, cut: &mut CutTexts, document: &str) -> bool {
 }
 
 /// The document in its compact text, in which its triples are noted.
-fn given(alloc: Global, document: &str) -> Option<CompactedFeature>
+pub(crate) fn given(alloc: Global, document: &str) -> Option<CompactedFeature>
     ensures { IfSome result (λ feature. (members : MemberTrees) × IsCompactOf feature.found.line (object members)
         × AreParts 1 feature.found.parts.items members × HasTriples feature.found.line feature.triples) }
 {

@@ -7,6 +7,8 @@ mod answers;
 #[cfg(test)]
 mod families;
 #[cfg(test)]
+mod faults;
+#[cfg(test)]
 mod geometries;
 #[cfg(test)]
 mod moving;

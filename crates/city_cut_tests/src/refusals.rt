@@ -1,4 +1,5 @@
 //! Documents that are refused.
+use crate::faults::expect_refused;
 use crate::texts::expect;
 
 /// A building with these members, and two parts.
@@ -49,10 +50,13 @@ const SECOND_BOUNDARIES: &str = "[1,4] => BoundaryIndex
 1 => BoundaryIndex
 {} => BoundaryIndex";
 
+/// Values that are no objects.
+const NO_OBJECTS: &str = "[] => NotCityJson
+3 => NotCityJson";
+
 /// Documents that are none, or have a member that is not what it should be.
-const WHOLE: &str = r#"[] => NotCityJson
-3 => NotCityJson
-{"version":"2.0","transform":{"scale":[1,1,1],"translate":[0,0,0]}} => NotCityJson
+const WHOLE: &str =
+    r#"{"version":"2.0","transform":{"scale":[1,1,1],"translate":[0,0,0]}} => NotCityJson
 {"type":"CityJSONFeature","version":"2.0","transform":{"scale":[1,1,1],"translate":[0,0,0]}} => NotCityJson
 {"type":"CityJSON","version":"1.1","CityObjects":{"a":3},"vertices":[3]} => NotCityJson
 {"type":"CityJSON","version":"1.1","CityObjects":{"a":{"children":["b"]}},"vertices":[3]} => Version
@@ -80,10 +84,11 @@ const FURTHER: &str = r#""metadata":[] => NotCityJson
 
 #[test]
 fn documents_are_refused(rt: HostRuntime) {
-    expect(&rt, BUILDING, "ROW", BUILDINGS);
-    expect(&rt, FAULTY_BUILDING, "ROW", FAULTY_BUILDINGS);
-    expect(&rt, FIRST_PART, "ROW", FIRST_BOUNDARIES);
-    expect(&rt, SECOND_PART, "ROW", SECOND_BOUNDARIES);
-    expect(&rt, "ROW", "ROW", WHOLE);
-    expect(&rt, MEMBERS, "ROW", FURTHER);
+    expect_refused(&rt, BUILDING, BUILDINGS);
+    expect_refused(&rt, FAULTY_BUILDING, FAULTY_BUILDINGS);
+    expect_refused(&rt, FIRST_PART, FIRST_BOUNDARIES);
+    expect_refused(&rt, SECOND_PART, SECOND_BOUNDARIES);
+    expect(&rt, "ROW", "ROW", NO_OBJECTS);
+    expect_refused(&rt, "ROW", WHOLE);
+    expect_refused(&rt, MEMBERS, FURTHER);
 }

@@ -23,7 +23,7 @@ pub use choices::types::{Types, types};
 pub use features::Feature;
 pub use features::ended::{is_appearance_end, own_text};
 pub use features::faults::vertices_fault;
-pub use features::line_faults::line_fault;
+pub use features::line_faults::{is_array, is_object, is_text, line_fault};
 pub use features::lines::{feature_line, feature_text};
 pub use features::moving::shifted;
 pub use features::quick::measured::measured;

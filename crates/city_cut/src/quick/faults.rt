@@ -1,24 +1,24 @@
 //! Why a document is not cut, found on its compact text.
-ghost use Rattle.std.specs.Prelude.{◌≡◌, ℕ, List, IfSome, IsTrue, All, length};
+ghost use Rattle.std.specs.Prelude.{◌≡◌, ◌↔◌, List, IfSome, IsTrue, length};
 ghost use Rattle.city_json.specs.Parts.{AreParts};
 ghost use Rattle.city_json.specs.Tree.{MemberTrees, Tree, object};
-ghost use Rattle.city_grid.specs.Axes.{IsInRange, Triple};
+ghost use Rattle.city_grid.specs.Axes.{Triple};
 ghost use Rattle.city_feature.specs.Quick.{SpellsVertices};
 ghost use Rattle.city_feature.specs.Texts.{IsCompactOf};
-ghost use Rattle.city_cut.specs.CityObjects.{AreCityObjects};
+ghost use Rattle.city_cut.specs.CityObjects.{IsCityObject};
 ghost use Rattle.city_cut.specs.Cut.{RefusesCut};
-ghost use Rattle.city_cut.specs.Faults.{RefusesObjects};
+ghost use Rattle.city_cut.specs.Faults.{HoldsCityObjects, RefusesObjects};
 
 use super::bounds::has_wrong_boundary;
-use super::graph::{graph_of, misses_child, name_texts, table_of};
-use super::headers::header_of;
+use super::graph::{graph_of, misses_child, table_of};
+use super::headers::check_header;
+use super::kin::is_array_of_texts;
 use super::overview::{Overview, overview_of};
 use super::points::starts_of;
-use super::texts::member_or;
-use super::vertices_text;
+use super::texts::{member_or, parts_of};
 use crate::families::check_belonging;
 use byte_streams::Fault;
-use city_feature::vertices_of;
+use city_feature::{between, is_array, is_object, vertices_fault, vertices_of};
 use city_json::Part;
 use std::alloc::Global;
 
@@ -34,15 +34,38 @@ fn vertex_count(alloc: Global, text: &[u8]) -> Option<usize>
     Some(found.vertices.len())
 }
 
-/// Whether these are the texts of city objects. No: undecided.
-fn are_city_objects(alloc: Global, text: &[u8]) -> bool
-    ensures { IsTrue result → (value : Tree) → IsCompactOf text.now value
-        → (members : MemberTrees) × (value ≡ object members) × AreCityObjects members }
+/// Whether the value whose compact text this is is a city object. `None`: undecided.
+fn is_city_object(alloc: Global, text: &[u8]) -> Option<bool>
+    ensures { IfSome result (λ is. (value : Tree) → IsCompactOf text.now value → (IsTrue is ↔ IsCityObject value)) }
 {
-    let Some(found) = overview_of(alloc, text) else {
-        return false;
-    };
-    name_texts(alloc, &found.children)
+    if !is_object(text) {
+        return Some(false);
+    }
+    let parts = parts_of(alloc, text)?;
+    let parents = member_or(text, &parts, b"\"parents\":", b"[]")?;
+    if !is_array_of_texts(parents) {
+        return Some(false);
+    }
+    let children = member_or(text, &parts, b"\"children\":", b"[]")?;
+    Some(is_array_of_texts(children))
+}
+
+/// Whether it is an object of city objects.
+fn are_city_objects(alloc: Global, text: &[u8]) -> Option<bool>
+    ensures { IfSome result (λ are. (value : Tree) → IsCompactOf text.now value → (IsTrue are ↔ HoldsCityObjects value)) }
+{
+    if !is_object(text) {
+        return Some(false);
+    }
+    let parts = parts_of(alloc, text)?;
+    for part in &parts {
+        let value = between(text, part.value, part.end)?;
+        let is_one = is_city_object(alloc, value)?;
+        if !is_one {
+            return Some(false);
+        }
+    }
+    Some(true)
 }
 
 /// Why the city objects of this text are refused, whose boundaries name so many vertices. `None`: undecided, or they are
@@ -82,10 +105,19 @@ pub fn cut_fault(alloc: Global, line: &[u8], parts: &[Part]) -> Option<Fault>
         → AreParts 1 parts.now members → RefusesCut fault (object members)) }
 {
     let objects = member_or(line, parts, b"\"CityObjects\":", b"{}")?;
-    let vertices = vertices_text(line, parts)?;
-    let _ = header_of(alloc, line, parts)?;
-    if !are_city_objects(alloc, objects) {
-        return None;
+    let vertices = member_or(line, parts, b"\"vertices\":", b"[]")?;
+    if !is_array(vertices) {
+        return Some(Fault::NotCityJson);
+    }
+    let holds = are_city_objects(alloc, objects)?;
+    if !holds {
+        return Some(Fault::NotCityJson);
+    }
+    if let Err(fault) = check_header(alloc, line, parts)? {
+        return Some(fault);
+    }
+    if let Some(fault) = vertices_fault(alloc, vertices) {
+        return Some(fault);
     }
     let count = vertex_count(alloc, vertices)?;
     objects_fault(alloc, objects, count)

@@ -5,7 +5,7 @@ ghost use Rattle.std.specs.List.{AllByRecursion};
 ghost use Rattle.city_json.specs.Compact.{quoted};
 ghost use Rattle.city_json.specs.Parts.{AreParts};
 ghost use Rattle.city_json.specs.Tree.{Tree, member_trees, object, string};
-ghost use Rattle.city_cut.specs.Graphs.{AllNameTexts, HasRow, HaveRows, NamesMissing, SomeNamesMissing};
+ghost use Rattle.city_cut.specs.Graphs.{HasRow, HaveRows, NamesMissing, SomeNamesMissing};
 ghost use Rattle.city_cut.specs.Places.{ArePlaced};
 ghost use Rattle.city_cut.specs.Table.{IsTable};
 ghost use Rattle.city_feature.specs.Texts.{IsCompactOf};
@@ -81,18 +81,6 @@ pub(super) fn graph_of(
     Some(graph)
 }
 
-/// Whether each of these is the text of an array of texts. No: undecided.
-pub(super) fn name_texts(alloc: Global, children: &[&[u8]]) -> bool
-    ensures { IsTrue result → AllNameTexts children.now }
-{
-    for text in children {
-        let Some(_) = texts_of(alloc, text) else {
-            return false;
-        };
-    }
-    true
-}
-
 /// Whether one of these names is not there.
 fn is_missing(named: &[&[u8]], table: &[(&[u8], usize)]) -> bool
     ensures { IsTrue result → (names : List (List ℕ)) → IsTable names table.now → (one : Bor (List ℕ))
@@ -118,11 +106,7 @@ fn misses_named(alloc: Global, text: &[u8], table: &[(&[u8], usize)]) -> bool
 }
 
 /// Whether some object names a child that is not there. The texts of the children of each are given. No: undecided.
-pub(super) fn misses_child(
-    alloc: Global,
-    children: &[&[u8]],
-    table: &[(&[u8], usize)],
-) -> bool
+pub(super) fn misses_child(alloc: Global, children: &[&[u8]], table: &[(&[u8], usize)]) -> bool
     ensures { IsTrue result → (names : List (List ℕ)) → AllByRecursion IsUtf8 names
         → IsTable (map quoted names) table.now → SomeNamesMissing names children.now }
 {

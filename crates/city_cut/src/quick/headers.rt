@@ -1,5 +1,5 @@
 //! The header of a document, read from the compact text of what is no city object and no vertex.
-ghost use Rattle.std.specs.Prelude.{◌≡◌, ◌++◌, ◌∷◌, [], ℕ, List, None, IfSome, IsTrue, IsUtf8, bytes_eq, codes, false};
+ghost use Rattle.std.specs.Prelude.{◌≡◌, ◌++◌, ◌∷◌, [], ℕ, List, None, IfErr, IfSome, IsTrue, IsUtf8, OnOk, bytes_eq, codes, false};
 ghost use Rattle.city_json.specs.Bytes.{colon};
 ghost use Rattle.city_json.specs.Compact.{compact, quoted};
 ghost use Rattle.city_json.specs.Members.{first_named};
@@ -7,15 +7,17 @@ ghost use Rattle.city_json.specs.Parts.{AreParts};
 ghost use Rattle.city_json.specs.Tree.{MemberTrees, Tree, object, tree};
 ghost use Rattle.city_json.specs.declared.compacting.parts.Part.{Part};
 ghost use Rattle.city_feature.specs.Changes.{changed_named};
-ghost use Rattle.city_feature.specs.Header.{IsHeader};
+ghost use Rattle.city_grid.specs.Transform.{Grid};
+ghost use Rattle.city_feature.specs.Header.{IsHeader, RefusesHeader};
 ghost use Rattle.city_feature.specs.Quick.{IsPartNamed};
+ghost use Rattle.city_cut.specs.Cut.{header_tree};
 ghost use Rattle.city_cut.specs.HeaderText.{HasHeader, IsBare, IsBareText, emptied};
 ghost use Rattle.city_feature.specs.Texts.{IsCompactOf};
 
 use super::texts::{append_back, append_front, append_text, is_absent, parts_of};
 use crate::headers::drop_appearance;
-use byte_streams::Line;
-use city_feature::{Header, between, header, part_named};
+use byte_streams::{Fault, Line};
+use city_feature::{Header, between, header, is_city_json, is_version_2, part_named, transform_of};
 use city_json::{Json, Part, read};
 use std::alloc::Global;
 
@@ -163,13 +165,48 @@ fn checked(json: Json) -> Option<Header>
     }
 }
 
+/// What the header of the document is to be. `None`: undecided.
+fn bare_header(alloc: Global, text: &[u8], parts: &[Part]) -> Option<Json>
+    ensures { IfSome result (λ json. (members : MemberTrees) → IsCompactOf text.now (object members)
+        → AreParts 1 parts.now members → tree json ≡ header_tree (object members)) }
+{
+    let mut json = read_bare(alloc, text, parts)?;
+    drop_appearance(&mut json);
+    Some(json)
+}
+
 /// The header of the document.
 pub(super) fn header_of(alloc: Global, text: &[u8], parts: &[Part]) -> Option<Header>
     ensures { IfSome result (λ header. (members : MemberTrees)
         → IsCompactOf text.now (object members) → AreParts 1 parts.now members
         → HasHeader (object members) (tree header.json) header.grid) }
 {
-    let mut json = read_bare(alloc, text, parts)?;
-    drop_appearance(&mut json);
+    let json = bare_header(alloc, text, parts)?;
     checked(json)
+}
+
+/// Refuses a value that is no header.
+fn check(value: &Json) -> Result<(), Fault>
+    ensures ok { OnOk result ((grid : Grid) × IsHeader (tree value.now) grid) }
+    ensures refusal { IfErr result (λ fault. RefusesHeader fault (tree value.now)) }
+{
+    if !is_city_json(value) {
+        return Err(Fault::NotCityJson);
+    }
+    if !is_version_2(value) {
+        return Err(Fault::Version);
+    }
+    let _ = transform_of(value)?;
+    Ok(())
+}
+
+/// Refuses a document of which what is to be its header is none. `None`: undecided.
+pub(super) fn check_header(alloc: Global, text: &[u8], parts: &[Part]) -> Option<Result<(), Fault>>
+    ensures { IfSome result (λ found. (members : MemberTrees) → IsCompactOf text.now (object members)
+        → AreParts 1 parts.now members
+        → OnOk found ((grid : Grid) × IsHeader (header_tree (object members)) grid)
+        × IfErr found (λ fault. RefusesHeader fault (header_tree (object members)))) }
+{
+    let json = bare_header(alloc, text, parts)?;
+    Some(check(&json))
 }

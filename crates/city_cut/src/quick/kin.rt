@@ -1,14 +1,15 @@
 //! What the texts of city objects say of their parents and their children.
 //!
 //! Names are compared by their compact texts, which are the same where the names are.
-ghost use Rattle.std.specs.Prelude.{◌≡◌, ◌++◌, ◌∷◌, [], IfSome, OnSome};
+ghost use Rattle.std.specs.Prelude.{◌≡◌, ◌++◌, ◌∷◌, [], ◌↔◌, IfSome, IsTrue, OnSome};
 ghost use Rattle.city_json.specs.CompactMembers.{HasParts};
 ghost use Rattle.city_json.specs.Tree.{Tree};
+ghost use Rattle.city_cut.specs.CityObjects.{AreTexts};
 ghost use Rattle.city_cut.specs.Kin.{AreQuoted, HasChildrenText, HasParents};
 ghost use Rattle.city_feature.specs.Texts.{IsCompactOf};
 
 use super::texts::member_or;
-use city_feature::between;
+use city_feature::{between, is_array};
 use city_grid::byte_is;
 use city_json::{Part, string_end};
 use std::alloc::Global;
@@ -47,6 +48,29 @@ pub(super) fn texts_of(alloc: Global, text: &[u8]) -> Option<Vec<&[u8]>>
         }
         if !byte_is(text, end, b',') {
             return None;
+        }
+        at = end + 1;
+    }
+}
+
+/// Whether the value whose compact text this is is an array of texts.
+pub(super) fn is_array_of_texts(text: &[u8]) -> bool
+    ensures { (value : Tree) → IsCompactOf text.now value → (IsTrue result ↔ AreTexts value) }
+{
+    if !is_array(text) {
+        return false;
+    }
+    if byte_is(text, 1, b']') {
+        return true;
+    }
+    let mut at = 1usize;
+    'texts: loop {
+        if !byte_is(text, at, b'"') {
+            return false;
+        }
+        let end = string_end(text, at + 1);
+        if !byte_is(text, end, b',') {
+            return true;
         }
         at = end + 1;
     }

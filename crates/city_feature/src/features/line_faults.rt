@@ -31,21 +31,21 @@ fn is_feature_type(text: &[u8]) -> bool
 }
 
 /// Whether the value whose compact text this is is a text.
-fn is_text(text: &[u8]) -> bool
+pub fn is_text(text: &[u8]) -> bool
     ensures { (value : Tree) → IsCompactOf text.now value → (IsTrue result ↔ IsText value) }
 {
     byte_is(text, 0, b'"')
 }
 
 /// The same for an object.
-pub(crate) fn is_object(text: &[u8]) -> bool
+pub fn is_object(text: &[u8]) -> bool
     ensures { (value : Tree) → IsCompactOf text.now value → (IsTrue result ↔ IsObject value) }
 {
     byte_is(text, 0, b'{')
 }
 
 /// The same for an array.
-pub(crate) fn is_array(text: &[u8]) -> bool
+pub fn is_array(text: &[u8]) -> bool
     ensures { (value : Tree) → IsCompactOf text.now value → (IsTrue result ↔ IsArray value) }
 {
     byte_is(text, 0, b'[')
