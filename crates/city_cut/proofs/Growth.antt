@@ -6,8 +6,6 @@ use Rattle.std.proofs.lemmas.List.Elements.{Contains-append_left, Contains-appen
 use Rattle.std.proofs.lemmas.Option.{get_or_from_slice_get, slice_get_within, slice_get_read}
 use Rattle.std.proofs.lemmas.List.Sums.{sum_by-set}
 use Rattle.std.specs.List.{Contains, All, slice_get, slice_index, slice_set}
-use Rattle.std.specs.Global.{Global}
-use Rattle.std.specs.Prelude.{Vec}
 use Rattle.city_cut.specs.Reach.{Reached, itself, onward}
 use Rattle.city_cut.specs.Search.{After, InRange, IsMarked, IsReachedFrom, unmarked, Grows, Searches}
 
@@ -199,7 +197,7 @@ kept_others mark new marks marks' marks'' found g later k inside other =
     let same = later k (omega (arith, inside, g.long)) other in
     same ∙ g.others k inside (λ e. other (same ∙ e))
 
-from_one : (graph : List (Vec ℕ Global)) (root k : ℕ) → IsReachedFrom graph (root ∷ []) k
+from_one : (graph : List (List ℕ)) (root k : ℕ) → IsReachedFrom graph (root ∷ []) k
     ↔ Reached (After graph) root k
 from_one graph root k = (
   λ far. elim (Contains-push_cases [] root far.0 far.1) [
@@ -209,13 +207,13 @@ from_one graph root k = (
   λ far. (root, (0, omega arith, refl), far),
 )
 
-pub reached_from_one : {P : Type 0} (graph : List (Vec ℕ Global)) (starts : List ℕ) (root k : ℕ) → starts ≡ root ∷ []
+pub reached_from_one : {P : Type 0} (graph : List (List ℕ)) (starts : List ℕ) (root k : ℕ) → starts ≡ root ∷ []
     → P ↔ IsReachedFrom graph starts k → P ↔ Reached (After graph) root k
 reached_from_one graph starts root k is both =
     let there = subst (λ l. IsReachedFrom graph l k ↔ Reached (After graph) root k) (sym is) (from_one graph root k) in
     (λ p. there.0 (both.0 p), λ far. both.1 (there.1 far))
 
-pub searches_start : (graph : List (Vec ℕ Global)) (starts : List ℕ) (mark : ℕ) (marks : List ℕ)
+pub searches_start : (graph : List (List ℕ)) (starts : List ℕ) (mark : ℕ) (marks : List ℕ)
     → ((k : ℕ) → Contains starts k ↔ IsMarked marks mark k) → Searches graph starts mark marks marks starts 0
 searches_start graph starts mark marks both = record {
   long = refl;
@@ -228,9 +226,9 @@ searches_start graph starts mark marks both = record {
   closed = λ i below. absurd (omega arith);
 }
 
-pub searches_on : (graph : List (Vec ℕ Global)) (starts : List ℕ) (mark : ℕ) (marks marks' marks'' found found' : List ℕ) (at : ℕ)
-    (row : Vec ℕ Global) → Searches graph starts mark marks marks' found at → at < length found
-    → slice_get graph (slice_index found at) ≡ Some row → Grows mark row.items marks' marks'' found found'
+pub searches_on : (graph : List (List ℕ)) (starts : List ℕ) (mark : ℕ) (marks marks' marks'' found found' : List ℕ) (at : ℕ)
+    (row : List ℕ) → Searches graph starts mark marks marks' found at → at < length found
+    → slice_get graph (slice_index found at) ≡ Some row → Grows mark row marks' marks'' found found'
     → Searches graph starts mark marks marks'' found' (at + 1)
 searches_on graph starts mark marks marks' marks'' found found' at row s within is g = record {
   long = g.long ∙ s.long;
@@ -268,7 +266,7 @@ searches_on graph starts mark marks marks' marks'' found found' at row s within 
         let a : After graph (slice_index found at) b =
         subst (λ n. After graph n b) (stays i (omega arith) ∙ ap (λ n. slice_index found n) same) after in
         rw g.found_is (elim (g.only_found b (g.all_new b
-        (subst (λ (r : Vec ℕ Global). Contains r.items b) (some_same row a.0 (sym is ∙ a.1)) a.2))) [
+        (subst (λ (r : List ℕ). Contains r b) (some_same row a.0 (sym is ∙ a.1)) a.2))) [
           | inl old ↦ Contains-append_left found g.more b (s.only b old)
           | inr new ↦ Contains-append_right found g.more b new
         ])
@@ -277,7 +275,7 @@ searches_on graph starts mark marks marks' marks'' found found' at row s within 
         onwards b (s.closed i (omega (arith, apart)) b
         (subst (λ n. After graph n b) (stays i (omega (arith, apart))) after))
 
-pub searches_end : (graph : List (Vec ℕ Global)) (starts : List ℕ) (mark : ℕ) (marks marks' found : List ℕ)
+pub searches_end : (graph : List (List ℕ)) (starts : List ℕ) (mark : ℕ) (marks marks' found : List ℕ)
     (at start k : ℕ) → Searches graph starts mark marks marks' found at → length found ≤ at → Contains starts start
     → Reached (After graph) start k → Contains found k
 searches_end graph starts mark marks marks' found at start k s done c itself = s.begins start c
@@ -287,7 +285,7 @@ searches_end graph starts mark marks marks' found at start k s done c (onward a 
     (subst (λ n. After graph n b) (sym there.2 ∙ get_or_default found there.0 a 0 there.1) after)
 
 -- all was found
-pub searches_all : (graph : List (Vec ℕ Global)) (starts : List ℕ) (mark : ℕ) (marks marks' found : List ℕ)
+pub searches_all : (graph : List (List ℕ)) (starts : List ℕ) (mark : ℕ) (marks marks' found : List ℕ)
     (at k : ℕ) → Searches graph starts mark marks marks' found at → length found ≤ at
     → Contains found k ↔ IsReachedFrom graph starts k
 searches_all graph starts mark marks marks' found at k s done = (
@@ -295,7 +293,7 @@ searches_all graph starts mark marks marks' found at k s done = (
   λ far. searches_end graph starts mark marks marks' found at far.0 k s done far.1 far.2,
 )
 
-pub searches_marked : (graph : List (Vec ℕ Global)) (starts : List ℕ) (mark : ℕ) (marks marks' found : List ℕ)
+pub searches_marked : (graph : List (List ℕ)) (starts : List ℕ) (mark : ℕ) (marks marks' found : List ℕ)
     (at k : ℕ) → Searches graph starts mark marks marks' found at → length found ≤ at
     → IsMarked marks' mark k ↔ IsReachedFrom graph starts k
 searches_marked graph starts mark marks marks' found at k s done = (
@@ -304,30 +302,21 @@ searches_marked graph starts mark marks marks' found at k s done = (
 )
 
 -- what is found stands in the table
-pub found_within : (graph : List (Vec ℕ Global)) (starts : List ℕ) (mark : ℕ) (marks marks' found : List ℕ) (at x : ℕ)
+pub found_within : (graph : List (List ℕ)) (starts : List ℕ) (mark : ℕ) (marks marks' found : List ℕ) (at x : ℕ)
     → Searches graph starts mark marks marks' found at → at < length found → x ≡ get_or found at x → x < length marks
 found_within graph starts mark marks marks' found at x s within is = let m = s.marked x (at, within, sym is) in
     omega (arith, m.0, s.long)
 
-pub rows_within : (graph : List (Vec ℕ Global)) (n x : ℕ) (row : Vec ℕ Global) → InRange graph n
-    → slice_get graph x ≡ Some row → All (λ b. b < n) row.items
+pub rows_within : (graph : List (List ℕ)) (n x : ℕ) (row : List ℕ) → InRange graph n
+    → slice_get graph x ≡ Some row → All (λ b. b < n) row
 rows_within graph n x row all is = rw (get_or_from_slice_get graph x row row is) at
     (all x row (slice_get_within graph x row is))
 
-pub searches_step : (graph : List (Vec ℕ Global)) (starts : List ℕ) (mark : ℕ)
-    (marks marks' marks'' found found' items : List ℕ)
-    (at x : ℕ) (row : Vec ℕ Global)
-    → Searches graph starts mark marks marks' found at → at < length found → length marks ≡ length graph
-    → x ≡ get_or found at x → row ≡ get_or graph x row → items ≡ row.items
-    → Grows mark items marks' marks'' found found'
+pub searches_step : (graph : List (List ℕ)) (starts : List ℕ) (mark : ℕ)
+    (marks marks' marks'' found found' : List ℕ) (at x : ℕ) (row : List ℕ)
+    → Searches graph starts mark marks marks' found at → at < length found → x ≡ get_or found at x
+    → slice_get graph x ≡ Some row → Grows mark row marks' marks'' found found'
     → Searches graph starts mark marks marks'' found' (at + 1)
-searches_step graph starts mark marks marks' marks'' found found' items at x row s within long is there same g =
+searches_step graph starts mark marks marks' marks'' found found' at x row s within is there g =
     searches_on graph starts mark marks marks' marks'' found found' at row s within
-    (subst (λ n. slice_get graph n ≡ Some row) (is ∙ get_or_default found at x 0 within) got)
-    (subst (λ new. Grows mark new marks' marks'' found found') same g)
-  where
-    below : x < length graph
-    below = let b = found_within graph starts mark marks marks' found at x s within is in omega (arith, b, long)
-
-    got : slice_get graph x ≡ Some row
-    got = slice_get_read graph (length graph) x row refl below there
+    (subst (λ n. slice_get graph n ≡ Some row) (is ∙ get_or_default found at x 0 within) there) g

@@ -13,9 +13,7 @@ use Rattle.std.specs.Prelude.{eqb, ◌↔◌}
 use Rattle.std.proofs.lemmas.List.Elements.{All-from_recursion, Contains-get_or, Contains-append_left, Contains-push, Contains-push_cases}
 use Rattle.std.proofs.lemmas.Option.{slice_get_within, slice_get-get_or, slice_get_cases, slice_get-map, slice_get_read, get_or_from_slice_get}
 use Rattle.std.proofs.lemmas.Slice.Eq.{bytes_eq-Decides}
-use Rattle.std.specs.Global.{Global}
 use Rattle.std.specs.List.{AllByRecursion, Contains, slice_get}
-use Rattle.std.specs.Prelude.{Vec}
 use Rattle.city_json.specs.Fits.{HasDistinctNames, IsNewName}
 use Rattle.city_json.specs.Members.{first_named, names}
 use Rattle.city_json.specs.declared.json.Json.{Json}
@@ -77,7 +75,7 @@ one_place (member first v others) (suc j) zero name distinct at_j at_k =
 one_place (member first v others) (suc j) (suc k) name distinct at_j at_k =
     ap suc (one_place others j k name distinct.1 at_j at_k)
 
-module _ (objects : MemberTrees) (graph : List (Vec ℕ Global)) (distinct : HasDistinctNames objects)
+module _ (objects : MemberTrees) (graph : List (List ℕ)) (distinct : HasDistinctNames objects)
     (is_graph : IsGraph objects graph) where
   value_at : (a : ℕ) (name : List ℕ) → slice_get (names objects) a ≡ Some name → (value : Tree)
       × (slice_get (values objects) a ≡ Some value)
@@ -85,9 +83,9 @@ module _ (objects : MemberTrees) (graph : List (Vec ℕ Global)) (distinct : Has
       let d : Tree = string [] in
       (get_or (values objects) a d, slice_get-get_or (values objects) a d (omega (arith, within, long_values objects)))
 
-  row_at : (a : ℕ) (name : List ℕ) → slice_get (names objects) a ≡ Some name → (row : Vec ℕ Global)
+  row_at : (a : ℕ) (name : List ℕ) → slice_get (names objects) a ≡ Some name → (row : List ℕ)
       → slice_get graph a ≡ Some row → (value : Tree) × (first_named name objects ≡ Some value)
-      × ArePlaced (names objects) (children value) row.items
+      × ArePlaced (names objects) (children value) row
   row_at a name is row there =
       let v = value_at a name is in
       (v.0, first_at objects a name v.0 distinct is v.1, is_graph.rows a row v.0 there v.1)
@@ -107,11 +105,11 @@ module _ (objects : MemberTrees) (graph : List (Vec ℕ Global)) (distinct : Has
       let same : v.0 ≡ of.0 = some_same v.0 of.0 (sym (first_at objects a name v.0 distinct is v.1) ∙ of.1) in
       after_row a name child of (slice_get_or_row a (omega (arith, within, is_graph.long))) v.0 v.1 same
     where
-      slice_get_or_row : (a : ℕ) → a < length graph → (row : Vec ℕ Global) × (slice_get graph a ≡ Some row)
+      slice_get_or_row : (a : ℕ) → a < length graph → (row : List ℕ) × (slice_get graph a ≡ Some row)
       slice_get_or_row a within = elim ((slice_get_cases graph a).1)
           [ inl there ↦ (there.0, there.2) | inr past ↦ absurd (omega (arith, past.0)) ]
 
-      after_row : (a : ℕ) (name child : List ℕ) (of : IsChild objects name child) → (row : Vec ℕ Global)
+      after_row : (a : ℕ) (name child : List ℕ) (of : IsChild objects name child) → (row : List ℕ)
           × (slice_get graph a ≡ Some row) → (value : Tree) → slice_get (values objects) a ≡ Some value → value ≡ of.0
           → (b : ℕ) × (slice_get (names objects) b ≡ Some child) × After graph a b
       after_row a name child of row value there same =
@@ -206,22 +204,22 @@ pub names_long : (objects : List Member) → length (names (members_tree objects
 names_long [] = refl
 names_long (m ∷ ms) = let e = names_long ms in omega (arith, e)
 
-abbrev pub AreRows : MemberTrees → List (Vec ℕ Global) → Type 0
-AreRows objects graph = (a : ℕ) (row : Vec ℕ Global) (one_object : Tree) → slice_get graph a ≡ Some row
-    → slice_get (values objects) a ≡ Some one_object → ArePlaced (names objects) (children one_object) row.items
+abbrev pub AreRows : MemberTrees → List (List ℕ) → Type 0
+AreRows objects graph = (a : ℕ) (row : List ℕ) (one_object : Tree) → slice_get graph a ≡ Some row
+    → slice_get (values objects) a ≡ Some one_object → ArePlaced (names objects) (children one_object) row
 
-pub rows_more : (objects : List Member) (graph graph' : List (Vec ℕ Global)) (row : Vec ℕ Global) (i : ℕ) (m : Member)
+pub rows_more : (objects : List Member) (graph graph' : List (List ℕ)) (row : List ℕ) (i : ℕ) (m : Member)
     (value : Tree)
     → AreRows (members_tree objects) graph → length graph ≡ i → i < length objects → m ≡ get_or objects i m
     → value ≡ (named_tree m).1
-    → ArePlaced (names (members_tree objects)) (children value) row.items
+    → ArePlaced (names (members_tree objects)) (children value) row
     → graph' ≡ graph ++ row ∷ [] → AreRows (members_tree objects) graph'
 rows_more objects graph graph' row i m value rows long within at is placed pushed =
     λ a r one_object there of. by a r one_object (a == i) refl (sym (ap (λ g. slice_get g a) pushed) ∙ there) of
   where
-    by : (a : ℕ) (r : Vec ℕ Global) (one_object : Tree) (b : Bool) → (a == i) ≡ b
+    by : (a : ℕ) (r : List ℕ) (one_object : Tree) (b : Bool) → (a == i) ≡ b
         → slice_get (graph ++ row ∷ []) a ≡ Some r → slice_get (values (members_tree objects)) a ≡ Some one_object
-        → ArePlaced (names (members_tree objects)) (children one_object) r.items
+        → ArePlaced (names (members_tree objects)) (children one_object) r
     by a r one_object true e there of =
         let same = eqb-true a i e in
         let last : get_or (graph ++ row ∷ []) a r ≡ row = get_or_push graph row r a (long ∙ sym same) in
@@ -230,8 +228,8 @@ rows_more objects graph graph' row i m value rows long within at is placed pushe
         let is_value : slice_get (values (members_tree objects)) a ≡ Some (named_tree m).1 =
         rw (values_map objects, slice_get-map, same, own) refl in
         let is_object : value ≡ one_object = is ∙ some_same (named_tree m).1 one_object (sym is_value ∙ of) in
-        subst (λ (v : Vec ℕ Global). ArePlaced (names (members_tree objects)) (children one_object) v.items) is_row
-        (subst (λ t. ArePlaced (names (members_tree objects)) (children t) row.items) is_object placed)
+        subst (λ (v : List ℕ). ArePlaced (names (members_tree objects)) (children one_object) v) is_row
+        (subst (λ t. ArePlaced (names (members_tree objects)) (children t) row) is_object placed)
     by a r one_object false e there of =
         let inside = slice_get_within (graph ++ row ∷ []) a r there in
         let less : a < length graph = omega (arith, eqb-false a i e, length-append graph (row ∷ []), long, inside) in
@@ -249,7 +247,7 @@ value_among objects i m within at = rw (values_map objects) (
       ∙ (get_or-map (λ m. (named_tree m).1) objects i m ∙ ap (λ (m : Member). (named_tree m).1) (sym at)),
 )
 
-module _ (objects : MemberTrees) (graph : List (Vec ℕ Global)) (distinct : HasDistinctNames objects)
+module _ (objects : MemberTrees) (graph : List (List ℕ)) (distinct : HasDistinctNames objects)
     (is_graph : IsGraph objects graph) where
   pub graph_in_range : InRange graph (length graph)
   graph_in_range = λ a d within b e inside.
@@ -257,11 +255,11 @@ module _ (objects : MemberTrees) (graph : List (Vec ℕ Global)) (distinct : Has
       let here : slice_get graph a ≡ Some (get_or graph a d) = slice_get-get_or graph a d within in
       let placed = is_graph.rows a (get_or graph a d) (get_or (values objects) a (string [])) here
       (slice_get-get_or (values objects) a (string []) n) in
-      let named = placed.sound (get_or (get_or graph a d).items b e)
-      (Contains-get_or (get_or graph a d).items b e inside) in
+      let named = placed.sound (get_or (get_or graph a d) b e)
+      (Contains-get_or (get_or graph a d) b e inside) in
       omega (
         arith,
-        slice_get_within (names objects) (get_or (get_or graph a d).items b e) named.0 named.1,
+        slice_get_within (names objects) (get_or (get_or graph a d) b e) named.0 named.1,
         is_graph.long,
       )
 
@@ -316,7 +314,7 @@ pub lacks_child : (objects : MemberTrees) (city_object : Tree) (child : List ℕ
 lacks_child objects city_object child among named none =
     (city_object, among, child, named, λ c. none c.0 (slice_get-get_or (names objects) c.0 child c.1 ∙ ap Some c.2))
 
-pub lacks_none : (objects : MemberTrees) (graph : List (Vec ℕ Global)) → IsGraph objects graph → LacksChild objects → ⊥
+pub lacks_none : (objects : MemberTrees) (graph : List (List ℕ)) → IsGraph objects graph → LacksChild objects → ⊥
 lacks_none objects graph is_graph lacks =
     let at = lacks.1.0 in
     let value_there : slice_get (values objects) at ≡ Some lacks.0 =

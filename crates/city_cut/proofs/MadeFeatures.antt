@@ -6,9 +6,7 @@ use Rattle.std.proofs.lemmas.List.Elements.{All-contains, All-from_recursion, Co
 use Rattle.std.proofs.lemmas.Simd.{map-map}
 use Rattle.std.proofs.lemmas.Option.{slice_get-get_or, slice_get-map}
 use Rattle.std.specs.Fmt.{decimal}
-use Rattle.std.specs.Global.{Global}
 use Rattle.std.specs.List.{All, AllByRecursion, AllZip, Contains, flat_map, slice_index, slice_range}
-use Rattle.std.specs.Prelude.{Vec}
 use Rattle.city_json.specs.Bytes.{close_bracket, colon, comma, open_bracket}
 use Rattle.city_json.specs.Compact.{compact, compact_items, compact_members, compact_more_items, compact_more_members, quoted}
 use Rattle.city_json.specs.Fits.{HasDistinctNames}
@@ -43,7 +41,7 @@ use Rattle.city_cut.proofs.QuickFeatures.{feature_text}
 use Rattle.city_cut.proofs.Seeking.{parted_here, root_more, root_same, zip_push}
 
 -- ---- the family of an object
-pub family_is_one : (objects : MemberTrees) (graph : List (Vec ℕ Global)) (root : ℕ) → HasDistinctNames objects
+pub family_is_one : (objects : MemberTrees) (graph : List (List ℕ)) (root : ℕ) → HasDistinctNames objects
     → IsGraph objects graph → root < length graph → IsFamily objects root (family graph root)
 family_is_one objects graph root distinct linked inside = record {
   root_inside = in_names;

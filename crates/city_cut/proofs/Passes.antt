@@ -6,10 +6,8 @@ use Rattle.std.proofs.lemmas.List.Elements.{All-contains, All-contains_itself, A
 use Rattle.std.proofs.lemmas.List.Folds.{Any-from_list_any, list_any-from_Any}
 use Rattle.std.proofs.lemmas.List.Kept.{AllPairs-from_increasing, IsStrictlyIncreasing-filter}
 use Rattle.std.proofs.lemmas.Option.{slice_get_within}
-use Rattle.std.specs.Global.{Global}
 use Rattle.std.specs.List.{All, AllPairs, Contains, filter, list_any, slice_get}
 use Rattle.std.specs.List.Sorted.{IsStrictlyIncreasing}
-use Rattle.std.specs.Prelude.{Vec}
 use Rattle.city_cut.specs.Made.{beginners, family, follows, numbers_below, passes}
 use Rattle.city_cut.specs.Reach.{Reached, itself, onward}
 use Rattle.city_cut.specs.Search.{After, InRange}
@@ -27,19 +25,19 @@ has_any xs b found =
 pub any_has : (xs : List ℕ) (b : ℕ) → Contains xs b → list_any (λ x. x == b) xs ≡ true
 any_has xs b c = list_any-from_Any (λ x. x == b) xs (c.0, b, c.1, c.2, eq-eqb b b refl)
 
-follows_after : (graph : List (Vec ℕ Global)) (a b : ℕ) → follows graph a b ≡ true → After graph a b
+follows_after : (graph : List (List ℕ)) (a b : ℕ) → follows graph a b ≡ true → After graph a b
 follows_after [] a b is = cc
-follows_after (row ∷ rows) zero b is = (row, refl, has_any row.items b is)
+follows_after (row ∷ rows) zero b is = (row, refl, has_any row b is)
 follows_after (row ∷ rows) (suc a) b is = follows_after rows a b is
 
-same_row : (x y : Vec ℕ Global) → Some x ≡ Some y → y ≡ x
+same_row : (x y : List ℕ) → Some x ≡ Some y → y ≡ x
 same_row x y e = cc
 
-after_follows : (graph : List (Vec ℕ Global)) (a b : ℕ) (row : Vec ℕ Global) → slice_get graph a ≡ Some row
-    → Contains row.items b → follows graph a b ≡ true
+after_follows : (graph : List (List ℕ)) (a b : ℕ) (row : List ℕ) → slice_get graph a ≡ Some row
+    → Contains row b → follows graph a b ≡ true
 after_follows [] a b row is c = cc
 after_follows (first ∷ rows) zero b row is c =
-    any_has first.items b (subst (λ (r : Vec ℕ Global). Contains r.items b) (same_row first row is) c)
+    any_has first b (subst (λ (r : List ℕ). Contains r b) (same_row first row is) c)
 after_follows (first ∷ rows) (suc a) b row is c = after_follows rows a b row is c
 
 -- ---- what is passed through
@@ -48,7 +46,7 @@ reached_on : {A : Type 0} (Next : A → A → Type 0) (a b c : A) → Reached Ne
 reached_on Next a b c first itself = first
 reached_on Next a b c first (onward m e more after) = onward m c (reached_on Next a b m first more) after
 
-passes_reached : (graph : List (Vec ℕ Global)) (n a b : ℕ) → passes graph n a b ≡ true → Reached (After graph) a b
+passes_reached : (graph : List (List ℕ)) (n a b : ℕ) → passes graph n a b ≡ true → Reached (After graph) a b
 passes_reached graph zero a b is = elim (or_cases (a == b) (follows graph a b) is) [
   | inl same ↦ subst (Reached (After graph) a) (eqb-true a b same) itself
   | inr next ↦ onward a b itself (follows_after graph a b next)
@@ -60,37 +58,37 @@ passes_reached graph (suc k) a b is =
           reached_on (After graph) a k b (passes_reached graph k a k parts.0) (passes_reached graph k k b parts.1)
     ]
 
-passes_itself : (graph : List (Vec ℕ Global)) (n a : ℕ) → passes graph n a a ≡ true
+passes_itself : (graph : List (List ℕ)) (n a : ℕ) → passes graph n a a ≡ true
 passes_itself graph zero a = or_left (a == a) (follows graph a a) (eq-eqb a a refl)
 passes_itself graph (suc k) a =
     or_left (passes graph k a a) (passes graph k a k && passes graph k k a) (passes_itself graph k a)
 
-passes_next : (graph : List (Vec ℕ Global)) (n a b : ℕ) → follows graph a b ≡ true → passes graph n a b ≡ true
+passes_next : (graph : List (List ℕ)) (n a b : ℕ) → follows graph a b ≡ true → passes graph n a b ≡ true
 passes_next graph zero a b is = or_right (a == b) (follows graph a b) is
 passes_next graph (suc k) a b is =
     or_left (passes graph k a b) (passes graph k a k && passes graph k k b) (passes_next graph k a b is)
 
 -- from `a` by the last thing to `b`
-by_last : (graph : List (Vec ℕ Global)) (k a b : ℕ) → passes graph k a k ≡ true → passes graph k k b ≡ true
+by_last : (graph : List (List ℕ)) (k a b : ℕ) → passes graph k a k ≡ true → passes graph k k b ≡ true
     → passes graph (suc k) a b ≡ true
 by_last graph k a b to from =
     or_right (passes graph k a b) (passes graph k a k && passes graph k k b)
     (and_from (passes graph k a k) (passes graph k k b) to from)
 
-to_last : (graph : List (Vec ℕ Global)) (k a : ℕ) → passes graph (suc k) a k ≡ true → passes graph k a k ≡ true
+to_last : (graph : List (List ℕ)) (k a : ℕ) → passes graph (suc k) a k ≡ true → passes graph k a k ≡ true
 to_last graph k a is = elim (or_cases (passes graph k a k) (passes graph k a k && passes graph k k k) is) [
   | inl before ↦ before
   | inr both ↦ (and_parts (passes graph k a k) (passes graph k k k) both).0
 ]
 
-from_last : (graph : List (Vec ℕ Global)) (k b : ℕ) → passes graph (suc k) k b ≡ true → passes graph k k b ≡ true
+from_last : (graph : List (List ℕ)) (k b : ℕ) → passes graph (suc k) k b ≡ true → passes graph k k b ≡ true
 from_last graph k b is = elim (or_cases (passes graph k k b) (passes graph k k k && passes graph k k b) is) [
   | inl before ↦ before
   | inr both ↦ (and_parts (passes graph k k k) (passes graph k k b) both).1
 ]
 
 -- ways through one of the first `n` things are ways through these
-passes_through : (graph : List (Vec ℕ Global)) (n a m b : ℕ) → m < n → passes graph n a m ≡ true
+passes_through : (graph : List (List ℕ)) (n a m b : ℕ) → m < n → passes graph n a m ≡ true
     → passes graph n m b ≡ true → passes graph n a b ≡ true
 passes_through graph zero a m b below to from = absurd (omega (arith, below))
 passes_through graph (suc k) a m b below to from = by (cases_eq m k)
@@ -120,11 +118,11 @@ passes_through graph (suc k) a m b below to from = by (cases_eq m k)
               ]
         ]
 
-pub passes_sound : (graph : List (Vec ℕ Global)) (a b : ℕ) → passes graph (length graph) a b ≡ true
+pub passes_sound : (graph : List (List ℕ)) (a b : ℕ) → passes graph (length graph) a b ≡ true
     → Reached (After graph) a b
 passes_sound graph a b is = passes_reached graph (length graph) a b is
 
-pub passes_complete : (graph : List (Vec ℕ Global)) (a b : ℕ) → Reached (After graph) a b
+pub passes_complete : (graph : List (List ℕ)) (a b : ℕ) → Reached (After graph) a b
     → passes graph (length graph) a b ≡ true
 passes_complete graph a b itself = passes_itself graph (length graph) a
 passes_complete graph a b (onward m e far after) =
@@ -133,11 +131,11 @@ passes_complete graph a b (onward m e far after) =
     (passes_next graph (length graph) m b (after_follows graph m b after.0 after.1 after.2))
 
 -- what is reached has its place in the graph
-pub reached_within : (graph : List (Vec ℕ Global)) (a b : ℕ) → InRange graph (length graph) → a < length graph
+pub reached_within : (graph : List (List ℕ)) (a b : ℕ) → InRange graph (length graph) → a < length graph
     → Reached (After graph) a b → b < length graph
 reached_within graph a b within inside itself = inside
 reached_within graph a b within inside (onward m e far after) =
-    All-contains (λ k. k < length graph) after.0.items b
+    All-contains (λ k. k < length graph) after.0 b
     (rows_within graph (length graph) m after.0 within after.1) after.2
 
 -- ---- numbers in order
@@ -183,32 +181,32 @@ filter_has p (first ∷ others) x (suc k) inside is passes = by (p first) refl
     by true e later = rw e (suc later.0, omega (arith, later.1), later.2)
     by false e later = rw e later
 
-pub family_has : (graph : List (Vec ℕ Global)) (root k : ℕ) → k < length graph
+pub family_has : (graph : List (List ℕ)) (root k : ℕ) → k < length graph
     → passes graph (length graph) root k ≡ true → Contains (family graph root) k
 family_has graph root k inside is =
     let there = numbers_below_has (length graph) k inside in
     filter_has (passes graph (length graph) root) (numbers_below (length graph)) k there.0 there.1 there.2 is
 
-pub family_passes : (graph : List (Vec ℕ Global)) (root k : ℕ) → Contains (family graph root) k
+pub family_passes : (graph : List (List ℕ)) (root k : ℕ) → Contains (family graph root) k
     → passes graph (length graph) root k ≡ true
 family_passes graph root k c =
     All-contains (λ i. passes graph (length graph) root i ≡ true) (family graph root) k
     (filter_passes (passes graph (length graph) root) (numbers_below (length graph))) c
 
-pub family_within : (graph : List (Vec ℕ Global)) (root k : ℕ) → Contains (family graph root) k → k < length graph
+pub family_within : (graph : List (List ℕ)) (root k : ℕ) → Contains (family graph root) k → k < length graph
 family_within graph root k c =
     let all = numbers_below (length graph) in
     numbers_below_within (length graph) k (All-contains (Contains all) (family graph root) k
     (All-filter (passes graph (length graph) root) (Contains all) all (All-contains_itself all)) c)
 
-pub family_reached : (graph : List (Vec ℕ Global)) (root k : ℕ) → InRange graph (length graph) → root < length graph
+pub family_reached : (graph : List (List ℕ)) (root k : ℕ) → InRange graph (length graph) → root < length graph
     → Contains (family graph root) k ↔ Reached (After graph) root k
 family_reached graph root k within inside = (
   λ c. passes_sound graph root k (family_passes graph root k c),
   λ far. family_has graph root k (reached_within graph root k within inside far) (passes_complete graph root k far),
 )
 
-pub family_rises : (graph : List (Vec ℕ Global)) (root : ℕ) → IsStrictlyIncreasing (family graph root)
+pub family_rises : (graph : List (List ℕ)) (root : ℕ) → IsStrictlyIncreasing (family graph root)
 family_rises graph root = IsStrictlyIncreasing-filter (passes graph (length graph) root) (numbers_below (length graph))
     (numbers_below_rise (length graph))
 
@@ -277,7 +275,7 @@ same_rising xs ys up up' both = same_members xs ys (AllPairs-from_increasing xs 
     (λ k. (both k).0) (λ k. (both k).1)
 
 -- whatever rises and has what is reached is the family
-pub family_is : (graph : List (Vec ℕ Global)) (root : ℕ) (found : List ℕ) → InRange graph (length graph)
+pub family_is : (graph : List (List ℕ)) (root : ℕ) (found : List ℕ) → InRange graph (length graph)
     → root < length graph → IsStrictlyIncreasing found
     → ((k : ℕ) → Contains found k ↔ Reached (After graph) root k) → found ≡ family graph root
 family_is graph root found within inside up both = same_rising found (family graph root) up (family_rises graph root)

@@ -3,9 +3,7 @@ use Rattle.std.proofs.Common.{◌≡◌, ◌∙◌, ◌++◌, ◌<◌, ◌+◌, 
 use Rattle.std.proofs.lemmas.List.{get_or_default, length-map, map-append, take_more}
 use Rattle.std.proofs.lemmas.Option.{slice_get-map, slice_get-get_or}
 use Rattle.std.specs.Borrow.{Bor}
-use Rattle.std.specs.Global.{Global}
 use Rattle.std.specs.List.{AllByRecursion, AllZip, Contains, slice_get}
-use Rattle.std.specs.Prelude.{Vec}
 use Rattle.city_json.proofs.CompactLaws.{compact-tells}
 use Rattle.city_json.specs.Compact.{quoted}
 use Rattle.city_json.specs.Members.{member_of, names}
@@ -176,11 +174,11 @@ unmarked all given trees places utf8 zip placed = record {
       );
 }
 
-pub rows_more : (all : List (List ℕ)) (texts : List (Bor (List ℕ))) (rows rows' : List (Vec ℕ Global)) (i : ℕ)
-    (d : Bor (List ℕ)) (row : Vec ℕ Global) → HaveRows all (take i texts) rows → i < length texts
+pub rows_more : (all : List (List ℕ)) (texts : List (Bor (List ℕ))) (rows rows' : List (List ℕ)) (i : ℕ)
+    (d : Bor (List ℕ)) (row : List ℕ) → HaveRows all (take i texts) rows → i < length texts
     → HasRow all (get_or texts i d).now row → rows' ≡ rows ++ row ∷ [] → HaveRows all (take (i + 1) texts) rows'
 rows_more all texts rows rows' i d row have within is pushed = rw (take_more texts i d within, pushed)
-    (zip_push (λ (text : Bor (List ℕ)) (r : Vec ℕ Global). HasRow all text.now r) (take i texts) rows (get_or texts i d)
+    (zip_push (λ (text : Bor (List ℕ)) (r : List ℕ). HasRow all text.now r) (take i texts) rows (get_or texts i d)
     row have is)
 
 pub row_said : (all : List (List ℕ)) (given : List (Bor (List ℕ))) (value : Tree) (places : List ℕ)
@@ -225,9 +223,9 @@ parents_are (x ∷ xs) [] all = absurd all
 parents_are (x ∷ xs) (y ∷ ys) all = ap (λ b. b ∷ xs) all.0.is_so ∙ ap (λ l. has_parents y.1 ∷ l) (parents_are xs ys all.1)
 
 -- the row of an object
-abbrev IsRowOf : List (List ℕ) → Tree → Vec ℕ Global → Type 0
+abbrev IsRowOf : List (List ℕ) → Tree → List ℕ → Type 0
 IsRowOf all value row = WhereThere AreTexts (member_of (codes "children") value)
-    × ArePlaced all (children value) row.items
+    × ArePlaced all (children value) row
 
 row_or : (all : List (List ℕ)) (there : Option Tree) (places : List ℕ)
     → AreTexts (unwrap_or there (array no_items))
@@ -236,37 +234,37 @@ row_or : (all : List (List ℕ)) (there : Option Tree) (places : List ℕ)
 row_or all None places said = (tt, said.1)
 row_or all (Some value) places said = said
 
-rows_are : (all : List (List ℕ)) (given : List (Bor (List ℕ))) (graph : List (Vec ℕ Global))
+rows_are : (all : List (List ℕ)) (given : List (Bor (List ℕ))) (graph : List (List ℕ))
     (pairs : List (List ℕ × Tree))
     → AllZip (λ (x : Bor (List ℕ)) (pair : List ℕ × Tree). HasChildrenText pair.1 x) given pairs
     → HaveRows all given graph
-    → AllZip (λ (row : Vec ℕ Global) (pair : List ℕ × Tree). IsRowOf all pair.1 row) graph pairs
+    → AllZip (λ (row : List ℕ) (pair : List ℕ × Tree). IsRowOf all pair.1 row) graph pairs
 rows_are all [] [] [] texts rows = tt
 rows_are all [] [] (p ∷ ps) texts rows = absurd texts
 rows_are all [] (r ∷ rs) pairs texts rows = absurd rows
 rows_are all (x ∷ xs) [] pairs texts rows = absurd rows
 rows_are all (x ∷ xs) (r ∷ rs) [] texts rows = absurd texts
 rows_are all (x ∷ xs) (r ∷ rs) (p ∷ ps) texts rows = (
-  row_or all (member_of (codes "children") p.1) r.items (rows.0 _ texts.0),
+  row_or all (member_of (codes "children") p.1) r (rows.0 _ texts.0),
   rows_are all xs rs ps texts.1 rows.1,
 )
 
-rows_at : (all : List (List ℕ)) (graph : List (Vec ℕ Global)) (pairs : List (List ℕ × Tree))
-    → AllZip (λ (row : Vec ℕ Global) (pair : List ℕ × Tree). IsRowOf all pair.1 row) graph pairs
-    → (a : ℕ) (row : Vec ℕ Global) (value : Tree) → slice_get graph a ≡ Some row
-    → slice_get (values (member_trees pairs)) a ≡ Some value → ArePlaced all (children value) row.items
+rows_at : (all : List (List ℕ)) (graph : List (List ℕ)) (pairs : List (List ℕ × Tree))
+    → AllZip (λ (row : List ℕ) (pair : List ℕ × Tree). IsRowOf all pair.1 row) graph pairs
+    → (a : ℕ) (row : List ℕ) (value : Tree) → slice_get graph a ≡ Some row
+    → slice_get (values (member_trees pairs)) a ≡ Some value → ArePlaced all (children value) row
 rows_at all [] [] zip a row value here there = cc
 rows_at all [] (p ∷ ps) zip a row value here there = absurd zip
 rows_at all (r ∷ rs) [] zip a row value here there = absurd zip
 rows_at all (r ∷ rs) (p ∷ ps) zip zero row value here there =
-    subst (λ (v : Vec ℕ Global). ArePlaced all (children value) v.items) (some_same r row here)
-    (subst (λ v. ArePlaced all (children v) r.items) (some_same p.1 value there) zip.0.1)
+    subst (λ (v : List ℕ). ArePlaced all (children value) v) (some_same r row here)
+    (subst (λ v. ArePlaced all (children v) r) (some_same p.1 value there) zip.0.1)
 rows_at all (r ∷ rs) (p ∷ ps) zip (suc a) row value here there = rows_at all rs ps zip.1 a row value here there
 
-city_objects_are : (all : List (List ℕ)) (parents : List Bool) (graph : List (Vec ℕ Global))
+city_objects_are : (all : List (List ℕ)) (parents : List Bool) (graph : List (List ℕ))
     (pairs : List (List ℕ × Tree))
     → AllZip (λ (has : Bool) (pair : List ℕ × Tree). HasParents pair.1 has) parents pairs
-    → AllZip (λ (row : Vec ℕ Global) (pair : List ℕ × Tree). IsRowOf all pair.1 row) graph pairs
+    → AllZip (λ (row : List ℕ) (pair : List ℕ × Tree). IsRowOf all pair.1 row) graph pairs
     → AreCityObjects (member_trees pairs)
 city_objects_are all [] graph [] said rows = tt
 city_objects_are all [] graph (p ∷ ps) said rows = absurd said
@@ -287,7 +285,7 @@ names_utf8 (p ∷ ps) w = (w.0, names_utf8 ps w.2)
 
 -- the objects have these children, and of them these have parents
 pub related : (text : List ℕ) (places : List Part) (parents : List Bool) (given : List (Bor (List ℕ)))
-    (graph : List (Vec ℕ Global)) (pairs : List (List ℕ × Tree)) (table : List (Bor (List ℕ) × ℕ))
+    (graph : List (List ℕ)) (pairs : List (List ℕ × Tree)) (table : List (Bor (List ℕ) × ℕ))
     → AllZip (HasParentsIn text) places parents → AllZip (HasChildrenIn text) places given
     → IsTable (map (λ (pair : List ℕ × Tree). quoted pair.0) pairs) table
     → ((all : List (List ℕ)) → AllByRecursion IsUtf8 all → IsTable (map quoted all) table → HaveRows all given graph)
@@ -301,7 +299,7 @@ related text places parents given graph pairs table in_parts texts listed rows o
       record {
         differ = of.distinct.0;
         linked = record {
-          long = zip_long (λ (row : Vec ℕ Global) (pair : List ℕ × Tree). IsRowOf all pair.1 row) graph pairs found
+          long = zip_long (λ (row : List ℕ) (pair : List ℕ × Tree). IsRowOf all pair.1 row) graph pairs found
               ∙ sym (names_pairs pairs);
           rows = rows_at all graph pairs found;
         };
@@ -310,7 +308,7 @@ related text places parents given graph pairs table in_parts texts listed rows o
       city_objects_are all parents graph pairs said found,
     )
 
-pub same_long : (pairs : List (List ℕ × Tree)) (graph : List (Vec ℕ Global)) (parents : List Bool)
+pub same_long : (pairs : List (List ℕ × Tree)) (graph : List (List ℕ)) (parents : List Bool)
     → AreRelated pairs graph parents → length parents ≡ length graph
 same_long pairs graph parents rel = omega (
   arith,

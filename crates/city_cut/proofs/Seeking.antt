@@ -5,8 +5,7 @@ use Rattle.std.proofs.Math.ListN.{get_or-map, replicate}
 use Rattle.std.proofs.lemmas.List.{append-nil, drop_all, get_or_default, length-map, length-replicate, take_more}
 use Rattle.std.proofs.lemmas.List.Elements.{Contains-append_left, Contains-push, Contains-push_cases}
 use Rattle.std.specs.List.{All, AllZip, Contains, list_any, slice_index, slice_set}
-use Rattle.std.specs.Prelude.{nat_eq, IfErr, OnOk, Vec}
-use Rattle.std.specs.Global.{Global}
+use Rattle.std.specs.Prelude.{nat_eq, IfErr, OnOk}
 use Rattle.city_json.specs.Members.{names}
 use Rattle.city_json.specs.declared.json.Member.{Member}
 use Rattle.city_json.specs.Tree.{Tree, null, MemberTrees, member_trees, members_tree, named_tree}
@@ -200,7 +199,7 @@ beginner_within (p ∷ ps) zero is = omega arith
 beginner_within (p ∷ ps) (suc k) is = let more = beginner_within ps k is in omega (arith, more)
 
 -- what was listed is what begins a family
-pub from_beginners : (graph : List (Vec ℕ Global)) (parents : List Bool) (marks found : List ℕ)
+pub from_beginners : (graph : List (List ℕ)) (parents : List Bool) (marks found : List ℕ)
     → AreListed parents (length parents) marks found → {P : Type 0} (k : ℕ) → P ↔ IsReachedFrom graph found k
     → P ↔ IsInFamily graph parents k
 from_beginners graph parents marks found l k both = (
@@ -256,7 +255,7 @@ root_place (p ∷ ps) id c = by (has_parents p.1) refl (λ later. root_place ps 
 name_of_index : (objects : MemberTrees) (name : List ℕ) (c : Contains (names objects) name) → name_at objects c.0 ≡ name
 name_of_index objects name c = get_or_default (names objects) c.0 [] name c.1 ∙ c.2
 
-module _ (pairs : List (List ℕ × Tree)) (graph : List (Vec ℕ Global)) (parents : List Bool) (marks : List ℕ)
+module _ (pairs : List (List ℕ × Tree)) (graph : List (List ℕ)) (parents : List Bool) (marks : List ℕ)
     (rel : AreRelated pairs graph parents) (long : length marks ≡ length graph)
     (both : (k : ℕ) → IsMarked marks 1 k ↔ IsInFamily graph parents k) where
   parented : (k : ℕ) → k < length parents → (has : Bool) → get_or parents k true ≡ has
@@ -358,11 +357,11 @@ none_marked n (m ∷ ms) none k below = by (nat_eq m n) refl k below (λ later j
     by false e zero below later = eqb-false m n e
     by false e (suc k) below later = later (rw e at none) k (omega (arith, below))
 
-pub as_many_pairs : (pairs : List (List ℕ × Tree)) (graph : List (Vec ℕ Global)) (parents : List Bool)
+pub as_many_pairs : (pairs : List (List ℕ × Tree)) (graph : List (List ℕ)) (parents : List Bool)
     → AreRelated pairs graph parents → length graph ≡ length pairs
 as_many_pairs pairs graph parents rel = rel.linked.long ∙ names_pairs pairs
 
-pub related_as : (pairs : List (List ℕ × Tree)) (graph graph' : List (Vec ℕ Global)) (parents parents' : List Bool)
+pub related_as : (pairs : List (List ℕ × Tree)) (graph graph' : List (List ℕ)) (parents parents' : List Bool)
     → graph ≡ graph' → parents ≡ parents' → AreRelated pairs graph parents → AreRelated pairs graph' parents'
 related_as pairs graph graph' parents parents' same same₂ rel =
     subst (λ g. AreRelated pairs g parents') same (subst (AreRelated pairs graph) same₂ rel)
@@ -377,7 +376,7 @@ pub if_err_more : {A E : Type 0} {P Q : E → Type 0} (answer : Result A E) → 
 if_err_more (Ok x) on holds = tt
 if_err_more (Err e) on holds = on e holds
 
-pub parted_long : (objects : List Member) (parents : List Bool) (graph : List (Vec ℕ Global))
+pub parted_long : (objects : List Member) (parents : List Bool) (graph : List (List ℕ))
     → parents ≡ map (λ (pair : List ℕ × Tree). has_parents pair.1) (map named_tree objects)
     → IsGraph (members_tree objects) graph → length parents ≡ length graph
 parted_long objects parents graph parted linked =

@@ -6,10 +6,8 @@ use Rattle.std.proofs.KnownBytes.{Appends-nil, Appends-trans}
 use Rattle.std.proofs.lemmas.Bool.{cases_lt}
 use Rattle.std.proofs.lemmas.List.{drop_all, get_or_default, length-map, nil_from_length, take-append-le}
 use Rattle.std.proofs.lemmas.Result.{err_from_is_err_and}
-use Rattle.std.specs.Global.{Global}
 use Rattle.std.specs.Io.KnownBytes.{Appends}
 use Rattle.std.specs.List.{slice_index, slice_range}
-use Rattle.std.specs.Prelude.{Vec}
 use Rattle.std.specs.Result.{IsErrAnd}
 use Rattle.city_cut.specs.Made.{Makings, comma_before, family, feature_text, first_uses, listed, made_text, more_listed, vertex_at}
 use Rattle.city_cut.specs.Rosters.{RosterState}
@@ -176,7 +174,7 @@ head_apart id objects rest = ap (λ l. codes "{\"type\":\"CityJSONFeature\",\"id
 
 -- what was written for the root at a place is the text at that place
 pub made_there : (makings : Makings) (roots : List ℕ) (texts : List (List ℕ)) (at root : ℕ)
-    (graph : List (Vec ℕ Global)) (places first : List ℕ) (found order : RosterState) (count : ℕ)
+    (graph : List (List ℕ)) (places first : List ℕ) (found order : RosterState) (count : ℕ)
     → map (made_text makings) roots ≡ texts → at < length texts → root ≡ get_or roots at root → graph ≡ makings.graph
     → found ≡ record { count = length graph; order = family graph root } → first ≡ found.order → places ≡ found.order
     → order ≡ record { count = count; order = first_uses [] (flat_map (uses_at makings.skeletons) first) }

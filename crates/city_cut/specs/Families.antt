@@ -1,6 +1,5 @@
 -- The families of a document's objects, and the search for them.
-use Rattle.std.specs.Prelude.{◌≡◌, ◌≢◌, ◌<◌, ◌⊎◌, ◌↔◌, ℕ, Bool, true, false, List, Option, Some, None, Contains, All, get_or, length, map, slice_index, Vec}
-use Rattle.std.specs.Global.{Global}
+use Rattle.std.specs.Prelude.{◌≡◌, ◌≢◌, ◌<◌, ◌⊎◌, ◌↔◌, ℕ, Bool, true, false, List, Option, Some, None, Contains, All, get_or, length, map, slice_index}
 use Rattle.city_json.specs.Fits.{HasDistinctNames}
 use Rattle.city_json.specs.Tree.{MemberTrees, Tree, member_trees}
 use Rattle.byte_streams.specs.declared.fault.Fault.{Fault}
@@ -13,7 +12,7 @@ use Rattle.city_cut.specs.Search.{After, IsMarked}
 use Rattle.city_cut.specs.declared.families.Family.{Family}
 
 -- objects of these names, with these children, of which these have parents
-pub record AreRelated (pairs : List (List ℕ × Tree)) (graph : List (Vec ℕ Global)) (parents : List Bool) : Type 0 where
+pub record AreRelated (pairs : List (List ℕ × Tree)) (graph : List (List ℕ)) (parents : List Bool) : Type 0 where
   pub differ : HasDistinctNames (member_trees pairs)
   pub linked : IsGraph (member_trees pairs) graph
   pub parted : parents ≡ map (λ (pair : List ℕ × Tree). has_parents pair.1) pairs
@@ -23,7 +22,7 @@ abbrev pub IsBeginner : List Bool → ℕ → Type 0
 IsBeginner parents k = get_or parents k true ≡ false
 
 -- the object at a place is reached from one without parents
-abbrev pub IsInFamily : List (Vec ℕ Global) → List Bool → ℕ → Type 0
+abbrev pub IsInFamily : List (List ℕ) → List Bool → ℕ → Type 0
 IsInFamily graph parents k = (start : ℕ) × IsBeginner parents start × Reached (After graph) start k
 
 -- those of the first `at` objects that have no parents are listed, and have the mark 1

@@ -1,8 +1,7 @@
 -- The texts of features that are made of the skeletons of city objects, of the texts of vertices, and of who is whose
 -- child.
-use Rattle.std.specs.Prelude.{◌≡◌, ◌<◌, ◌+◌, ◌-◌, ◌^◌, ◌++◌, ◌∷◌, [], ◌==◌, ◌&&◌, ◌||◌, not, suc, zero, true, false, ℕ, Bool, List, All, Vec, codes, get_or, if◌then◌else◌, length, map, slice_index, slice_range}
+use Rattle.std.specs.Prelude.{◌≡◌, ◌<◌, ◌+◌, ◌-◌, ◌^◌, ◌++◌, ◌∷◌, [], ◌==◌, ◌&&◌, ◌||◌, not, suc, zero, true, false, ℕ, Bool, List, All, codes, get_or, if◌then◌else◌, length, map, slice_index, slice_range}
 use Rattle.std.specs.Fmt.{decimal}
-use Rattle.std.specs.Global.{Global}
 use Rattle.std.specs.List.{filter, flat_map, list_any}
 use Rattle.city_json.specs.Bytes.{close_bracket, comma, open_bracket}
 use Rattle.city_json.specs.Fits.{IsDistinct}
@@ -33,18 +32,18 @@ place_in [] k = 0
 place_in (x ∷ xs) k = if x == k then 0 else suc (place_in xs k)
 
 -- `b` is a child of `a`
-abbrev pub follows : List (Vec ℕ Global) → ℕ → ℕ → Bool
+abbrev pub follows : List (List ℕ) → ℕ → ℕ → Bool
 follows [] a b = false
-follows (row ∷ rows) zero b = list_any (λ x. x == b) row.items
+follows (row ∷ rows) zero b = list_any (λ x. x == b) row
 follows (row ∷ rows) (suc a) b = follows rows a b
 
 -- one comes from `a` to `b` through none but the first `count` things (Warshall's algorithm)
-abbrev pub passes : List (Vec ℕ Global) → ℕ → ℕ → ℕ → Bool
+abbrev pub passes : List (List ℕ) → ℕ → ℕ → ℕ → Bool
 passes graph zero a b = (a == b) || follows graph a b
 passes graph (suc k) a b = passes graph k a b || (passes graph k a k && passes graph k k b)
 
 -- what is reached from a thing, in order
-abbrev pub family : List (Vec ℕ Global) → ℕ → List ℕ
+abbrev pub family : List (List ℕ) → ℕ → List ℕ
 family graph root = filter (passes graph (length graph) root) (numbers_below (length graph))
 
 -- texts with a comma before each but the first
@@ -66,7 +65,7 @@ pub record Makings : Type 0 where
   pub skeletons : SkeletonTexts
   pub vertices : List ℕ
   pub starts : List ℕ
-  pub graph : List (Vec ℕ Global)
+  pub graph : List (List ℕ)
 
 -- the text of a vertex, in the text of all of them, by where they begin
 abbrev pub vertex_in : List ℕ → List ℕ → ℕ → List ℕ

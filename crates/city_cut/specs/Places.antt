@@ -1,6 +1,5 @@
 -- City objects by their places in the document.
-use Rattle.std.specs.Prelude.{◌≡◌, ◌↔◌, ◌<◌, List, [], ℕ, Some, Contains, All, length, slice_get, slice_index_or, Vec}
-use Rattle.std.specs.Global.{Global}
+use Rattle.std.specs.Prelude.{◌≡◌, ◌↔◌, ◌<◌, List, [], ℕ, Some, Contains, All, length, slice_get, slice_index_or}
 use Rattle.std.specs.List.Sorted.{IsStrictlyIncreasing}
 use Rattle.city_json.specs.Members.{names}
 use Rattle.city_json.specs.Tree.{Tree, string, MemberTrees}
@@ -13,9 +12,9 @@ pub record ArePlaced (all : List (List ℕ)) (named : List Tree) (places : List 
   pub complete : (name : List ℕ) → Contains named (string name) → (b : ℕ) × Contains places b × (slice_get all b ≡ Some name)
 
 -- for each object the places of its children
-pub record IsGraph (objects : MemberTrees) (graph : List (Vec ℕ Global)) : Type 0 where
+pub record IsGraph (objects : MemberTrees) (graph : List (List ℕ)) : Type 0 where
   pub long : length graph ≡ length (names objects)
-  pub rows : (a : ℕ) (row : Vec ℕ Global) (city_object : Tree) → slice_get graph a ≡ Some row → slice_get (values objects) a ≡ Some city_object → ArePlaced (names objects) (children city_object) row.items
+  pub rows : (a : ℕ) (row : List ℕ) (city_object : Tree) → slice_get graph a ≡ Some row → slice_get (values objects) a ≡ Some city_object → ArePlaced (names objects) (children city_object) row
 
 abbrev pub name_at : MemberTrees → ℕ → List ℕ
 name_at objects place = slice_index_or (names objects) place []

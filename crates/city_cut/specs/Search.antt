@@ -1,14 +1,13 @@
 -- The search for what can be reached among numbered things, each with the numbers of those that come after it.
-use Rattle.std.specs.Prelude.{◌≡◌, ◌≢◌, ◌<◌, ◌≤◌, ◌+◌, ◌++◌, ◌⊎◌, ℕ, if◌then◌else◌, ◌==◌, List, length, Contains, All, slice_get, slice_index, Some, Vec}
-use Rattle.std.specs.Global.{Global}
+use Rattle.std.specs.Prelude.{◌≡◌, ◌≢◌, ◌<◌, ◌≤◌, ◌+◌, ◌++◌, ◌⊎◌, ℕ, if◌then◌else◌, ◌==◌, List, length, Contains, All, slice_get, slice_index, Some}
 use Rattle.std.specs.List.{sum_by}
 use Rattle.city_cut.specs.Reach.{Reached}
 
-abbrev pub After : List (Vec ℕ Global) → ℕ → ℕ → Type 0
-After graph a b = (row : Vec ℕ Global) × (slice_get graph a ≡ Some row) × Contains row.items b
+abbrev pub After : List (List ℕ) → ℕ → ℕ → Type 0
+After graph a b = (row : List ℕ) × (slice_get graph a ≡ Some row) × Contains row b
 
-abbrev pub InRange : List (Vec ℕ Global) → ℕ → Type 0
-InRange graph n = All (λ row. All (λ b. b < n) row.items) graph
+abbrev pub InRange : List (List ℕ) → ℕ → Type 0
+InRange graph n = All (λ row. All (λ b. b < n) row) graph
 
 -- the mark of `k` is `root`
 abbrev pub IsMarked : List ℕ → ℕ → ℕ → Type 0
@@ -32,11 +31,11 @@ pub record Grows (root : ℕ) (new marks marks' found found' : List ℕ) : Type 
   pub fewer : unmarked root marks' + length more ≡ unmarked root marks
 
 -- it is reached from one of these
-abbrev pub IsReachedFrom : List (Vec ℕ Global) → List ℕ → ℕ → Type 0
+abbrev pub IsReachedFrom : List (List ℕ) → List ℕ → ℕ → Type 0
 IsReachedFrom graph starts k = (start : ℕ) × Contains starts start × Reached (After graph) start k
 
 -- a search from these things that has noted what comes after each of the first `at` found things
-pub record Searches (graph : List (Vec ℕ Global)) (starts : List ℕ) (mark : ℕ) (marks marks' found : List ℕ) (at : ℕ) : Type 0 where
+pub record Searches (graph : List (List ℕ)) (starts : List ℕ) (mark : ℕ) (marks marks' found : List ℕ) (at : ℕ) : Type 0 where
   pub long : length marks' ≡ length marks
   pub within : at ≤ length found
   pub begins : (k : ℕ) → Contains starts k → Contains found k

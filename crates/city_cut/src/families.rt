@@ -7,6 +7,7 @@ ghost use Rattle.city_cut.specs.Families.{AreListed, AreRelated, IsBegun, IsInFa
 ghost use Rattle.city_cut.specs.Places.{IsFamily, IsGraph, ReachesPlace};
 ghost use Rattle.city_cut.specs.Search.{InRange, IsMarked};
 
+use crate::graphs::Graph;
 use crate::objects::{children, parents};
 use crate::reach::{note, reached, search_on};
 use byte_streams::Fault;
@@ -17,7 +18,7 @@ use std::alloc::Global;
 #[derive(Drop)]
 pub(crate) struct Kin {
     /// The places of the children of each.
-    pub children: Vec<Vec<usize>>,
+    pub children: Graph,
     /// Whether each has parents.
     pub parents: Vec<bool>,
     /// Whether an object may be in more than one family: where not, each is named as a child once, or begins a family.
@@ -36,7 +37,7 @@ pub(crate) struct Family {
 /// The only fault is [`Fault::Memory`].
 fn family_of(
     alloc: Global,
-    graph: &[Vec<usize>],
+    graph: &Graph,
     root: usize,
     marks: &mut [usize],
 ) -> Result<Family, Fault>
@@ -62,7 +63,7 @@ fn family_of(
 
 /// The marks of a search for families, before the first of them. The only fault is [`Fault::Memory`].
 pub(crate) fn no_marks(alloc: Global, kin: &Kin) -> Result<Vec<usize>, Fault>
-    ensures ok { IfOk result (λ marks. IsMarkedSoFar (length kin.now.children.items) 0 marks.items) }
+    ensures ok { IfOk result (λ marks. IsMarkedSoFar (length kin.now.children) 0 marks.items) }
     ensures fault { IfErr result (λ fault. fault ≡ Fault.Memory) }
 {
     let count = kin.children.len();
@@ -78,13 +79,13 @@ pub(crate) fn family_at(
     at: usize,
     marks: &mut Vec<usize>,
 ) -> Result<Option<Family>, Fault>
-    requires graph { InRange kin.now.children.items (length kin.now.children.items) }
-    requires parents { length kin.now.parents.items ≡ length kin.now.children.items }
-    requires at { at < length kin.now.children.items }
-    requires marked { IsMarkedSoFar (length kin.now.children.items) at marks.old.items }
-    ensures marked { OnOk result (IsMarkedSoFar (length kin.now.children.items) (at + 1) marks.new.items) }
+    requires graph { InRange kin.now.children (length kin.now.children) }
+    requires parents { length kin.now.parents.items ≡ length kin.now.children }
+    requires at { at < length kin.now.children }
+    requires marked { IsMarkedSoFar (length kin.now.children) at marks.old.items }
+    ensures marked { OnOk result (IsMarkedSoFar (length kin.now.children) (at + 1) marks.new.items) }
     ensures begun { IfOk result (λ found. (pairs : List (List ℕ × Tree))
-        → AreRelated pairs kin.now.children.items kin.now.parents.items → IsBegun pairs at found) }
+        → AreRelated pairs kin.now.children kin.now.parents.items → IsBegun pairs at found) }
     ensures fault { IfErr result (λ fault. fault ≡ Fault.Memory) }
 {
     if kin.parents[at] {
@@ -118,7 +119,7 @@ fn list_beginners(
 /// Marks the objects that are in a family with 1. Whether one may be in two. The only fault is [`Fault::Memory`].
 fn mark_families(
     alloc: Global,
-    graph: &[Vec<usize>],
+    graph: &Graph,
     parents: &[bool],
     marks: &mut [usize],
 ) -> Result<bool, Fault>
@@ -144,11 +145,7 @@ fn mark_families(
 /// # Errors
 ///
 /// [`Fault::Orphan`] where an object is in no family. [`Fault::Memory`] may come in its place.
-pub(crate) fn check_belonging(
-    alloc: Global,
-    graph: &[Vec<usize>],
-    parents: &[bool],
-) -> Result<bool, Fault>
+pub(crate) fn check_belonging(alloc: Global, graph: &Graph, parents: &[bool]) -> Result<bool, Fault>
     requires graph { InRange graph.now (length graph.now) }
     requires parents { length parents.now ≡ length graph.now }
     ensures belong { OnOk result ((pairs : List (List ℕ × Tree)) → AreRelated pairs graph.now parents.now
@@ -173,7 +170,7 @@ pub(crate) fn check_belonging(
 /// no family. [`Fault::Memory`] may come in place of both.
 pub(crate) fn kin_of(alloc: Global, objects: &[Member]) -> Result<Kin, Fault>
     requires { HasDistinctNames (members_tree objects.now) }
-    ensures ok { IfOk result (λ kin. AreRelated (map named_tree objects.now) kin.children.items kin.parents.items) }
+    ensures ok { IfOk result (λ kin. AreRelated (map named_tree objects.now) kin.children kin.parents.items) }
     ensures children { OnOk result (¬ LacksChild (members_tree objects.now)) }
     ensures belong { OnOk result (AllBelong (members_tree objects.now)) }
     ensures refusal { IfErr result (λ fault. RefusesFamilies fault (members_tree objects.now)) }

@@ -165,7 +165,7 @@ pub(crate) fn keep_features<K: Keep>(
     kept: &mut K,
 ) -> Result<(), Fault>
     requires distinct { IsDistinct (object (members_tree objects.now)) }
-    requires related { AreRelated (map named_tree objects.now) kin.now.children.items kin.now.parents.items }
+    requires related { AreRelated (map named_tree objects.now) kin.now.children kin.now.parents.items }
     requires none { K.keeps kept.old [] }
     ensures ok { OnOk result ((features : List FeatureValue) × K.keeps kept.new features
         × ((points : List Triple) → AreVertices (items_tree vertices.now) points

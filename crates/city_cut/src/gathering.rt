@@ -3,10 +3,11 @@ ghost use Rattle.std.specs.Prelude.{◌≡◌, ◌<◌, ℕ, length};
 ghost use Rattle.city_cut.specs.Made.{family};
 ghost use Rattle.city_cut.specs.Search.{InRange};
 
+use crate::graphs::Graph;
 use crate::rosters::Roster;
 
 /// Notes what is reached from the root, and nothing else, in the order of the document.
-pub(crate) fn gather(graph: &[Vec<usize>], root: usize, found: &mut Roster)
+pub(crate) fn gather(graph: &Graph, root: usize, found: &mut Roster)
     requires graph { InRange graph.now (length graph.now) }
     requires root { root < length graph.now }
     requires count { found.old.count ≡ length graph.now }
@@ -17,7 +18,7 @@ pub(crate) fn gather(graph: &[Vec<usize>], root: usize, found: &mut Roster)
     let mut at = 0usize;
     'reached: while at < found.order().len() {
         let next = found.order()[at];
-        found.note_all(&graph[next]);
+        found.note_all(graph.row(next));
         at += 1;
     }
     found.sort();

@@ -9,6 +9,7 @@ ghost use Rattle.city_cut.specs.Items.{items_of, values};
 ghost use Rattle.city_cut.specs.Search.{InRange};
 ghost use Rattle.city_cut.specs.Table.{IsTable};
 
+use crate::graphs::Graph;
 use crate::values::{items_named, name_of, text_of, value_of};
 use byte_streams::Fault;
 use city_json::{Json, Member};
@@ -74,8 +75,8 @@ fn children_of(alloc: Global, object: &Json, table: &[(&[u8], usize)]) -> Result
 }
 
 /// For each object the places of its children.
-pub(crate) fn children(alloc: Global, objects: &[Member]) -> Result<Vec<Vec<usize>>, Fault>
-    ensures ok { IfOk result (λ graph. IsGraph (members_tree objects.now) graph.items) }
+pub(crate) fn children(alloc: Global, objects: &[Member]) -> Result<Graph, Fault>
+    ensures ok { IfOk result (λ graph. IsGraph (members_tree objects.now) graph) }
     ensures fault { IfErr result (λ fault. (fault ≡ Fault.Memory)
         ⊎ ((fault ≡ Fault.ChildMissing) × (object : Tree)
         × Contains (values (members_tree objects.now)) object
@@ -83,9 +84,13 @@ pub(crate) fn children(alloc: Global, objects: &[Member]) -> Result<Vec<Vec<usiz
         × ((k : ℕ) → slice_get (names (members_tree objects.now)) k ≢ Some name))) }
 {
     let table = table(alloc, objects)?;
-    let mut graph = Vec::with_capacity(alloc, objects.len())?;
+    let mut graph = Graph::with_capacity(alloc, objects.len()).ok_or(Fault::Memory)?;
     for member in objects {
-        graph.push(children_of(alloc, value_of(member), &table)?)?;
+        let row = children_of(alloc, value_of(member), &table)?;
+        let Some(longer) = graph.and_row(&row) else {
+            return Err(Fault::Memory);
+        };
+        graph = longer;
     }
     Ok(graph)
 }

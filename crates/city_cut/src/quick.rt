@@ -113,14 +113,14 @@ fn kin_of(
         × AreParts 1 places.now (member_trees pairs) }
     requires parents { AllZip (HasParentsIn text.now) places.now parents.items }
     requires children { AllZip (HasChildrenIn text.now) places.now children.now }
-    ensures graph { IfSome result (λ kin. InRange kin.children.items (length kin.children.items)) }
-    ensures parents { IfSome result (λ kin. length kin.parents.items ≡ length kin.children.items) }
+    ensures graph { IfSome result (λ kin. InRange kin.children (length kin.children)) }
+    ensures parents { IfSome result (λ kin. length kin.parents.items ≡ length kin.children) }
     ensures kin { IfSome result (λ kin. (pairs : List (List ℕ × Tree))
         → IsCompactOf text.now (object (member_trees pairs)) → AreParts 1 places.now (member_trees pairs)
         → AreCityObjects (member_trees pairs)
         × (¬ LacksChild (member_trees pairs))
         × AllBelong (member_trees pairs)
-        × AreRelated pairs kin.children.items kin.parents.items) }
+        × AreRelated pairs kin.children kin.parents.items) }
 {
     let table = table_of(alloc, text, places)?;
     let graph = graph_of(alloc, children, &table)?;
@@ -145,16 +145,16 @@ fn made_texts(
     kin: Kin,
 ) -> Option<MadeTexts>
     requires holders { AreHolders text.now places.now held.now }
-    requires places { length kin.children.items ≡ length places.now }
-    requires graph { InRange kin.children.items (length kin.children.items) }
-    requires parents { length kin.parents.items ≡ length kin.children.items }
+    requires places { length kin.children ≡ length places.now }
+    requires graph { InRange kin.children (length kin.children) }
+    requires parents { length kin.parents.items ≡ length kin.children }
     requires objects { (pairs : List (List ℕ × Tree)) × IsCompactOf text.now (object (member_trees pairs))
-        × AreParts 1 places.now (member_trees pairs) × AreRelated pairs kin.children.items kin.parents.items }
+        × AreParts 1 places.now (member_trees pairs) × AreRelated pairs kin.children kin.parents.items }
     requires vertices { HoldVertices vertices.now.text.now vertices.now.starts.items }
     ensures { IfSome result (λ own. (pairs : List (List ℕ × Tree)) (appearance : Option Tree) (points : List Triple)
         → StandAt vertices.now.text.now vertices.now.starts.items points
         → IsCompactOf text.now (object (member_trees pairs)) → AreParts 1 places.now (member_trees pairs)
-        → AreRelated pairs kin.children.items kin.parents.items
+        → AreRelated pairs kin.children kin.parents.items
         → AreOwnTexts (member_trees pairs) appearance points own) }
 {
     let count = vertices.starts.len().saturating_sub(1);

@@ -4,6 +4,7 @@ ghost use Rattle.std.specs.Prelude.{slice_index, slice_set, IfOk, IfErr, OnOk};
 ghost use Rattle.city_cut.specs.Reach.{Reached};
 ghost use Rattle.city_cut.specs.Search.{After, InRange, IsMarked, IsReachedFrom, Grows};
 
+use crate::graphs::Graph;
 use byte_streams::Fault;
 use std::alloc::Global;
 
@@ -32,7 +33,7 @@ pub(crate) fn note(
 
 /// Notes each of the new things.
 fn note_all(
-    new: &[usize],
+    new: &[u32],
     root: usize,
     marks: &mut [usize],
     found: &mut Vec<usize>,
@@ -42,14 +43,14 @@ fn note_all(
     ensures fault { IfErr result (λ fault. fault ≡ Fault.Memory) }
 {
     for one in new {
-        note(*one, root, marks, found)?;
+        note(*one as usize, root, marks, found)?;
     }
     Ok(())
 }
 
 /// Notes what comes after one thing. Whether there is less of it that is new than is named.
 fn note_row(
-    row: &[usize],
+    row: &[u32],
     mark: usize,
     marks: &mut [usize],
     found: &mut Vec<usize>,
@@ -66,7 +67,7 @@ fn note_row(
 /// Goes on from the things that were found, which alone have the mark, to all that is reached from them, each once.
 /// Nothing is come to twice where the answer is no. The only fault is [`Fault::Memory`].
 pub(crate) fn search_on(
-    graph: &[Vec<usize>],
+    graph: &Graph,
     mark: usize,
     marks: &mut [usize],
     found: &mut Vec<usize>,
@@ -87,7 +88,7 @@ pub(crate) fn search_on(
     let mut at = 0usize;
     while at < found.len() {
         let next = found[at];
-        if note_row(&graph[next], mark, marks, found)? {
+        if note_row(graph.row(next), mark, marks, found)? {
             again = true;
         }
         at += 1;
@@ -99,7 +100,7 @@ pub(crate) fn search_on(
 /// is then the root. All else keeps its mark. The only fault is [`Fault::Memory`].
 pub(crate) fn reached(
     alloc: Global,
-    graph: &[Vec<usize>],
+    graph: &Graph,
     root: usize,
     marks: &mut [usize],
 ) -> Result<Vec<usize>, Fault>

@@ -88,12 +88,12 @@ impl Roster {
     }
 
     /// Notes each of these.
-    pub(crate) fn note_all(&mut self, those: &[usize])
+    pub(crate) fn note_all(&mut self, those: &[u32])
         requires { All (λ one. one < self.old.count) those.now }
         ensures { self.new ≡ record { count = self.old.count; order = first_uses self.old.order those.now } }
     {
         for one in those {
-            self.note(*one);
+            self.note(*one as usize);
         }
     }
 

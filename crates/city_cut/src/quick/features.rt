@@ -248,13 +248,13 @@ pub(super) fn feature_texts(
     kin: &Kin,
 ) -> Option<Option<Pieces>>
     requires holders { AreHolders text.now parts.now held.now }
-    requires graph { InRange kin.now.children.items (length kin.now.children.items) }
-    requires parents { length kin.now.parents.items ≡ length kin.now.children.items }
+    requires graph { InRange kin.now.children (length kin.now.children) }
+    requires parents { length kin.now.parents.items ≡ length kin.now.children }
     ensures { IfSome result (λ found. IfSome found (λ own.
         (pairs : List (List ℕ × Tree)) (appearance : Option Tree) (points : List Triple)
         → StandAt vertices.now.text.now vertices.now.starts.items points
         → IsCompactOf text.now (object (member_trees pairs)) → AreParts 1 parts.now (member_trees pairs)
-        → AreRelated pairs kin.now.children.items kin.now.parents.items
+        → AreRelated pairs kin.now.children kin.now.parents.items
         → AreOwnTexts (member_trees pairs) appearance points own)) }
 {
     let mut numbering = no_numbers(alloc, vertices)?;

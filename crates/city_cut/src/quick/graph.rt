@@ -13,6 +13,7 @@ ghost use Rattle.city_feature.specs.Texts.{IsCompactOf};
 use super::features::id_of;
 use super::kin::texts_of;
 use super::short_parts::ShortPart;
+use crate::graphs::Graph;
 use crate::objects::place;
 use std::alloc::Global;
 
@@ -56,27 +57,21 @@ fn places_of(alloc: Global, named: &[&[u8]], table: &[(&[u8], usize)]) -> Option
 /// The places of the children that this text of an array names.
 fn row_of(alloc: Global, text: &[u8], table: &[(&[u8], usize)]) -> Option<Vec<usize>>
     ensures { IfSome result (λ row. (names : List (List ℕ)) → AllByRecursion IsUtf8 names
-        → IsTable (map quoted names) table.now → HasRow names text.now row) }
+        → IsTable (map quoted names) table.now → HasRow names text.now row.items) }
 {
     let named = texts_of(alloc, text)?;
     places_of(alloc, &named, table)
 }
 
 /// For each object the places of its children, of which the texts are given.
-pub(super) fn graph_of(
-    alloc: Global,
-    children: &[&[u8]],
-    table: &[(&[u8], usize)],
-) -> Option<Vec<Vec<usize>>>
+pub(super) fn graph_of(alloc: Global, children: &[&[u8]], table: &[(&[u8], usize)]) -> Option<Graph>
     ensures { IfSome result (λ graph. (names : List (List ℕ)) → AllByRecursion IsUtf8 names
-        → IsTable (map quoted names) table.now → HaveRows names children.now graph.items) }
+        → IsTable (map quoted names) table.now → HaveRows names children.now graph) }
 {
-    let mut graph = Vec::with_capacity(alloc, children.len()).ok()?;
+    let mut graph = Graph::with_capacity(alloc, children.len())?;
     for text in children {
         let row = row_of(alloc, text, table)?;
-        let Ok(_) = graph.push(row) else {
-            return None;
-        };
+        graph = graph.and_row(&row)?;
     }
     Some(graph)
 }

@@ -27,6 +27,7 @@ use super::ranges::between;
 use super::skeletons::{Leaf, Skeletons};
 use crate::families::Kin;
 use crate::gathering::gather;
+use crate::graphs::Graph;
 use crate::rosters::Roster;
 use byte_streams::{Fault, Line, Sink, write_all};
 use city_grid::Shift;
@@ -373,7 +374,7 @@ fn keep_chosen(roots: &mut Vec<usize>, chosen: &[bool])
 pub(crate) struct MadeTexts {
     skeletons: Skeletons,
     vertices: Vertices,
-    graph: Vec<Vec<usize>>,
+    graph: Graph,
     roots: Vec<usize>,
     family: Roster,
     order: Roster,
@@ -389,14 +390,14 @@ impl Model for MadeTexts {
       skeletons = texts.skeletons;
       vertices = texts.vertices.text;
       starts = texts.vertices.starts.items;
-      graph = texts.graph.items;
+      graph = texts.graph;
     })) texts.roots.items };
 
     ghost invariant = { λ texts. CanMake (record {
       skeletons = texts.skeletons;
       vertices = texts.vertices.text;
       starts = texts.vertices.starts.items;
-      graph = texts.graph.items;
+      graph = texts.graph;
     }) texts.roots.items texts.family texts.order };
 }
 
@@ -408,21 +409,21 @@ impl MadeTexts {
         vertices: &VertexTexts<'_>,
         kin: Kin,
     ) -> Option<MadeTexts>
-        requires places { length skeletons.places ≡ length kin.children.items + 1 }
+        requires places { length skeletons.places ≡ length kin.children + 1 }
         requires leaves { All (λ leaf. leaf.vertex < length vertices.now.starts.items - 1) skeletons.leaves }
-        requires graph { InRange kin.children.items (length kin.children.items) }
-        requires parents { length kin.parents.items ≡ length kin.children.items }
+        requires graph { InRange kin.children (length kin.children) }
+        requires parents { length kin.parents.items ≡ length kin.children }
         requires document { AreMakings (record {
           skeletons = skeletons;
           vertices = vertices.now.text.now;
           starts = vertices.now.starts.items;
-          graph = kin.children.items;
+          graph = kin.children;
         }) }
         ensures { IfSome result (λ made. made ≡ map (made_text (record {
           skeletons = skeletons;
           vertices = vertices.now.text.now;
           starts = vertices.now.starts.items;
-          graph = kin.children.items;
+          graph = kin.children;
         })) (beginners kin.parents.items)) }
     {
         let family = Roster::new(alloc, kin.children.len())?;

@@ -8,7 +8,7 @@ ghost use Rattle.city_cut.specs.Moved.{moved_or_same};
 ghost use Rattle.city_cut.specs.VertexTexts.{StandAt};
 
 use super::made::Vertices;
-use super::points::push_start;
+use crate::placing::push_place;
 use byte_streams::{Fault, Line};
 use city_grid::{Shift, Vertex, append_vertex, moved, vertex_at};
 use std::alloc::Global;
@@ -45,7 +45,7 @@ fn append_moved(text: &[u8], shift: Shift, line: &mut Line, starts: &mut Vec<u32
     let Ok(_) = append_vertex(b',', &there, line) else {
         return None;
     };
-    push_start(line.items().len() + 1, starts)
+    push_place(line.items().len() + 1, starts)
 }
 
 /// The vertices, each moved by the shift or where it was. `None`: undecided.
@@ -56,7 +56,7 @@ fn all_moved(alloc: Global, vertices: &Vertices, shift: Shift) -> Option<Vertice
 {
     let mut text = Line::from_vec(Vec::with_capacity(alloc, vertices.text.items().len()).ok()?);
     let mut starts = Vec::with_capacity(alloc, vertices.starts.len()).ok()?;
-    push_start(1, &mut starts)?;
+    push_place(1, &mut starts)?;
     let count = vertices.starts.len().saturating_sub(1);
     for at in 0..count {
         append_moved(vertices.vertex(at), shift, &mut text, &mut starts)?;

@@ -11,6 +11,7 @@ ghost use Rattle.city_cut.specs.VertexTexts.{StandAt};
 
 use super::numbers::append_between;
 use super::texts::append_text;
+use crate::placing::push_place;
 use byte_streams::Line;
 use city_feature::{append_vertices, vertices_of};
 use city_grid::{byte_is, vertex_end};
@@ -27,20 +28,6 @@ pub(super) struct VertexTexts<'a> {
     pub starts: Vec<u32>,
 }
 
-/// Puts a place after the places.
-#[inline(always)]
-pub(super) fn push_start(at: usize, starts: &mut Vec<u32>) -> Option<()>
-    ensures { OnSome result (starts.new.items ≡ starts.old.items ++ at ∷ []) }
-{
-    let Ok(start) = u32::try_from(at) else {
-        return None;
-    };
-    let Ok(_) = starts.push(start) else {
-        return None;
-    };
-    Some(())
-}
-
 /// Where the vertices begin that stand in the text as they are written, and where one after the last would. `None`:
 /// undecided.
 pub(super) fn starts_of(alloc: Global, text: &[u8]) -> Option<Vec<u32>>
@@ -48,7 +35,7 @@ pub(super) fn starts_of(alloc: Global, text: &[u8]) -> Option<Vec<u32>>
         × All IsInRange points × StandAt text.now starts.items points) }
 {
     let mut starts = Vec::with_capacity(alloc, text.len() / COMMON_LEN).ok()?;
-    push_start(1, &mut starts)?;
+    push_place(1, &mut starts)?;
     if text == b"[]".as_slice() {
         return Some(starts);
     }
@@ -61,7 +48,7 @@ pub(super) fn starts_of(alloc: Global, text: &[u8]) -> Option<Vec<u32>>
         if end == at {
             return None;
         }
-        push_start(end + 1, &mut starts)?;
+        push_place(end + 1, &mut starts)?;
         if byte_is(text, end, b']') {
             if end + 1 < text.len() {
                 return None;

@@ -13,7 +13,8 @@ ghost use Rattle.city_feature.specs.Texts.{IsCompactOf};
 ghost use Rattle.city_cut.specs.TripleStarts.{IsTriplesArray, is_close, starts_behind};
 ghost use Rattle.city_cut.specs.VertexTexts.{HasPoints, StandAt};
 
-use super::points::{COMMON_LEN, push_start};
+use super::points::COMMON_LEN;
+use crate::placing::push_place;
 use city_feature::{between, part_named};
 use city_json::{Part, Span};
 use std::alloc::Global;
@@ -56,7 +57,7 @@ fn push_block(text: &[u8], at: usize, starts: &mut Vec<u32>) -> Option<()>
     let mut place = at;
     'closes: while closes != 0 {
         let len = closes.trailing_zeros() as usize;
-        push_start(place + len + 2, starts)?;
+        push_place(place + len + 2, starts)?;
         closes = (closes >> len) >> 1;
         place += len + 1;
     }
@@ -71,7 +72,7 @@ fn push_byte(text: &[u8], at: usize, starts: &mut Vec<u32>) -> Option<()>
         ≡ starts.old.items ++ starts_behind at (slice_range text.now at (at + 1))) }
 {
     if text[at] == b']' {
-        return push_start(at + 2, starts);
+        return push_place(at + 2, starts);
     }
     Some(())
 }
@@ -87,7 +88,7 @@ pub(super) fn starts_of_triples(alloc: Global, text: &[u8]) -> Option<Vec<u32>>
     }
     let last = text.len() - 1;
     let mut starts = Vec::with_capacity(alloc, text.len() / COMMON_LEN).ok()?;
-    push_start(1, &mut starts)?;
+    push_place(1, &mut starts)?;
     let mut at = 0usize;
     'blocks: while last - at >= BLOCK {
         push_block(text, at, &mut starts)?;

@@ -2,7 +2,6 @@ use Rattle.std.proofs.Common.{◌≡◌, ◌≢◌, ◌∙◌, ◌+◌, ap, leng
 use Rattle.std.specs.List.{All}
 use Rattle.city_json.specs.Tree.{member_trees}
 use Rattle.city_cut.specs.Families.{IsMarkedSoFar}
-use Rattle.city_cut.specs.Places.{IsGraph}
 use Rattle.city_cut.proofs.Seeking.{marked_more, marked_on, parted_here, unmarked_at, written_back}
 use Rattle.city_cut.proofs.families.family_at.Goals as goal
 
@@ -24,7 +23,7 @@ returns-clause-begun c = λ pairs rel. (
       (omega (arith, c.requires.at, c.requires.parents)) (sym c.index.ensures ∙ c.if-index.false),
   c.in_ok-family.ensures.root,
   c.in_ok-family.ensures.family (member_trees pairs) rel.differ
-      (subst (IsGraph (member_trees pairs)) (sym c.deref.ensures.value) rel.linked),
+      rel.linked,
 )
 
 pub returns-clause-marked : goal.returns-clause-marked
@@ -33,7 +32,7 @@ returns-clause-marked c =
     let new = c.family_of.new.marks in
     let long : marks.len ≡ length marks.items = search rules in
     let same : length new ≡ length marks.items = c.in_ok-family.ensures.long ∙ ap length c.deref_mut.ensures.value in
-    subst (IsMarkedSoFar (length c.args.kin.now.children.items) (c.args.at + 1))
+    subst (IsMarkedSoFar (length c.args.kin.now.children) (c.args.at + 1))
     (sym (written_back marks.len new marks.items long same))
     (marked_more _ _ marks.items new c.requires.marked same
     (rw c.deref_mut.ensures.value at c.in_ok-family.ensures.others))

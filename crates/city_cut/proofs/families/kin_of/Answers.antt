@@ -1,27 +1,26 @@
-use Rattle.std.proofs.Common.{◌∙◌, ap, inl, inr, length, map, subst, sym}
+use Rattle.std.proofs.Common.{◌∙◌, ap, inl, inr, length, map, refl, sym}
 use Rattle.std.proofs.lemmas.Result.{err_from_is_err_and}
 use Rattle.city_json.specs.Tree.{members_tree, named_tree}
-use Rattle.city_cut.specs.Search.{InRange}
 use Rattle.city_cut.proofs.Kinship.{graph_in_range, lacks_none}
 use Rattle.city_cut.proofs.Seeking.{parted_long, refused, related_as}
 use Rattle.city_cut.proofs.families.kin_of.Goals as goal
 
 pub check_belonging-requires-clause-graph : goal.check_belonging-requires-clause-graph
-check_belonging-requires-clause-graph c = subst (λ g. InRange g (length g)) (sym c.deref.ensures.value)
-    (graph_in_range (members_tree c.args.objects.now) c.in_ok-graph.graph.items c.requires c.in_ok-graph.ensures.ok)
+check_belonging-requires-clause-graph c =
+    graph_in_range (members_tree c.args.objects.now) c.in_ok-graph.graph c.requires c.in_ok-graph.ensures.ok
 
 pub check_belonging-requires-clause-parents : goal.check_belonging-requires-clause-parents
 check_belonging-requires-clause-parents c =
-    ap length c.deref-2.ensures.value
-    ∙ (parted_long c.args.objects.now c.in_ok-parents.parents.items c.in_ok-graph.graph.items c.in_ok-parents.ensures.ok
-    c.in_ok-graph.ensures.ok ∙ sym (ap length c.deref.ensures.value))
+    ap length c.deref.ensures.value
+    ∙ parted_long c.args.objects.now c.in_ok-parents.parents.items c.in_ok-graph.graph c.in_ok-parents.ensures.ok
+    c.in_ok-graph.ensures.ok
 
 pub returns-in_err-meets-clause-refusal : goal.returns-in_err-meets-clause-refusal
 returns-in_err-meets-clause-refusal c =
     let p = err_from_is_err_and c.from_residual-in_err-meets.result c.from_residual-in_err-meets.ensures.1 in
     let objects = members_tree c.args.objects.now in
-    let rel = related_as (map named_tree c.args.objects.now) _ _ _ _ (sym c.deref.ensures.value)
-    (sym c.deref-2.ensures.value)
+    let rel = related_as (map named_tree c.args.objects.now) _ _ _ _ refl
+    (sym c.deref.ensures.value)
     (record { differ = c.requires; linked = c.in_ok-graph.ensures.ok; parted = c.in_ok-parents.ensures.ok }) in
     rw (p.1, p.2) (refused _ objects (lacks_none objects _ c.in_ok-graph.ensures.ok) (elim c.in_err-meets.ensures.fault [
       | inl memory ↦ inl memory
@@ -37,7 +36,7 @@ returns-clause-children c = lacks_none (members_tree c.args.objects.now) _ c.in_
 
 pub returns-clause-belong : goal.returns-clause-belong
 returns-clause-belong c =
-    let rel = related_as (map named_tree c.args.objects.now) _ _ _ _ (sym c.deref.ensures.value)
-    (sym c.deref-2.ensures.value)
+    let rel = related_as (map named_tree c.args.objects.now) _ _ _ _ refl
+    (sym c.deref.ensures.value)
     (record { differ = c.requires; linked = c.in_ok-graph.ensures.ok; parted = c.in_ok-parents.ensures.ok }) in
     c.in_ok-meets.ensures.belong (map named_tree c.args.objects.now) rel

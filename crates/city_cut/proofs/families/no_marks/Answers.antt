@@ -3,4 +3,4 @@ use Rattle.city_cut.proofs.Seeking.{marked_start}
 use Rattle.city_cut.proofs.families.no_marks.Goals as goal
 
 pub returns-clause-ok : goal.returns-clause-ok
-returns-clause-ok c = marked_start (length c.args.kin.now.children.items) c.in_ok-marks.marks.items (search rules)
+returns-clause-ok c = marked_start (length c.args.kin.now.children) c.in_ok-marks.marks.items (search rules)

@@ -10,11 +10,11 @@ use Rattle.city_cut.proofs.features.keep_features.Goals as goal
 
 pub family_at-requires-clause-graph : goal.family_at-requires-clause-graph
 family_at-requires-clause-graph g c = graph_in_range (members_tree c.args.objects.now)
-    c.args.kin.now.children.items c.requires.related.differ c.requires.related.linked
+    c.args.kin.now.children c.requires.related.differ c.requires.related.linked
 
 pub family_at-requires-clause-parents : goal.family_at-requires-clause-parents
 family_at-requires-clause-parents g c = parted_long c.args.objects.now c.args.kin.now.parents.items
-    c.args.kin.now.children.items c.requires.related.parted c.requires.related.linked
+    c.args.kin.now.children c.requires.related.parted c.requires.related.linked
 
 pub loop-at-init : goal.loop-at-init
 loop-at-init g c = record {

@@ -14,7 +14,7 @@ abbrev pub invariant-loop-at : goal.invariant-loop-at
 invariant-loop-at g l =
     record {
       long : length l.numbering.table.items ≡ length l.vertices;
-      marked : IsMarkedSoFar (length l.kin.children.items) l.at l.marks.items;
+      marked : IsMarkedSoFar (length l.kin.children) l.at l.marks.items;
       made : (features : List FeatureValue) × g.K.Keep.keeps l.kept features
           × ((points : List Triple) → AreVertices (items_tree l.vertices) points
           → AllZip (IsFeatureOf (members_tree l.objects) (option_map tree (option_copied l.appearance)) points)

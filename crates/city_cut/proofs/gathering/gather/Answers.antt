@@ -1,5 +1,4 @@
-use Rattle.std.proofs.Common.{◌≡◌, ◌<◌, ◌∙◌, ◌∷◌, [], Some, length, get_or, refl, sym, ap, subst, arith}
-use Rattle.std.proofs.lemmas.Option.{slice_get_read}
+use Rattle.std.proofs.Common.{◌≡◌, ◌<◌, ◌∙◌, ◌∷◌, [], Some, length, get_or, sym, ap, subst, arith}
 use Rattle.std.specs.List.{slice_get, slice_index}
 use Rattle.city_cut.specs.Made.{first_uses}
 use Rattle.city_cut.specs.Rosters.{RosterState}
@@ -17,24 +16,30 @@ reached-init c =
       gathers = subst (λ l. Gathers c.args.graph.now root l 0) (sym is) (gathers_start c.args.graph.now root);
     }
 
+pub row-requires : goal.row-requires
+row-requires c =
+    let order = c.reached.found.order in
+    let at = c.reached.at in
+    let inside : at < length order = omega (arith, c.reached-test.true, ap length c.order.ensures.order) in
+    let next : get_or c.order-in-reached.result.now at 0 ≡ slice_index order at =
+    ap (λ l. get_or l at 0) c.order-in-reached.ensures.order in
+    omega (arith, next, c.order.ensures.within at 0 inside, c.reached.invariant.count)
+
 pub reached-preserved : goal.reached-preserved
 reached-preserved c =
     let graph = c.args.graph.now in
     let order = c.reached.found.order in
     let at = c.reached.at in
-    let row = c.index-graph-next.result in
+    let row = c.row.result.now in
     let inside : at < length order = omega (arith, c.reached-test.true, ap length c.order.ensures.order) in
     let next : get_or c.order-in-reached.result.now at 0 ≡ slice_index order at =
     ap (λ l. get_or l at 0) c.order-in-reached.ensures.order in
-    let below : slice_index order at < length graph =
-    omega (arith, c.order.ensures.within at 0 inside, c.reached.invariant.count) in
     let got : slice_get graph (slice_index order at) ≡ Some row =
-    slice_get_read graph (length graph) (slice_index order at) row refl below
-    (subst (λ n. row ≡ get_or graph n row) next c.index-graph-next.is) in
+    subst (λ n. slice_get graph n ≡ Some row) next c.row.ensures in
     record {
       count = ap (λ (s : RosterState). s.count) c.note_all.ensures ∙ c.reached.invariant.count;
       gathers = gathers_more graph c.args.root order c.note_all.new.self.order at row c.reached.invariant.gathers inside
-          got (ap (λ (s : RosterState). s.order) c.note_all.ensures ∙ ap (first_uses order) c.deref.ensures.value);
+          got (ap (λ (s : RosterState). s.order) c.note_all.ensures);
     }
 
 pub returns : goal.returns

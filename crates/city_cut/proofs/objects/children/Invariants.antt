@@ -1,7 +1,5 @@
-use Rattle.std.proofs.Common.{◌≡◌, ℕ, length, Some}
-use Rattle.std.specs.Global.{Global}
+use Rattle.std.proofs.Common.{◌≡◌, ℕ, List, length, Some}
 use Rattle.std.specs.List.{slice_get}
-use Rattle.std.specs.Prelude.{Vec}
 use Rattle.city_json.specs.Members.{names}
 use Rattle.city_json.specs.Tree.{Tree, members_tree}
 use Rattle.city_cut.specs.CityObjects.{children}
@@ -12,8 +10,8 @@ use Rattle.city_cut.proofs.objects.children.Given as goal
 abbrev pub invariant-loop-member : goal.invariant-loop-member
 invariant-loop-member l =
     record {
-      long : length l.graph.items ≡ l.member-index;
-      rows : (a : ℕ) (row : Vec ℕ Global) (object : Tree) → slice_get l.graph.items a ≡ Some row
+      long : length l.graph ≡ l.member-index;
+      rows : (a : ℕ) (row : List ℕ) (object : Tree) → slice_get l.graph a ≡ Some row
           → slice_get (values (members_tree l.objects)) a ≡ Some object
-          → ArePlaced (names (members_tree l.objects)) (children object) row.items;
+          → ArePlaced (names (members_tree l.objects)) (children object) row;
     }

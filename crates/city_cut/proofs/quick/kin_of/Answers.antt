@@ -10,17 +10,17 @@ pub check_belonging-requires-clause-graph : goal.check_belonging-requires-clause
 check_belonging-requires-clause-graph c =
     let (pairs, of, are) = c.requires.objects in
     let rel = related c.args.text.now c.args.places.now c.args.parents.items c.args.children.now
-    c.in_ok-graph.graph.items pairs c.in_ok-table.table.items c.requires.parents c.requires.children
+    c.in_ok-graph.graph pairs c.in_ok-table.table.items c.requires.parents c.requires.children
     (c.in_ok-table.ensures pairs of are) (λ all utf8 table. c.in_ok-graph.ensures all utf8
     (subst (IsTable _) (sym c.deref.ensures.value) table)) of are in
     subst (λ g. InRange g (length g)) (sym c.deref-2.ensures.value)
-    (graph_in_range _ c.in_ok-graph.graph.items rel.0.differ rel.0.linked)
+    (graph_in_range _ c.in_ok-graph.graph rel.0.differ rel.0.linked)
 
 pub check_belonging-requires-clause-parents : goal.check_belonging-requires-clause-parents
 check_belonging-requires-clause-parents c =
     let (pairs, of, are) = c.requires.objects in
     let rel = related c.args.text.now c.args.places.now c.args.parents.items c.args.children.now
-    c.in_ok-graph.graph.items pairs c.in_ok-table.table.items c.requires.parents c.requires.children
+    c.in_ok-graph.graph pairs c.in_ok-table.table.items c.requires.parents c.requires.children
     (c.in_ok-table.ensures pairs of are) (λ all utf8 table. c.in_ok-graph.ensures all utf8
     (subst (IsTable _) (sym c.deref.ensures.value) table)) of are in
     ap length c.deref-3.ensures.value ∙ (same_long pairs _ _ rel.0 ∙ sym (ap length c.deref-2.ensures.value))
@@ -29,16 +29,16 @@ pub returns-clause-graph : goal.returns-clause-graph
 returns-clause-graph c =
     let (pairs, of, are) = c.requires.objects in
     let rel = related c.args.text.now c.args.places.now c.args.parents.items c.args.children.now
-    c.in_ok-graph.graph.items pairs c.in_ok-table.table.items c.requires.parents c.requires.children
+    c.in_ok-graph.graph pairs c.in_ok-table.table.items c.requires.parents c.requires.children
     (c.in_ok-table.ensures pairs of are) (λ all utf8 table. c.in_ok-graph.ensures all utf8
     (subst (IsTable _) (sym c.deref.ensures.value) table)) of are in
-    graph_in_range _ c.in_ok-graph.graph.items rel.0.differ rel.0.linked
+    graph_in_range _ c.in_ok-graph.graph rel.0.differ rel.0.linked
 
 pub returns-clause-parents : goal.returns-clause-parents
 returns-clause-parents c =
     let (pairs, of, are) = c.requires.objects in
     let rel = related c.args.text.now c.args.places.now c.args.parents.items c.args.children.now
-    c.in_ok-graph.graph.items pairs c.in_ok-table.table.items c.requires.parents c.requires.children
+    c.in_ok-graph.graph pairs c.in_ok-table.table.items c.requires.parents c.requires.children
     (c.in_ok-table.ensures pairs of are) (λ all utf8 table. c.in_ok-graph.ensures all utf8
     (subst (IsTable _) (sym c.deref.ensures.value) table)) of are in
     same_long pairs _ _ rel.0
@@ -46,7 +46,7 @@ returns-clause-parents c =
 pub returns-clause-kin : goal.returns-clause-kin
 returns-clause-kin c = λ pairs of are.
     let rel = related c.args.text.now c.args.places.now c.args.parents.items c.args.children.now
-    c.in_ok-graph.graph.items pairs c.in_ok-table.table.items c.requires.parents c.requires.children
+    c.in_ok-graph.graph pairs c.in_ok-table.table.items c.requires.parents c.requires.children
     (c.in_ok-table.ensures pairs of are) (λ all utf8 table. c.in_ok-graph.ensures all utf8
     (subst (IsTable _) (sym c.deref.ensures.value) table)) of are in
     let here = related_as pairs _ _ _ _ (sym c.deref-2.ensures.value) (sym c.deref-3.ensures.value) rel.0 in

@@ -30,7 +30,7 @@ returns c = if_some_more c.new.result (λ own is pairs appearance points stand o
       skeletons = c.in_ok-skeletons.skeletons;
       vertices = c.args.vertices.now.text.now;
       starts = c.args.vertices.now.starts.items;
-      graph = c.args.kin.children.items;
+      graph = c.args.kin.children;
     } in
     let count : c.saturating_sub-count.result ≡ length points =
     omega (arith, stand.long, c.len.ensures, c.saturating_sub-count.ensures) in

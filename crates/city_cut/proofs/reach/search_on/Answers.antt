@@ -1,32 +1,24 @@
-use Rattle.std.proofs.Common.{length, refl, arith}
-use Rattle.std.proofs.lemmas.Option.{slice_get_read}
+use Rattle.std.proofs.Common.{length, arith}
 use Rattle.city_cut.proofs.Growth.{searches_start, searches_step, searches_all, searches_marked, found_within, rows_within}
 use Rattle.city_cut.proofs.reach.search_on.Goals as goal
 
 pub loop-at-init : goal.loop-at-init
 loop-at-init c = searches_start c.args.graph.now c.args.found.now.items c.args.mark c.args.marks.now c.requires.found
 
-pub offset_bounds-graph-next : goal.offset_bounds-graph-next
-offset_bounds-graph-next c =
-    let below = found_within _ _ _ _ _ _ _ _ c.loop-at.invariant (omega arith) c.index-next.ensures in
-    omega (arith, below, c.requires.marks)
-
-pub bounds-graph-next : goal.bounds-graph-next
-bounds-graph-next c =
+pub row-requires : goal.row-requires
+row-requires c =
     let below = found_within _ _ _ _ _ _ _ _ c.loop-at.invariant (omega arith) c.index-next.ensures in
     omega (arith, below, c.requires.marks)
 
 pub note_row-requires : goal.note_row-requires
 note_row-requires c =
-    let below = found_within _ _ _ _ _ _ _ _ c.loop-at.invariant (omega arith) c.index-next.ensures in
-    let all = rows_within c.args.graph.now (length c.args.graph.now) c.index-next.result.now c.index-graph-next.result
-    c.requires.graph (slice_get_read c.args.graph.now (length c.args.graph.now) _ _ refl
-    (omega (arith, below, c.requires.marks)) c.index-graph-next.is) in
-    rw (c.deref.ensures.value, c.loop-at.invariant.long, c.requires.marks) all
+    let all = rows_within c.args.graph.now (length c.args.graph.now) c.index-next.result.now c.row.result.now
+    c.requires.graph c.row.ensures in
+    rw (c.loop-at.invariant.long, c.requires.marks) all
 
 pub loop-at-preserved : goal.loop-at-preserved
-loop-at-preserved c = searches_step _ _ _ _ _ _ _ _ _ _ _ _ c.loop-at.invariant (omega arith) c.requires.marks
-    c.index-next.ensures c.index-graph-next.is c.deref.ensures.value c.in_ok-note_row.ensures.ok
+loop-at-preserved c = searches_step _ _ _ _ _ _ _ _ _ _ _ c.loop-at.invariant (omega arith) c.index-next.ensures
+    c.row.ensures c.in_ok-note_row.ensures.ok
 
 pub returns-clause-ok : goal.returns-clause-ok
 returns-clause-ok c = λ k. searches_all _ _ _ _ _ _ _ k c.loop-at.invariant (omega arith)

@@ -19,11 +19,11 @@ abbrev pub invariant-loop-at : goal.invariant-loop-at
 invariant-loop-at l = record {
   long : length l.numbering.table.items + 1 ≡ length l.vertices.starts.items;
   ends : AreEnds 0 l.ends.items (length l.draft.line);
-  marked : IsMarkedSoFar (length l.kin.children.items) l.at l.marks.items;
+  marked : IsMarkedSoFar (length l.kin.children) l.at l.marks.items;
   made : (pairs : List (List ℕ × Tree)) (appearance : Option Tree) (points : List Triple)
       → StandAt l.vertices.text.now l.vertices.starts.items points
       → IsCompactOf l.text (object (member_trees pairs)) → AreParts 1 l.parts (member_trees pairs)
-      → AreRelated pairs l.kin.children.items l.kin.parents.items
+      → AreRelated pairs l.kin.children l.kin.parents.items
       → (features : List FeatureValue)
       × (map (λ own. own ++ tail_text appearance) (pieces l.draft.line 0 l.ends.items) ≡ texts_of features)
       × AllZip (IsFeatureOf (member_trees pairs) appearance points) (roots (member_trees (take l.at pairs)))

@@ -7,4 +7,4 @@ use Rattle.city_cut.proofs.quick.graph.graph_of.Given as goal
 
 abbrev pub invariant-loop-text : goal.invariant-loop-text
 invariant-loop-text l = (all : List (List ℕ)) → AllByRecursion IsUtf8 all → IsTable (map quoted all) l.table
-    → HaveRows all (take l.text-index l.children) l.graph.items
+    → HaveRows all (take l.text-index l.children) l.graph

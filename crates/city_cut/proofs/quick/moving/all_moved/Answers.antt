@@ -8,8 +8,8 @@ pub loop-at-init : goal.loop-at-init
 loop-at-init c = λ points stand range.
     let text : c.from_vec-text.result ≡ [] = search rules in
     let starts : c.in_ok-starts.starts.items ≡ [] = search rules in
-    grown_none c.from_vec-text.result c.push_start.new.starts.items c.in_ok-starts.starts.items text starts
-    c.in_ok-push_start.ensures
+    grown_none c.from_vec-text.result c.push_place.new.places.items c.in_ok-starts.starts.items text starts
+    c.in_ok-push_place.ensures
 
 pub loop-at-preserved : goal.loop-at-preserved
 loop-at-preserved c = λ points stand range.

@@ -14,8 +14,8 @@ vertices-preserved c =
     omega (arith, c.vertex_end-end.ensures.onward, c.if-end-at.false) in
     let (v, written, range) = c.vertex_end-end.ensures.is onward in
     let (read, goes_on, all, stand, last) = c.vertices.invariant.goes_on in
-    let more = stand_more text c.vertices.starts.items c.push_start-in-vertices.new.starts.items read v c.vertices.at
-    end stand last written c.in_ok-push_start-2.ensures in
+    let more = stand_more text c.vertices.starts.items c.push_place-in-vertices.new.places.items read v c.vertices.at
+    end stand last written c.in_ok-push_place-2.ensures in
     record {
       within = omega (arith, next.0);
       goes_on = (
@@ -32,8 +32,8 @@ vertices-init c =
     let text = c.args.text.now in
     let opens : (0 < length text) × (get_or text 0 0 ≡ open_bracket) = c.byte_is.ensures.0 c.if-not-byte_is.false in
     let empty : c.in_ok-starts.starts.items ≡ [] = search rules in
-    let none = stand_none text c.push_start.new.starts.items c.in_ok-starts.starts.items empty
-    c.in_ok-push_start.ensures in
+    let none = stand_none text c.push_place.new.places.items c.in_ok-starts.starts.items empty
+    c.in_ok-push_place.ensures in
     record {
       within = omega (arith, opens.0);
       goes_on = ([], reads_from text opens.0 opens.1, (λ k d below. absurd (omega (arith, below))), none.0, none.1);
@@ -48,8 +48,8 @@ returns-then-byte_is c =
     omega (arith, c.vertex_end-end.ensures.onward, c.if-end-at.false) in
     let (v, written, range) = c.vertex_end-end.ensures.is onward in
     let (read, goes_on, all, stand, last) = c.vertices.invariant.goes_on in
-    let more = stand_more text c.vertices.starts.items c.push_start-in-vertices.new.starts.items read v c.vertices.at
-    end stand last written c.in_ok-push_start-2.ensures in (
+    let more = stand_more text c.vertices.starts.items c.push_place-in-vertices.new.places.items read v c.vertices.at
+    end stand last written c.in_ok-push_place-2.ensures in (
       read ++ v ∷ [],
       reads_last text c.vertices.at end v onward closed.0 written read goes_on closed.1
           (omega (arith, c.if-end-text.false)),

@@ -12,7 +12,7 @@ returns c =
       skeletons = all.skeletons;
       vertices = all.vertices.text;
       starts = all.vertices.starts.items;
-      graph = all.graph.items;
+      graph = all.graph;
     } in
     ap (map (made_text makings)) c.keep_chosen.ensures
     ∙ (sym (chosen_map (made_text makings) c.args.chosen.now all.roots.items)
@@ -20,7 +20,7 @@ returns c =
 
 pub invariant_of-self : goal.invariant_of-self
 invariant_of-self c =
-    let count = length c.self.inside.graph.items in
+    let count = length c.self.inside.graph in
     record {
       places = c.self.invariant.places;
       within = c.self.invariant.within;

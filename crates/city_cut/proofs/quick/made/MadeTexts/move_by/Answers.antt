@@ -17,13 +17,13 @@ returns-clause-ok c = λ appearance features last spell movable.
       skeletons = all.skeletons;
       vertices = all.vertices.text;
       starts = all.vertices.starts.items;
-      graph = all.graph.items;
+      graph = all.graph;
     } in
     let of = c.self.invariant.document in
     let there = c.in_ok-self-inside.field-0 in
     moved_texts makings of c.args.shift there.text there.starts.items
     (c.in_ok-self-inside.ensures.ok of.points of.stand of.range) appearance last all.roots.items
-    (recursion_from_All (λ root. root < length all.graph.items) all.roots.items c.self.invariant.inside) features
+    (recursion_from_All (λ root. root < length all.graph) all.roots.items c.self.invariant.inside) features
     (subst (λ own. AllZip SpellsFeature (texts_in (record { own = own; common = tail_text appearance })) features)
     (sym c.self.view_is) spell) movable
 
@@ -35,13 +35,13 @@ returns-clause-count c =
       skeletons = all.skeletons;
       vertices = all.vertices.text;
       starts = all.vertices.starts.items;
-      graph = all.graph.items;
+      graph = all.graph;
     } in
     let moved : Makings = record {
       skeletons = all.skeletons;
       vertices = there.text;
       starts = there.starts.items;
-      graph = all.graph.items;
+      graph = all.graph;
     } in
     length-map all.roots.items (made_text moved)
     ∙ (sym (length-map all.roots.items (made_text makings)) ∙ ap length c.self.view_is)
@@ -53,7 +53,7 @@ invariant_of-self c =
       skeletons = all.skeletons;
       vertices = all.vertices.text;
       starts = all.vertices.starts.items;
-      graph = all.graph.items;
+      graph = all.graph;
     } in
     let of = c.self.invariant.document in
     let there = c.in_ok-self-inside.field-0 in

@@ -11,7 +11,7 @@ returns-clause-ok g c =
       skeletons = all.skeletons;
       vertices = all.vertices.text;
       starts = all.vertices.starts.items;
-      graph = all.graph.items;
+      graph = all.graph;
     } in
     let is = made_there makings all.roots.items c.args.self.now c.args.at c.index-root.result.now c.deref.result.now
     c.order-2.result.now c.order.result.now c.gather.new.found c.number_uses.new.order all.order.count
@@ -29,7 +29,7 @@ returns-clause-some g c =
       skeletons = all.skeletons;
       vertices = all.vertices.text;
       starts = all.vertices.starts.items;
-      graph = all.graph.items;
+      graph = all.graph;
     } in
     let is = made_there makings all.roots.items c.args.self.now c.args.at c.index-root.result.now c.deref.result.now
     c.order-2.result.now c.order.result.now c.gather.new.found c.number_uses.new.order all.order.count
