@@ -11,28 +11,25 @@ use Rattle.city_json.specs.MemberName.{AreListed, IsWithin, LieInOrder, after_na
 use Rattle.city_json.specs.declared.compacting.name.Name.{Name}
 
 -- ---- in which order they are held
-after : (text_len from : ℕ) (name : Name) → name.from ≤ name.end → (text_len ≤ name.end → from ≤ name.from)
+after : (text_len from : ℕ) (name : Name) → name.from ≤ name.end → (text_len ≤ name.end → from ≡ name.from)
     → from ≤ after_name text_len from name
 after text_len from name ordered apart = grind (arith, nat_tests)
 
 none_fewer : (listed : List Name) (text_len from end : ℕ) → LieInOrder text_len from listed end → from ≤ end
-none_fewer [] text_len from end are = are
+none_fewer [] text_len from end are = omega (arith, are)
 none_fewer (name ∷ others) text_len from end are =
-    omega (arith, after text_len from name are.0 are.1,
-    none_fewer others text_len (after_name text_len from name) end are.2)
+    omega (
+      arith,
+      after text_len from name are.0 are.1,
+      none_fewer others text_len (after_name text_len from name) end are.2,
+    )
 
-longer : (listed : List Name) (text_len from end end₂ : ℕ) → LieInOrder text_len from listed end → end ≤ end₂
-    → LieInOrder text_len from listed end₂
-longer [] text_len from end end₂ are more = omega (arith, are, more)
-longer (name ∷ others) text_len from end end₂ are more =
-    (are.0, are.1, longer others text_len (after_name text_len from name) end end₂ are.2 more)
-
-first_after : (listed : List Name) (text_len from end : ℕ) → LieInOrder text_len from listed end
-    → from ≤ first_held text_len listed end
-first_after [] text_len from end are = are
-first_after (name ∷ others) text_len from end are =
-    let further : after_name text_len from name ≤ first_held text_len others end =
-    first_after others text_len (after_name text_len from name) end are.2 in
+first_is : (listed : List Name) (text_len from end : ℕ) → LieInOrder text_len from listed end
+    → from ≡ first_held text_len listed end
+first_is [] text_len from end are = are
+first_is (name ∷ others) text_len from end are =
+    let further : after_name text_len from name ≡ first_held text_len others end =
+    first_is others text_len (after_name text_len from name) end are.2 in
     let here = are.1 in
     grind (arith, nat_tests)
 
@@ -50,7 +47,7 @@ first_within (name ∷ others) text_len from end are =
 -- those at the front, where the others are left out
 stay : (listed : List Name) (base text_len from end : ℕ) → LieInOrder text_len from listed end
     → LieInOrder text_len from (take base listed) (first_held text_len (drop base listed) end)
-stay listed zero text_len from end are = first_after listed text_len from end are
+stay listed zero text_len from end are = first_is listed text_len from end are
 stay [] (suc base) text_len from end are = are
 stay (name ∷ others) (suc base) text_len from end are =
     (are.0, are.1, stay others base text_len (after_name text_len from name) end are.2)
@@ -72,16 +69,17 @@ one_written (other ∷ others) name text_len from end are ordered inside =
     (are.0, are.1, one_written others name text_len (after_name text_len from other) end are.2 ordered inside)
 
 one_held : (listed : List Name) (name : Name) (text_len from end : ℕ) → LieInOrder text_len from listed end
-    → end ≤ name.from → name.from ≤ name.end → LieInOrder text_len from (listed ++ name ∷ []) name.end
-one_held [] name text_len from end are further ordered =
-    let last : after_name text_len from name ≤ name.end = grind (arith, nat_tests) in
-    (ordered, λ held. omega (arith, are, further), last)
-one_held (other ∷ others) name text_len from end are further ordered =
-    (are.0, are.1, one_held others name text_len (after_name text_len from other) end are.2 further ordered)
+    → end ≡ name.from → name.from ≤ name.end → text_len ≤ name.end
+    → LieInOrder text_len from (listed ++ name ∷ []) name.end
+one_held [] name text_len from end are next ordered held =
+    let last : after_name text_len from name ≡ name.end = grind (arith, nat_tests) in
+    (ordered, λ _. are ∙ next, last)
+one_held (other ∷ others) name text_len from end are next ordered held =
+    (are.0, are.1, one_held others name text_len (after_name text_len from other) end are.2 next ordered held)
 
 -- ---- each lies in the text or in what is held
 within_here : (name : Name) (text_len from end held_len : ℕ) → text_len ≤ from → end ≤ text_len + held_len
-    → name.from ≤ name.end → (text_len ≤ name.end → from ≤ name.from) → after_name text_len from name ≤ end
+    → name.from ≤ name.end → (text_len ≤ name.end → from ≡ name.from) → after_name text_len from name ≤ end
     → IsWithin text_len held_len name
 within_here name text_len from end held_len behind enough ordered apart last = record {
   ordered = ordered;
@@ -147,16 +145,6 @@ pushed_written listed listed₂ name text_len held_len are now ordered inside = 
       (one_written listed name text_len text_len (text_len + held_len) are.in_order ordered inside);
 }
 
-pub more_held : (listed : List Name) (held held₂ bytes : List ℕ) (text_len : ℕ)
-    → AreListed text_len listed (length held) → held₂ ≡ held ++ bytes → AreListed text_len listed (length held₂)
-more_held listed held held₂ bytes text_len are kept =
-    let long : length held₂ ≡ length held + length bytes = ap length kept ∙ length-append held bytes in
-    record {
-      short = are.short;
-      in_order = longer listed text_len text_len (text_len + length held) (text_len + length held₂) are.in_order
-          (omega (arith, long));
-    }
-
 pub pushed_held : (listed listed₂ : List Name) (name : Name) (held held₂ bytes : List ℕ) (text_len : ℕ)
     → AreListed text_len listed (length held) → listed₂ ≡ listed ++ name ∷ [] → held₂ ≡ held ++ bytes
     → name.from ≡ text_len + length held → name.end ≡ text_len + length held + length bytes
@@ -167,8 +155,8 @@ pushed_held listed listed₂ name held held₂ bytes text_len are now kept from 
       short = are.short;
       in_order = subst (λ l. LieInOrder text_len text_len l (text_len + length held₂)) (sym now)
           (subst (LieInOrder text_len text_len (listed ++ name ∷ [])) (omega (arith, end, long))
-          (one_held listed name text_len text_len (text_len + length held) are.in_order (omega (arith, from))
-          (omega (arith, from, end))));
+          (one_held listed name text_len text_len (text_len + length held) are.in_order (sym from)
+          (omega (arith, from, end)) (omega (arith, end))));
     }
 
 last_range : (held bytes : List ℕ) (from end : ℕ) → from ≡ length held → end ≡ length held + length bytes
@@ -196,20 +184,29 @@ pushed_names listed listed₂ name held held₂ bytes text_len are now kept from
     ap (λ h. map (listed_name text_len h) listed₂) kept
     ∙ (ap (map (listed_name text_len (held ++ bytes))) now
     ∙ (map-append (listed_name text_len (held ++ bytes)) listed (name ∷ [])
-    ∙ (ap (λ n. map (listed_name text_len (held ++ bytes)) listed ++ n ∷ []) (last_name name held bytes text_len from end)
+    ∙ (ap (λ n. map (listed_name text_len (held ++ bytes)) listed ++ n ∷ [])
+    (last_name name held bytes text_len from end)
     ∙ ap (λ l. l ++ as_decoded bytes ∷ []) (sym (same_names listed text_len text_len (text_len + length held) held bytes
     are.in_order (omega arith) (omega arith))))))
 
 -- ---- after a truncate
 pub left_written : (listed listed₂ : List Name) (base text_len held_len : ℕ) → AreListed text_len listed held_len
-    → listed₂ ≡ take base listed → AreListed text_len listed₂ held_len
-left_written listed listed₂ base text_len held_len are now = record {
-  short = are.short;
-  in_order = subst (λ l. LieInOrder text_len text_len l (text_len + held_len)) (sym now)
-      (longer (take base listed) text_len text_len (first_held text_len (drop base listed) (text_len + held_len))
-      (text_len + held_len) (stay listed base text_len text_len (text_len + held_len) are.in_order)
-      (rest_within listed base text_len text_len (text_len + held_len) are.in_order));
-}
+    → held_len ≡ 0 → listed₂ ≡ take base listed → AreListed text_len listed₂ held_len
+left_written listed listed₂ base text_len held_len are none now =
+    let end = text_len + held_len in
+    let stays : LieInOrder text_len text_len (take base listed) (first_held text_len (drop base listed) end) =
+    stay listed base text_len text_len end are.in_order in
+    let last : first_held text_len (drop base listed) end ≡ end = omega (
+      arith,
+      none,
+      none_fewer (take base listed) text_len text_len (first_held text_len (drop base listed) end) stays,
+      rest_within listed base text_len text_len end are.in_order,
+    ) in
+    record {
+      short = are.short;
+      in_order = subst (λ l. LieInOrder text_len text_len l end) (sym now)
+          (subst (LieInOrder text_len text_len (take base listed)) last stays);
+    }
 
 -- where what stays ends, as the slice of what is listed says
 stay_is : (listed slice : List Name) (base text_len all end stays : ℕ) → slice ≡ listed → end ≡ all
@@ -217,7 +214,8 @@ stay_is : (listed slice : List Name) (base text_len all end stays : ℕ) → sli
     → stays ≡ first_held text_len (drop base listed) all
 stay_is listed slice base text_len all end stays same counted is =
     is ∙ (ap (λ l. first_held text_len (take (length l - base) (drop base l)) end) same
-    ∙ (ap (λ l. first_held text_len l end) (take_rest listed base) ∙ ap (first_held text_len (drop base listed)) counted))
+    ∙ (ap (λ l. first_held text_len l end) (take_rest listed base) ∙ ap (first_held text_len (drop base listed))
+    counted))
 
 -- where what stays ends lies in what is held
 pub stay_within : (listed slice : List Name) (base text_len held_len end stays : ℕ) → AreListed text_len listed held_len
@@ -228,8 +226,12 @@ stay_within listed slice base text_len held_len end stays are same counted is =
     let all = text_len + held_len in
     let stays_at : stays ≡ first_held text_len (drop base listed) all =
     stay_is listed slice base text_len all end stays same counted is in (
-      omega (arith, stays_at, none_fewer (take base listed) text_len text_len (first_held text_len (drop base listed) all)
-      (stay listed base text_len text_len all are.in_order)),
+      omega (
+        arith,
+        stays_at,
+        none_fewer (take base listed) text_len text_len (first_held text_len (drop base listed) all)
+            (stay listed base text_len text_len all are.in_order),
+      ),
       omega (arith, stays_at, rest_within listed base text_len text_len all are.in_order),
     )
 
@@ -242,7 +244,8 @@ left listed slice listed₂ held held₂ base text_len end stays size are same c
     let within = stay_within listed slice base text_len (length held) end stays are same counted is in
     let stays_at : stays ≡ first_held text_len (drop base listed) all =
     stay_is listed slice base text_len all end stays same counted is in
-    let long : length held₂ ≡ size = ap length cut ∙ length-take-le size held (omega (arith, few, within.0, within.1)) in
+    let long : length held₂ ≡ size = ap length cut ∙ length-take-le size held (omega (arith, few, within.0, within.1))
+    in
     let last : first_held text_len (drop base listed) all ≡ text_len + length held₂ =
     omega (arith, stays_at, long, few, within.0) in
     record {
@@ -261,7 +264,8 @@ left_names listed slice listed₂ held held₂ base text_len end stays size are 
     let left_are : AreListed text_len listed₂ (length held₂) =
     left listed slice listed₂ held held₂ base text_len end stays size are same counted is now cut few in
     let whole : held₂ ++ drop size held ≡ held = ap (λ h. h ++ drop size held) cut ∙ take-append-drop size held in
-    same_names listed₂ text_len text_len (text_len + length held₂) held₂ (drop size held) left_are.in_order (omega arith)
+    same_names listed₂ text_len text_len (text_len + length held₂) held₂ (drop size held) left_are.in_order
+    (omega arith)
     (omega arith)
     ∙ (ap (λ h. map (listed_name text_len h) listed₂) whole
     ∙ (ap (map (listed_name text_len held)) now ∙ sym (take-map (listed_name text_len held) base listed)))
@@ -286,5 +290,6 @@ listed_bytes text held text_len listed long =
     each : (names : List Name) → map (λ name. bytes_in text (listed_name text_len held name)) names
         ≡ map (name_bytes text held) names
     each [] = refl
-    each (name ∷ others) = ap (λ n. n ∷ map (λ other. bytes_in text (listed_name text_len held other)) others) (here name)
+    each (name ∷ others) =
+        ap (λ n. n ∷ map (λ other. bytes_in text (listed_name text_len held other)) others) (here name)
         ∙ ap (λ l. name_bytes text held name ∷ l) (each others)

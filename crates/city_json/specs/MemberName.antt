@@ -1,6 +1,6 @@
 -- Where the names of members lie: in the text, or among those with escapes, which are held decoded, one after another.
 -- Places of the text go on from its end in what is held. A name in the text ends before the text does.
-use Rattle.std.specs.Prelude.{◌+◌, ◌-◌, ◌<◌, ◌≤◌, ◌^◌, ℕ, List, [], ◌∷◌, length, nat_lt, if◌then◌else◌, slice_range}
+use Rattle.std.specs.Prelude.{◌≡◌, ◌+◌, ◌-◌, ◌<◌, ◌≤◌, ◌^◌, ℕ, List, [], ◌∷◌, length, nat_lt, if◌then◌else◌, slice_range}
 use Rattle.city_json.specs.ListedNames.{ListedName, as_written, as_decoded}
 use Rattle.city_json.specs.declared.compacting.name.Name.{Name}
 
@@ -26,10 +26,10 @@ pub record IsWithin (text_len held_len : ℕ) (name : Name) : Type 0 where
 abbrev pub after_name : ℕ → ℕ → Name → ℕ
 after_name text_len from name = if nat_lt name.end text_len then from else name.end
 
--- those that are held lie one after another, from `from` on up to `end`
+-- those that are held lie one after another, and nothing else, from `from` on up to `end`
 abbrev pub LieInOrder : ℕ → ℕ → List Name → ℕ → Type 0
-LieInOrder text_len from [] end = from ≤ end
-LieInOrder text_len from (name ∷ others) end = (name.from ≤ name.end) × (text_len ≤ name.end → from ≤ name.from)
+LieInOrder text_len from [] end = from ≡ end
+LieInOrder text_len from (name ∷ others) end = (name.from ≤ name.end) × (text_len ≤ name.end → from ≡ name.from)
     × LieInOrder text_len (after_name text_len from name) others end
 
 -- where the first of these begins that is held, or else `end`

@@ -14,8 +14,8 @@ use crate::reading::names::are_apart_when_sorted;
 use std::alloc::Global;
 use std::marker::Model;
 
-/// Most features have no more names in objects that are open at once. They take less than a kilobyte, which is asked
-/// for once a text.
+/// Most features have no more names in objects that are open at once. They take 320 bytes, which are asked for once a
+/// text.
 const COMMON_NAMES: usize = 40;
 
 /// The most names that are compared with one another at once. Names of attributes often begin alike and are as long as
@@ -34,8 +34,8 @@ const FEW_SIEVED: usize = 64;
 /// Of more it is likelier that the prints have to be sorted, whatever the sieve did.
 const MAX_SIEVED: usize = 512;
 
-/// The names of the members of the open objects of a text, in their order. Each is listed by its place in the text; those
-/// with escapes are held decoded, one after another, and their places go on from the text's end.
+/// The names of the members of the open objects of a text, in their order. Each is listed by its place in the text, in
+/// eight bytes; those with escapes are held decoded, one after another, and their places go on from the text's end.
 #[derive(Drop)]
 pub(super) struct Names {
     /// The text's length, or [`u32::MAX`] of a longer text, no name of which is listed that ends after it.
@@ -112,12 +112,13 @@ impl Names {
             return None;
         }
         let (from, end) = (from as u32, end as u32);
+        let Ok(()) = self.listed.reserve(1) else {
+            return None;
+        };
         let Ok(_) = self.held.extend_from_slice(name) else {
             return None;
         };
-        let Ok(()) = self.listed.push(Name { from, end }) else {
-            return None;
-        };
+        self.listed.push_reserved(Name { from, end });
         Some(())
     }
 

@@ -18,6 +18,7 @@ loop-rest-preserved c = record {
       c.loop-rest.invariant.within);
   differ = differ_step_at (name_bytes c.args.text.now c.args.held.now) c.loop-rest.rest.now _ _ _
       c.in-len1-up.len_at_least refl
-      (λ members is. subst (λ l. IsNewName l members) c.bytes.ensures (c.is_new.ensures c.if-not-is_new.false members is))
+      (λ members is. subst (λ l. IsNewName l members) c.bytes.ensures
+      (c.is_new.ensures c.if-not-is_new.false members is))
       c.loop-rest.invariant.differ;
 }

@@ -18,7 +18,8 @@ loop-name-preserved c =
     record {
       first = omega (arith, some_first);
       second = omega (arith, some_second);
-      told = one_more_at (λ name. print_of (name_bytes c.args.text.now c.args.held.now name)) c.loop-name.first c.loop-name.second _ _
+      told = one_more_at (λ name. print_of (name_bytes c.args.text.now c.args.held.now name)) c.loop-name.first
+          c.loop-name.second _ _
           c.args.listed.now c.loop-name.name-index _ c.print_of-print.result c.loop-name-test.true
           (c.print_of-print.ensures ∙ ap print_of c.bytes.ensures) c.loop-name.invariant.told
           (c.mark.ensures.new c.if-not-mark.false) c.mark.ensures.marked c.mark.ensures.kept;
@@ -26,5 +27,6 @@ loop-name-preserved c =
 
 pub returns : goal.returns
 returns c = λ ok members is.
-    apart_when_told (name_bytes c.args.text.now c.args.held.now) print_of c.loop-name.first c.loop-name.second c.args.listed.now
+    apart_when_told (name_bytes c.args.text.now c.args.held.now) print_of c.loop-name.first c.loop-name.second
+    c.args.listed.now
     c.loop-name.name-index members c.loop-name-test.false c.loop-name.invariant.told is

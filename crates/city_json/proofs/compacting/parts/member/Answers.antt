@@ -13,14 +13,17 @@ pub returns-clause-taken : goal.returns-clause-taken
 unfolding member_taken
 returns-clause-taken c =
     let text = c.args.text.now in
+    let names = names_in text in
     let before : List ℕ = shown c.args.draft.now.line text c.args.draft.now.from c.args.at in
     let mid : List ℕ = shown c.name_and_colon.new.draft.line text c.name_and_colon.new.draft.from c.in_ok-start.start in
     let after : List ℕ = shown c.top_value.new.draft.line text c.top_value.new.draft.from c.in_ok-value.value.end in
     let taken : TakenMember c.args.levels (drop c.args.at text)
-    (drop c.in_ok-value.value.end text) before after (names_in text c.args.draft.now.names) (names_in text c.top_value.new.draft.names) =
+    (drop c.in_ok-value.value.end text) before after (names c.args.draft.now.names)
+    (names c.top_value.new.draft.names) =
     member_taken c.args.levels (drop c.args.at text) (drop c.in_ok-start.start text)
-    (drop c.in_ok-value.value.end text) before mid after (names_in text c.args.draft.now.names) (names_in text c.name_and_colon.new.draft.names)
-    (names_in text c.top_value.new.draft.names)
+    (drop c.in_ok-value.value.end text) before mid after (names c.args.draft.now.names)
+    (names c.name_and_colon.new.draft.names)
+    (names c.top_value.new.draft.names)
     c.in_ok-start.ensures.taken c.in_ok-value.ensures.taken c.in_ok-value.ensures.names in
     let part = c.in_ok-list_part.ensures in
     record {
@@ -34,6 +37,7 @@ returns-clause-taken c =
 pub returns-clause-triples : goal.returns-clause-triples
 returns-clause-triples c =
     let text = c.args.text.now in
+    let names = names_in text in
     let found = c.in_ok-value.value in
     let start = c.in_ok-start.start in
     let was = c.name_and_colon.new.draft in
@@ -42,9 +46,10 @@ returns-clause-triples c =
     let mid : List ℕ = shown was.line text was.from start in
     let after : List ℕ = shown draft.line text draft.from found.end in
     let taken : TakenMember c.args.levels (drop c.args.at text)
-    (drop found.end text) before after (names_in text c.args.draft.now.names) (names_in text draft.names) =
+    (drop found.end text) before after (names c.args.draft.now.names) (names draft.names) =
     member_taken c.args.levels (drop c.args.at text) (drop start text) (drop found.end text) before mid after
-    (names_in text c.args.draft.now.names) (names_in text was.names) (names_in text draft.names) c.in_ok-start.ensures.taken c.in_ok-value.ensures.taken
+    (names c.args.draft.now.names) (names was.names) (names draft.names) c.in_ok-start.ensures.taken
+    c.in_ok-value.ensures.taken
     c.in_ok-value.ensures.names in
     let some : found.are_triples ≡ true → HasTriples after c.noted.result = λ are.
     let (t, line_is, from_is) = c.in_ok-value.ensures.triples are in

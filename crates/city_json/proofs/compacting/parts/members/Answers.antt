@@ -31,6 +31,7 @@ returns-then-text-i-eq125-clause-triples c =
 pub members-init : goal.members-init
 members-init c =
     let text = c.args.text.now in
+    let names = names_in text in
     let before_end : c.skip-i.result ≤ length text = c.skip-i.ensures.within in
     let inside : c.skip-i.result < length text = omega (arith, c.if-i-text.false) in
     record {
@@ -41,7 +42,8 @@ members-init c =
           c.requires.triples;
       goes_on = λ rest after listed parts from.
           parts_start c.args.levels (drop c.args.at text)
-          (drop c.skip-i.result text) rest _ _ after (names_in text c.skip-i.new.draft.names) listed c.args.parts.now.items parts
+          (drop c.skip-i.result text) rest _ _ after (names c.skip-i.new.draft.names) listed c.args.parts.now.items
+          parts
           (c.skip-i.ensures.skipped inside) (c.skip-i.ensures.is_shown inside)
           (c.skip-i.ensures.names inside ∙ c.requires.none) c.requires.no_parts from;
     }
@@ -49,6 +51,7 @@ members-init c =
 pub members-preserved : goal.members-preserved
 members-preserved c =
     let text = c.args.text.now in
+    let names = names_in text in
     let onward : c.members.i < c.in_ok-end.end = c.in_ok-end.ensures.onward in
     let before_end : c.skip-place.result ≤ length text = c.skip-place.ensures.within in
     let inside : c.skip-place.result < length text = omega (arith, c.if-place-text.false) in
@@ -59,7 +62,7 @@ members-preserved c =
     let is_comma : get_or text c.skip-place.result 0 ≡ comma = omega (arith, c.if-text-place-ne44.false) in
     let so_far : c.args.at ≤ c.members.i = c.members.invariant.onward in
     let draft = c.skip-place.new.draft in
-    let same : (names_in text c.skip-i-in-members.new.draft.names) ≡ (names_in text c.member.new.draft.names) =
+    let same : names c.skip-i-in-members.new.draft.names ≡ names c.member.new.draft.names =
     c.skip-i-in-members.ensures.names inside₂ ∙ c.skip-place.ensures.names inside in
     let t = c.in_ok-end.ensures.taken in
     record {
@@ -73,11 +76,12 @@ members-preserved c =
           subst (λ l. PartsWhole c.args.levels (drop c.args.at text) rest
           (shown c.args.draft.now.line text c.args.draft.now.from c.args.at) after l
           (c.member.new.parts.items ++ parts))
-          (names_more 0 (names_in text c.members.draft.names) (names_in text c.member.new.draft.names) (names_in text c.skip-i-in-members.new.draft.names) t.taken.name
+          (names_more 0 (names c.members.draft.names) (names c.member.new.draft.names)
+          (names c.skip-i-in-members.new.draft.names) t.taken.name
           listed (omega arith) t.taken.names_are same)
           (subst (λ l. PartsWhole c.args.levels (drop c.args.at text) rest
           (shown c.args.draft.now.line text c.args.draft.now.from c.args.at) after
-          ((names_in text c.members.draft.names) ++ (t.taken.name ∷ listed)) l)
+          (names c.members.draft.names ++ (t.taken.name ∷ listed)) l)
           (parts_more c.members.parts.items c.member.new.parts.items t.part parts t.parts_are)
           (c.members.invariant.goes_on rest after (t.taken.name ∷ listed) (t.part ∷ parts)
           (parts_step c.args.levels (drop c.members.i text) (drop c.in_ok-end.end text)
@@ -93,6 +97,7 @@ members-preserved c =
 pub returns-then-text-place-eq125-clause-taken : goal.returns-then-text-place-eq125-clause-taken
 returns-then-text-place-eq125-clause-taken c =
     let text = c.args.text.now in
+    let names = names_in text in
     let before_end : c.skip-place.result ≤ length text = c.skip-place.ensures.within in
     let inside : c.skip-place.result < length text = omega (arith, c.if-place-text.false) in
     let draft = c.skip-place.new.draft in
@@ -105,9 +110,10 @@ returns-then-text-place-eq125-clause-taken c =
     (c.skip-place.ensures.skipped inside) inside c.if-text-place-eq125.true) (c.skip-place.ensures.is_shown inside)
     (mark_shown draft.line text _ draft.from c.skip-place.result close_brace
     (c.skip-place.ensures.copied inside) inside c.if-text-place-eq125.true refl)) in
-    let listed = names_more 0 (names_in text c.members.draft.names) (names_in text c.member.new.draft.names) (names_in text draft.names) t.taken.name []
+    let listed = names_more 0 (names c.members.draft.names) (names c.member.new.draft.names) (names draft.names)
+    t.taken.name []
     (omega arith) t.taken.names_are (c.skip-place.ensures.names inside) in
-    let all_listed = all.names_are ∙ (listed ∙ append-nil (names_in text draft.names)) in
+    let all_listed = all.names_are ∙ (listed ∙ append-nil (names draft.names)) in
     subst (λ l. TakenParts c.args.levels (drop c.args.at text) (drop (c.skip-place.result + 1) text)
     (shown c.args.draft.now.line text c.args.draft.now.from c.args.at)
     (shown draft.line text draft.from (c.skip-place.result + 1)) l) (sym t.parts_are)

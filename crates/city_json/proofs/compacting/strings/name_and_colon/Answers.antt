@@ -9,6 +9,7 @@ use Rattle.city_json.proofs.compacting.strings.name_and_colon.Goals as goal
 pub returns-clause-taken : goal.returns-clause-taken
 returns-clause-taken c =
     let text = c.args.text.now in
+    let names = names_in text in
     let colon_end : c.skip-colon.result ≤ length text = c.skip-colon.ensures.within in
     let colon_inside : c.skip-colon.result < length text = omega (arith, c.if-colon-text.false) in
     let is_colon : get_or text c.skip-colon.result 0 ≡ colon = omega (arith, c.if-text-colon-ne58.false) in
@@ -17,8 +18,9 @@ returns-clause-taken c =
     let draft = c.skip-colon.new.draft in
     start_taken (drop c.args.at text) (drop c.in_ok-end.end text) (drop (c.skip-colon.result + 1) text)
     (drop c.skip-start.result text) _ _ (shown draft.line text draft.from c.skip-colon.result)
-    (shown draft.line text draft.from (c.skip-colon.result + 1)) _ (names_in text c.args.draft.now.names) (names_in text c.name.new.draft.names)
-    (names_in text c.skip-start.new.draft.names)
+    (shown draft.line text draft.from (c.skip-colon.result + 1)) _ (names c.args.draft.now.names)
+    (names c.name.new.draft.names)
+    (names c.skip-start.new.draft.names)
     c.in_ok-end.ensures.taken (at_mark text (drop c.in_ok-end.end text) c.skip-colon.result colon
     (c.skip-colon.ensures.skipped colon_inside) colon_inside is_colon) (c.skip-colon.ensures.is_shown colon_inside)
     (mark_shown draft.line text _ draft.from c.skip-colon.result colon

@@ -40,9 +40,10 @@ array-returns-clause-taken t c =
 pub member-returns-clause-taken : goal.member-returns-clause-taken
 member-returns-clause-taken t c =
     let text = c.args.text.now in
-    member_taken c.args.levels (drop c.args.at c.args.text.now) (drop c.in_ok-start.start c.args.text.now)
-    (drop c.in_ok-end.end c.args.text.now) _ _ _ (names_in text c.args.draft.now.names) (names_in text c.name_and_colon.new.draft.names)
-    (names_in text c.member_value.new.draft.names)
+    let names = names_in text in
+    member_taken c.args.levels (drop c.args.at text) (drop c.in_ok-start.start text)
+    (drop c.in_ok-end.end text) _ _ _ (names c.args.draft.now.names) (names c.name_and_colon.new.draft.names)
+    (names c.member_value.new.draft.names)
     c.in_ok-start.ensures.taken c.in_ok-end.ensures.taken c.in_ok-end.ensures.names
 
 pub value-returns-else-levels-eq0-clause-taken : goal.value-returns-else-levels-eq0-clause-taken
@@ -86,28 +87,30 @@ object-returns-then-text-i-eq125-clause-taken t c =
 pub object-members-init : goal.object-members-init
 object-members-init t c =
     let text = c.args.text.now in
+    let names = names_in text in
     let before_end : c.skip-i.result ≤ length text = c.skip-i.ensures.within in
     let inside : c.skip-i.result < length text = omega (arith, c.if-i-text.false) in
-    let same : (names_in text c.skip-i.new.draft.names) ≡ (names_in text c.args.draft.now.names) = (c.skip-i.ensures.names inside) in
-    let count : c.len-base.result ≡ length (names_in text c.args.draft.now.names) = c.len-base.ensures
+    let same : names c.skip-i.new.draft.names ≡ names c.args.draft.now.names = (c.skip-i.ensures.names inside) in
+    let count : c.len-base.result ≡ length (names c.args.draft.now.names) = c.len-base.ensures
     ∙ sym (length-map c.args.draft.now.names (bytes_in text)) in
-    let long : length (names_in text c.skip-i.new.draft.names) ≡ length (names_in text c.args.draft.now.names) = ap length same in
+    let long : length (names c.skip-i.new.draft.names) ≡ length (names c.args.draft.now.names) = ap length same in
     record {
       onward = (c.skip-i.ensures.onward inside);
       within = c.skip-i.ensures.within;
       copied = (c.skip-i.ensures.copied inside);
       few = omega (arith, count, long);
-      names = take_all c.len-base.result (names_in text c.skip-i.new.draft.names) (omega (arith, count, long)) ∙ same;
+      names = take_all c.len-base.result (names c.skip-i.new.draft.names) (omega (arith, count, long)) ∙ same;
       goes_on = λ rest after listed from.
           members_start c.args.levels (drop c.args.at text) (drop c.skip-i.result text) rest _ _ after
-          (drop c.len-base.result (names_in text c.skip-i.new.draft.names)) listed (c.skip-i.ensures.skipped inside)
+          (drop c.len-base.result (names c.skip-i.new.draft.names)) listed (c.skip-i.ensures.skipped inside)
           (c.skip-i.ensures.is_shown inside)
-          (drop_all c.len-base.result (names_in text c.skip-i.new.draft.names) (omega (arith, count, long))) from;
+          (drop_all c.len-base.result (names c.skip-i.new.draft.names) (omega (arith, count, long))) from;
     }
 
 pub object-members-preserved : goal.object-members-preserved
 object-members-preserved t c =
     let text = c.args.text.now in
+    let names = names_in text in
     let onward : c.members.i < c.in_ok-end.end = c.in_ok-end.ensures.onward in
     let before_end : c.skip-place.result ≤ length text = c.skip-place.ensures.within in
     let inside : c.skip-place.result < length text = omega (arith, c.if-place-text.false) in
@@ -117,30 +120,34 @@ object-members-preserved t c =
     let behind : c.skip-place.result + 1 ≤ c.skip-i-in-members.result = (c.skip-i-in-members.ensures.onward inside₂) in
     let is_comma : get_or text c.skip-place.result 0 ≡ comma = omega arith in
     let draft = c.skip-place.new.draft in
-    let same : (names_in text c.skip-i-in-members.new.draft.names) ≡ (names_in text c.member.new.draft.names) =
+    let same : names c.skip-i-in-members.new.draft.names ≡ names c.member.new.draft.names =
     (c.skip-i-in-members.ensures.names inside₂) ∙ (c.skip-place.ensures.names inside) in
-    let one = (names_in text c.members.draft.names) in
+    let one = names c.members.draft.names in
     let taken = c.in_ok-end.ensures.taken in
     let few : c.len-base.result ≤ length one = c.members.invariant.few in
-    let grown : length (names_in text c.member.new.draft.names) ≡ length one + 1 = ap length taken.names_are
+    let grown : length (names c.member.new.draft.names) ≡ length one + 1 = ap length taken.names_are
     ∙ length_push one taken.name in
-    let long : length (names_in text c.skip-i-in-members.new.draft.names) ≡ length (names_in text c.member.new.draft.names) = ap length same in
+    let long : length (names c.skip-i-in-members.new.draft.names) ≡ length (names c.member.new.draft.names) = ap
+    length same in
     record {
       onward = omega (arith, onward, further, c.members.invariant.onward, behind);
       within = c.skip-i-in-members.ensures.within;
       copied = (c.skip-i-in-members.ensures.copied inside₂);
       few = omega (arith, few, grown, long);
-      names = names_kept c.len-base.result one (names_in text c.member.new.draft.names) (names_in text c.skip-i-in-members.new.draft.names) taken.name
+      names = names_kept c.len-base.result one (names c.member.new.draft.names)
+          (names c.skip-i-in-members.new.draft.names) taken.name
           few taken.names_are same ∙ c.members.invariant.names;
       goes_on = λ rest after listed from.
           subst (λ l. MembersWhole c.args.levels (drop c.args.at text) rest
           (shown c.args.draft.now.line text c.args.draft.now.from c.args.at) after l)
-          (names_more c.len-base.result one (names_in text c.member.new.draft.names) (names_in text c.skip-i-in-members.new.draft.names) taken.name
+          (names_more c.len-base.result one (names c.member.new.draft.names)
+          (names c.skip-i-in-members.new.draft.names) taken.name
           listed few taken.names_are same)
           (c.members.invariant.goes_on rest after (taken.name ∷ listed)
           (members_step c.args.levels (drop c.members.i text) (drop c.in_ok-end.end text)
           (drop (c.skip-place.result + 1) text) (drop c.skip-i-in-members.result text) rest _ _ _
-          (shown draft.line text draft.from (c.skip-place.result + 1)) _ after one (names_in text c.member.new.draft.names) listed
+          (shown draft.line text draft.from (c.skip-place.result + 1)) _ after one (names c.member.new.draft.names)
+          listed
           taken
           (at_mark text (drop c.in_ok-end.end text) c.skip-place.result comma
           (c.skip-place.ensures.skipped inside) inside is_comma) (c.skip-place.ensures.is_shown inside)
@@ -165,24 +172,26 @@ object-returns-then-text-place-eq125-clause-names t c =
 pub object-returns-then-text-place-eq125-clause-taken : goal.object-returns-then-text-place-eq125-clause-taken
 object-returns-then-text-place-eq125-clause-taken t c =
     let text = c.args.text.now in
+    let names = names_in text in
     let before_end : c.skip-place.result ≤ length text = c.skip-place.ensures.within in
     let inside : c.skip-place.result < length text = omega (arith, c.if-place-text.false) in
     let draft = c.skip-place.new.draft in
-    let one = (names_in text c.members.draft.names) in
+    let one = names c.members.draft.names in
     let taken = c.in_ok-end.ensures.taken in
     let few : c.len-base.result ≤ length one = c.members.invariant.few in
     let all = c.members.invariant.goes_on _ _ (taken.name ∷ [])
     (members_stop c.args.levels (drop c.members.i text) (drop c.in_ok-end.end text)
     (drop (c.skip-place.result + 1) text) _ _ _
-    (shown draft.line text draft.from (c.skip-place.result + 1)) one (names_in text c.member.new.draft.names) taken
+    (shown draft.line text draft.from (c.skip-place.result + 1)) one (names c.member.new.draft.names) taken
     (at_mark text (drop c.in_ok-end.end text) c.skip-place.result close_brace
     (c.skip-place.ensures.skipped inside) inside c.if-text-place-eq125.true) (c.skip-place.ensures.is_shown inside)
     (mark_shown draft.line text _ draft.from c.skip-place.result close_brace
     (c.skip-place.ensures.copied inside) inside c.if-text-place-eq125.true refl)) in
-    let listed = names_more c.len-base.result one (names_in text c.member.new.draft.names) (names_in text draft.names) taken.name [] few taken.names_are
+    let listed = names_more c.len-base.result one (names c.member.new.draft.names) (names draft.names) taken.name []
+    few taken.names_are
     (c.skip-place.ensures.names inside) in
     all.whole (c.are_apart_from.ensures c.if-not-are_apart_from.false all.members (all.names_are
-    ∙ (listed ∙ append-nil (drop c.len-base.result (names_in text draft.names)))))
+    ∙ (listed ∙ append-nil (drop c.len-base.result (names draft.names)))))
 
 pub member_value-returns-then-may_end-clause-taken : goal.member_value-returns-then-may_end-clause-taken
 member_value-returns-then-may_end-clause-taken t c =

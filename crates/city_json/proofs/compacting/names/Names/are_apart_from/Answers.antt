@@ -32,7 +32,8 @@ within_from listed slice held all text_len long n base are same_len same whole =
 pub few_are_apart-requires : goal.few_are_apart-requires
 few_are_apart-requires c = record {
   within = within_from c.self.inside.listed.items c.deref.result.now c.self.inside.held.items
-      c.deref-then-listed-le-MAX_COMPARED_AT_ONCE.result.now c.self.inside.text_len (length c.args.text.now) _ c.args.base
+      c.deref-then-listed-le-MAX_COMPARED_AT_ONCE.result.now c.self.inside.text_len (length c.args.text.now) _
+      c.args.base
       c.self.invariant (omega (arith, c.if-text-self.false)) c.deref.ensures.value
       c.deref-then-listed-le-MAX_COMPARED_AT_ONCE.ensures.value;
 }
@@ -40,7 +41,8 @@ few_are_apart-requires c = record {
 pub many_are_apart-requires : goal.many_are_apart-requires
 many_are_apart-requires c = record {
   within = within_from c.self.inside.listed.items c.deref.result.now c.self.inside.held.items
-      c.deref-else-listed-le-MAX_COMPARED_AT_ONCE.result.now c.self.inside.text_len (length c.args.text.now) _ c.args.base
+      c.deref-else-listed-le-MAX_COMPARED_AT_ONCE.result.now c.self.inside.text_len (length c.args.text.now) _
+      c.args.base
       c.self.invariant (omega (arith, c.if-text-self.false)) c.deref.ensures.value
       c.deref-else-listed-le-MAX_COMPARED_AT_ONCE.ensures.value;
 }
