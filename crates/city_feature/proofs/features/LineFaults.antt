@@ -82,7 +82,7 @@ module _ (members : MemberTrees) where
 -- what a feature has is wanting
 pub unshaped : (members : MemberTrees) (P : Type 0) (b : Bool) → b ≡ false → IsTrue b ↔ P
     → (HasFeatureShape (object members) → P) → IsTrue false ↔ HasFeatureShape (object members)
-unshaped members P b is_false test part =
+unshaped all P b is_false test part =
     (λ never. absurd (not_both false refl never), λ shape. absurd (not_both b is_false (test.1 (part shape))))
 
 array_there : (there : Option Tree) → IsThere IsArray there → (items : ItemTrees) × (there ≡ Some (array items))
@@ -135,7 +135,7 @@ refuses_line k fault bytes line items parts passed same_line same_parts
 
 -- ---- no object
 no_member_of : (value : Tree) → ¬ IsObject value → HasFeatureShape value → ⊥
-no_member_of (object members) other shape = other tt
+no_member_of (object all) other shape = other tt
 no_member_of null other shape = absurd (none_is shape.0)
   where
     none_is : None ≡ Some (string (codes "CityJSONFeature")) → ⊥
@@ -148,7 +148,7 @@ no_member_of (array items) other shape = absurd shape.1
 -- an opening brace stands first in the text of an object
 opened : (bytes : List ℕ) (members : MemberTrees) → Spells bytes (object members)
     → Begins (after_white bytes) open_brace
-opened bytes members (utf8, (before, inner, after, is, blank, (content, written, spells), end)) =
+opened bytes all (utf8, (before, inner, after, is, blank, (content, written, spells), end)) =
     let rest : List ℕ = (content ++ close_brace ∷ []) ++ after in
     let whole : bytes ≡ before ++ open_brace ∷ rest =
     is ∙ ap (λ l. before ++ (l ++ after)) written in
@@ -161,8 +161,8 @@ pub no_object : (bytes rest : List ℕ) → rest ≡ after_white bytes → ¬ Be
 no_object bytes rest same other value spells = no_member_of value (is_none value spells)
   where
     is_none : (value : Tree) → Spells bytes value → ¬ IsObject value
-    is_none (object members) spells =
-        λ is. other (subst (λ l. Begins l open_brace) (sym same) (opened bytes members spells))
+    is_none (object all) spells =
+        λ is. other (subst (λ l. Begins l open_brace) (sym same) (opened bytes all spells))
     is_none (array items) spells = λ is. is
     is_none (string text) spells = λ is. is
     is_none (number n) spells = λ is. is
