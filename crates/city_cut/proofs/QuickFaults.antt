@@ -1,9 +1,7 @@
 -- Why a document is not cut, found on its compact text.
 use Rattle.std.proofs.Common.{◌≡◌, ◌∙◌, ◌<◌, ◌⊎◌, ◌↔◌, inl, inr, ℕ, zero, suc, Bool, true, false, IsTrue, List, [], ◌∷◌, Option, Some, None, Result, Ok, Err, IfErr, OnOk, IsUtf8, length, map, unwrap_or, refl, sym, ap, subst, arith, codes}
 use Rattle.std.specs.Borrow.{Bor}
-use Rattle.std.specs.Global.{Global}
 use Rattle.std.specs.List.{AllByRecursion, AllZip, Contains}
-use Rattle.std.specs.Prelude.{Vec}
 use Rattle.byte_streams.specs.declared.fault.Fault.{Fault}
 use Rattle.byte_streams.specs.declared.fault.Fault.TheVariants.{NotCityJson, Version, NoTransform, Decimal, ScaleNotPositive, ChildMissing, Orphan, BoundaryIndex, Memory}
 use Rattle.city_json.proofs.CompactLaws.{compact-tells}
@@ -40,7 +38,7 @@ use Rattle.city_cut.proofs.QuickOverviews.{said_all}
 
 -- ---- the objects that are in a text
 pub related_there : (text : List ℕ) (places listed : List Part) (parents : List Bool)
-    (given lent : List (Bor (List ℕ))) (graph : List (Vec ℕ Global)) (table sorted : List (Bor (List ℕ) × ℕ))
+    (given lent : List (Bor (List ℕ))) (graph : List (List ℕ)) (table sorted : List (Bor (List ℕ) × ℕ))
     (value : Tree) → HasParts text places → AllZip (HasParentsIn text) places parents
     → AllZip (HasChildrenIn text) places given → listed ≡ places → lent ≡ given → sorted ≡ table
     → ((pairs : List (List ℕ × Tree)) → IsCompactOf text (object (member_trees pairs))

@@ -1,5 +1,4 @@
-use Rattle.std.proofs.Common.{◌∙◌, ap, length, subst, sym}
-use Rattle.city_cut.specs.Search.{InRange}
+use Rattle.std.proofs.Common.{◌∙◌, ap, length, refl, subst, sym}
 use Rattle.city_cut.specs.Table.{IsTable}
 use Rattle.city_cut.proofs.Kinship.{graph_in_range, lacks_none}
 use Rattle.city_cut.proofs.QuickGraphs.{related, same_long}
@@ -13,8 +12,7 @@ check_belonging-requires-clause-graph c =
     c.in_ok-graph.graph pairs c.in_ok-table.table.items c.requires.parents c.requires.children
     (c.in_ok-table.ensures pairs of are) (λ all utf8 table. c.in_ok-graph.ensures all utf8
     (subst (IsTable _) (sym c.deref.ensures.value) table)) of are in
-    subst (λ g. InRange g (length g)) (sym c.deref-2.ensures.value)
-    (graph_in_range _ c.in_ok-graph.graph rel.0.differ rel.0.linked)
+    graph_in_range _ c.in_ok-graph.graph rel.0.differ rel.0.linked
 
 pub check_belonging-requires-clause-parents : goal.check_belonging-requires-clause-parents
 check_belonging-requires-clause-parents c =
@@ -23,7 +21,7 @@ check_belonging-requires-clause-parents c =
     c.in_ok-graph.graph pairs c.in_ok-table.table.items c.requires.parents c.requires.children
     (c.in_ok-table.ensures pairs of are) (λ all utf8 table. c.in_ok-graph.ensures all utf8
     (subst (IsTable _) (sym c.deref.ensures.value) table)) of are in
-    ap length c.deref-3.ensures.value ∙ (same_long pairs _ _ rel.0 ∙ sym (ap length c.deref-2.ensures.value))
+    ap length c.deref-2.ensures.value ∙ same_long pairs _ _ rel.0
 
 pub returns-clause-graph : goal.returns-clause-graph
 returns-clause-graph c =
@@ -49,5 +47,5 @@ returns-clause-kin c = λ pairs of are.
     c.in_ok-graph.graph pairs c.in_ok-table.table.items c.requires.parents c.requires.children
     (c.in_ok-table.ensures pairs of are) (λ all utf8 table. c.in_ok-graph.ensures all utf8
     (subst (IsTable _) (sym c.deref.ensures.value) table)) of are in
-    let here = related_as pairs _ _ _ _ (sym c.deref-2.ensures.value) (sym c.deref-3.ensures.value) rel.0 in
+    let here = related_as pairs _ _ _ _ refl (sym c.deref-2.ensures.value) rel.0 in
     (rel.1, lacks_none _ _ rel.0.linked, c.in-Ok.ensures.belong pairs here, rel.0)

@@ -1,9 +1,8 @@
-use Rattle.std.proofs.Common.{◌∙◌, ap, length, map, subst, sym}
+use Rattle.std.proofs.Common.{◌∙◌, ap, length, map, refl, subst, sym}
 use Rattle.city_json.specs.Compact.{quoted}
 use Rattle.city_json.specs.Parts.{AreParts}
 use Rattle.city_json.specs.Tree.{member_trees}
 use Rattle.city_cut.specs.Graphs.{SomeNamesMissing}
-use Rattle.city_cut.specs.Search.{InRange}
 use Rattle.city_cut.specs.Table.{IsTable}
 use Rattle.city_cut.proofs.Kinship.{graph_in_range, lacks_none}
 use Rattle.city_cut.proofs.QuickDocuments.{objects_there}
@@ -31,32 +30,31 @@ pub check_belonging-requires-clause-graph : goal.check_belonging-requires-clause
 check_belonging-requires-clause-graph c =
     let seen = c.in_ok-places.field-0 in
     let (there, rel) = related_there c.args.text.now seen.places.items c.deref.result.now seen.parents.items
-    seen.children.items c.deref-4.result.now c.in_ok-graph.graph.items c.in_ok-table.table.items c.deref-5.result.now
+    seen.children.items c.deref-4.result.now c.in_ok-graph.graph c.in_ok-table.table.items c.deref-5.result.now
     c.requires.0 c.in_ok-places.ensures.places c.in_ok-places.ensures.parents c.in_ok-places.ensures.children
     c.deref.ensures.value c.deref-4.ensures.value c.deref-5.ensures.value c.in_ok-table.ensures c.in_ok-graph.ensures
     c.requires.1 in
-    subst (λ g. InRange g (length g)) (sym c.deref-6.ensures.value)
-    (graph_in_range _ c.in_ok-graph.graph.items rel.differ rel.linked)
+    graph_in_range _ c.in_ok-graph.graph rel.differ rel.linked
 
 pub check_belonging-requires-clause-parents : goal.check_belonging-requires-clause-parents
 check_belonging-requires-clause-parents c =
     let seen = c.in_ok-places.field-0 in
     let (there, rel) = related_there c.args.text.now seen.places.items c.deref.result.now seen.parents.items
-    seen.children.items c.deref-4.result.now c.in_ok-graph.graph.items c.in_ok-table.table.items c.deref-5.result.now
+    seen.children.items c.deref-4.result.now c.in_ok-graph.graph c.in_ok-table.table.items c.deref-5.result.now
     c.requires.0 c.in_ok-places.ensures.places c.in_ok-places.ensures.parents c.in_ok-places.ensures.children
     c.deref.ensures.value c.deref-4.ensures.value c.deref-5.ensures.value c.in_ok-table.ensures c.in_ok-graph.ensures
     c.requires.1 in
-    ap length c.deref-7.ensures.value ∙ (same_long there.pairs _ _ rel ∙ sym (ap length c.deref-6.ensures.value))
+    ap length c.deref-6.ensures.value ∙ same_long there.pairs _ _ rel
 
 pub returns-in-Err-Orphan : goal.returns-in-Err-Orphan
 returns-in-Err-Orphan c = λ value of.
     let seen = c.in_ok-places.field-0 in
     let (there, rel) = related_there c.args.text.now seen.places.items c.deref.result.now seen.parents.items
-    seen.children.items c.deref-4.result.now c.in_ok-graph.graph.items c.in_ok-table.table.items c.deref-5.result.now
+    seen.children.items c.deref-4.result.now c.in_ok-graph.graph c.in_ok-table.table.items c.deref-5.result.now
     value c.in_ok-places.ensures.places c.in_ok-places.ensures.parents c.in_ok-places.ensures.children
     c.deref.ensures.value c.deref-4.ensures.value c.deref-5.ensures.value c.in_ok-table.ensures c.in_ok-graph.ensures
     of in
-    let here = related_as there.pairs _ _ _ _ (sym c.deref-6.ensures.value) (sym c.deref-7.ensures.value) rel in (
+    let here = related_as there.pairs _ _ _ _ refl (sym c.deref-6.ensures.value) rel in (
       member_trees there.pairs,
       there.is,
       (
@@ -69,17 +67,17 @@ pub returns-then-has_wrong_boundary : goal.returns-then-has_wrong_boundary
 returns-then-has_wrong_boundary c = λ value of.
     let seen = c.in_ok-places.field-0 in
     let (there, rel) = related_there c.args.text.now seen.places.items c.deref.result.now seen.parents.items
-    seen.children.items c.deref-4.result.now c.in_ok-graph.graph.items c.in_ok-table.table.items c.deref-5.result.now
+    seen.children.items c.deref-4.result.now c.in_ok-graph.graph c.in_ok-table.table.items c.deref-5.result.now
     value c.in_ok-places.ensures.places c.in_ok-places.ensures.parents c.in_ok-places.ensures.children
     c.deref.ensures.value c.deref-4.ensures.value c.deref-5.ensures.value c.in_ok-table.ensures c.in_ok-graph.ensures
     of in
-    let here = related_as there.pairs _ _ _ _ (sym c.deref-6.ensures.value) (sym c.deref-7.ensures.value) rel in (
+    let here = related_as there.pairs _ _ _ _ refl (sym c.deref-6.ensures.value) rel in (
       member_trees there.pairs,
       there.is,
       (
         lacks_none _ _ rel.linked,
         no_orphan (member_trees there.pairs) (c.in-Ok.ensures.belong there.pairs here),
         c.has_wrong_boundary.ensures c.if-has_wrong_boundary.true there.pairs there.of
-            (subst (λ p. AreParts 1 p (member_trees there.pairs)) (sym c.deref-8.ensures.value) there.are),
+            (subst (λ p. AreParts 1 p (member_trees there.pairs)) (sym c.deref-7.ensures.value) there.are),
       ),
     )

@@ -1,4 +1,4 @@
-use Rattle.std.proofs.Common.{[], get_or, subst}
+use Rattle.std.proofs.Common.{[], get_or, refl, subst}
 use Rattle.city_cut.specs.Made.{Makings}
 use Rattle.city_cut.specs.Written.{Wrote}
 use Rattle.city_cut.proofs.Writing.{made_there, wrote_ok, wrote_some}
@@ -13,9 +13,9 @@ returns-clause-ok g c =
       starts = all.vertices.starts.items;
       graph = all.graph;
     } in
-    let is = made_there makings all.roots.items c.args.self.now c.args.at c.index-root.result.now c.deref.result.now
+    let is = made_there makings all.roots.items c.args.self.now c.args.at c.index-root.result.now all.graph
     c.order-2.result.now c.order.result.now c.gather.new.found c.number_uses.new.order all.order.count
-    c.self.view_is c.requires c.index-root.ensures c.deref.ensures.value c.gather.ensures c.order.ensures.order
+    c.self.view_is c.requires c.index-root.ensures refl c.gather.ensures c.order.ensures.order
     c.order-2.ensures.order c.number_uses.ensures in
     let old = g.W.Sink.taken c.args.output.now in
     let new = g.W.Sink.taken c.write_feature.new.output in
@@ -31,9 +31,9 @@ returns-clause-some g c =
       starts = all.vertices.starts.items;
       graph = all.graph;
     } in
-    let is = made_there makings all.roots.items c.args.self.now c.args.at c.index-root.result.now c.deref.result.now
+    let is = made_there makings all.roots.items c.args.self.now c.args.at c.index-root.result.now all.graph
     c.order-2.result.now c.order.result.now c.gather.new.found c.number_uses.new.order all.order.count
-    c.self.view_is c.requires c.index-root.ensures c.deref.ensures.value c.gather.ensures c.order.ensures.order
+    c.self.view_is c.requires c.index-root.ensures refl c.gather.ensures c.order.ensures.order
     c.order-2.ensures.order c.number_uses.ensures in
     let old = g.W.Sink.taken c.args.output.now in
     let new = g.W.Sink.taken c.write_feature.new.output in
