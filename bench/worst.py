@@ -95,6 +95,16 @@ def refused(piece, count):
     return feature(TYPED + b',"holds":[[', piece, count)
 
 
+def no_feature(piece, count):
+    """A line that would be one but for its type."""
+    return feature(TYPED.replace(b"CityJSONFeature", b"CityJSON") + b',"holds":[', piece, count)
+
+
+def faulty_vertex(piece, count):
+    """A feature whose first vertex holds so many pieces."""
+    return feature(FEATURE + b'},"vertices":[[', piece, count, b"]]}")
+
+
 def typed(object_text, piece, count):
     """A feature of that city object beside so many pieces."""
     return feature(FEATURE + object_text + b'},"vertices":[],"holds":[', piece, count)
@@ -110,12 +120,12 @@ def shortest(at):
     return (shortest(at // len(LETTERS) - 1) if at >= len(LETTERS) else "") + LETTERS[at % len(LETTERS)]
 
 
-def names(front, count):
-    """A feature with an object of so many short names that begin so, and two of one print."""
+def names(front, count, last=OF_ONE_PRINT, after=b"}}"):
+    """A feature with an object of so many short names that begin so, and a last member, or two of one print."""
     yield HEADER
     yield TYPED + b',"holds":{'
     yield b",".join([b'"%s%s":1' % (front, shortest(at).encode("ascii")) for at in range(count)])
-    yield b"," + OF_ONE_PRINT + b"}}\n"
+    yield b"," + last + after + b"\n"
 
 
 def whole(objects, table):
@@ -185,6 +195,39 @@ def refused_late(make):
     return made
 
 
+def cut_short(make):
+    """The document without its last brace."""
+
+    def made(count):
+        return iter((b"".join(make(count)).rstrip()[:-1],))
+
+    return made
+
+
+def of_another_version(make):
+    """The document with another version."""
+
+    def made(count):
+        return iter((b"".join(make(count)).replace(b'"version":"2.0"', b'"version":"1.1"', 1),))
+
+    return made
+
+
+def one_faulty_vertex(piece, count):
+    """A document with one vertex, which holds so many pieces."""
+    return document(listed(('"a":{}',)), listed(("[%s]" % ",".join([piece.decode("ascii")] * count),)))
+
+
+def no_object(count):
+    """A document whose one city object is an array of arrays."""
+    return document(listed(('"a":[%s]' % ",".join([DEEP.decode("ascii")] * count),)), vertices(1))
+
+
+def children_of_numbers(count):
+    """A document whose one city object has numbers as children."""
+    return document(listed(('"a":{"children":["a",%s]}' % ",".join(["0"] * count),)), vertices(1))
+
+
 def minus_zero_vertices(count):
     return document(listed(('"a":{}',)), listed("[-0,-0,-0]" for _ in range(count)))
 
@@ -238,6 +281,11 @@ def long_vertices(count):
 ORPHAN = "a city object belongs to no feature"
 BOUNDARY = "a boundary index is wrong"
 NO_JSON = "not a JSON text"
+TWICE = "a name is repeated"
+NO_FEATURE = "not a CityJSONFeature"
+NO_VERTEX = "not three numbers"
+NO_DOCUMENT = "not a CityJSON object"
+VERSION = "the version is not 2.0"
 NOT_WHOLE = "not written as a whole"
 BY_TYPE = "filter --cotype=Building"
 NONE = "filter --cotype=Nothing"
@@ -265,6 +313,13 @@ LINES = (
     Worst("a refused line: empty objects", "filter", lambda n: refused(b"{}", n), REFUSED_LINE, NO_JSON),
     Worst("a refused line: short texts", "filter", lambda n: refused(b'"a"', n), REFUSED_LINE, NO_JSON),
     Worst("a refused line: numbers", "filter", lambda n: refused(b"1", n), REFUSED_LINE, NO_JSON),
+    Worst("a refused line: short names of an object that does not close", "filter", lambda n: names(b"", n, b'"a1":1', b"}"), REFUSED_LINE, NO_JSON),
+    Worst("a refused line: short names, one of them twice", "filter", lambda n: names(b"", n, b'"a":1'), REFUSED_LINE, TWICE),
+    Worst("a refused line: short names with an escape, one of them twice", "filter", lambda n: names(b"\\n", n, b'"\\u000aa":1'), REFUSED_LINE, TWICE),
+    Worst("a refused line: no object, arrays 100 deep", "filter", lambda n: line(b"[", (DEEP, n), b"]"), REFUSED_LINE, NO_FEATURE),
+    Worst("a refused line: no feature, arrays 100 deep", "filter", lambda n: no_feature(DEEP, n), REFUSED_LINE, NO_FEATURE),
+    Worst("a refused line: a vertex of arrays 100 deep", "filter", lambda n: faulty_vertex(DEEP, n), REFUSED_LINE, NO_VERTEX),
+    Worst("a refused line: a vertex of numbers", "filter", lambda n: faulty_vertex(b"0", n), REFUSED_LINE, NO_VERTEX),
     Worst("a refused line: vertices", "filter", lambda n: feature(FEATURE + b'},"vertices":[', b"[12,-33,2100]", n, b",[0.5,0,0]]}"), REFUSED_LINE, NOT_WHOLE),
 )
 
@@ -298,6 +353,13 @@ DOCUMENTS = (
     Worst("cat refused: arrays of one index", "cat", orphan(nested_leaf), REFUSED_DOCUMENT, ORPHAN),
     Worst("cat refused: small objects", "cat", orphan(apart), REFUSED_DOCUMENT, ORPHAN),
     Worst("cat refused: a chain of objects", "cat", orphan(chain), REFUSED_DOCUMENT, ORPHAN),
+    Worst("cat refused: a header of arrays 100 deep, no JSON text", "cat", cut_short(lambda n: with_metadata(DEEP, n)), REFUSED_DOCUMENT, NO_JSON),
+    Worst("cat refused: small objects, no JSON text", "cat", cut_short(apart), REFUSED_DOCUMENT, NO_JSON),
+    Worst("cat refused: small objects of another version", "cat", of_another_version(apart), REFUSED_DOCUMENT, VERSION),
+    Worst("cat refused: a vertex of arrays 100 deep", "cat", lambda n: one_faulty_vertex(DEEP, n), REFUSED_DOCUMENT, NO_VERTEX),
+    Worst("cat refused: a vertex of numbers", "cat", lambda n: one_faulty_vertex(b"0", n), REFUSED_DOCUMENT, NO_VERTEX),
+    Worst("cat refused: a city object of arrays 100 deep", "cat", no_object, REFUSED_DOCUMENT, NO_DOCUMENT),
+    Worst("cat refused: children that are numbers", "cat", children_of_numbers, REFUSED_DOCUMENT, NO_DOCUMENT),
     Worst("a first line: small objects", "filter", apart, 9),
     Worst("a first line: arrays of one index", "filter", nested_leaf, 9),
     Worst("a first line: empty objects", "filter", bare, DOCUMENT),
@@ -308,6 +370,8 @@ DOCUMENTS = (
     Worst("a first line: an appearance of pairs", "filter", lambda n: textured(b"[0.25,0.75]", n), 4),
     Worst("a first line, refused late: arrays of one index", "filter", refused_late(nested_leaf), REFUSED_DOCUMENT, BOUNDARY),
     Worst("a first line, refused late: a chain of objects", "filter", refused_late(chain), REFUSED_DOCUMENT, BOUNDARY),
+    Worst("a first line, refused: a vertex of arrays 100 deep", "filter", lambda n: one_faulty_vertex(DEEP, n), REFUSED_DOCUMENT, NO_VERTEX),
+    Worst("a first line, refused: a header of arrays 100 deep, no JSON text", "filter", cut_short(lambda n: with_metadata(DEEP, n)), REFUSED_DOCUMENT, NO_JSON),
     Worst("a first line, refused: small objects", "filter", orphan(apart), REFUSED_DOCUMENT, ORPHAN),
     Worst("a first line of a merged tile: small objects", "merge", apart, 9),
     Worst("a first line of a merged tile: empty objects", "merge", bare, DOCUMENT),
