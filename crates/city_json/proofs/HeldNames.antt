@@ -6,7 +6,7 @@ use Rattle.std.proofs.lemmas.List.{drop-append-le, map-append, take-append-drop,
 use Rattle.std.proofs.lemmas.Simd.{map-map}
 use Rattle.std.specs.List.{All, slice_range}
 use Rattle.std.specs.Prelude.{if◌then◌else◌}
-use Rattle.city_json.specs.ListedNames.{ListedName, as_decoded, as_written, bytes_in, names_in}
+use Rattle.city_json.specs.ListedNames.{as_decoded, as_written, bytes_in, names_in}
 use Rattle.city_json.specs.MemberName.{AreListed, IsWithin, LieInOrder, after_name, first_held, listed_name, name_bytes}
 use Rattle.city_json.specs.declared.compacting.name.Name.{Name}
 

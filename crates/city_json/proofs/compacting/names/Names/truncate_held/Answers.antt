@@ -1,4 +1,4 @@
-use Rattle.std.proofs.Common.{◌≡◌, ◌∙◌, ◌+◌, ap, take, length, arith}
+use Rattle.std.proofs.Common.{◌≡◌, ◌∙◌, ap, take, length, arith}
 use Rattle.city_json.proofs.HeldNames.{left, left_names, stay_within}
 use Rattle.city_json.proofs.compacting.names.Names.truncate_held.Goals as goal
 
