@@ -26,7 +26,6 @@ use Rattle.tile_stream.specs.Held.{HeldLine}
 use Rattle.tile_stream.specs.Tile.{Part, TileLines, part_of, line_before, nothing_left, only_fault}
 use Rattle.byte_streams.specs.declared.places.LineFault.{LineFault}
 use Rattle.tile_stream.specs.Unread.{GivesLine, MayBeOver, IsRefused, ComesFrom}
-use Rattle.tile_stream.proofs.CityHeld.{some_objects}
 
 abbrev at_line : ℕ → Fault → LineFault
 at_line number fault = record { line = number; fault = fault }

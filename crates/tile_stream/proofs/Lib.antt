@@ -1,4 +1,3 @@
-pub mod CityHeld
 pub mod Coming
 pub mod Comings
 pub mod Filtering
