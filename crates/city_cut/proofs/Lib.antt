@@ -46,6 +46,7 @@ pub mod OwnVertices
 pub mod Passes
 pub mod Renumbering
 pub mod SamePoints
+mod ScannedBounds
 pub mod Seeking
 mod Sketched
 pub mod SpelledFeatures

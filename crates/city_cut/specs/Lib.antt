@@ -1,5 +1,6 @@
 pub mod Assembled
 pub mod Boundaries
+pub mod Bounds
 pub mod Chosen
 pub mod CityObjects
 pub mod Copied

@@ -1,18 +1,18 @@
 //! The boundaries of a city object.
-ghost use Rattle.std.specs.Prelude.{◌≡◌, ◌⊎◌, ◌↔◌, ◌++◌, ℕ, List, Some, map, length, IsTrue, OnOk, IfErr};
+ghost use Rattle.std.specs.Prelude.{◌≡◌, ◌⊎◌, ◌↔◌, ◌++◌, ℕ, List, map, length, IsTrue, OnOk, IfErr};
 ghost use Rattle.std.specs.List.{flat_map, AllByRecursion};
 ghost use Rattle.city_json.specs.Members.{member_of};
 ghost use Rattle.city_json.specs.Tree.{Tree, members_tree, named_tree, tree, items_tree};
 ghost use Rattle.city_feature.specs.Shapes.{IsArray, IsObject, WhereThere};
 ghost use Rattle.city_cut.specs.Boundaries.{IsAddress, IsBounded, IsGeometry};
 ghost use Rattle.city_cut.specs.Boundaries.{address_boundary, boundaries, own_boundary};
-ghost use Rattle.city_cut.specs.Items.{items_of, values};
+ghost use Rattle.city_cut.specs.Items.{values};
 ghost use Rattle.city_cut.specs.Leaves.{IsBoundary, leaves};
 ghost use Rattle.city_cut.specs.Numbered.{AreNumbered};
 
 use crate::leaves::number_items;
 use crate::numbering::Numbering;
-use crate::values::{is_array, is_object, items, items_named, value_of};
+use crate::values::{is_object, items_named, value_of};
 use byte_streams::Fault;
 use city_json::{Json, Member};
 use std::alloc::Global;
@@ -119,30 +119,6 @@ fn is_array_where_there(value: &Json, name: &str) -> bool
         None | Some(Json::List(_)) => true,
         Some(_) => false,
     }
-}
-
-/// Numbers the vertices that the geometries of a city object name.
-pub(crate) fn number_geometries(value: &Json, numbering: &mut Numbering) -> Result<(), Fault>
-    ensures long { length numbering.new.table.items ≡ length numbering.old.table.items }
-    ensures fault { IfErr result (λ fault. (fault ≡ Fault.Memory)
-        ⊎ ((fault ≡ Fault.BoundaryIndex)
-        × ¬ (IsArray (tree value.now) × AllByRecursion (IsGeometry (length numbering.old.table.items))
-        (items_of (Some (tree value.now)))))) }
-{
-    if !is_array(value) {
-        return Err(Fault::BoundaryIndex);
-    }
-    number_each(&Geometry, items(value), numbering)
-}
-
-/// Numbers the vertices that the addresses of a city object name.
-pub(crate) fn number_addresses(value: &Json, numbering: &mut Numbering) -> Result<(), Fault>
-    ensures long { length numbering.new.table.items ≡ length numbering.old.table.items }
-    ensures fault { IfErr result (λ fault. (fault ≡ Fault.Memory)
-        ⊎ ((fault ≡ Fault.BoundaryIndex)
-        × ¬ (AllByRecursion (IsAddress (length numbering.old.table.items)) (items_of (Some (tree value.now)))))) }
-{
-    number_each(&Address, items(value), numbering)
 }
 
 /// Numbers the vertices that a city object names: those of its geometries, then those of its addresses.

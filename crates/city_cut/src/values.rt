@@ -2,7 +2,7 @@
 ghost use Rattle.std.specs.Prelude.{◌↔◌, IsTrue, ◌≡◌, ◌≢◌, ℕ, List, Some, IfOk, IfErr, IfSome, IfNone, map};
 ghost use Rattle.city_json.specs.Members.{member_of};
 ghost use Rattle.city_json.specs.Tree.{tree, named_tree, items_tree, members_tree, string};
-ghost use Rattle.city_feature.specs.Shapes.{IsArray, IsObject, IsText};
+ghost use Rattle.city_feature.specs.Shapes.{IsObject, IsText};
 ghost use Rattle.city_cut.specs.Items.{items_in, items_of, members_in};
 
 use byte_streams::Fault;
@@ -52,14 +52,8 @@ pub(crate) fn is_object(value: &Json) -> bool
     matches!(value, Json::Map(_))
 }
 
-pub(crate) fn is_array(value: &Json) -> bool
-    ensures { IsTrue result ↔ IsArray (tree value.now) }
-{
-    matches!(value, Json::List(_))
-}
-
 /// The items of a value that is an array, and else none.
-pub(crate) fn items(value: &Json) -> &[Json]
+fn items(value: &Json) -> &[Json]
     ensures list { map tree result.now ≡ items_of (Some (tree value.now)) }
     ensures items { items_tree result.now ≡ items_in (Some (tree value.now)) }
 {

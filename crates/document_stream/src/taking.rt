@@ -16,7 +16,7 @@ ghost use Rattle.tile_stream.specs.Stream.{stream};
 
 use byte_streams::limits::MAX_LINE_BYTES;
 use byte_streams::{Fault, Line, Source, Stop, read_all};
-use city_cut::{CutTexts, FeatureTexts, cut_compacted_triples, cut_texts};
+use city_cut::{CutTexts, FeatureTexts, cut_compacted_triples, cut_fault, cut_texts};
 use city_feature::Header;
 use city_json::{Compacted, Json, Span, check, compact_given, print, read};
 use std::alloc::Global;
@@ -112,8 +112,8 @@ fn plain_cut(alloc: Global, text: &[u8]) -> Result<CutTexts, Fault>
     cut_texts(alloc, document)
 }
 
-/// Cuts a document in its compact text, in which these triples stand: on the text where that answers, and else by its
-/// value.
+/// Cuts a document in its compact text, in which these triples stand, or tells why it is refused: on the text where that
+/// answers, and else by its value.
 fn cut_compact(alloc: Global, compacted: Compacted, triples: Span) -> Result<CutTexts, Fault>
     requires members { (members : MemberTrees) × IsCompactOf compacted.line (object members)
         × AreParts 1 compacted.parts.items members }
@@ -131,6 +131,9 @@ fn cut_compact(alloc: Global, compacted: Compacted, triples: Span) -> Result<Cut
         triples,
     ) {
         return Ok(cut);
+    }
+    if let Some(fault) = cut_fault(alloc, compacted.line.items(), &compacted.parts) {
+        return Err(fault);
     }
     let document = read_again(alloc, compacted.line.items())?;
     drop(compacted);

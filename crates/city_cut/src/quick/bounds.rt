@@ -1,59 +1,155 @@
-//! Whether a boundary of city objects is none, object by object: only what one object has of geometries and addresses is
-//! read, and dropped again.
-ghost use Rattle.std.specs.Prelude.{◌≡◌, ◌⊎◌, ℕ, List, IfErr, IsTrue, length};
+//! Whether a boundary of city objects is none, found on their texts. No value of them is held.
+ghost use Rattle.std.specs.Prelude.{◌≡◌, ◌∷◌, [], ◌++◌, ◌<◌, ◌^◌, ℕ, List, Option, Some, IfNone, IfSome, IsTrue, IsUtf8};
 ghost use Rattle.std.specs.List.{AllByRecursion};
+ghost use Rattle.city_json.specs.Bytes.{colon};
+ghost use Rattle.city_json.specs.Compact.{quoted};
+ghost use Rattle.city_json.specs.Members.{member_of};
 ghost use Rattle.city_json.specs.Parts.{AreParts};
-ghost use Rattle.city_json.specs.Tree.{MemberTrees, Tree, member_trees, object, tree};
+ghost use Rattle.city_json.specs.Tree.{ItemTrees, MemberTrees, Tree, array, member_trees, object};
 ghost use Rattle.city_json.specs.declared.compacting.parts.Part.{Part};
 ghost use Rattle.city_feature.specs.Texts.{IsCompactOf};
-ghost use Rattle.city_cut.specs.Boundaries.{IsBounded};
-ghost use Rattle.city_cut.specs.Holders.{AreHeld};
-ghost use Rattle.city_cut.specs.Items.{values};
+ghost use Rattle.city_cut.specs.Boundaries.{IsBounded, own_boundary};
+ghost use Rattle.city_cut.specs.Bounds.{AreBounds};
+ghost use Rattle.city_cut.specs.Holders.{AreHeld, IsHeld};
+ghost use Rattle.city_cut.specs.Items.{item_list, values};
+ghost use Rattle.city_cut.specs.Leaves.{IsBoundary};
 ghost use Rattle.city_cut.specs.Overviews.{AreHolders, HasHolders, IsHolderPart};
 
 use super::holders::{HeldParts, Holder, ShortHeld};
 use super::short_parts::ShortPart;
-use crate::boundaries::{number_addresses, number_geometries};
-use crate::numbering::Numbering;
-use byte_streams::Fault;
-use city_feature::between;
-use city_json::{Json, Part, read};
+use super::texts::parts_of;
+use city_feature::{between, is_array, is_object, part_named};
+use city_grid::byte_is;
+use city_json::{Part, value_end};
 use std::alloc::Global;
 
-/// Numbers the vertices that these geometries or addresses name.
-fn number_held(value: &Json, holder: Holder, numbering: &mut Numbering) -> Result<(), Fault>
-    ensures long { length numbering.new.table.items ≡ length numbering.old.table.items }
-    ensures fault { IfErr result (λ fault. (fault ≡ Fault.Memory)
-        ⊎ ((fault ≡ Fault.BoundaryIndex)
-        × ¬ AreHeld holder (length numbering.old.table.items) (tree value.now))) }
+/// The number that the digits write up to this one, where those before it write `value`; 0 behind a bracket or a comma.
+/// `None`: no boundary has this byte there.
+fn value_with(value: u128, byte: u8, count: usize) -> Option<u128>
+    requires { value < 2 ^ 64 }
+    ensures small { IfSome result (λ next. next < 2 ^ 64) }
+    ensures on { IfSome result (λ next. (rest : List ℕ) → AreBounds count value (byte ∷ rest)
+        → AreBounds count next rest) }
+    ensures none { IfNone result ((rest : List ℕ) → ¬ AreBounds count value (byte ∷ rest)) }
 {
-    match holder {
-        Holder::Geometry => number_geometries(value, numbering),
-        Holder::Address => number_addresses(value, numbering),
+    if byte == b'[' || byte == b']' || byte == b',' {
+        return Some(0);
     }
+    if !byte.is_ascii_digit() {
+        return None;
+    }
+    let next = value * 10 + u128::from(byte - b'0');
+    if next >= count as u128 {
+        return None;
+    }
+    Some(next)
 }
 
-/// Whether one of these geometries or addresses has a boundary that is none. No: undecided.
-fn is_wrong(value: &Json, holder: Holder, numbering: &mut Numbering) -> bool
-    ensures long { length numbering.new.table.items ≡ length numbering.old.table.items }
-    ensures wrong { IsTrue result → ¬ AreHeld holder (length numbering.old.table.items) (tree value.now) }
+/// Whether some byte is none of a boundary of so many vertices.
+fn has_other_byte(text: &[u8], count: usize) -> bool
+    ensures { IsTrue result → ¬ AreBounds count 0 text.now }
 {
-    match number_held(value, holder, numbering) {
-        Err(Fault::BoundaryIndex) => true,
-        _ => false,
+    let mut value = 0u128;
+    for byte in text {
+        let Some(next) = value_with(value, *byte, count) else {
+            return true;
+        };
+        value = next;
     }
+    false
 }
 
-/// The same of those whose compact text this is.
-fn is_wrong_text(alloc: Global, text: &[u8], holder: Holder, numbering: &mut Numbering) -> bool
-    ensures long { length numbering.new.table.items ≡ length numbering.old.table.items }
-    ensures wrong { IsTrue result → (value : Tree) → IsCompactOf text.now value
-        → ¬ AreHeld holder (length numbering.old.table.items) value }
+/// Whether the value whose compact text this is is no boundary of so many vertices.
+fn is_no_boundary(text: &[u8], count: usize) -> bool
+    ensures { IsTrue result → (value : Tree) → IsCompactOf text.now value → ¬ IsBoundary count value }
 {
-    let Ok(value) = read(alloc, text) else {
+    if !is_array(text) {
+        return true;
+    }
+    has_other_byte(text, count)
+}
+
+/// The text of a member of the value whose compact text this is. The name is given with its marks and its colon. `None`:
+/// there is none, or undecided.
+fn text_named<'a>(alloc: Global, text: &'a [u8], name: &[u8]) -> Option<&'a [u8]>
+    ensures { IfSome result (λ found. (value : Tree) → IsCompactOf text.now value → (named : List ℕ) → IsUtf8 named
+        → name.now ≡ quoted named ++ colon ∷ []
+        → (inner : Tree) × (member_of named value ≡ Some inner) × IsCompactOf found.now inner) }
+{
+    let parts = parts_of(alloc, text)?;
+    let part = part_named(text, &parts, name)?;
+    between(text, part.value, part.end)
+}
+
+/// Whether the boundary of the geometry or location of this text is none. No: undecided.
+fn is_wrong_own(alloc: Global, text: &[u8], count: usize) -> bool
+    ensures { IsTrue result → (value : Tree) → IsCompactOf text.now value
+        → ¬ AllByRecursion (IsBoundary count) (own_boundary value) }
+{
+    let Some(boundary) = text_named(alloc, text, b"\"boundaries\":") else {
         return false;
     };
-    is_wrong(&value, holder, numbering)
+    is_no_boundary(boundary, count)
+}
+
+/// Whether the geometry or address of this text is no such one, or its boundary none. No: undecided.
+fn is_wrong_item(alloc: Global, text: &[u8], holder: Holder, count: usize) -> bool
+    ensures { IsTrue result → (value : Tree) → IsCompactOf text.now value → ¬ IsHeld holder count value }
+{
+    match holder {
+        Holder::Geometry => {
+            if !is_object(text) {
+                return true;
+            }
+            is_wrong_own(alloc, text, count)
+        }
+        Holder::Address => {
+            let Some(location) = text_named(alloc, text, b"\"location\":") else {
+                return false;
+            };
+            is_wrong_own(alloc, location, count)
+        }
+    }
+}
+
+/// The same of one of the items of the array whose compact text this is.
+fn has_wrong_item(alloc: Global, text: &[u8], holder: Holder, count: usize) -> bool
+    ensures { IsTrue result → (items : ItemTrees) → IsCompactOf text.now (array items)
+        → ¬ AllByRecursion (IsHeld holder count) (item_list items) }
+{
+    if text.len() < 2 {
+        return false;
+    }
+    if byte_is(text, 1, b']') {
+        return false;
+    }
+    let mut at = 1usize;
+    'items: loop {
+        let end = value_end(text, at);
+        let Some(one) = between(text, at, end) else {
+            return false;
+        };
+        if is_wrong_item(alloc, one, holder, count) {
+            return true;
+        }
+        if !byte_is(text, end, b',') {
+            return false;
+        }
+        at = end + 1;
+    }
+}
+
+/// Whether the geometries or addresses of this text are no such ones, or a boundary of theirs is none. No: undecided.
+fn is_wrong_text(alloc: Global, text: &[u8], holder: Holder, count: usize) -> bool
+    ensures { IsTrue result → (value : Tree) → IsCompactOf text.now value → ¬ AreHeld holder count value }
+{
+    if is_array(text) {
+        return has_wrong_item(alloc, text, holder, count);
+    }
+    match holder {
+        Holder::Geometry => true,
+        Holder::Address => false,
+    }
 }
 
 /// The same of those that lie in this part of the text of a city object, if they are there.
@@ -62,12 +158,11 @@ fn is_wrong_part(
     text: &[u8],
     part: Option<Part>,
     holder: Holder,
-    numbering: &mut Numbering,
+    count: usize,
 ) -> bool
-    ensures long { length numbering.new.table.items ≡ length numbering.old.table.items }
-    ensures wrong { IsTrue result → (parts : List Part) → IsHolderPart holder text.now parts part
+    ensures { IsTrue result → (parts : List Part) → IsHolderPart holder text.now parts part
         → (members : MemberTrees) → IsCompactOf text.now (object members) → AreParts 1 parts members
-        → ¬ IsBounded (length numbering.old.table.items) (object members) }
+        → ¬ IsBounded count (object members) }
 {
     let Some(part) = part else {
         return false;
@@ -75,20 +170,18 @@ fn is_wrong_part(
     let Some(held) = between(text, part.value, part.end) else {
         return false;
     };
-    is_wrong_text(alloc, held, holder, numbering)
+    is_wrong_text(alloc, held, holder, count)
 }
 
 /// Whether a boundary of the city object of this text is none. No: undecided.
-fn is_wrong_object(alloc: Global, text: &[u8], held: &HeldParts, numbering: &mut Numbering) -> bool
+fn is_wrong_object(alloc: Global, text: &[u8], held: &HeldParts, count: usize) -> bool
     requires { HasHolders text.now held.now }
-    ensures long { length numbering.new.table.items ≡ length numbering.old.table.items }
-    ensures wrong { IsTrue result → (value : Tree) → IsCompactOf text.now value
-        → ¬ IsBounded (length numbering.old.table.items) value }
+    ensures { IsTrue result → (value : Tree) → IsCompactOf text.now value → ¬ IsBounded count value }
 {
-    if is_wrong_part(alloc, text, held.geometry, Holder::Geometry, numbering) {
+    if is_wrong_part(alloc, text, held.geometry, Holder::Geometry, count) {
         return true;
     }
-    is_wrong_part(alloc, text, held.address, Holder::Address, numbering)
+    is_wrong_part(alloc, text, held.address, Holder::Address, count)
 }
 
 /// Whether a boundary is none of the city object at a place. No: undecided.
@@ -98,13 +191,12 @@ fn is_wrong_at(
     places: &[ShortPart],
     held: &[ShortHeld],
     at: usize,
-    numbering: &mut Numbering,
+    count: usize,
 ) -> bool
     requires { AreHolders text.now places.now held.now }
-    ensures long { length numbering.new.table.items ≡ length numbering.old.table.items }
-    ensures wrong { IsTrue result → (pairs : List (List ℕ × Tree)) → IsCompactOf text.now (object (member_trees pairs))
+    ensures { IsTrue result → (pairs : List (List ℕ × Tree)) → IsCompactOf text.now (object (member_trees pairs))
         → AreParts 1 places.now (member_trees pairs)
-        → ¬ AllByRecursion (IsBounded (length numbering.old.table.items)) (values (member_trees pairs)) }
+        → ¬ AllByRecursion (IsBounded count) (values (member_trees pairs)) }
 {
     if at >= places.len() {
         return false;
@@ -116,7 +208,7 @@ fn is_wrong_at(
     let Some(value) = between(text, part.value, part.end) else {
         return false;
     };
-    is_wrong_object(alloc, value, &held[at].parts(), numbering)
+    is_wrong_object(alloc, value, &held[at].parts(), count)
 }
 
 /// Whether a boundary is none of the city objects that lie in these parts of a text, of so many vertices. No: undecided.
@@ -132,15 +224,8 @@ pub(super) fn has_wrong_boundary(
         → AreParts 1 places.now (member_trees pairs)
         → ¬ AllByRecursion (IsBounded vertices) (values (member_trees pairs)) }
 {
-    let Ok(table) = vec![in alloc; 0usize; vertices] else {
-        return false;
-    };
-    let mut numbering = Numbering {
-        table,
-        order: Vec::new(alloc),
-    };
     for at in 0..places.len() {
-        if is_wrong_at(alloc, text, places, held, at, &mut numbering) {
+        if is_wrong_at(alloc, text, places, held, at, vertices) {
             return true;
         }
     }

@@ -18,11 +18,11 @@ returns-clause-ok c =
     again_given c.args.compacted.line c.args.compacted.parts.items c.cut_texts.result (tree c.in_ok-document.document)
     (λ (cut : CutTexts). header_value cut.header) (λ (cut : CutTexts). texts_in cut.texts)
     (λ members of. c.in_ok-document.ensures.value members
-    (subst (λ l. IsCompactOf l (object members)) (sym c.items-2.ensures) of)) c.cut_texts.ensures.ok
+    (subst (λ l. IsCompactOf l (object members)) (sym c.items-3.ensures) of)) c.cut_texts.ensures.ok
     c.cut_texts.ensures.cuttable
 
 pub returns-clause-refused : goal.returns-clause-refused
 returns-clause-refused c =
     again_refused c.args.compacted.line c.args.compacted.parts.items c.cut_texts.result (tree c.in_ok-document.document)
     (λ members of. c.in_ok-document.ensures.value members
-    (subst (λ l. IsCompactOf l (object members)) (sym c.items-2.ensures) of)) c.cut_texts.ensures.refusal
+    (subst (λ l. IsCompactOf l (object members)) (sym c.items-3.ensures) of)) c.cut_texts.ensures.refusal

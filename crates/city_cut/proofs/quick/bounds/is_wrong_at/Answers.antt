@@ -8,7 +8,7 @@ is_wrong_object-requires c = holders_at c.args.text.now c.in-Some.value.now c.ar
     c.args.at c.part-part.result _ c.parts.result _ c.requires (omega (arith, c.if-at-held.false))
     (c.part-part.ensures ∙ c.index-places-at.is) (c.parts.ensures ∙ c.index-held-at.is) c.in-Some.ensures.some
 
-pub returns-clause-wrong : goal.returns-clause-wrong
-returns-clause-wrong c = λ yes. object_wrong _ c.args.text.now c.in-Some.value.now c.args.places.now c.args.at
+pub returns : goal.returns
+returns c = λ yes. object_wrong c.args.count c.args.text.now c.in-Some.value.now c.args.places.now c.args.at
     c.part-part.result _ (omega (arith, c.if-at-places.false)) (c.part-part.ensures ∙ c.index-places-at.is)
-    c.in-Some.ensures.some (c.is_wrong_object.ensures.wrong yes)
+    c.in-Some.ensures.some (c.is_wrong_object.ensures yes)
