@@ -145,15 +145,17 @@ pushed_written listed listed₂ name text_len held_len are now ordered inside = 
       (one_written listed name text_len text_len (text_len + held_len) are.in_order ordered inside);
 }
 
-pub pushed_held : (listed listed₂ : List Name) (name : Name) (held held₂ bytes : List ℕ) (text_len : ℕ)
-    → AreListed text_len listed (length held) → listed₂ ≡ listed ++ name ∷ [] → held₂ ≡ held ++ bytes
+pub pushed_held : (listed listed₁ listed₂ : List Name) (name : Name) (held held₂ bytes : List ℕ) (text_len : ℕ)
+    → AreListed text_len listed (length held) → listed₁ ≡ listed → listed₂ ≡ listed₁ ++ name ∷ []
+    → held₂ ≡ held ++ bytes
     → name.from ≡ text_len + length held → name.end ≡ text_len + length held + length bytes
     → AreListed text_len listed₂ (length held₂)
-pushed_held listed listed₂ name held held₂ bytes text_len are now kept from end =
+pushed_held listed listed₁ listed₂ name held held₂ bytes text_len are same now kept from end =
     let long : length held₂ ≡ length held + length bytes = ap length kept ∙ length-append held bytes in
     record {
       short = are.short;
-      in_order = subst (λ l. LieInOrder text_len text_len l (text_len + length held₂)) (sym now)
+      in_order = subst (λ l. LieInOrder text_len text_len l (text_len + length held₂))
+          (sym (now ∙ ap (λ l. l ++ name ∷ []) same))
           (subst (LieInOrder text_len text_len (listed ++ name ∷ [])) (omega (arith, end, long))
           (one_held listed name text_len text_len (text_len + length held) are.in_order (sym from)
           (omega (arith, from, end)) (omega (arith, end))));
@@ -176,13 +178,14 @@ last_name name held bytes text_len from end =
     ∙ ap as_decoded (last_range held bytes (name.from - text_len) (name.end - text_len) (omega (arith, from))
     (omega (arith, end)))
 
-pub pushed_names : (listed listed₂ : List Name) (name : Name) (held held₂ bytes : List ℕ) (text_len : ℕ)
-    → AreListed text_len listed (length held) → listed₂ ≡ listed ++ name ∷ [] → held₂ ≡ held ++ bytes
+pub pushed_names : (listed listed₁ listed₂ : List Name) (name : Name) (held held₂ bytes : List ℕ) (text_len : ℕ)
+    → AreListed text_len listed (length held) → listed₁ ≡ listed → listed₂ ≡ listed₁ ++ name ∷ []
+    → held₂ ≡ held ++ bytes
     → name.from ≡ text_len + length held → name.end ≡ text_len + length held + length bytes
     → map (listed_name text_len held₂) listed₂ ≡ map (listed_name text_len held) listed ++ as_decoded bytes ∷ []
-pushed_names listed listed₂ name held held₂ bytes text_len are now kept from end =
+pushed_names listed listed₁ listed₂ name held held₂ bytes text_len are same now kept from end =
     ap (λ h. map (listed_name text_len h) listed₂) kept
-    ∙ (ap (map (listed_name text_len (held ++ bytes))) now
+    ∙ (ap (map (listed_name text_len (held ++ bytes))) (now ∙ ap (λ l. l ++ name ∷ []) same)
     ∙ (map-append (listed_name text_len (held ++ bytes)) listed (name ∷ [])
     ∙ (ap (λ n. map (listed_name text_len (held ++ bytes)) listed ++ n ∷ [])
     (last_name name held bytes text_len from end)
