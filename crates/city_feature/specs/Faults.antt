@@ -1,8 +1,8 @@
 -- Why the compact text of a feature's line is refused.
-use Rattle.std.specs.Prelude.{◌≡◌, ◌++◌, ◌≤◌, ◌⊎◌, ℕ, List, [], ◌∷◌, drop, All}
+use Rattle.std.specs.Prelude.{◌≡◌, ◌≢◌, ◌++◌, ◌≤◌, ◌⊎◌, ℕ, List, [], ◌∷◌, drop, All}
 use Rattle.byte_streams.specs.Limits.{max_depth}
 use Rattle.byte_streams.specs.declared.fault.Fault.{Fault}
-use Rattle.byte_streams.specs.declared.fault.Fault.TheVariants.{VertexRange}
+use Rattle.byte_streams.specs.declared.fault.Fault.TheVariants.{VertexRange, Memory}
 use Rattle.city_json.specs.Bytes.{close_bracket}
 use Rattle.city_json.specs.Compact.{compact_items, compact_more_items}
 use Rattle.city_json.specs.Fits.{items_depth}
@@ -39,11 +39,12 @@ IsNoNumberBefore text at mark =
     (n : List ℕ) (others : ItemTrees) (rest : List ℕ) → AreItemsAt text at (item (number n) others)
     → after_item others ≡ mark ∷ rest → ⊥
 
--- why a value is no feature, or one that cannot be moved by k
+-- why a value is no feature, or one that cannot be moved by k; it is not that memory is wanted
 abbrev pub RefusesMoved : Triple → Fault → Tree → Type 0
 RefusesMoved k fault value =
-    RefusesFeature fault value
-    ⊎ ((fault ≡ VertexRange) × ((ps : List Triple) × IsFeature value ps × ¬ All IsInRange (moved_vertices ps k)))
+    (fault ≢ Memory)
+    × (RefusesFeature fault value
+    ⊎ ((fault ≡ VertexRange) × ((ps : List Triple) × IsFeature value ps × ¬ All IsInRange (moved_vertices ps k))))
 
 -- the text spells vertices, and one of them leaves the range when it is moved by k
 abbrev pub SpellsLeaving : Triple → List ℕ → Type 0

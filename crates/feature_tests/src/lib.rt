@@ -11,6 +11,8 @@ mod choices;
 #[cfg(test)]
 mod ended;
 #[cfg(test)]
+mod faults;
+#[cfg(test)]
 mod generated;
 #[cfg(test)]
 mod headers;

@@ -5,7 +5,8 @@ use byte_streams::{Fault, Line};
 use city_cut::{CutTexts, FeatureTexts, cut, cut_texts, quick_cut};
 use city_feature::{
     Base, Choice, Feature, Header, HeaderFault, Joined, area, feature, feature_line, feature_text,
-    header, is_appearance_end, join_headers, line, own_text, selects, set_member, shifted, types,
+    header, is_appearance_end, join_headers, line, line_fault, own_text, selects, set_member,
+    shifted, types, vertices_fault,
 };
 use city_grid::{Shift, Vertex, append_vertex, vertex_json, write_vertex};
 use city_json::{Json, read};
@@ -365,7 +366,7 @@ fn line_is_appended(
     appends_line(rt, bytes, &choice, &mut text, moved)
 }
 
-/// Its last vertex is at fault, which only the reading of its value says.
+/// Its last vertex is at fault, which its compact text says, or the reading of its value.
 const FAULTY: &[u8] =
     br#"{ "type": "CityJSONFeature", "id": "a", "CityObjects": {"a": {"type": "Road"}}, "vertices": [[1, 2, 3], [-4, -5, -6], [7, 8, 9], [1.0, 0, 0]] }"#;
 
@@ -395,6 +396,23 @@ fn texts_are_lent_or_written(rt: &(impl AllocGlobal + Eprint)) -> Result<bool, F
     let is_refused = is_fault(gives(rt, FAULTY, none, b""), Fault::VertexNotInteger)?;
     let is_lent = gives(rt, MOVED, none, MOVED)?;
     Ok(is_refused && is_lent && gives(rt, SPACED, Shift::new(10, 20, 30), MOVED)?)
+}
+
+/// Its fault is told with no value read, unless memory is wanted.
+fn line_fault_is_told(rt: &(impl AllocGlobal + Eprint)) -> Result<bool, Fault> {
+    match line_fault(rt.alloc(), FAULTY, Shift::zero()) {
+        Some(fault) => Ok(fault == Fault::VertexNotInteger),
+        None => refused(rt, Call("line_fault"), Fault::Memory),
+    }
+}
+
+/// The same of vertices.
+fn vertices_fault_is_told(rt: &(impl AllocGlobal + Eprint)) -> Result<bool, Fault> {
+    let vertices = b"[[1,2,3],[7,8,123456789012345678901234567890]]";
+    match vertices_fault(rt.alloc(), vertices) {
+        Some(fault) => Ok(fault == Fault::VertexRange),
+        None => refused(rt, Call("vertices_fault"), Fault::Memory),
+    }
 }
 
 /// An end that features share, which is told unless memory is wanted.
@@ -605,6 +623,8 @@ fn vertices_headers_features_and_documents(rt: HostRuntime) -> Result<(), Fault>
     expect!(rt; features_are_refused(&rt));
     expect!(rt; lines_are_chosen(&rt));
     expect!(rt; texts_are_lent_or_written(&rt));
+    expect!(rt; line_fault_is_told(&rt));
+    expect!(rt; vertices_fault_is_told(&rt));
     expect!(rt; end_is_told(&rt));
     expect!(rt; own_part_is_given(&rt));
     expect!(rt; types_are_read(&rt));

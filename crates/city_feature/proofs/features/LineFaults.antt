@@ -1,7 +1,7 @@
 -- Why a feature's line is refused, by the texts of its members.
-use Rattle.std.proofs.Common.{◌≡◌, ◌∙◌, ◌↔◌, ◌++◌, ◌<◌, ◌∷◌, [], ℕ, Bool, List, true, false, not, Option, Some, None, IsTrue, codes, length, get_or, unwrap_or, ap, sym, subst, refl, inl, inr, arith}
+use Rattle.std.proofs.Common.{◌≡◌, ◌≢◌, ◌⊎◌, ◌∙◌, ◌↔◌, ◌++◌, ◌<◌, ◌∷◌, [], ℕ, Bool, List, true, false, not, Option, Some, None, IsTrue, All, codes, length, get_or, unwrap_or, ap, sym, subst, refl, inl, inr, arith}
 use Rattle.byte_streams.specs.declared.fault.Fault.{Fault}
-use Rattle.byte_streams.specs.declared.fault.Fault.TheVariants.{VertexRange}
+use Rattle.byte_streams.specs.declared.fault.Fault.TheVariants.{VertexRange, Memory}
 use Rattle.city_json.proofs.CompactLaws.{compact-tells}
 use Rattle.city_json.proofs.Scanning.{after_white-blank}
 use Rattle.city_json.proofs.SpelledWritable.{spelled_writable}
@@ -13,11 +13,12 @@ use Rattle.city_json.specs.Grammar.{Spells}
 use Rattle.city_json.specs.Members.{first_named}
 use Rattle.city_json.specs.Parts.{AreParts}
 use Rattle.city_json.specs.Reading.{after_white}
-use Rattle.city_json.specs.Tree.{Tree, null, boolean, number, string, array, object, ItemTrees, MemberTrees}
+use Rattle.city_json.specs.Tree.{Tree, null, boolean, number, string, array, object, ItemTrees, no_items, item, MemberTrees}
 use Rattle.city_json.specs.declared.compacting.parts.Part.{Part}
-use Rattle.city_grid.specs.Axes.{Triple}
+use Rattle.city_grid.specs.Axes.{IsInRange, Triple}
+use Rattle.city_grid.specs.Vertex.{RefusesVertex}
 use Rattle.city_feature.specs.Faults.{RefusesMoved, SpellsLeaving}
-use Rattle.city_feature.specs.Feature.{HasFeatureShape, RefusesFirst}
+use Rattle.city_feature.specs.Feature.{HasFeatureShape, IsFeature, RefusesFeature, RefusesFirst, moved_vertices}
 use Rattle.city_feature.specs.FeatureLine.{RefusesFeatureLine}
 use Rattle.city_feature.specs.Shapes.{IsArray, IsObject, IsText, IsThere}
 use Rattle.city_feature.specs.Texts.{IsCompactOf}
@@ -82,7 +83,7 @@ module _ (members : MemberTrees) where
 -- what a feature has is wanting
 pub unshaped : (members : MemberTrees) (P : Type 0) (b : Bool) → b ≡ false → IsTrue b ↔ P
     → (HasFeatureShape (object members) → P) → IsTrue false ↔ HasFeatureShape (object members)
-unshaped members P b is_false test part =
+unshaped all P b is_false test part =
     (λ never. absurd (not_both false refl never), λ shape. absurd (not_both b is_false (test.1 (part shape))))
 
 array_there : (there : Option Tree) → IsThere IsArray there → (items : ItemTrees) × (there ≡ Some (array items))
@@ -90,6 +91,14 @@ array_there (Some (array items)) is = (items, refl)
 array_there other is = absurd is
 
 -- ---- the vertices
+no_memory_first : (fault : Fault) (items : ItemTrees) → RefusesFirst fault items → fault ≢ Memory
+no_memory_first fault no_items refused same = refused
+no_memory_first fault (item value others) (inl refused) same = subst (λ f. RefusesVertex f value) same refused
+no_memory_first fault (item value others) (inr later) same = no_memory_first fault others later.3 same
+
+range_is_no_memory : VertexRange ≡ Memory → ⊥
+range_is_no_memory same = cc
+
 module _ (members : MemberTrees) (text : List ℕ) (shape : HasFeatureShape (object members))
     (of : IsCompactOf text (value_of (codes "vertices") members)) where
   array_here : (items : ItemTrees) × (first_named (codes "vertices") members ≡ Some (array items))
@@ -103,39 +112,56 @@ module _ (members : MemberTrees) (text : List ℕ) (shape : HasFeatureShape (obj
       → RefusesMoved k fault (object members)
   refuses_vertex k fault refused =
       let (items, is, here) = array_here in
-      inl (feature_refused (object members) items fault shape is (inr (refused items here)))
+      let first = refused items here in
+      (no_memory_first fault items first, inl (feature_refused (object members) items fault shape is (inr first)))
 
   pub refuses_move : (k : Triple) (fault : Fault) → (fault ≡ VertexRange) × SpellsLeaving k text
       → RefusesMoved k fault (object members)
   refuses_move k fault (same, (ps, (found, written, writable, vertices), leaves)) =
       let (items, is, here) = array_here in
       let all : array items ≡ array found = compact-tells (array items) (array found) here.writable writable
-      (sym here.is ∙ written) in
-      inr (same, (ps, (shape, (found, is ∙ ap Some all, vertices)), leaves))
+      (sym here.is ∙ written) in (
+        λ memory. range_is_no_memory (sym same ∙ memory),
+        inr (same, (ps, (shape, (found, is ∙ ap Some all, vertices)), leaves)),
+      )
 
 -- ---- the line
-pub refuses_line : (k : Triple) (fault : Fault) (bytes line items : List ℕ) (parts passed : List Part) → items ≡ line
-    → passed ≡ parts → ((members : MemberTrees) × Spells bytes (object members) × Fits (object members) × (¬ IsDeep bytes)
-    × (line ≡ compact (object members)) × AreParts 1 parts members)
-    → ((members : MemberTrees) → IsCompactOf items (object members) → AreParts 1 passed members
-    → RefusesMoved k fault (object members)) → RefusesFeatureLine k fault bytes
-refuses_line k fault bytes line items parts passed same_line same_parts
-    (members, spells, fits, shallow, written, are) refused =
-    told (refused members (record {
-      is = same_line ∙ written;
-      writable = spelled_writable bytes (object members) spells;
-      distinct = fits.1;
-      within = fits.0;
-    }) (subst (λ l. AreParts 1 l members) (sym same_parts) are))
-  where
-    told : RefusesMoved k fault (object members) → RefusesFeatureLine k fault bytes
-    told (inl no_feature) = inr (inl (object members, spells, fits, no_feature))
-    told (inr (same, (ps, is, leaves))) =
-        inr (inr (same, (record { value = object members; vertices = ps }, (spells, fits, is), leaves)))
+-- the members that the line spells, by its compact text
+abbrev SpellsMembers : List ℕ → List ℕ → List Part → Type 0
+SpellsMembers bytes line parts =
+    (members : MemberTrees) × Spells bytes (object members) × Fits (object members) × (¬ IsDeep bytes)
+    × (line ≡ compact (object members)) × AreParts 1 parts members
+
+module _ (k : Triple) (fault : Fault) (bytes line items : List ℕ) (parts passed : List Part) (same_line : items ≡ line)
+    (same_parts : passed ≡ parts) (given : SpellsMembers bytes line parts)
+    (refused : (members : MemberTrees) → IsCompactOf items (object members) → AreParts 1 passed members
+    → RefusesMoved k fault (object members)) where
+  refused_here : RefusesMoved k fault (object given.0)
+  refused_here =
+      let (members, spells, fits, shallow, written, are) = given in
+      refused members (record {
+        is = same_line ∙ written;
+        writable = spelled_writable bytes (object members) spells;
+        distinct = fits.1;
+        within = fits.0;
+      }) (subst (λ l. AreParts 1 l members) (sym same_parts) are)
+
+  pub no_memory_line : fault ≢ Memory
+  no_memory_line = refused_here.0
+
+  pub refuses_line : RefusesFeatureLine k fault bytes
+  refuses_line = told refused_here.1
+    where
+      told : RefusesFeature fault (object given.0) ⊎ ((fault ≡ VertexRange)
+          × ((ps : List Triple) × IsFeature (object given.0) ps × ¬ All IsInRange (moved_vertices ps k)))
+          → RefusesFeatureLine k fault bytes
+      told (inl no_feature) = inr (inl (object given.0, given.1, given.2, no_feature))
+      told (inr (same, (ps, is, leaves))) =
+          inr (inr (same, (record { value = object given.0; vertices = ps }, (given.1, given.2, is), leaves)))
 
 -- ---- no object
 no_member_of : (value : Tree) → ¬ IsObject value → HasFeatureShape value → ⊥
-no_member_of (object members) other shape = other tt
+no_member_of (object all) other shape = other tt
 no_member_of null other shape = absurd (none_is shape.0)
   where
     none_is : None ≡ Some (string (codes "CityJSONFeature")) → ⊥
@@ -148,7 +174,7 @@ no_member_of (array items) other shape = absurd shape.1
 -- an opening brace stands first in the text of an object
 opened : (bytes : List ℕ) (members : MemberTrees) → Spells bytes (object members)
     → Begins (after_white bytes) open_brace
-opened bytes members (utf8, (before, inner, after, is, blank, (content, written, spells), end)) =
+opened bytes all (utf8, (before, inner, after, is, blank, (content, written, spells), end)) =
     let rest : List ℕ = (content ++ close_brace ∷ []) ++ after in
     let whole : bytes ≡ before ++ open_brace ∷ rest =
     is ∙ ap (λ l. before ++ (l ++ after)) written in
@@ -161,8 +187,8 @@ pub no_object : (bytes rest : List ℕ) → rest ≡ after_white bytes → ¬ Be
 no_object bytes rest same other value spells = no_member_of value (is_none value spells)
   where
     is_none : (value : Tree) → Spells bytes value → ¬ IsObject value
-    is_none (object members) spells =
-        λ is. other (subst (λ l. Begins l open_brace) (sym same) (opened bytes members spells))
+    is_none (object all) spells =
+        λ is. other (subst (λ l. Begins l open_brace) (sym same) (opened bytes all spells))
     is_none (array items) spells = λ is. is
     is_none (string text) spells = λ is. is
     is_none (number n) spells = λ is. is

@@ -1,5 +1,5 @@
 //! Why the line of a feature is refused, found in its compact text.
-ghost use Rattle.std.specs.Prelude.{◌≡◌, ◌++◌, ◌∷◌, [], ℕ, List, All, codes, ◌↔◌, unwrap_or, IfErr, IfSome, IsTrue, IsUtf8};
+ghost use Rattle.std.specs.Prelude.{◌≡◌, ◌≢◌, ◌++◌, ◌∷◌, [], ℕ, List, All, codes, ◌↔◌, unwrap_or, IfErr, IfSome, IsTrue, IsUtf8};
 ghost use Rattle.city_json.specs.Bytes.{colon};
 ghost use Rattle.city_json.specs.Compact.{quoted};
 ghost use Rattle.city_json.specs.Grammar.{Spells};
@@ -109,10 +109,11 @@ fn object_fault(alloc: Global, line: &[u8], parts: &[Part], shift: Shift) -> Opt
     leaving_fault(alloc, vertices, shift)
 }
 
-/// Why the line gives no feature that is moved by the shift, where it spells an object; it is told as by
-/// [`feature_line`](super::lines::feature_line). `None`: it gives one, or undecided.
+/// Why the line gives no feature that is moved by the shift, where it spells an object: the fault that
+/// [`feature_line`](super::lines::feature_line) tells, and never [`Fault::Memory`]. `None`: it gives one, or undecided.
 pub fn line_fault(alloc: Global, bytes: &[u8], shift: Shift) -> Option<Fault>
-    ensures { IfSome result (λ fault. RefusesFeatureLine shift fault bytes.now) }
+    ensures refusal { IfSome result (λ fault. RefusesFeatureLine shift fault bytes.now) }
+    ensures fault { IfSome result (λ fault. fault ≢ Fault.Memory) }
 {
     let found = compact_lent(alloc, bytes, Line::new(alloc))?;
     object_fault(alloc, found.text.bytes(), &found.parts, shift)
