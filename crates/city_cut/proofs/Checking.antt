@@ -81,7 +81,7 @@ one_of VertexNotInteger value refused = inr (inl refl)
 one_of VertexRange value refused = inr (inr refl)
 one_of other value refused = absurd refused
 
-no_first : (fault : Fault) (items : ItemTrees) → RefusesFirst fault items → (VertexShape ≡ fault)
+pub no_first : (fault : Fault) (items : ItemTrees) → RefusesFirst fault items → (VertexShape ≡ fault)
     ⊎ ((VertexNotInteger ≡ fault) ⊎ (VertexRange ≡ fault))
 no_first fault no_items refused = absurd refused
 no_first fault (item value others) (inl refused) = one_of fault value refused

@@ -3,7 +3,7 @@ use Rattle.std.proofs.Common.{◌≡◌, ◌∙◌, ◌<◌, ◌⊎◌, ◌↔�
 use Rattle.std.specs.Borrow.{Bor}
 use Rattle.std.specs.List.{AllByRecursion, AllZip, Contains}
 use Rattle.byte_streams.specs.declared.fault.Fault.{Fault}
-use Rattle.byte_streams.specs.declared.fault.Fault.TheVariants.{NotCityJson, Version, NoTransform, Decimal, ScaleNotPositive, ChildMissing, Orphan, BoundaryIndex, Memory}
+use Rattle.byte_streams.specs.declared.fault.Fault.TheVariants.{NotCityJson, Version, NoTransform, Decimal, ScaleNotPositive, VertexShape, VertexNotInteger, VertexRange, ChildMissing, Orphan, BoundaryIndex, Memory}
 use Rattle.city_json.proofs.CompactLaws.{compact-tells}
 use Rattle.city_json.specs.Compact.{quoted}
 use Rattle.city_json.specs.CompactMembers.{HasParts}
@@ -29,7 +29,7 @@ use Rattle.city_cut.specs.Kin.{HasChildrenText}
 use Rattle.city_cut.specs.Overviews.{HasChildrenIn, HasParentsIn}
 use Rattle.city_cut.specs.Table.{IsTable}
 use Rattle.city_cut.proofs.FeatureList.{zip_at}
-use Rattle.city_cut.proofs.Checking.{vertex_refused}
+use Rattle.city_cut.proofs.Checking.{no_first, vertex_refused}
 use Rattle.city_cut.proofs.CopiedTexts.{not_both}
 use Rattle.city_cut.proofs.HeaderMembers.{other_member, stays_city_json}
 use Rattle.city_cut.proofs.QuickDocuments.{ObjectsThere, as_many, document_is, frame, items_or, members_or, objects_there}
@@ -165,6 +165,27 @@ pub other_objects : (text : List ℕ) (is : Bool) (members : MemberTrees)
     → IsCompactOf text (objects_in members) → IsDocument (object members) → ⊥
 other_objects text is members test none of document = not_both is ((test (objects_in members) of).1
     (object_or (first_named (codes "CityObjects") members) document.0.3 document.1)) none
+
+-- faults that are told are no want of memory
+pub header_decided : (fault : Fault) (value : Tree) → RefusesHeader fault value → fault ≡ Memory → ⊥
+header_decided fault value refused same = subst (λ f. RefusesHeader f value) same refused
+
+pub vertices_decided : (fault : Fault) (items : ItemTrees) → RefusesFirst fault items → fault ≡ Memory → ⊥
+vertices_decided fault items refused same = elim (no_first fault items refused)
+    [ inl e ↦ shape (e ∙ same) | inr (inl e) ↦ whole (e ∙ same) | inr (inr e) ↦ range (e ∙ same) ]
+  where
+    shape : VertexShape ≡ Memory → ⊥
+    shape e = cc
+
+    whole : VertexNotInteger ≡ Memory → ⊥
+    whole e = cc
+
+    range : VertexRange ≡ Memory → ⊥
+    range e = cc
+
+pub objects_decided : (fault : Fault) (count : ℕ) (objects : MemberTrees) → RefusesObjects fault count objects
+    → fault ≡ Memory → ⊥
+objects_decided fault count objects refused same = subst (λ f. RefusesObjects f count objects) same refused
 
 -- both are well formed
 pub record IsShaped (members : MemberTrees) (text : List ℕ) : Type 0 where

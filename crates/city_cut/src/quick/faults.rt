@@ -1,5 +1,5 @@
 //! Why a document is not cut, found on its compact text.
-ghost use Rattle.std.specs.Prelude.{◌≡◌, ◌↔◌, List, IfSome, IsTrue, length};
+ghost use Rattle.std.specs.Prelude.{◌≡◌, ◌≢◌, ◌↔◌, List, IfSome, IsTrue, length};
 ghost use Rattle.city_json.specs.Parts.{AreParts};
 ghost use Rattle.city_json.specs.Tree.{MemberTrees, Tree, object};
 ghost use Rattle.city_grid.specs.Axes.{Triple};
@@ -101,8 +101,9 @@ fn objects_fault(alloc: Global, text: &[u8], vertices: usize) -> Option<Fault>
 /// `None`: undecided, or it is cut; [`crate::cut_texts`] decides.
 pub fn cut_fault(alloc: Global, line: &[u8], parts: &[Part]) -> Option<Fault>
     requires { (members : MemberTrees) × IsCompactOf line.now (object members) × AreParts 1 parts.now members }
-    ensures { IfSome result (λ fault. (members : MemberTrees) → IsCompactOf line.now (object members)
+    ensures refused { IfSome result (λ fault. (members : MemberTrees) → IsCompactOf line.now (object members)
         → AreParts 1 parts.now members → RefusesCut fault (object members)) }
+    ensures decided { IfSome result (λ fault. fault ≢ Fault.Memory) }
 {
     let objects = member_or(line, parts, b"\"CityObjects\":", b"{}")?;
     let vertices = member_or(line, parts, b"\"vertices\":", b"[]")?;

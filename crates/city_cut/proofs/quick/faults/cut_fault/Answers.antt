@@ -1,8 +1,9 @@
 use Rattle.std.proofs.Common.{refl, codes}
 use Rattle.city_json.specs.Tree.{array, no_items, no_members, object}
 use Rattle.city_feature.proofs.QuickLines.{utf8}
+use Rattle.city_cut.specs.Cut.{header_tree}
 use Rattle.city_cut.proofs.QuickDocuments.{empty_array, no_objects}
-use Rattle.city_cut.proofs.QuickFaults.{err_told, has_frame, header_refused, objects_in, objects_refused, ok_told, other_objects, other_vertices, shaped, vertices_refused}
+use Rattle.city_cut.proofs.QuickFaults.{err_told, has_frame, header_decided, header_refused, objects_decided, objects_in, objects_refused, ok_told, other_objects, other_vertices, shaped, vertices_decided, vertices_refused}
 use Rattle.city_cut.proofs.QuickTexts.{if_some_more}
 use Rattle.city_cut.proofs.quick.faults.cut_fault.Goals as goal
 
@@ -14,20 +15,20 @@ objects_fault-requires c =
           (object no_members) no_objects,
     )
 
-pub returns-then-not-is_array : goal.returns-then-not-is_array
-returns-then-not-is_array c = λ members of are.
+pub returns-then-not-is_array-clause-refused : goal.returns-then-not-is_array-clause-refused
+returns-then-not-is_array-clause-refused c = λ members of are.
     other_vertices c.in_ok-vertices.vertices.now c.is_array.result members c.is_array.ensures c.if-not-is_array.true
     (c.in_ok-vertices.ensures members of are (codes "vertices") (utf8 (codes "vertices") refl) refl (array no_items)
     empty_array)
 
-pub returns-then-not-holds : goal.returns-then-not-holds
-returns-then-not-holds c = λ members of are.
+pub returns-then-not-holds-clause-refused : goal.returns-then-not-holds-clause-refused
+returns-then-not-holds-clause-refused c = λ members of are.
     other_objects c.in_ok-objects.objects.now c.in_ok-holds.holds members c.in_ok-holds.ensures c.if-not-holds.true
     (c.in_ok-objects.ensures members of are (codes "CityObjects") (utf8 (codes "CityObjects") refl) refl
     (object no_members) no_objects)
 
-pub returns-in-Err : goal.returns-in-Err
-returns-in-Err c = λ members of are.
+pub returns-in-Err-clause-refused : goal.returns-in-Err-clause-refused
+returns-in-Err-clause-refused c = λ members of are.
     let objects = c.in_ok-objects.ensures members of are (codes "CityObjects") (utf8 (codes "CityObjects") refl) refl
     (object no_members) no_objects in
     let vertices = c.in_ok-vertices.ensures members of are (codes "vertices") (utf8 (codes "vertices") refl) refl
@@ -38,8 +39,8 @@ returns-in-Err c = λ members of are.
     header_refused members c.in_ok-vertices.vertices.now is c.in-Err.fault
     (err_told _ c.in_ok-fault.field-0 c.in-Err.fault c.in-Err.is header.1)
 
-pub returns-in-Some : goal.returns-in-Some
-returns-in-Some c = λ members of are.
+pub returns-in-Some-clause-refused : goal.returns-in-Some-clause-refused
+returns-in-Some-clause-refused c = λ members of are.
     let objects = c.in_ok-objects.ensures members of are (codes "CityObjects") (utf8 (codes "CityObjects") refl) refl
     (object no_members) no_objects in
     let vertices = c.in_ok-vertices.ensures members of are (codes "vertices") (utf8 (codes "vertices") refl) refl
@@ -51,8 +52,8 @@ returns-in-Some c = λ members of are.
     c.in_default.field-0 c.in_default.is header.0) in
     vertices_refused members c.in_ok-vertices.vertices.now is c.in-Some.fault framed c.in-Some.ensures
 
-pub returns : goal.returns
-returns c = if_some_more c.objects_fault.result (λ fault holds members of are.
+pub returns-clause-refused : goal.returns-clause-refused
+returns-clause-refused c = if_some_more c.objects_fault.result (λ fault holds members of are.
     let objects = c.in_ok-objects.ensures members of are (codes "CityObjects") (utf8 (codes "CityObjects") refl) refl
     (object no_members) no_objects in
     let vertices = c.in_ok-vertices.ensures members of are (codes "vertices") (utf8 (codes "vertices") refl) refl
@@ -64,3 +65,31 @@ returns c = if_some_more c.objects_fault.result (λ fault holds members of are.
     c.in_default.field-0 c.in_default.is header.0) in
     objects_refused members c.in_ok-vertices.vertices.now is fault (objects_in members) c.in_ok-count.count framed refl
     c.in_ok-count.ensures (holds (objects_in members) objects)) c.objects_fault.ensures
+
+pub returns-in-Err-clause-decided : goal.returns-in-Err-clause-decided
+returns-in-Err-clause-decided c =
+    let (members, of, are) = c.requires in
+    let header = c.in_ok-fault.ensures members of are in
+    header_decided c.in-Err.fault (header_tree (object members)) (err_told _ c.in_ok-fault.field-0 c.in-Err.fault
+    c.in-Err.is header.1)
+
+pub returns-in-Some-clause-decided : goal.returns-in-Some-clause-decided
+returns-in-Some-clause-decided c =
+    let (members, of, are) = c.requires in
+    let objects = c.in_ok-objects.ensures members of are (codes "CityObjects") (utf8 (codes "CityObjects") refl) refl
+    (object no_members) no_objects in
+    let vertices = c.in_ok-vertices.ensures members of are (codes "vertices") (utf8 (codes "vertices") refl) refl
+    (array no_items) empty_array in
+    let is = shaped c.in_ok-vertices.vertices.now c.in_ok-objects.objects.now c.is_array.result c.in_ok-holds.holds
+    members c.is_array.ensures c.if-not-is_array.false vertices c.in_ok-holds.ensures c.if-not-holds.false objects in
+    let header = c.in_ok-fault.ensures members of are in
+    vertices_decided c.in-Some.fault is.items (c.in-Some.ensures is.items is.of)
+
+pub returns-clause-decided : goal.returns-clause-decided
+returns-clause-decided c =
+    let (members, of, are) = c.requires in
+    let there = c.in_ok-objects.ensures members of are (codes "CityObjects") (utf8 (codes "CityObjects") refl) refl
+    (object no_members) no_objects in
+    if_some_more c.objects_fault.result (λ fault holds.
+    let (objects, same, refused) = holds (objects_in members) there in
+    objects_decided fault c.in_ok-count.count objects refused) c.objects_fault.ensures
