@@ -6,4 +6,5 @@ pub mod LentMembers
 pub mod MemberPieces
 pub mod NamedMembers
 pub mod NamedTexts
+pub mod NoObjects
 pub mod QuickLines

@@ -22,6 +22,7 @@ pub mod MemberPlaces
 pub mod NamesApart
 pub mod NumberLaws
 pub mod OpenParts
+pub mod Opened
 pub mod ParityLemmas
 pub mod PartsOfNumbers
 pub mod PassEscapes

@@ -1,6 +1,6 @@
 //! Whether a JSON text is taken, with no value of it held. The functions are those of reading, and in place of a value
 //! each tells whether no object of it has a name twice.
-ghost use Rattle.std.specs.Prelude.{◌≡◌, ◌<◌, length, IfErr, IsUtf8, OnOk, option_map};
+ghost use Rattle.std.specs.Prelude.{◌≡◌, ◌<◌, length, IfErr, IsTrue, IsUtf8, OnOk, option_map};
 ghost use Rattle.city_json.specs.Checking.{is_distinct, value_told, items_told, name_told, member_told, members_told};
 ghost use Rattle.city_json.specs.Depth.{IsDeep};
 ghost use Rattle.city_json.specs.Fits.{Fits};
@@ -9,7 +9,7 @@ ghost use Rattle.city_json.specs.Grammar.{Spells};
 ghost use Rattle.city_json.specs.ReadString.{checked, string_at};
 ghost use Rattle.city_json.specs.Reading.{scalar_at, value_at, array_at, items_at, object_at, members_at, member_at, text_at};
 ghost use Rattle.city_json.specs.Refusals.{RefusesText};
-ghost use Rattle.city_json.specs.Tree.{Tree};
+ghost use Rattle.city_json.specs.Tree.{MemberTrees, Tree, object};
 
 mod open_names;
 mod scalars;
@@ -257,4 +257,11 @@ fn check_whole(alloc: Global, bytes: &[u8]) -> Result<(), Fault>
     } else {
         Err(Fault::DuplicateName)
     }
+}
+
+/// Whether the text spells no object, whatever else it spells: no brace opens after white space.
+pub fn spells_no_object(bytes: &[u8]) -> bool
+    ensures { IsTrue result → (members : MemberTrees) → ¬ Spells bytes.now (object members) }
+{
+    after_byte(b'{', after_white(bytes)).is_none()
 }

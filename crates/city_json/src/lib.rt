@@ -17,7 +17,7 @@ mod text;
 pub use byte_streams::{
     Bin, Device, Fault, Intake, Line, Sequence, Sink, Source, Stop, Tape, read_all, write_all,
 };
-pub use checking::check;
+pub use checking::{check, spells_no_object};
 pub use compacting::{
     Compacted, CompactedFeature, LentFeature, LentText, Part, Span, compact, compact_given,
     compact_lent, compact_parts, members_of_compact, string_end, value_end,

@@ -18,7 +18,7 @@ use byte_streams::limits::MAX_LINE_BYTES;
 use byte_streams::{Fault, Line, Source, Stop, read_all};
 use city_cut::{CutTexts, FeatureTexts, cut_compacted_triples, cut_fault, cut_texts};
 use city_feature::Header;
-use city_json::{Compacted, Json, Span, check, compact_given, print, read};
+use city_json::{Compacted, Json, Span, check, compact_given, print, read, spells_no_object};
 use std::alloc::Global;
 
 /// The stream of a document that was cut.
@@ -108,6 +108,9 @@ fn plain_cut(alloc: Global, text: &[u8]) -> Result<CutTexts, Fault>
     ensures refused { IfErr result (λ fault. RefusesCutting fault text.now) }
 {
     check(alloc, text)?;
+    if spells_no_object(text) {
+        return Err(Fault::NotCityJson);
+    }
     let document = read(alloc, text)?;
     cut_texts(alloc, document)
 }

@@ -2,13 +2,11 @@
 ghost use Rattle.std.specs.Prelude.{◌≡◌, ◌≢◌, ◌++◌, ◌∷◌, [], ℕ, List, All, codes, ◌↔◌, unwrap_or, IfErr, IfSome, IsTrue, IsUtf8};
 ghost use Rattle.city_json.specs.Bytes.{colon};
 ghost use Rattle.city_json.specs.Compact.{quoted};
-ghost use Rattle.city_json.specs.Grammar.{Spells};
 ghost use Rattle.city_json.specs.Members.{first_named};
 ghost use Rattle.city_json.specs.Parts.{AreParts};
-ghost use Rattle.city_json.specs.Reading.{after_white};
 ghost use Rattle.city_json.specs.Tree.{MemberTrees, Tree, null, object, string};
 ghost use Rattle.city_feature.specs.Faults.{RefusesMoved, SpellsLeaving};
-ghost use Rattle.city_feature.specs.Feature.{HasFeatureShape, RefusesFeature};
+ghost use Rattle.city_feature.specs.Feature.{HasFeatureShape};
 ghost use Rattle.city_feature.specs.FeatureLine.{RefusesFeatureLine};
 ghost use Rattle.city_feature.specs.Shapes.{IsArray, IsObject, IsText};
 ghost use Rattle.city_feature.specs.Texts.{IsCompactOf};
@@ -19,7 +17,7 @@ use crate::features::quick::member_or;
 use crate::features::texts::vertices_of;
 use byte_streams::{Fault, Line};
 use city_grid::{Shift, byte_is};
-use city_json::{Part, check, compact_lent};
+use city_json::{Part, check, compact_lent, spells_no_object};
 use std::alloc::Global;
 
 /// Whether the value whose compact text this is is the type of a feature.
@@ -117,25 +115,6 @@ pub fn line_fault(alloc: Global, bytes: &[u8], shift: Shift) -> Option<Fault>
 {
     let found = compact_lent(alloc, bytes, Line::new(alloc))?;
     object_fault(alloc, found.text.bytes(), &found.parts, shift)
-}
-
-/// The bytes after the white space that they begin with.
-fn after_white(bytes: &[u8]) -> &[u8]
-    ensures { result.now ≡ after_white bytes.now }
-{
-    let mut rest = bytes;
-    while let [b' ' | b'\t' | b'\n' | b'\r', tail @ ..] = rest {
-        rest = tail;
-    }
-    rest
-}
-
-/// Whether what the bytes spell, if they spell a value, is no object: no brace opens after white space.
-fn spells_no_object(bytes: &[u8]) -> bool
-    ensures { IsTrue result → (value : Tree) → Spells bytes.now value → RefusesFeature Fault.NotAFeature value }
-{
-    let rest = after_white(bytes);
-    !byte_is(rest, 0, b'{')
 }
 
 /// Refuses a line that gives no feature which is moved by the shift, as far as that is told with no value of it; the faults

@@ -1,9 +1,10 @@
-use Rattle.std.proofs.Common.{◌∙◌, ◌<◌, ◌^◌, length, rules, subst, sym}
+use Rattle.std.proofs.Common.{◌∙◌, ◌<◌, ◌^◌, inr, length, rules, subst, sym}
 use Rattle.city_json.proofs.SpelledWritable.{spelled_writable}
 use Rattle.city_json.specs.Parts.{AreParts}
 use Rattle.city_json.specs.Tree.{object}
 use Rattle.city_json.specs.Triples.{HasTriples}
 use Rattle.city_cut.specs.HeldTexts.{texts_in}
+use Rattle.city_feature.proofs.NoObjects.{is_no_object, no_city, no_city_json}
 use Rattle.city_feature.specs.Texts.{IsCompactOf}
 use Rattle.city_feature.specs.Values.{header_value}
 use Rattle.tile_stream.specs.declared.tile_reader.head.FirstLine.{FirstLine}
@@ -54,3 +55,9 @@ returns-clause-refused c =
     head_not_found c.args.bytes.now c.bytes.result.now c.deref.result.now members spells fits of
     (subst (λ l. AreParts 1 l members) (sym c.deref.ensures.value) are)
     c.document_line.result c.document_line.ensures.refused
+
+pub returns-then-spells_no_object-clause-refused : goal.returns-then-spells_no_object-clause-refused
+returns-then-spells_no_object-clause-refused c =
+    let (value, spells, fits, shallow) = c.in_ok-check.ensures.taken in
+    let other = is_no_object c.args.bytes.now value spells (c.spells_no_object.ensures c.if-spells_no_object.true) in
+    inr (value, spells, fits, inr (no_city value other, no_city_json value other))
