@@ -1,7 +1,7 @@
 use crate::texts::{filled, is_named, split};
 use byte_streams::{Fault, Line};
-use city_feature::{Header, header, is_document};
-use city_json::{print, read};
+use city_feature::{Header, header, holds_city, is_document};
+use city_json::{compact_lent, print, read};
 use std::alloc::{AllocGlobal, Global};
 use std::process::Abort;
 
@@ -175,9 +175,17 @@ fn is_document_of(alloc: Global, text: &str) -> Result<bool, Fault> {
     Ok(is_document(&read(alloc, text.as_bytes())?))
 }
 
+/// The same of its compact text, which is asked of objects alone.
+fn is_document_text(alloc: Global, text: &str) -> Option<bool> {
+    let found = compact_lent(alloc, text.as_bytes(), Line::new(alloc))?;
+    holds_city(found.text.bytes(), &found.parts)
+}
+
 fn expect_documents(rt: &(impl Abort + AllocGlobal), table: &str, wanted: bool) {
     for text in table.lines() {
         assert!(rt; is_document_of(rt.alloc(), text) == Ok(wanted), "{text}");
+        let told = is_document_text(rt.alloc(), text);
+        assert!(rt; told == text.starts_with('{').then_some(wanted), "{text}");
     }
 }
 

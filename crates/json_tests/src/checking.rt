@@ -1,7 +1,7 @@
 //! What is said of a text with more than one fault, and of names in objects that stand in one another.
 use crate::texts::{Pieces, expect_of_pieces, is_answered, is_checked_as_read};
 use byte_streams::Fault;
-use city_json::check;
+use city_json::{check, spells_no_object};
 use std::alloc::Global;
 use std::process::Abort;
 
@@ -111,4 +111,28 @@ fn broken_texts_are_checked_as_they_are_read(rt: HostRuntime) {
     for at in 0..WHOLE.len() {
         assert!(rt; is_cut_alike(rt.alloc(), at), "{at}");
     }
+}
+
+/// Texts of no object, some of which spell nothing.
+const OTHERS: &str = r#"[{}]
+ [{"a":1}]
+"{"
+"{}"
+0
+-1.5
+true
+false
+null
+,{}
+x{"a":1}"#;
+
+#[test]
+fn what_is_no_object_is_told(rt: HostRuntime) {
+    for text in OTHERS.lines() {
+        assert!(rt; spells_no_object(text.as_bytes()), "{text}");
+    }
+    assert!(rt; spells_no_object(b""));
+    assert!(rt; spells_no_object(b" \t\r\n"));
+    assert!(rt; !spells_no_object(b"{}"));
+    assert!(rt; !spells_no_object(b" \t\r\n{\"a\":[1]} "));
 }
