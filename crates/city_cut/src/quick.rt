@@ -14,6 +14,7 @@ mod kin;
 pub(crate) mod made;
 mod members;
 mod moving;
+mod names;
 mod notes;
 mod numbers;
 mod objects;
@@ -59,10 +60,11 @@ use byte_streams::Line;
 use city_feature::{between, part_named};
 use city_json::{Part, Span, compact_lent};
 use features::{are_short, feature_texts};
-use graph::{graph_of, table_of};
+use graph::graph_of;
 use headers::header_of;
 use holders::ShortHeld;
 use made::MadeTexts;
+use names::Names;
 use overview::{Overview, overview_of};
 use points::{VertexTexts, starts_of, write_anew};
 use short_parts::ShortPart;
@@ -122,7 +124,7 @@ fn kin_of(
         × AllBelong (member_trees pairs)
         × AreRelated pairs kin.children kin.parents.items) }
 {
-    let table = table_of(alloc, text, places)?;
+    let table = Names::new(alloc, text, places)?;
     let graph = graph_of(alloc, &children, &table)?;
     drop(children);
     drop(table);
