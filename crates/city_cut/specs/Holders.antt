@@ -1,6 +1,8 @@
 -- The members of a city object in whose items boundaries stand, each with its own rules.
-use Rattle.std.specs.Prelude.{ℕ, List, Option, Some, None, codes, if◌then◌else◌, ◌==◌}
+use Rattle.std.specs.Prelude.{ℕ, List, [], Option, Some, None, codes, if◌then◌else◌, length, ◌==◌, ◌-◌, ◌++◌, ◌∷◌}
 use Rattle.std.specs.List.{flat_map, AllByRecursion}
+use Rattle.city_json.specs.Bytes.{colon}
+use Rattle.city_json.specs.Compact.{quoted}
 use Rattle.city_json.specs.Tree.{Tree}
 use Rattle.city_json.specs.declared.compacting.parts.Part.{Part}
 use Rattle.city_feature.specs.Shapes.{IsArray}
@@ -48,6 +50,11 @@ AreHeld holder count value = IsShaped holder value × AllByRecursion (IsHeld hol
 abbrev pub held_uses : Holder → Tree → List ℕ
 held_uses holder value = flat_map leaves (flat_map (boundary_in holder) (items_of (Some value)))
 
--- a part; none, where it ends at 0
-abbrev pub part_unless : ℕ → ℕ → ℕ → Option Part
-part_unless at value end = if end == 0 then None else Some (record { at = at; value = value; end = end })
+-- where a member begins whose value begins at `value`, with its name and its colon before it
+abbrev pub begin_of : Holder → ℕ → ℕ
+begin_of holder value = value - length (quoted (name_of holder) ++ colon ∷ [])
+
+-- the part in which such a member lies; none, where it ends at 0
+abbrev pub part_unless : Holder → ℕ → ℕ → Option Part
+part_unless holder value end =
+    if end == 0 then None else Some (record { at = begin_of holder value; value = value; end = end })

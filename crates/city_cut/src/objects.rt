@@ -16,7 +16,7 @@ use city_json::{Json, Member};
 use std::alloc::Global;
 
 /// The names of the objects with their places, in the order of the names. The only fault is [`Fault::Memory`].
-pub(crate) fn table(alloc: Global, objects: &[Member]) -> Result<Vec<(&[u8], usize)>, Fault>
+fn table(alloc: Global, objects: &[Member]) -> Result<Vec<(&[u8], usize)>, Fault>
     ensures ok { IfOk result (λ pairs. IsTable (names (members_tree objects.now)) pairs.items) }
     ensures fault { IfErr result (λ fault. fault ≡ Fault.Memory) }
 {
@@ -29,7 +29,7 @@ pub(crate) fn table(alloc: Global, objects: &[Member]) -> Result<Vec<(&[u8], usi
 }
 
 /// The place of a name.
-pub(crate) fn place(table: &[(&[u8], usize)], name: &[u8]) -> Option<usize>
+fn place(table: &[(&[u8], usize)], name: &[u8]) -> Option<usize>
     ensures { (names : List (List ℕ)) → IsTable names table.now
         → MatchOption result ((k : ℕ) → slice_get names k ≢ Some name.now)
         (λ k. slice_get names k ≡ Some name.now) }

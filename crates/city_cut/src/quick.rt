@@ -14,6 +14,7 @@ mod kin;
 pub(crate) mod made;
 mod members;
 mod moving;
+mod names;
 mod notes;
 mod numbers;
 mod objects;
@@ -58,11 +59,12 @@ use crate::held::FeatureTexts;
 use byte_streams::Line;
 use city_feature::{between, part_named};
 use city_json::{Part, Span, compact_lent};
-use features::feature_texts;
-use graph::{graph_of, table_of};
+use features::{are_short, feature_texts};
+use graph::graph_of;
 use headers::header_of;
 use holders::ShortHeld;
 use made::MadeTexts;
+use names::Names;
 use overview::{Overview, overview_of};
 use points::{VertexTexts, starts_of, write_anew};
 use short_parts::ShortPart;
@@ -107,12 +109,12 @@ fn kin_of(
     text: &[u8],
     places: &[ShortPart],
     parents: Vec<bool>,
-    children: &[&[u8]],
+    children: Vec<&[u8]>,
 ) -> Option<Kin>
     requires objects { (pairs : List (List ℕ × Tree)) × IsCompactOf text.now (object (member_trees pairs))
         × AreParts 1 places.now (member_trees pairs) }
     requires parents { AllZip (HasParentsIn text.now) places.now parents.items }
-    requires children { AllZip (HasChildrenIn text.now) places.now children.now }
+    requires children { AllZip (HasChildrenIn text.now) places.now children.items }
     ensures graph { IfSome result (λ kin. InRange kin.children (length kin.children)) }
     ensures parents { IfSome result (λ kin. length kin.parents.items ≡ length kin.children) }
     ensures kin { IfSome result (λ kin. (pairs : List (List ℕ × Tree))
@@ -122,8 +124,10 @@ fn kin_of(
         × AllBelong (member_trees pairs)
         × AreRelated pairs kin.children kin.parents.items) }
 {
-    let table = table_of(alloc, text, places)?;
-    let graph = graph_of(alloc, children, &table)?;
+    let table = Names::new(alloc, text, places)?;
+    let graph = graph_of(alloc, &children, &table)?;
+    drop(children);
+    drop(table);
     let Ok(meets) = check_belonging(alloc, &graph, &parents) else {
         return None;
     };
@@ -139,27 +143,38 @@ fn kin_of(
 fn made_texts(
     alloc: Global,
     text: &[u8],
-    places: &[ShortPart],
-    held: &[ShortHeld],
+    places: Vec<ShortPart>,
+    held: Vec<ShortHeld>,
     vertices: &VertexTexts<'_>,
     kin: Kin,
 ) -> Option<MadeTexts>
-    requires holders { AreHolders text.now places.now held.now }
-    requires places { length kin.children ≡ length places.now }
+    requires holders { AreHolders text.now places.items held.items }
+    requires places { length kin.children ≡ length places.items }
     requires graph { InRange kin.children (length kin.children) }
     requires parents { length kin.parents.items ≡ length kin.children }
     requires objects { (pairs : List (List ℕ × Tree)) × IsCompactOf text.now (object (member_trees pairs))
-        × AreParts 1 places.now (member_trees pairs) × AreRelated pairs kin.children kin.parents.items }
+        × AreParts 1 places.items (member_trees pairs) × AreRelated pairs kin.children kin.parents.items }
     requires vertices { HoldVertices vertices.now.text.now vertices.now.starts.items }
     ensures { IfSome result (λ own. (pairs : List (List ℕ × Tree)) (appearance : Option Tree) (points : List Triple)
         → StandAt vertices.now.text.now vertices.now.starts.items points
-        → IsCompactOf text.now (object (member_trees pairs)) → AreParts 1 places.now (member_trees pairs)
+        → IsCompactOf text.now (object (member_trees pairs)) → AreParts 1 places.items (member_trees pairs)
         → AreRelated pairs kin.children kin.parents.items
         → AreOwnTexts (member_trees pairs) appearance points own) }
 {
     let count = vertices.starts.len().saturating_sub(1);
-    let skeletons = skeletons_of(alloc, text, places, held, count)?;
+    let skeletons = skeletons_of(alloc, text, &places, &held, count)?;
+    drop(places);
+    drop(held);
     MadeTexts::new(alloc, skeletons, vertices, kin)
+}
+
+/// Whether the texts of the features may be held: no object stands in two of them, and what they have beside their
+/// objects is not the most of them.
+fn can_be_held(text: &[u8], places: &[ShortPart], vertices: &VertexTexts<'_>, kin: &Kin) -> bool {
+    if kin.meets {
+        return false;
+    }
+    !are_short(text, places, vertices)
 }
 
 /// The texts of the features of the city objects whose compact text this is, on these vertices. Each ends in `tail`.
@@ -191,13 +206,13 @@ fn texts_on(
         children,
         held,
     } = overview_of(alloc, objects)?;
-    let kin = kin_of(alloc, objects, &places, parents, &children)?;
-    if !kin.meets {
+    let kin = kin_of(alloc, objects, &places, parents, children)?;
+    if can_be_held(objects, &places, vertices, &kin) {
         if let Some(own) = feature_texts(alloc, objects, &places, &held, vertices, &kin)? {
             return Some(FeatureTexts::new(own, tail));
         }
     }
-    let own = made_texts(alloc, objects, &places, &held, vertices, kin)?;
+    let own = made_texts(alloc, objects, places, held, vertices, kin)?;
     Some(FeatureTexts::made(own, tail))
 }
 

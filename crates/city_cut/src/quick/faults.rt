@@ -10,9 +10,10 @@ ghost use Rattle.city_cut.specs.Cut.{RefusesCut};
 ghost use Rattle.city_cut.specs.Faults.{HoldsCityObjects, RefusesObjects};
 
 use super::bounds::has_wrong_boundary;
-use super::graph::{graph_of, misses_child, table_of};
+use super::graph::{graph_of, misses_child};
 use super::headers::check_header;
 use super::kin::is_array_of_texts;
+use super::names::Names;
 use super::overview::{Overview, overview_of};
 use super::points::starts_of;
 use super::texts::{member_or, parts_of};
@@ -81,7 +82,7 @@ fn objects_fault(alloc: Global, text: &[u8], vertices: usize) -> Option<Fault>
         children,
         held,
     } = overview_of(alloc, text)?;
-    let table = table_of(alloc, text, &places)?;
+    let table = Names::new(alloc, text, &places)?;
     if misses_child(alloc, &children, &table) {
         return Some(Fault::ChildMissing);
     }

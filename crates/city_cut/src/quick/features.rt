@@ -230,6 +230,11 @@ fn no_numbers(alloc: Global, vertices: &VertexTexts<'_>) -> Option<Numbering>
 /// How many bytes the fixed text of a feature has at most.
 const FIXED_LEN: usize = 64;
 
+/// Whether the fixed texts of as many features as there are objects are longer than the objects and the vertices.
+pub(super) fn are_short(text: &[u8], parts: &[ShortPart], vertices: &VertexTexts<'_>) -> bool {
+    parts.len().saturating_mul(FIXED_LEN) > text.len() + vertices.text.len()
+}
+
 /// How many bytes the texts of features may have that are held: each object and each vertex may stand in them twice.
 fn most_held(text: &[u8], parts: &[ShortPart], vertices: &VertexTexts<'_>) -> usize {
     (text.len() + vertices.text.len())

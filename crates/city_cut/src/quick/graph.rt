@@ -1,52 +1,26 @@
 //! Which city objects are children of which, by their texts.
-ghost use Rattle.std.specs.Prelude.{◌≡◌, ◌≢◌, ◌+◌, ℕ, List, Contains, IfSome, IsTrue, IsUtf8, Some, map, slice_get};
+ghost use Rattle.std.specs.Prelude.{◌≢◌, ℕ, List, Contains, IfSome, IsTrue, IsUtf8, Some, map, slice_get};
 ghost use Rattle.std.specs.Borrow.{Bor};
 ghost use Rattle.std.specs.List.{AllByRecursion};
 ghost use Rattle.city_json.specs.Compact.{quoted};
-ghost use Rattle.city_json.specs.Parts.{AreParts};
-ghost use Rattle.city_json.specs.Tree.{Tree, member_trees, object, string};
+ghost use Rattle.city_json.specs.Tree.{string};
 ghost use Rattle.city_cut.specs.Graphs.{HasRow, HaveRows, NamesMissing, SomeNamesMissing};
 ghost use Rattle.city_cut.specs.Places.{ArePlaced};
 ghost use Rattle.city_cut.specs.Table.{IsTable};
-ghost use Rattle.city_feature.specs.Texts.{IsCompactOf};
 
-use super::features::id_of;
 use super::kin::texts_of;
-use super::short_parts::ShortPart;
+use super::names::Names;
 use crate::graphs::Graph;
-use crate::objects::place;
 use std::alloc::Global;
 
-/// The names of the objects that lie in these parts, each with its marks, with their places, in the order of the
-/// names.
-pub(super) fn table_of<'a>(
-    alloc: Global,
-    text: &'a [u8],
-    parts: &[ShortPart],
-) -> Option<Vec<(&'a [u8], usize)>>
-    ensures { IfSome result (λ table. (pairs : List (List ℕ × Tree)) → IsCompactOf text.now (object (member_trees pairs))
-        → AreParts 1 parts.now (member_trees pairs)
-        → IsTable (map (λ (pair : List ℕ × Tree). quoted pair.0) pairs) table.items) }
-{
-    let mut table = Vec::with_capacity(alloc, parts.len()).ok()?;
-    for at in 0..parts.len() {
-        let id = id_of(text, parts, at)?;
-        let Ok(_) = table.push((id, at)) else {
-            return None;
-        };
-    }
-    table.sort_unstable();
-    Some(table)
-}
-
 /// The places of these names. `None`: one is not there, or out of memory.
-fn places_of(alloc: Global, named: &[&[u8]], table: &[(&[u8], usize)]) -> Option<Vec<usize>>
+fn places_of(alloc: Global, named: &[&[u8]], table: &Names<'_>) -> Option<Vec<usize>>
     ensures { IfSome result (λ places. (names : List (List ℕ)) → IsTable names table.now
         → ArePlaced names (map (λ (one : Bor (List ℕ)). string one.now) named.now) places.items) }
 {
     let mut places = Vec::new(alloc);
     for name in named {
-        let place = place(table, name)?;
+        let place = table.place(name)?;
         let Ok(_) = places.push(place) else {
             return None;
         };
@@ -55,7 +29,7 @@ fn places_of(alloc: Global, named: &[&[u8]], table: &[(&[u8], usize)]) -> Option
 }
 
 /// The places of the children that this text of an array names.
-fn row_of(alloc: Global, text: &[u8], table: &[(&[u8], usize)]) -> Option<Vec<usize>>
+fn row_of(alloc: Global, text: &[u8], table: &Names<'_>) -> Option<Vec<usize>>
     ensures { IfSome result (λ row. (names : List (List ℕ)) → AllByRecursion IsUtf8 names
         → IsTable (map quoted names) table.now → HasRow names text.now row.items) }
 {
@@ -64,7 +38,7 @@ fn row_of(alloc: Global, text: &[u8], table: &[(&[u8], usize)]) -> Option<Vec<us
 }
 
 /// For each object the places of its children, of which the texts are given.
-pub(super) fn graph_of(alloc: Global, children: &[&[u8]], table: &[(&[u8], usize)]) -> Option<Graph>
+pub(super) fn graph_of(alloc: Global, children: &[&[u8]], table: &Names<'_>) -> Option<Graph>
     ensures { IfSome result (λ graph. (names : List (List ℕ)) → AllByRecursion IsUtf8 names
         → IsTable (map quoted names) table.now → HaveRows names children.now graph) }
 {
@@ -77,12 +51,12 @@ pub(super) fn graph_of(alloc: Global, children: &[&[u8]], table: &[(&[u8], usize
 }
 
 /// Whether one of these names is not there.
-fn is_missing(named: &[&[u8]], table: &[(&[u8], usize)]) -> bool
+fn is_missing(named: &[&[u8]], table: &Names<'_>) -> bool
     ensures { IsTrue result → (names : List (List ℕ)) → IsTable names table.now → (one : Bor (List ℕ))
         × Contains named.now one × ((k : ℕ) → slice_get names k ≢ Some one.now) }
 {
     for name in named {
-        let Some(_) = place(table, name) else {
+        let Some(_) = table.place(name) else {
             return true;
         };
     }
@@ -90,7 +64,7 @@ fn is_missing(named: &[&[u8]], table: &[(&[u8], usize)]) -> bool
 }
 
 /// Whether one of the children is not there that this text of an array names. No: undecided.
-fn misses_named(alloc: Global, text: &[u8], table: &[(&[u8], usize)]) -> bool
+fn misses_named(alloc: Global, text: &[u8], table: &Names<'_>) -> bool
     ensures { IsTrue result → (names : List (List ℕ)) → AllByRecursion IsUtf8 names
         → IsTable (map quoted names) table.now → NamesMissing names text.now }
 {
@@ -101,7 +75,7 @@ fn misses_named(alloc: Global, text: &[u8], table: &[(&[u8], usize)]) -> bool
 }
 
 /// Whether some object names a child that is not there. The texts of the children of each are given. No: undecided.
-pub(super) fn misses_child(alloc: Global, children: &[&[u8]], table: &[(&[u8], usize)]) -> bool
+pub(super) fn misses_child(alloc: Global, children: &[&[u8]], table: &Names<'_>) -> bool
     ensures { IsTrue result → (names : List (List ℕ)) → AllByRecursion IsUtf8 names
         → IsTable (map quoted names) table.now → SomeNamesMissing names children.now }
 {

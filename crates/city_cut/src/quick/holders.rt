@@ -2,9 +2,8 @@
 ghost use Rattle.std.specs.Prelude.{◌≡◌, ◌++◌, [], ◌∷◌, IfSome, OnSome};
 ghost use Rattle.city_json.specs.Bytes.{colon};
 ghost use Rattle.city_json.specs.Compact.{quoted};
-ghost use Rattle.city_cut.specs.Holders.{name_of, other_than, part_unless};
+ghost use Rattle.city_cut.specs.Holders.{begin_of, name_of, other_than, part_unless};
 
-use super::short_parts::ShortPlaces;
 use city_json::Part;
 use std::marker::Model;
 
@@ -45,58 +44,84 @@ pub(super) struct HeldParts {
     pub address: Option<Part>,
 }
 
-/// The places of a part; it ends at 0 where there is none.
-fn short_places(part: Option<Part>) -> Option<ShortPlaces>
-    ensures { IfSome result (λ short. part_unless short.at short.value short.end ≡ part) }
+/// Where the value of a member lies that follows its name at once, in a text of less than 2^32 bytes. It ends at 0 where
+/// the member is not there.
+#[derive(Clone, Copy, Drop)]
+struct ShortValue {
+    value: u32,
+    end: u32,
+}
+
+/// Where a member with this name and its colon begins whose value begins there.
+fn begin_of(holder: Holder, value: usize) -> usize
+    ensures { result ≡ begin_of holder value }
+{
+    value.saturating_sub(holder.mark().len())
+}
+
+/// Where the value of this part lies, where the name of the holder is all that stands before it in the part.
+fn short_value(holder: Holder, part: Option<Part>) -> Option<ShortValue>
+    ensures { IfSome result (λ short. part_unless holder short.value short.end ≡ part) }
 {
     let Some(part) = part else {
-        return Some(ShortPlaces {
-            at: 0,
-            value: 0,
-            end: 0,
-        });
+        return Some(ShortValue { value: 0, end: 0 });
     };
     if part.end == 0 {
         return None;
     }
-    ShortPlaces::new(part)
+    if part.at != begin_of(holder, part.value) {
+        return None;
+    }
+    let Ok(value) = u32::try_from(part.value) else {
+        return None;
+    };
+    let Ok(end) = u32::try_from(part.end) else {
+        return None;
+    };
+    Some(ShortValue { value, end })
 }
 
-fn part_at(short: &ShortPlaces) -> Option<Part>
-    ensures { result ≡ part_unless short.now.at short.now.value short.now.end }
+fn part_at(holder: Holder, short: &ShortValue) -> Option<Part>
+    ensures { result ≡ part_unless holder short.now.value short.now.end }
 {
     if short.end == 0 {
         return None;
     }
-    Some(short.part())
+    let value = short.value as usize;
+    Some(Part {
+        at: begin_of(holder, value),
+        value,
+        end: short.end as usize,
+    })
 }
 
-/// Where they lie, in less than half the room: as many are held as a document has objects.
+/// Where they lie, in a fifth of the room: as many are held as a document has objects.
 #[derive(Drop)]
 pub(super) struct ShortHeld {
-    geometry: ShortPlaces,
-    address: ShortPlaces,
+    geometry: ShortValue,
+    address: ShortValue,
 }
 
 impl Model for ShortHeld {
     ghost use Rattle.city_cut.specs.Holders.{part_unless};
+    ghost use Rattle.city_cut.specs.declared.quick.holders.Holder.TheVariants.{Address, Geometry};
     ghost use Rattle.city_cut.specs.declared.quick.holders.HeldParts.{HeldParts};
 
     ghost Value = { HeldParts };
 
     ghost view = { λ short. record {
-      geometry = part_unless short.geometry.at short.geometry.value short.geometry.end;
-      address = part_unless short.address.at short.address.value short.address.end;
+      geometry = part_unless Geometry short.geometry.value short.geometry.end;
+      address = part_unless Address short.address.value short.address.end;
     } };
 }
 
 impl ShortHeld {
-    /// The same, where the places are below 2^32.
+    /// The same, where the places are below 2^32, and the members are named so.
     pub(super) fn new(held: HeldParts) -> Option<ShortHeld>
         ensures { IfSome result (λ short. short ≡ held) }
     {
-        let geometry = short_places(held.geometry)?;
-        let address = short_places(held.address)?;
+        let geometry = short_value(Holder::Geometry, held.geometry)?;
+        let address = short_value(Holder::Address, held.address)?;
         Some(ShortHeld { geometry, address })
     }
 
@@ -104,8 +129,8 @@ impl ShortHeld {
         ensures { result ≡ self.now }
     {
         HeldParts {
-            geometry: part_at(&self.geometry),
-            address: part_at(&self.address),
+            geometry: part_at(Holder::Geometry, &self.geometry),
+            address: part_at(Holder::Address, &self.address),
         }
     }
 }

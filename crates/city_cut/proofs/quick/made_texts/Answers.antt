@@ -1,4 +1,6 @@
-use Rattle.std.proofs.Common.{◌≡◌, ◌<◌, ◌^◌, arith, length, subst}
+use Rattle.std.proofs.Common.{◌≡◌, ◌<◌, ◌^◌, arith, length, subst, sym}
+use Rattle.city_json.specs.Parts.{AreParts}
+use Rattle.city_json.specs.Tree.{member_trees}
 use Rattle.city_cut.specs.Made.{Makings}
 use Rattle.city_cut.specs.Skeletons.{AreSkeletons}
 use Rattle.city_cut.proofs.MadeFeatures.{made_own}
@@ -15,7 +17,8 @@ new-requires-clause-document c =
       pairs = pairs;
       points = points;
       skeletons = subst (λ n. AreSkeletons n c.in_ok-skeletons.skeletons pairs) count
-          (c.in_ok-skeletons.ensures.made pairs of are);
+          (c.in_ok-skeletons.ensures.made pairs of
+          (subst (λ p. AreParts 1 p (member_trees pairs)) (sym c.deref.ensures.value) are));
       stand = stand;
       few = omega (arith, stand.long, c.args.vertices.now.starts.small);
       range = range;
@@ -36,5 +39,6 @@ returns c = if_some_more c.new.result (λ own is pairs appearance points stand o
     omega (arith, stand.long, c.len.ensures, c.saturating_sub-count.ensures) in
     let small : length points < 2 ^ 64 = omega (arith, stand.long, c.args.vertices.now.starts.small) in
     made_own pairs appearance points makings c.args.kin.parents.items
-    (subst (λ n. AreSkeletons n c.in_ok-skeletons.skeletons pairs) count (c.in_ok-skeletons.ensures.made pairs of are))
+    (subst (λ n. AreSkeletons n c.in_ok-skeletons.skeletons pairs) count (c.in_ok-skeletons.ensures.made pairs of
+    (subst (λ p. AreParts 1 p (member_trees pairs)) (sym c.deref.ensures.value) are)))
     stand rel small own is) c.new.ensures

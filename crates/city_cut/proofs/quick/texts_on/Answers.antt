@@ -24,7 +24,7 @@ returns-in-Some c = λ value appearance points of stand tail.
     let objects = member_trees there.pairs in
     let (city, lacks, belong, rel) = c.in_ok-kin.ensures.kin there.pairs there.of
     (subst (λ p. AreParts 1 p objects) (sym c.deref.ensures.value) there.are) in
-    let listed = subst (λ p. AreParts 1 p objects) (sym c.deref-then-not-kin.ensures.value) there.are in
+    let listed = subst (λ p. AreParts 1 p objects) (sym c.deref-then-can_be_held.ensures.value) there.are in
     let held = rw c.in-Some.is at c.in_ok-own.ensures in
     let own = held there.pairs appearance points stand there.of listed rel in
     let texts = ap texts_in c.new.ensures
@@ -39,8 +39,7 @@ made_texts-requires-clause-places c =
     let objects = member_trees there.pairs in
     let (city, lacks, belong, rel) = c.in_ok-kin.ensures.kin there.pairs there.of
     (subst (λ p. AreParts 1 p objects) (sym c.deref.ensures.value) there.are) in
-    let listed = subst (λ p. AreParts 1 p objects) (sym c.deref-3.ensures.value) there.are in
-    omega (arith, as_many_pairs there.pairs _ _ rel, as_many_parts 1 c.deref-3.result.now there.pairs listed)
+    omega (arith, as_many_pairs there.pairs _ _ rel, as_many_parts 1 c.in_ok-places.field-0.places.items there.pairs there.are)
 
 pub made_texts-requires-clause-objects : goal.made_texts-requires-clause-objects
 made_texts-requires-clause-objects c =
@@ -50,8 +49,7 @@ made_texts-requires-clause-objects c =
     let objects = member_trees there.pairs in
     let (city, lacks, belong, rel) = c.in_ok-kin.ensures.kin there.pairs there.of
     (subst (λ p. AreParts 1 p objects) (sym c.deref.ensures.value) there.are) in
-    let listed = subst (λ p. AreParts 1 p objects) (sym c.deref-3.ensures.value) there.are in
-    (there.pairs, there.of, listed, rel)
+    (there.pairs, there.of, there.are, rel)
 
 pub returns : goal.returns
 returns c = λ value appearance points of stand tail.
@@ -60,8 +58,7 @@ returns c = λ value appearance points of stand tail.
     let objects = member_trees there.pairs in
     let (city, lacks, belong, rel) = c.in_ok-kin.ensures.kin there.pairs there.of
     (subst (λ p. AreParts 1 p objects) (sym c.deref.ensures.value) there.are) in
-    let listed = subst (λ p. AreParts 1 p objects) (sym c.deref-3.ensures.value) there.are in
-    let own = c.in_ok-own-2.ensures there.pairs appearance points stand there.of listed rel in
+    let own = c.in_ok-own-2.ensures there.pairs appearance points stand there.of there.are rel in
     let texts = ap texts_in c.made.ensures
     ∙ (ap (λ end. map (λ text. text ++ end) c.in_ok-own-2.own) tail ∙ own.texts) in
     (objects, there.is, city, lacks, belong, own.features, texts, own.are, own.bounded)
