@@ -101,6 +101,9 @@ fn is_cut_alike(alloc: Global, at: usize) -> bool {
     let Ok(mut text) = WHOLE.to_vec(alloc) else {
         return false;
     };
+    if at >= text.len() {
+        return false;
+    }
     text.remove(at);
     is_checked_as_read(alloc, &text) && is_checked_as_read(alloc, &WHOLE[..at])
 }
