@@ -199,7 +199,7 @@ impl<'a> Write for CountedWriter<'a> {
 }
 
 const ROADS: &str =
-    r#""CityObjects":{"a":{"type":"Road"},"b":{"type":"Road"},"c":{"type":"Road"}}"#;
+    r#""CityObjects":{"a":{"type":"Road","attributes":{"name":"Via Appia Antica, from Rome to Capua"}},"b":{"type":"Road","attributes":{"name":"Via Egnatia, from the sea to Byzantium"}},"c":{"type":"Road","attributes":{"name":"Via Domitia, from Gaul to Hispania, 118 BC"}}}"#;
 
 /// Whether three roads are so many writes and flushes.
 fn is_written(
