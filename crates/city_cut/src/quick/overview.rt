@@ -137,13 +137,41 @@ fn seen_at(alloc: Global, text: &[u8], at: usize) -> Option<SeenObject<'_>>
     })
 }
 
-/// Lists what is looked at of one more object.
-fn list_object<'a>(seen: SeenObject<'a>, to: &mut Overview<'a>) -> Option<()>
+/// How many objects come from `at` on in a text of this length, where they are as long as those before.
+fn expected(len: usize, at: usize, count: usize) -> usize {
+    if count == 0 {
+        return 1;
+    }
+    let mean = (at / count).max(1);
+    (len.saturating_sub(at) / mean).saturating_add(1)
+}
+
+/// Makes room for an object at `at` and for those that may come after it, so that little is copied and left behind.
+fn make_room(len: usize, at: usize, to: &mut Overview<'_>) -> Option<()>
+    ensures places { to.new.places.items ≡ to.old.places.items }
+    ensures parents { to.new.parents.items ≡ to.old.parents.items }
+    ensures children { to.new.children.items ≡ to.old.children.items }
+    ensures held { to.new.held.items ≡ to.old.held.items }
+{
+    let count = to.places.len();
+    if count < to.places.capacity() {
+        return Some(());
+    }
+    let more = expected(len, at, count);
+    to.places.reserve(more).ok()?;
+    to.parents.reserve(more).ok()?;
+    to.children.reserve(more).ok()?;
+    to.held.reserve(more).ok()
+}
+
+/// Lists what is looked at of one more object, of a text of this length.
+fn list_object<'a>(seen: SeenObject<'a>, len: usize, to: &mut Overview<'a>) -> Option<()>
     ensures places { OnSome result (to.new.places.items ≡ to.old.places.items ++ seen.entry.part ∷ []) }
     ensures parents { OnSome result (to.new.parents.items ≡ to.old.parents.items ++ seen.entry.parents ∷ []) }
     ensures children { OnSome result (to.new.children.items ≡ to.old.children.items ++ seen.entry.children ∷ []) }
     ensures held { OnSome result (to.new.held.items ≡ to.old.held.items ++ seen.entry.held ∷ []) }
 {
+    make_room(len, seen.part.at, to)?;
     list_short(seen.part, &mut to.places)?;
     list_parents(seen.parents, &mut to.parents)?;
     push_text(seen.children, &mut to.children)?;
@@ -165,7 +193,7 @@ fn add_object<'a>(alloc: Global, text: &'a [u8], at: usize, to: &mut Overview<'a
 {
     let seen = seen_at(alloc, text, at)?;
     let part = seen.part;
-    list_object(seen, to)?;
+    list_object(seen, text.len(), to)?;
     Some(part)
 }
 
