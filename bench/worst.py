@@ -25,9 +25,9 @@ SIZES = tuple(int(size * MEGA) for size in (0.5, 1, 2, 4))
 # Those whose stream grows as the square of the document.
 SMALL_SIZES = tuple(int(size * MEGA) for size in (0.05, 0.1, 0.2))
 
-# Peak memory in times of the input, as README.md states it: of a valid line and one at fault, of a document, valid or at
-# fault, of one that is nearly all header, of the headers of a merge, and of a document whose features share objects.
-LINE, REFUSED_LINE, DOCUMENT, OWN_HEADER, HEADERS, SHARED = 6, 7, 8, 26.5, 25.5, 6.5
+# Peak memory in times of the input, as README.md states it: of a valid line and one at fault, of a valid document and one
+# at fault, of one that is nearly all header, of the headers of a merge, and of a document whose features share objects.
+LINE, REFUSED_LINE, DOCUMENT, REFUSED_DOCUMENT, OWN_HEADER, HEADERS, SHARED = 6, 7, 8.4, 9.4, 26.4, 26, 6.4
 
 # The peak, in times of the input, grows at most so much from the smallest size to the largest: tables that double give
 # up to 2, the square of the size would give 8.
@@ -344,22 +344,22 @@ DOCUMENTS = (
     Worst("cat: a header of arrays 100 deep", "cat", lambda n: with_metadata(DEEP, n), OWN_HEADER),
     Worst("cat: a header of arrays of one item", "cat", lambda n: with_metadata(b"[1]", n), OWN_HEADER),
     Worst("cat: a header of numbers", "cat", lambda n: with_metadata(b"1", n), OWN_HEADER),
-    Worst("cat refused late: small objects", "cat", refused_late(apart), DOCUMENT, BOUNDARY),
-    Worst("cat refused late: boundaries 100 deep", "cat", refused_late(deep_boundaries), DOCUMENT, BOUNDARY),
-    Worst("cat refused late: arrays of one index", "cat", refused_late(nested_leaf), DOCUMENT, BOUNDARY),
-    Worst("cat refused late: a child named often", "cat", refused_late(one_child), DOCUMENT, BOUNDARY),
-    Worst("cat refused late: empty objects", "cat", refused_late(bare), DOCUMENT, BOUNDARY),
-    Worst("cat refused late: a chain of objects", "cat", refused_late(chain), DOCUMENT, BOUNDARY),
-    Worst("cat refused: arrays of one index", "cat", orphan(nested_leaf), DOCUMENT, ORPHAN),
-    Worst("cat refused: small objects", "cat", orphan(apart), DOCUMENT, ORPHAN),
-    Worst("cat refused: a chain of objects", "cat", orphan(chain), DOCUMENT, ORPHAN),
-    Worst("cat refused: a header of arrays 100 deep, no JSON text", "cat", cut_short(lambda n: with_metadata(DEEP, n)), DOCUMENT, NO_JSON),
-    Worst("cat refused: small objects, no JSON text", "cat", cut_short(apart), DOCUMENT, NO_JSON),
-    Worst("cat refused: small objects of another version", "cat", of_another_version(apart), DOCUMENT, VERSION),
-    Worst("cat refused: a vertex of arrays 100 deep", "cat", lambda n: one_faulty_vertex(DEEP, n), DOCUMENT, NO_VERTEX),
-    Worst("cat refused: a vertex of numbers", "cat", lambda n: one_faulty_vertex(b"0", n), DOCUMENT, NO_VERTEX),
-    Worst("cat refused: a city object of arrays 100 deep", "cat", no_object, DOCUMENT, NO_DOCUMENT),
-    Worst("cat refused: children that are numbers", "cat", children_of_numbers, DOCUMENT, NO_DOCUMENT),
+    Worst("cat refused late: small objects", "cat", refused_late(apart), REFUSED_DOCUMENT, BOUNDARY),
+    Worst("cat refused late: boundaries 100 deep", "cat", refused_late(deep_boundaries), REFUSED_DOCUMENT, BOUNDARY),
+    Worst("cat refused late: arrays of one index", "cat", refused_late(nested_leaf), REFUSED_DOCUMENT, BOUNDARY),
+    Worst("cat refused late: a child named often", "cat", refused_late(one_child), REFUSED_DOCUMENT, BOUNDARY),
+    Worst("cat refused late: empty objects", "cat", refused_late(bare), REFUSED_DOCUMENT, BOUNDARY),
+    Worst("cat refused late: a chain of objects", "cat", refused_late(chain), REFUSED_DOCUMENT, BOUNDARY),
+    Worst("cat refused: arrays of one index", "cat", orphan(nested_leaf), REFUSED_DOCUMENT, ORPHAN),
+    Worst("cat refused: small objects", "cat", orphan(apart), REFUSED_DOCUMENT, ORPHAN),
+    Worst("cat refused: a chain of objects", "cat", orphan(chain), REFUSED_DOCUMENT, ORPHAN),
+    Worst("cat refused: a header of arrays 100 deep, no JSON text", "cat", cut_short(lambda n: with_metadata(DEEP, n)), REFUSED_DOCUMENT, NO_JSON),
+    Worst("cat refused: small objects, no JSON text", "cat", cut_short(apart), REFUSED_DOCUMENT, NO_JSON),
+    Worst("cat refused: small objects of another version", "cat", of_another_version(apart), REFUSED_DOCUMENT, VERSION),
+    Worst("cat refused: a vertex of arrays 100 deep", "cat", lambda n: one_faulty_vertex(DEEP, n), REFUSED_DOCUMENT, NO_VERTEX),
+    Worst("cat refused: a vertex of numbers", "cat", lambda n: one_faulty_vertex(b"0", n), REFUSED_DOCUMENT, NO_VERTEX),
+    Worst("cat refused: a city object of arrays 100 deep", "cat", no_object, REFUSED_DOCUMENT, NO_DOCUMENT),
+    Worst("cat refused: children that are numbers", "cat", children_of_numbers, REFUSED_DOCUMENT, NO_DOCUMENT),
     Worst("a first line: small objects", "filter", apart, DOCUMENT),
     Worst("a first line: arrays of one index", "filter", nested_leaf, DOCUMENT),
     Worst("a first line: empty objects", "filter", bare, DOCUMENT),
@@ -368,11 +368,11 @@ DOCUMENTS = (
     Worst("a first line: as many buildings, none of them chosen", NONE, lambda n: with_appearance(n, n), 4),
     Worst("a first line: an appearance of arrays 100 deep", "filter", lambda n: textured(DEEP, n), 4),
     Worst("a first line: an appearance of pairs", "filter", lambda n: textured(b"[0.25,0.75]", n), 4),
-    Worst("a first line, refused late: arrays of one index", "filter", refused_late(nested_leaf), DOCUMENT, BOUNDARY),
-    Worst("a first line, refused late: a chain of objects", "filter", refused_late(chain), DOCUMENT, BOUNDARY),
-    Worst("a first line, refused: a vertex of arrays 100 deep", "filter", lambda n: one_faulty_vertex(DEEP, n), DOCUMENT, NO_VERTEX),
-    Worst("a first line, refused: a header of arrays 100 deep, no JSON text", "filter", cut_short(lambda n: with_metadata(DEEP, n)), DOCUMENT, NO_JSON),
-    Worst("a first line, refused: small objects", "filter", orphan(apart), DOCUMENT, ORPHAN),
+    Worst("a first line, refused late: arrays of one index", "filter", refused_late(nested_leaf), REFUSED_DOCUMENT, BOUNDARY),
+    Worst("a first line, refused late: a chain of objects", "filter", refused_late(chain), REFUSED_DOCUMENT, BOUNDARY),
+    Worst("a first line, refused: a vertex of arrays 100 deep", "filter", lambda n: one_faulty_vertex(DEEP, n), REFUSED_DOCUMENT, NO_VERTEX),
+    Worst("a first line, refused: a header of arrays 100 deep, no JSON text", "filter", cut_short(lambda n: with_metadata(DEEP, n)), REFUSED_DOCUMENT, NO_JSON),
+    Worst("a first line, refused: small objects", "filter", orphan(apart), REFUSED_DOCUMENT, ORPHAN),
     Worst("a first line of a merged tile: small objects", "merge", apart, DOCUMENT),
     Worst("a first line of a merged tile: empty objects", "merge", bare, DOCUMENT),
     Worst("a first line of a merged tile: objects that name one child", "merge", with_child, DOCUMENT),

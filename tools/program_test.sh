@@ -226,8 +226,8 @@ expect 'a fault after features that are not chosen' "1|$header" "$?|$(cat "$room
 tr '\0' ' ' </dev/zero | timeout 60 "$program" filter >"$room/out" 2>"$room/errors"
 expect 'a line without end' 'citymerge: tile 1 line 1: the line is too long' "$(cat "$room/errors")"
 
-# memory for a long line, also where types are asked for and the feature has none, and not for its value, which only a line
-# at fault needs; then not even for the line
+# memory for a long line, also where types are asked for and the feature has none, or where it is at fault, and not for its
+# value; then not even for the line
 { printf '['; yes '1,' | tr -d '\n' | head -c 60000000; printf '1]'; } | holding >"$room/in"
 for most in '250000|0|same' '60000|1|'; do
     (ulimit -v "${most%%|*}"; exec timeout 60 "$program" filter <"$room/in" >"$room/out" 2>"$room/errors")
@@ -237,7 +237,7 @@ expect 'no memory for a line' "$header|citymerge: tile 1 line 2: there is not en
 (ulimit -v 250000; exec timeout 60 "$program" filter --exclude --cotype=Road <"$room/in" >"$room/out" 2>"$room/errors")
 expect 'a long line with no type in 250000 KB' '0|same' "$?|$(cmp -s "$room/in" "$room/out" && echo same)"
 { printf '%s\n{"type":"CityJSONFeature","id":"a","CityObjects":{},"vertices":[[0.5,0,0]],"holds":[' "$header"; yes '1,' | tr -d '\n' | head -c 60000000; printf '1]}\n'; } >"$room/in"
-expect 'no memory for a value' "1|$header|citymerge: tile 1 line 2: there is not enough memory" "$(ulimit -v 250000; answer filter)"
+expect 'a long line at fault in 250000 KB' "1|$header|citymerge: tile 1 line 2: a vertex number is not written as a whole number" "$(ulimit -v 250000; answer filter)"
 
 # a directory can be opened, and cannot be read
 timeout 60 "$program" filter <"$room" >"$room/out" 2>"$room/errors"
