@@ -2,14 +2,14 @@
 
 use crate::values::{is_after, is_printed};
 use byte_streams::{Fault, Line};
-use city_cut::{CutTexts, FeatureTexts, cut, cut_fault, cut_texts, quick_cut};
+use city_cut::{CutTexts, FeatureTexts, cut, cut_texts, quick_cut};
 use city_feature::{
     Base, Choice, Feature, Header, HeaderFault, Joined, area, feature, feature_line, feature_text,
     header, is_appearance_end, join_headers, line, line_fault, own_text, selects, set_member,
     shifted, types, vertices_fault,
 };
 use city_grid::{Shift, Vertex, append_vertex, vertex_json, write_vertex};
-use city_json::{Json, compact_lent, read};
+use city_json::{Json, read};
 use growth_support::texts::{
     A, BUILDING, CHILDLESS, CLASHING, DOCUMENT, DUTCH, EXTENDED, EXTENDED_BOTH, EXTENDED_TWICE,
     FAR_HEADER, HEADER, OFF_GRID, ORPHANED, OTHER_DUTCH, SCALED, UNBOUNDED,
@@ -565,25 +565,6 @@ fn document_is_cut_into_texts(rt: &(impl AllocGlobal + Eprint)) -> Result<bool, 
     }
 }
 
-/// Whether this fault of a document is told with no value of its objects read, unless memory is wanted.
-fn is_told(rt: &(impl AllocGlobal + Eprint), text: &str, wanted: Fault) -> Result<bool, Fault> {
-    let Some(found) = compact_lent(rt.alloc(), text.as_bytes(), Line::new(rt.alloc())) else {
-        return refused(rt, Call("compact_lent"), Fault::Memory);
-    };
-    match cut_fault(rt.alloc(), found.text.bytes(), &found.parts) {
-        Some(fault) => Ok(fault == wanted),
-        None => refused(rt, Call("cut_fault"), Fault::Memory),
-    }
-}
-
-fn faults_of_documents_are_told(rt: &(impl AllocGlobal + Eprint)) -> Result<bool, Fault> {
-    Ok(
-        is_told(rt, CHILDLESS, Fault::ChildMissing)?
-            && is_told(rt, ORPHANED, Fault::Orphan)?
-            && is_told(rt, UNBOUNDED, Fault::BoundaryIndex)?,
-    )
-}
-
 fn document_is_cut_at_once(rt: &(impl AllocGlobal + Eprint)) -> Result<bool, Fault> {
     match quick_cut(rt.alloc(), DOCUMENT.as_bytes()) {
         Some(mut found) => are_cut_texts(rt.alloc(), &mut found),
@@ -650,7 +631,6 @@ fn vertices_headers_features_and_documents(rt: HostRuntime) -> Result<(), Fault>
     expect!(rt; choices_are_copied(&rt));
     expect!(rt; documents_are_cut(&rt));
     expect!(rt; document_is_cut_into_texts(&rt));
-    expect!(rt; faults_of_documents_are_told(&rt));
     expect!(rt; document_is_cut_at_once(&rt));
     expect!(rt; shared_objects_are_cut_into_texts(&rt));
     expect!(rt; shared_objects_are_cut_at_once(&rt));
