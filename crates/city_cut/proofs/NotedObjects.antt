@@ -5,10 +5,9 @@ use Rattle.std.specs.List.{flat_map}
 use Rattle.city_json.specs.Bytes.{colon}
 use Rattle.city_json.specs.Compact.{compact, quoted}
 use Rattle.city_json.specs.Members.{first_named}
-use Rattle.city_json.specs.Parts.{AreParts}
+use Rattle.city_json.specs.Parts.{AreParts, IsPartNamed}
 use Rattle.city_json.specs.Tree.{Tree, MemberTrees, object}
-use Rattle.city_json.specs.declared.compacting.parts.Part.{Part}
-use Rattle.city_feature.specs.Quick.{IsPartNamed}
+use Rattle.city_json.specs.declared.compacting.places.Part.{Part}
 use Rattle.city_feature.specs.Texts.{IsCompactOf}
 use Rattle.city_cut.specs.Boundaries.{IsBounded, boundaries, changed_members, relabelled_addresses, relabelled_geometries, relabelled_object}
 use Rattle.city_cut.specs.Holders.{AreHeld, held_uses, name_of, other_than, relabelled_held}

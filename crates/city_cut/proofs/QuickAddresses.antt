@@ -5,12 +5,11 @@ use Rattle.std.specs.Option.{option_to_list}
 use Rattle.city_json.specs.Bytes.{colon, open_brace}
 use Rattle.city_json.specs.Compact.{compact, quoted}
 use Rattle.city_json.specs.Members.{first_named, member_of}
-use Rattle.city_json.specs.Parts.{AreParts}
+use Rattle.city_json.specs.Parts.{AreParts, IsPartNamed}
 use Rattle.city_json.specs.Tree.{Tree, null, boolean, number, string, array, object, MemberTrees}
-use Rattle.city_json.specs.declared.compacting.parts.Part.{Part}
+use Rattle.city_json.specs.declared.compacting.places.Part.{Part}
 use Rattle.city_feature.proofs.QuickLines.{utf8}
 use Rattle.city_feature.specs.Changes.{with_named}
-use Rattle.city_feature.specs.Quick.{IsPartNamed}
 use Rattle.city_cut.specs.Boundaries.{IsAddress, IsGeometry, address_boundary, changed_members, in_member, located, own_boundary, relabelled_boundary}
 use Rattle.city_cut.specs.Leaves.{IsBoundary, leaves, relabelled}
 use Rattle.city_cut.specs.Walks.{Labelling, Walks, walks_so, walks_text}

@@ -4,7 +4,7 @@ use Rattle.std.specs.List.{AllByRecursion}
 use Rattle.city_json.specs.Members.{first_named}
 use Rattle.city_json.specs.Parts.{AreParts}
 use Rattle.city_json.specs.Tree.{Tree, MemberTrees, member_trees, object}
-use Rattle.city_json.specs.declared.compacting.parts.Part.{Part}
+use Rattle.city_json.specs.declared.compacting.places.Part.{Part}
 use Rattle.city_feature.specs.Shapes.{IsArray, WhereThere}
 use Rattle.city_feature.specs.Texts.{IsCompactOf}
 use Rattle.city_cut.specs.Boundaries.{IsAddress, IsBounded, IsGeometry}

@@ -9,15 +9,15 @@ use Rattle.city_json.specs.CompactMembers.{HasParts}
 use Rattle.city_json.specs.Fits.{Fits, IsDistinct}
 use Rattle.city_json.specs.Grammar.{Spells}
 use Rattle.city_json.specs.Members.{first_named, member_of}
-use Rattle.city_json.specs.Parts.{AreParts}
+use Rattle.city_json.specs.Parts.{AreParts, IsPartNamed}
 use Rattle.city_json.specs.Tree.{Tree, array, object, ItemTrees, no_items, item, MemberTrees, no_members, member, member_trees}
-use Rattle.city_json.specs.declared.compacting.parts.Part.{Part}
+use Rattle.city_json.specs.declared.compacting.places.Part.{Part}
 use Rattle.city_grid.specs.Axes.{Triple}
 use Rattle.city_grid.specs.Transform.{Grid}
 use Rattle.city_feature.proofs.QuickLines.{utf8}
 use Rattle.city_feature.specs.Feature.{AreVertices, FeatureValue, item_count}
 use Rattle.city_feature.specs.Header.{HasGrid, IsCityJson, IsHeader}
-use Rattle.city_feature.specs.Quick.{IsPartNamed, SpellsVertices}
+use Rattle.city_feature.specs.Quick.{SpellsVertices}
 use Rattle.city_feature.specs.Shapes.{IsArray, IsObject, WhereThere}
 use Rattle.city_cut.specs.Boundaries.{IsBounded}
 use Rattle.city_cut.specs.CityObjects.{AllBelong, AreCityObjects, IsReached, LacksChild, objects_of, roots, vertices_of}

@@ -10,7 +10,7 @@ use Rattle.city_json.specs.CompactMembers.{HasParts}
 use Rattle.city_json.specs.Members.{first_named, member_of, names}
 use Rattle.city_json.specs.Parts.{AreParts}
 use Rattle.city_json.specs.Tree.{Tree, ItemTrees, MemberTrees, array, no_items, no_members, member_trees, null, object, string}
-use Rattle.city_json.specs.declared.compacting.parts.Part.{Part}
+use Rattle.city_json.specs.declared.compacting.places.Part.{Part}
 use Rattle.city_grid.specs.Axes.{Triple}
 use Rattle.city_grid.specs.Transform.{Grid}
 use Rattle.city_feature.specs.Feature.{AreVertices, RefusesFirst, item_count}

@@ -13,7 +13,7 @@ use Rattle.byte_streams.specs.Limits.{max_depth}
 use Rattle.city_json.specs.Parts.{AreParts, HasMember}
 use Rattle.city_json.specs.Tree.{Tree, member_trees, object}
 use Rattle.city_json.specs.Writable.{AreWritableMembers}
-use Rattle.city_json.specs.declared.compacting.parts.Part.{Part}
+use Rattle.city_json.specs.declared.compacting.places.Part.{Part}
 use Rattle.city_grid.specs.Axes.{Triple, triple}
 use Rattle.city_feature.specs.Feature.{FeatureValue, vertices_tree}
 use Rattle.city_cut.specs.Boundaries.{IsBounded, boundaries, relabelled_object, relabelled_objects, uses}

@@ -9,12 +9,11 @@ use Rattle.city_json.specs.Compact.{compact, quoted}
 use Rattle.city_json.specs.CompactEnds.{IsStopped, LeavesValue}
 use Rattle.city_json.specs.Compacting.{shown}
 use Rattle.city_json.specs.Members.{first_named}
-use Rattle.city_json.specs.Parts.{AreParts}
+use Rattle.city_json.specs.Parts.{AreParts, IsPartNamed}
 use Rattle.city_json.specs.Tree.{Tree, null, boolean, number, string, array, object, MemberTrees}
 use Rattle.city_json.specs.Writable.{IsWritable}
-use Rattle.city_json.specs.declared.compacting.parts.Part.{Part}
+use Rattle.city_json.specs.declared.compacting.places.Part.{Part}
 use Rattle.city_feature.proofs.QuickLines.{utf8}
-use Rattle.city_feature.specs.Quick.{IsPartNamed}
 use Rattle.city_cut.specs.Boundaries.{IsGeometry, changed_members, own_boundary, relabelled_boundary}
 use Rattle.city_cut.specs.Copied.{CopiesItems, CopiesPart}
 use Rattle.city_cut.specs.FrontMembers.{EndsAfter, HasFrontParts, IsValuePlace}

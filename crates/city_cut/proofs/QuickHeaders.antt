@@ -8,13 +8,12 @@ use Rattle.city_json.specs.Fits.{AreDistinctMembers, HasDistinctNames, IsDistinc
 use Rattle.byte_streams.specs.Limits.{max_depth}
 use Rattle.city_json.specs.Grammar.{Spells}
 use Rattle.city_json.specs.Members.{first_named, member_of}
-use Rattle.city_json.specs.Parts.{AreParts, with_value}
+use Rattle.city_json.specs.Parts.{AreParts, with_value, IsPartNamed}
 use Rattle.city_json.specs.Tree.{Tree, array, no_items, object, MemberTrees, no_members, member}
 use Rattle.city_json.specs.Writable.{AreWritableMembers, IsWritable}
-use Rattle.city_json.specs.declared.compacting.parts.Part.{Part}
+use Rattle.city_json.specs.declared.compacting.places.Part.{Part}
 use Rattle.city_feature.proofs.QuickLines.{utf8}
 use Rattle.city_feature.specs.Changes.{changed_member, changed_named, without_named}
-use Rattle.city_feature.specs.Quick.{IsPartNamed}
 use Rattle.city_cut.specs.Boundaries.{changed_members}
 use Rattle.city_cut.specs.Cut.{header_tree, without_appearance}
 use Rattle.city_cut.specs.HeaderText.{IsBare, IsBareText, emptied}

@@ -15,7 +15,7 @@ use Rattle.city_json.specs.Fits.{depth, members_depth}
 use Rattle.city_json.specs.Parts.{IsPart, AreParts}
 use Rattle.city_json.specs.Tree.{Tree, null, boolean, number, string, array, object, MemberTrees, no_members, member}
 use Rattle.city_json.specs.Writable.{IsWritable, AreWritableMembers}
-use Rattle.city_json.specs.declared.compacting.parts.Part.{Part}
+use Rattle.city_json.specs.declared.compacting.places.Part.{Part}
 use Rattle.city_cut.specs.FrontMembers.{EndsAfter, GoesOn, GoneTo, HasFrontParts, IsThere, MembersLeft}
 
 after_brace : (text rest : List ℕ) (all : MemberTrees) → text ≡ compact (object all) ++ rest

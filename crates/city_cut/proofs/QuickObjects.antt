@@ -7,11 +7,10 @@ use Rattle.std.specs.List.{flat_map, AllByRecursion}
 use Rattle.city_json.specs.Bytes.{colon}
 use Rattle.city_json.specs.Compact.{compact, quoted}
 use Rattle.city_json.specs.Members.{first_named}
-use Rattle.city_json.specs.Parts.{AreParts}
+use Rattle.city_json.specs.Parts.{AreParts, IsPartNamed}
 use Rattle.city_json.specs.Tree.{Tree, MemberTrees, object}
-use Rattle.city_json.specs.declared.compacting.parts.Part.{Part}
+use Rattle.city_json.specs.declared.compacting.places.Part.{Part}
 use Rattle.city_feature.proofs.QuickLines.{utf8}
-use Rattle.city_feature.specs.Quick.{IsPartNamed}
 use Rattle.city_cut.specs.Boundaries.{IsBounded, address_boundary, boundaries, changed_members, own_boundary, relabelled_addresses, relabelled_geometries, relabelled_object}
 use Rattle.city_cut.specs.Copied.{Copies, Numbers}
 use Rattle.city_cut.specs.Holders.{AreHeld, held_uses, name_of, other_than, relabelled_held}

@@ -4,7 +4,7 @@ use Rattle.std.specs.List.{AllZip}
 use Rattle.city_json.specs.CompactMembers.{HasParts}
 use Rattle.city_json.specs.Parts.{AreParts}
 use Rattle.city_json.specs.Tree.{Tree, member_trees, null, object}
-use Rattle.city_json.specs.declared.compacting.parts.Part.{Part}
+use Rattle.city_json.specs.declared.compacting.places.Part.{Part}
 use Rattle.city_cut.specs.Chosen.{named_at}
 use Rattle.city_cut.specs.Overviews.{AreHolders, HasHolders}
 use Rattle.city_feature.specs.Texts.{IsCompactOf}

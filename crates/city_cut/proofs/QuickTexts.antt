@@ -7,7 +7,7 @@ use Rattle.city_json.specs.Fits.{HasDistinctNames, IsNewName}
 use Rattle.city_json.specs.Members.{first_named}
 use Rattle.city_json.specs.Parts.{with_value}
 use Rattle.city_json.specs.Tree.{Tree, object, MemberTrees, no_members, member}
-use Rattle.city_json.specs.declared.compacting.parts.Part.{Part}
+use Rattle.city_json.specs.declared.compacting.places.Part.{Part}
 pub use Rattle.city_feature.proofs.NamedTexts.{if_some_more, member_there, same_place, value_or}
 use Rattle.city_feature.specs.Changes.{with_named}
 use Rattle.city_cut.specs.Boundaries.{changed_members}

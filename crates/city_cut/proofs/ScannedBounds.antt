@@ -17,11 +17,10 @@ use Rattle.city_json.specs.Compact.{compact, compact_items, compact_more_items, 
 use Rattle.city_json.specs.CompactEnds.{LeavesValue}
 use Rattle.city_json.specs.Fits.{AreDistinctItems, items_depth}
 use Rattle.city_json.specs.Members.{member_of}
-use Rattle.city_json.specs.Parts.{AreParts}
+use Rattle.city_json.specs.Parts.{AreParts, IsPartNamed}
 use Rattle.city_json.specs.Writable.{AreWritableItems}
-use Rattle.city_json.specs.declared.compacting.parts.Part.{Part}
+use Rattle.city_json.specs.declared.compacting.places.Part.{Part}
 use Rattle.city_json.specs.Tree.{Tree, null, boolean, number, string, array, object, ItemTrees, no_items, item, MemberTrees}
-use Rattle.city_feature.specs.Quick.{IsPartNamed}
 use Rattle.city_feature.specs.Shapes.{IsArray}
 use Rattle.city_feature.specs.Texts.{IsCompactOf}
 use Rattle.city_cut.specs.Boundaries.{IsAddress, located, own_boundary}

@@ -19,7 +19,7 @@ use Rattle.std.specs.Ordering.{is_eq, is_lt, nat_cmp, ordering_index, ordering_t
 use Rattle.city_json.specs.declared.json.Member.{Member}
 use Rattle.city_json.specs.Members.{names}
 use Rattle.city_json.specs.Tree.{members_tree, named_tree}
-use Rattle.city_json.specs.declared.compacting.parts.Part.{Part}
+use Rattle.city_json.specs.declared.compacting.places.Part.{Part}
 use Rattle.city_cut.specs.Table.{AreFirst, IsTable, name_in, names_with, with_name, without_last}
 
 abbrev pub by_bytes : List ℕ → List ℕ → Ordering

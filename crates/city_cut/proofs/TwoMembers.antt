@@ -11,12 +11,11 @@ use Rattle.city_json.specs.Bytes.{colon, comma, open_brace, close_brace}
 use Rattle.city_json.specs.Compact.{compact, compact_members, compact_more_members, quoted}
 use Rattle.city_json.specs.Fits.{HasDistinctNames}
 use Rattle.city_json.specs.Members.{first_named}
-use Rattle.city_json.specs.Parts.{AreParts, HasMember, replaced, with_value}
+use Rattle.city_json.specs.Parts.{AreParts, HasMember, replaced, with_value, IsPartNamed}
 use Rattle.city_json.specs.Tree.{Tree, MemberTrees, no_members, member, object, string}
 use Rattle.city_json.specs.Writable.{AreWritableMembers}
-use Rattle.city_json.specs.declared.compacting.parts.Part.{Part}
+use Rattle.city_json.specs.declared.compacting.places.Part.{Part}
 use Rattle.city_feature.proofs.QuickLines.{first_at, replaced_at}
-use Rattle.city_feature.specs.Quick.{IsPartNamed}
 use Rattle.city_cut.specs.Boundaries.{changed_members}
 use Rattle.city_feature.specs.Texts.{IsCompactOf}
 use Rattle.city_cut.proofs.QuickTexts.{changed_with, same_place}

@@ -9,7 +9,7 @@ use Rattle.city_json.specs.Fits.{depth, members_depth}
 use Rattle.city_json.specs.Parts.{AreParts}
 use Rattle.city_json.specs.Tree.{Tree, MemberTrees, member, object}
 use Rattle.city_json.specs.Writable.{IsWritable, AreWritableMembers}
-use Rattle.city_json.specs.declared.compacting.parts.Part.{Part}
+use Rattle.city_json.specs.declared.compacting.places.Part.{Part}
 
 -- whatever value stands in front in its compact text, it is an object, its members lie in these parts, and it ends
 -- there

@@ -4,7 +4,7 @@ use Rattle.std.specs.List.{flat_map, AllByRecursion}
 use Rattle.city_json.specs.Bytes.{colon}
 use Rattle.city_json.specs.Compact.{quoted}
 use Rattle.city_json.specs.Tree.{Tree}
-use Rattle.city_json.specs.declared.compacting.parts.Part.{Part}
+use Rattle.city_json.specs.declared.compacting.places.Part.{Part}
 use Rattle.city_feature.specs.Shapes.{IsArray}
 use Rattle.city_cut.specs.Boundaries.{IsAddress, IsGeometry, address_boundary, in_items, in_member, own_boundary, relabelled_boundary}
 use Rattle.city_cut.specs.Items.{items_of}

@@ -5,10 +5,9 @@ use Rattle.std.specs.List.{AllZip}
 use Rattle.city_json.specs.Bytes.{colon}
 use Rattle.city_json.specs.Compact.{quoted}
 use Rattle.city_json.specs.Members.{first_named}
-use Rattle.city_json.specs.Parts.{AreParts}
+use Rattle.city_json.specs.Parts.{AreParts, IsPartNamed}
 use Rattle.city_json.specs.Tree.{Tree, MemberTrees, object}
-use Rattle.city_json.specs.declared.compacting.parts.Part.{Part}
-use Rattle.city_feature.specs.Quick.{IsPartNamed}
+use Rattle.city_json.specs.declared.compacting.places.Part.{Part}
 use Rattle.city_cut.specs.Holders.{name_of}
 use Rattle.city_cut.specs.Kin.{HasChildrenText, HasParents}
 use Rattle.city_feature.specs.Texts.{IsCompactOf}

@@ -8,12 +8,12 @@ use Rattle.city_json.specs.Bytes.{colon, open_brace, close_brace}
 use Rattle.city_json.specs.Compact.{quoted, compact}
 use Rattle.city_json.specs.Fits.{AreDistinctMembers, IsDistinct, depth, members_depth}
 use Rattle.city_json.specs.Members.{first_named, member_of}
-use Rattle.city_json.specs.Parts.{AreParts, HasMember, with_value}
+use Rattle.city_json.specs.Parts.{AreParts, HasMember, with_value, IsPartNamed}
 use Rattle.city_json.specs.Tree.{Tree, null, boolean, number, string, array, object, MemberTrees, no_members, member}
-use Rattle.city_json.specs.declared.compacting.parts.Part.{Part}
+use Rattle.city_json.specs.declared.compacting.places.Part.{Part}
 use Rattle.city_feature.proofs.QuickLines.{found_at}
 use Rattle.city_feature.specs.Changes.{with_named}
-use Rattle.city_feature.specs.Quick.{IsLine, IsPartNamed}
+use Rattle.city_feature.specs.Quick.{IsLine}
 use Rattle.city_feature.specs.Texts.{IsCompactOf}
 
 pub if_some_more : {A : Type 0} {P Q : A → Type 0} (answer : Option A) → ((x : A) → P x → Q x) → IfSome answer P

@@ -14,16 +14,16 @@ use Rattle.city_json.specs.Compact.{quoted, compact}
 use Rattle.city_json.specs.Fits.{HasDistinctNames, IsNewName}
 use Rattle.city_json.specs.Members.{first_named, member_of}
 use Rattle.city_json.specs.Number.{IsMinus, IsNumber, IsWhole}
-use Rattle.city_json.specs.Parts.{HasMember, IsMemberText, replaced, with_value}
+use Rattle.city_json.specs.Parts.{HasMember, IsMemberText, replaced, with_value, IsPartNamed}
 use Rattle.city_json.specs.Tree.{Tree, null, boolean, number, string, array, object, item_trees, MemberTrees, no_members, member}
 use Rattle.city_json.specs.Writable.{IsWritable, AreWritableMembers, AreWritableItems}
-use Rattle.city_json.specs.declared.compacting.parts.Part.{Part}
+use Rattle.city_json.specs.declared.compacting.places.Part.{Part}
 use Rattle.city_grid.proofs.VertexLaws.{vertex_is_read, vertex_is_writable}
 use Rattle.city_grid.specs.Axes.{Triple, IsInRange}
 use Rattle.city_grid.specs.Vertex.{vertex_tree}
 use Rattle.city_feature.specs.Changes.{with_named}
 use Rattle.city_feature.specs.Feature.{AreReadAgain, HasFeatureShape, IsFeature, vertices_tree}
-use Rattle.city_feature.specs.Quick.{HasOtherMembers, IsLine, IsPartNamed, IsPlaceOf, SpellsVertices}
+use Rattle.city_feature.specs.Quick.{HasOtherMembers, IsLine, IsPlaceOf, SpellsVertices}
 use Rattle.city_feature.specs.Shapes.{IsArray, IsObject, IsText, IsThere}
 
 pub equal_names : (other name : List ℕ) → other ≡ name → bytes_eq other name ≡ true

@@ -1,5 +1,5 @@
 -- What is found on the compact text of a feature's line, whose members lie in known parts.
-use Rattle.std.specs.Prelude.{◌≡◌, ◌≢◌, ◌<◌, ◌≤◌, ◌↔◌, ℕ, Bool, IsTrue, List, [], ◌∷◌, length, get_or, slice_range, codes, pos, All}
+use Rattle.std.specs.Prelude.{◌≡◌, ◌≢◌, ◌≤◌, ◌↔◌, ℕ, Bool, IsTrue, List, [], ◌∷◌, length, slice_range, codes, pos, All}
 use Rattle.city_json.specs.Bytes.{backslash, plus}
 use Rattle.city_json.specs.Compact.{compact}
 use Rattle.city_json.specs.Fits.{Fits, HasDistinctNames}
@@ -8,20 +8,13 @@ use Rattle.city_json.specs.Members.{member_of}
 use Rattle.city_json.specs.Parts.{AreParts, with_value}
 use Rattle.city_json.specs.Tree.{Tree, array, ItemTrees, MemberTrees, object}
 use Rattle.city_json.specs.Writable.{AreWritableItems, IsWritable}
-use Rattle.city_json.specs.declared.compacting.parts.Part.{Part}
+use Rattle.city_json.specs.declared.compacting.places.Part.{Part}
 use Rattle.city_grid.specs.Axes.{Triple, triple, IsInRange}
 use Rattle.city_feature.specs.Area.{Meets}
 use Rattle.city_feature.specs.Changes.{with_member}
 use Rattle.city_feature.specs.Feature.{AreVertices, IsFeature, vertices_tree}
 use Rattle.city_feature.specs.declared.choices.area.Area.{Area}
 use Rattle.city_feature.specs.Shapes.{IsObject, IsText, IsThere, Says}
-
--- one of the parts, where this text stands up to the value
-pub record IsPartNamed (line : List ℕ) (parts : List Part) (name : List ℕ) (part : Part) : Type 0 where
-  pub place : ℕ
-  pub within : place < length parts
-  pub is : get_or parts place part ≡ part
-  pub named : slice_range line part.at part.value ≡ name
 
 -- the compact text of an object of these members, which lie in these parts
 pub record IsLine (line : List ℕ) (parts : List Part) (members : MemberTrees) : Type 0 where

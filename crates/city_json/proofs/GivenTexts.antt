@@ -1,34 +1,11 @@
--- A text that is given away, and is kept as its own compact text.
+-- A text that is its own compact text, and triples in what is written.
 use Rattle.std.proofs.Common.{◌≡◌, ◌∙◌, ◌++◌, ◌+◌, ◌-◌, ◌≤◌, ℕ, Bool, true, false, List, [], ◌∷◌, length, length-drop, refl, take, drop, ap, sym, subst, arith, slice_range}
 use Rattle.std.proofs.lemmas.List.{drop-append-le, length-append, take-append-le, take_all}
 use Rattle.std.proofs.Math.Seq.{drop-append_seam}
 use Rattle.city_json.proofs.Places.{shown_more}
-use Rattle.city_json.specs.Compact.{compact}
 use Rattle.city_json.specs.Compacting.{shown}
-use Rattle.city_json.specs.Depth.{IsDeep}
-use Rattle.city_json.specs.Fits.{Fits}
-use Rattle.city_json.specs.Grammar.{Spells}
-use Rattle.city_json.specs.Parts.{AreParts}
-use Rattle.city_json.specs.Tree.{MemberTrees, object}
 use Rattle.city_json.specs.Triples.{HasTriples, IsTriplesText}
-use Rattle.city_json.specs.declared.compacting.parts.Part.{Part}
-use Rattle.city_json.specs.declared.compacting.parts.Span.{Span}
-
-abbrev pub IsWhole : List ℕ → List ℕ → List Part → Type 0
-IsWhole text line parts = (members : MemberTrees) × Spells text (object members) × Fits (object members)
-    × (IsDeep text → ⊥) × (line ≡ compact (object members)) × AreParts 1 parts members
-
--- the same of an equal text and an equal line
-pub as_given : (given text shown line : List ℕ) (parts : List Part) → given ≡ text → line ≡ shown
-    → IsWhole given shown parts → IsWhole text line parts
-as_given given text shown line parts same is (members, spells, fits, deep, written, at) = (
-  members,
-  subst (λ t. Spells t (object members)) same spells,
-  fits,
-  subst (λ t. IsDeep t → ⊥) same deep,
-  is ∙ written,
-  at,
-)
+use Rattle.city_json.specs.declared.compacting.places.Span.{Span}
 
 pub none_in : (given line : List ℕ) → given ≡ line → length given ≡ 0 → line ≡ []
 none_in given [] same none = refl

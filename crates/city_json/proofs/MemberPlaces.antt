@@ -5,7 +5,7 @@ use Rattle.city_json.specs.Bytes.{comma, colon}
 use Rattle.city_json.specs.Compact.{quoted, compact, compact_members, compact_more_members}
 use Rattle.city_json.specs.Parts.{AreParts, IsMemberText}
 use Rattle.city_json.specs.Tree.{MemberTrees, no_members, member}
-use Rattle.city_json.specs.declared.compacting.parts.Part.{Part}
+use Rattle.city_json.specs.declared.compacting.places.Part.{Part}
 
 slice_here : (front middle back text : List ℕ) (from to : ℕ) → text ≡ front ++ (middle ++ back) → from ≡ length front
     → to ≡ from + length middle → slice_range text from to ≡ middle

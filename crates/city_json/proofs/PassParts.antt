@@ -10,7 +10,7 @@ use Rattle.byte_streams.specs.Limits.{max_depth}
 use Rattle.city_json.specs.Members.{names}
 use Rattle.city_json.specs.Reading.{after_white}
 use Rattle.city_json.specs.Tree.{Tree, object, MemberTrees, no_members, member}
-use Rattle.city_json.specs.declared.compacting.parts.Part.{Part}
+use Rattle.city_json.specs.declared.compacting.places.Part.{Part}
 use Rattle.city_json.specs.Depth.{IsDeep}
 use Rattle.city_json.specs.Grammar.{Spells}
 use Rattle.city_json.proofs.PassMembers.{MembersFrom, members_none, members_start, members_step, members_stop, object_taken, text_taken}

@@ -5,7 +5,7 @@ use Rattle.city_json.specs.Bytes.{comma, colon}
 use Rattle.city_json.specs.Compact.{quoted, compact, compact_members, compact_more_members}
 use Rattle.city_json.specs.Parts.{AreParts, with_value, replaced}
 use Rattle.city_json.specs.Tree.{Tree, MemberTrees, no_members, member}
-use Rattle.city_json.specs.declared.compacting.parts.Part.{Part}
+use Rattle.city_json.specs.declared.compacting.places.Part.{Part}
 
 replace_here : (front middle back new : List ℕ) (part : Part) (text : List ℕ) → text ≡ front ++ (middle ++ back)
     → part.value ≡ length front → part.end ≡ part.value + length middle

@@ -8,7 +8,7 @@ use Rattle.city_json.specs.Fits.{depth}
 use Rattle.city_json.specs.Parts.{IsPart, AreParts}
 use Rattle.city_json.specs.Tree.{Tree, MemberTrees, object}
 use Rattle.city_json.specs.Writable.{IsWritable}
-use Rattle.city_json.specs.declared.compacting.parts.Part.{Part}
+use Rattle.city_json.specs.declared.compacting.places.Part.{Part}
 
 -- whatever member stands there, it lies in this part, and this is left after it
 abbrev pub LeavesMember : ℕ → Part → List ℕ → List ℕ → Type 0

@@ -10,7 +10,7 @@ use Rattle.city_json.specs.ReadString.{escape_at, decoded, string_at}
 use Rattle.city_json.specs.Strings.{SpellsString}
 use Rattle.city_json.specs.Tree.{Tree, ItemTrees, item, MemberTrees}
 use Rattle.city_json.specs.Parts.{IsPart, AreParts}
-use Rattle.city_json.specs.declared.compacting.parts.Part.{Part}
+use Rattle.city_json.specs.declared.compacting.places.Part.{Part}
 
 -- what is written where the text up to `at` is taken: the line, and what is still to be copied to it
 abbrev pub shown : List ℕ → List ℕ → ℕ → ℕ → List ℕ

@@ -10,7 +10,6 @@ pub mod Fits
 pub mod Flat
 pub mod Gives
 pub mod Grammar
-pub mod Lent
 pub mod ListedNames
 pub mod MemberName
 pub mod Members
@@ -27,6 +26,7 @@ pub mod Refusals
 pub mod ShortBytes
 pub mod Sieve
 pub mod Strings
+pub mod TextPlace
 pub mod Tree
 pub mod Triples
 pub mod TriplesFound

@@ -1,9 +1,9 @@
 -- Where the members of an object lie in its compact text, and an object with the value of one member exchanged.
-use Rattle.std.specs.Prelude.{◌≡◌, ◌++◌, ◌+◌, ℕ, zero, suc, List, [], ◌∷◌, length, take, drop, slice_range}
+use Rattle.std.specs.Prelude.{◌≡◌, ◌++◌, ◌+◌, ◌<◌, ℕ, zero, suc, List, [], ◌∷◌, length, get_or, take, drop, slice_range}
 use Rattle.city_json.specs.Bytes.{colon}
 use Rattle.city_json.specs.Compact.{quoted, compact}
 use Rattle.city_json.specs.Tree.{Tree, MemberTrees, no_members, member}
-use Rattle.city_json.specs.declared.compacting.parts.Part.{Part}
+use Rattle.city_json.specs.declared.compacting.places.Part.{Part}
 
 -- in a text in which `front` bytes stand before the member, it lies there
 abbrev pub IsPart : ℕ → Part → List ℕ → Tree → Type 0
@@ -41,3 +41,10 @@ pub record IsMemberText (text : List ℕ) (part : Part) (k : ℕ) (members : Mem
   pub has : HasMember k name value members
   pub named : slice_range text part.at part.value ≡ quoted name ++ colon ∷ []
   pub valued : slice_range text part.value part.end ≡ compact value
+
+-- one of the parts, where this text stands up to the value
+pub record IsPartNamed (line : List ℕ) (parts : List Part) (name : List ℕ) (part : Part) : Type 0 where
+  pub place : ℕ
+  pub within : place < length parts
+  pub is : get_or parts place part ≡ part
+  pub named : slice_range line part.at part.value ≡ name

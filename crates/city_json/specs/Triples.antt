@@ -4,7 +4,7 @@ use Rattle.std.specs.Prelude.{◌≡◌, ◌≢◌, ◌⊎◌, ◌++◌, ◌<◌
 use Rattle.city_json.specs.Bytes.{digit_zero, minus}
 use Rattle.city_json.specs.Compact.{compact}
 use Rattle.city_json.specs.Number.{IsWhole}
-use Rattle.city_json.specs.declared.compacting.parts.Span.{Span}
+use Rattle.city_json.specs.declared.compacting.places.Span.{Span}
 use Rattle.city_json.specs.Tree.{Tree, array, number, ItemTrees, no_items, item}
 
 -- a whole number of at most fifteen digits: no zero stands before other digits, and no minus sign before a zero

@@ -9,7 +9,7 @@ ghost use Rattle.city_json.specs.Grammar.{Spells};
 ghost use Rattle.city_json.specs.Parts.{AreParts, IsMemberText, with_value, replaced};
 ghost use Rattle.city_json.specs.Tree.{Tree, MemberTrees, object};
 ghost use Rattle.city_json.specs.Writable.{IsWritable};
-ghost use Rattle.city_json.specs.declared.compacting.parts.Part.{Part};
+ghost use Rattle.city_json.specs.declared.compacting.places.Part.{Part};
 
 /// A text spells at most one value.
 pub fn a_text_has_one_meaning()

@@ -19,8 +19,8 @@ pub use byte_streams::{
 };
 pub use checking::{check, spells_no_object};
 pub use compacting::{
-    Compacted, CompactedFeature, LentFeature, LentText, Part, Span, compact, compact_given,
-    compact_lent, compact_parts, members_of_compact, string_end, value_end,
+    CompactObject, Compacted, Part, Span, TextPlace, between, compact, compact_object,
+    compact_parts, is_between, members_of_compact, part_named, string_end, value_end,
 };
 pub use comparing::same;
 pub use json::{Items, Json, Member, Members};

@@ -9,7 +9,7 @@ use Rattle.city_json.specs.Fits.{Fits}
 use Rattle.city_json.specs.Grammar.{IsBlank, Spells}
 use Rattle.city_json.specs.Parts.{AreParts}
 use Rattle.city_json.specs.Writable.{IsWritable}
-use Rattle.city_json.specs.declared.compacting.parts.Part.{Part}
+use Rattle.city_json.specs.declared.compacting.places.Part.{Part}
 use Rattle.city_json.specs.Reading.{is_white}
 use Rattle.city_json.specs.Refusals.{RefusesText}
 use Rattle.byte_streams.specs.Source.{GivesFirst}

@@ -6,7 +6,7 @@ use Rattle.city_json.specs.Grammar.{Spells}
 use Rattle.city_json.specs.Members.{member_of}
 use Rattle.city_json.specs.Parts.{AreParts}
 use Rattle.city_json.specs.Tree.{MemberTrees, Tree, object, tree}
-use Rattle.city_json.specs.declared.compacting.parts.Part as member_part
+use Rattle.city_json.specs.declared.compacting.places.Part as member_part
 use Rattle.city_json.specs.declared.json.Json.{Json}
 use Rattle.byte_streams.specs.declared.fault.Fault.{Fault}
 use Rattle.byte_streams.specs.declared.fault.Fault.TheVariants.{NoHeader, Memory, Write}

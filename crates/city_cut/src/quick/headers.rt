@@ -3,13 +3,12 @@ ghost use Rattle.std.specs.Prelude.{◌≡◌, ◌++◌, ◌∷◌, [], ℕ, Lis
 ghost use Rattle.city_json.specs.Bytes.{colon};
 ghost use Rattle.city_json.specs.Compact.{compact, quoted};
 ghost use Rattle.city_json.specs.Members.{first_named};
-ghost use Rattle.city_json.specs.Parts.{AreParts};
+ghost use Rattle.city_json.specs.Parts.{AreParts, IsPartNamed};
 ghost use Rattle.city_json.specs.Tree.{MemberTrees, Tree, object, tree};
-ghost use Rattle.city_json.specs.declared.compacting.parts.Part.{Part};
+ghost use Rattle.city_json.specs.declared.compacting.places.Part.{Part};
 ghost use Rattle.city_feature.specs.Changes.{changed_named};
 ghost use Rattle.city_grid.specs.Transform.{Grid};
 ghost use Rattle.city_feature.specs.Header.{IsHeader, RefusesHeader};
-ghost use Rattle.city_feature.specs.Quick.{IsPartNamed};
 ghost use Rattle.city_cut.specs.Cut.{header_tree};
 ghost use Rattle.city_cut.specs.HeaderText.{HasHeader, IsBare, IsBareText, emptied};
 ghost use Rattle.city_feature.specs.Texts.{IsCompactOf};

@@ -7,7 +7,7 @@ ghost use Rattle.city_json.specs.CompactEnds.{LeavesValue};
 ghost use Rattle.city_json.specs.CompactMembers.{HasParts};
 ghost use Rattle.city_json.specs.Tree.{Tree};
 ghost use Rattle.city_json.specs.Writable.{IsWritable};
-ghost use Rattle.city_json.specs.declared.compacting.parts.Part.{Part};
+ghost use Rattle.city_json.specs.declared.compacting.places.Part.{Part};
 ghost use Rattle.city_cut.specs.Boundaries.{IsAddress, IsGeometry, address_boundary, in_member, own_boundary};
 ghost use Rattle.city_cut.specs.Boundaries.{relabelled_boundary};
 ghost use Rattle.city_cut.specs.FrontMembers.{HasFrontParts, IsValuePlace};

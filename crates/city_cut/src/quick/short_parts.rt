@@ -49,7 +49,7 @@ pub(super) struct ShortPart {
 }
 
 impl Model for ShortPart {
-    ghost use Rattle.city_json.specs.declared.compacting.parts.Part.{Part};
+    ghost use Rattle.city_json.specs.declared.compacting.places.Part.{Part};
 
     ghost Value = { Part };
 

@@ -10,10 +10,10 @@ use Rattle.city_json.specs.Compact.{quoted, compact, compact_members, compact_mo
 use Rattle.city_json.specs.Fits.{AreDistinctMembers, Fits, HasDistinctNames, IsDistinct, IsNewName, depth, members_depth}
 use Rattle.city_json.specs.Grammar.{Spells}
 use Rattle.city_json.specs.Members.{first_named, member_of}
-use Rattle.city_json.specs.Parts.{AreParts}
+use Rattle.city_json.specs.Parts.{AreParts, IsPartNamed}
 use Rattle.city_json.specs.Tree.{Tree, object, string, MemberTrees, no_members, member}
 use Rattle.city_json.specs.Writable.{AreWritableMembers, IsWritable}
-use Rattle.city_json.specs.declared.compacting.parts.Part.{Part}
+use Rattle.city_json.specs.declared.compacting.places.Part.{Part}
 use Rattle.city_grid.specs.Axes.{Triple}
 use Rattle.city_feature.proofs.QuickLines.{found_at, utf8}
 use Rattle.city_feature.proofs.features.StillFeature.{other_member}
@@ -24,7 +24,7 @@ use Rattle.city_feature.specs.declared.choices.Choice.{Choice}
 use Rattle.city_feature.specs.Ended.{IsAppearanceEnd, appearance_alone}
 use Rattle.city_feature.specs.Feature.{FeatureValue, IsFeature, moved, moved_vertices, vertices_tree}
 use Rattle.city_feature.specs.FeatureLine.{GivesFeature, SpellsFeature, SpellsMoved}
-use Rattle.city_feature.specs.Quick.{IsLine, IsPartNamed}
+use Rattle.city_feature.specs.Quick.{IsLine}
 use Rattle.city_feature.specs.Shapes.{IsArray, IsObject, IsText, IsThere, member_in}
 
 -- ---- a member that comes last

@@ -15,9 +15,10 @@ use Rattle.city_json.specs.Members.{first_named, member_of}
 use Rattle.city_json.specs.ReadString.{is_plain, prepend, string_at}
 use Rattle.city_json.specs.Tree.{Tree, null, boolean, number, string, array, object, MemberTrees, no_members, member}
 use Rattle.city_json.specs.Writable.{IsWritable, AreWritableMembers}
-use Rattle.city_json.specs.declared.compacting.parts.Part.{Part}
+use Rattle.city_json.specs.declared.compacting.places.Part.{Part}
 use Rattle.city_feature.proofs.QuickLines.{equal_names, found_at, number_begins, utf8}
-use Rattle.city_feature.specs.Quick.{AreLetters, IsLetter, IsLine, IsPartNamed}
+use Rattle.city_feature.specs.Quick.{AreLetters, IsLetter, IsLine}
+use Rattle.city_json.specs.Parts.{IsPartNamed}
 use Rattle.city_feature.specs.Shapes.{member_in}
 
 abbrev head_of : List ℕ → ℕ

@@ -12,7 +12,7 @@ use Rattle.city_json.specs.Members.{first_named}
 use Rattle.city_json.specs.Parts.{AreParts, with_value}
 use Rattle.city_json.specs.Tree.{Tree, MemberTrees, object}
 use Rattle.city_json.specs.declared.compacting.lent.LentText.{LentText}
-use Rattle.city_json.specs.declared.compacting.parts.Part.{Part}
+use Rattle.city_json.specs.declared.compacting.places.Part.{Part}
 use Rattle.city_grid.specs.Axes.{Triple, triple, IsInRange, sum}
 use Rattle.city_feature.proofs.features.QuickTypes.{moved_types}
 use Rattle.city_feature.specs.Area.{Meets}

@@ -5,12 +5,13 @@ use Rattle.city_json.specs.Compact.{quoted, compact}
 use Rattle.city_json.specs.Members.{first_named, member_of}
 use Rattle.city_json.specs.Tree.{Tree, null, string, object, MemberTrees}
 use Rattle.city_json.specs.Writable.{IsWritable}
-use Rattle.city_json.specs.declared.compacting.parts.Part.{Part}
+use Rattle.city_json.specs.declared.compacting.places.Part.{Part}
 use Rattle.city_feature.proofs.QuickLines.{found_at}
 use Rattle.city_feature.proofs.features.StillFeature.{other_member}
 use Rattle.city_feature.specs.Changes.{with_member}
 use Rattle.city_feature.specs.Choice.{HasType}
-use Rattle.city_feature.specs.Quick.{IsLine, IsPartNamed}
+use Rattle.city_feature.specs.Quick.{IsLine}
+use Rattle.city_json.specs.Parts.{IsPartNamed}
 use Rattle.city_feature.specs.Shapes.{IsText, IsThere, member_in}
 use Rattle.city_feature.specs.Texts.{IsCompactOf}
 

@@ -6,14 +6,14 @@ ghost use Rattle.city_json.specs.Bytes.{colon};
 ghost use Rattle.city_json.specs.Compact.{compact, quoted};
 ghost use Rattle.city_json.specs.Lent.{lent_bytes};
 ghost use Rattle.city_json.specs.Members.{first_named};
-ghost use Rattle.city_json.specs.Parts.{AreParts, with_value};
+ghost use Rattle.city_json.specs.Parts.{AreParts, with_value, IsPartNamed};
 ghost use Rattle.city_json.specs.Triples.{HasTriples};
 ghost use Rattle.city_json.specs.Tree.{Tree, MemberTrees, object};
 ghost use Rattle.city_grid.specs.Axes.{IsInRange};
 ghost use Rattle.city_feature.specs.Choice.{HasType, IsChosen};
 ghost use Rattle.city_feature.specs.Feature.{FeatureValue, IsFeature, moved_vertices, vertices_tree};
 ghost use Rattle.city_feature.specs.FeatureLine.{GivesFeature, SpellsMoved};
-ghost use Rattle.city_feature.specs.Quick.{HasOtherMembers, IsCompacted, IsLine, IsPartNamed, IsPlaceOf, SpellsVertices, no_steps};
+ghost use Rattle.city_feature.specs.Quick.{HasOtherMembers, IsCompacted, IsLine, IsPlaceOf, SpellsVertices, no_steps};
 ghost use Rattle.city_feature.specs.Texts.{IsCompactOf};
 
 mod kept;

@@ -1,187 +1,17 @@
-//! The compact text of an object, and where its members lie in it.
-ghost use Rattle.std.specs.Prelude.{◌≡◌, ◌++◌, ◌<◌, ◌≤◌, ◌∷◌, [], false, length, drop, take, IsTrue, IfSome, IfOk, IfErr, OnSome, IsUtf8};
-ghost use Rattle.city_json.specs.Compact.{compact};
+//! The members of an object that is compacted, and where they lie in what is written.
+ghost use Rattle.std.specs.Prelude.{◌≡◌, ◌<◌, ◌≤◌, [], false, length, drop, IsTrue, IfSome, OnSome, IsUtf8};
 ghost use Rattle.city_json.specs.Compacting.{shown, Taken, TakenPart, TakenParts};
-ghost use Rattle.city_json.specs.Depth.{IsDeep};
-ghost use Rattle.city_json.specs.Fits.{Fits};
-ghost use Rattle.city_json.specs.Grammar.{Spells};
 ghost use Rattle.city_json.specs.ListedNames.{names_in};
-ghost use Rattle.city_json.specs.Parts.{AreParts};
 ghost use Rattle.city_json.specs.Triples.{HasTriples, IsTriplesText};
-ghost use Rattle.city_json.specs.Tree.{MemberTrees, object};
-ghost use Rattle.city_json.specs.declared.compacting.parts.Part.{Part};
 
-use super::draft::{Draft, begun, skip, skip_white, white_end, written_len};
+use super::draft::{Draft, skip, written_len};
+use super::places::{Part, Span, list_part};
 use super::strings::name_and_colon;
 use super::triples::{look_at_triples, may_begin_triples};
 use super::values::{member_value, more_items};
-use byte_streams::Line;
-use byte_streams::limits::MAX_DEPTH;
-use std::alloc::Global;
-
-/// Most features have no more members.
-const COMMON_PARTS: usize = 8;
-
-/// Where a member lies in the compact text of an object, in bytes from its beginning: its name from `at` on, a colon
-/// before `value`, its value from there up to `end`.
-#[derive(Clone, Copy, Debug, PartialEq, Eq)]
-pub struct Part {
-    pub at: usize,
-    pub value: usize,
-    pub end: usize,
-}
-
-/// The compact text of an object, and the place of each of its members in it.
-#[derive(Debug, Drop)]
-pub struct Compacted {
-    pub line: Line,
-    pub parts: Vec<Part>,
-}
-
-/// Where something stands in a text, in bytes from its beginning: from `from` on up to `end`. Nothing, where `end` is
-/// not after `from`.
-#[derive(Clone, Copy, Debug, PartialEq, Eq)]
-pub struct Span {
-    pub from: usize,
-    pub end: usize,
-}
-
-/// The compact text of an object, and where in it an array stands of arrays of three whole numbers each, as the vertices
-/// of a feature are (CityJSON 2.0, CityJSONFeature). Whose value it is is not promised, nor that one is noted where there
-/// is one; who uses it compares the places.
-#[derive(Debug, Drop)]
-pub struct CompactedFeature {
-    pub found: Compacted,
-    pub triples: Span,
-}
-
-/// The compact text of the object that the text spells, and where its members lie in it, in their order. What `line`
-/// held is dropped; it is taken for its memory.
-///
-/// `None`: undecided; [`crate::read`] decides.
-pub fn compact_parts(alloc: Global, text: &[u8], line: Line) -> Option<Compacted>
-    ensures { IfSome result (λ found. (members : MemberTrees)
-        × Spells text.now (object members) × Fits (object members) × (¬ IsDeep text.now)
-        × (found.line ≡ compact (object members)) × AreParts 1 found.parts.items members) }
-{
-    let mut passed = pass(alloc, text, line)?;
-    passed.line.append(&text[passed.from..passed.end]).ok()?;
-    Some(Compacted {
-        line: passed.line,
-        parts: passed.parts,
-    })
-}
-
-/// The same of a text that is given away, and where in the compact text triples of whole numbers stand, if any were
-/// found. Where white space stands at its end alone and no string in it has an escape, it is kept, and not copied; else
-/// what `spare` held is dropped, and it is taken for its memory.
-///
-/// # Errors
-///
-/// The text, where it is undecided, or memory ran out; [`crate::read`] decides.
-pub fn compact_given(alloc: Global, text: Line, spare: Line) -> Result<CompactedFeature, Line>
-    ensures object { IfOk result (λ feature. (members : MemberTrees)
-        × Spells text (object members) × Fits (object members) × (¬ IsDeep text)
-        × (feature.found.line ≡ compact (object members)) × AreParts 1 feature.found.parts.items members) }
-    ensures triples { IfOk result (λ feature. HasTriples feature.found.line feature.triples) }
-    ensures back { IfErr result (λ back. back ≡ text) }
-{
-    let Some(passed) = pass(alloc, text.items(), spare) else {
-        return Err(text);
-    };
-    if passed.from == 0 && passed.line.items().is_empty() {
-        return Ok(kept(text, passed));
-    }
-    let mut line = passed.line;
-    let Ok(_) = line.append(&text.items()[passed.from..passed.end]) else {
-        return Err(text);
-    };
-    let found = Compacted {
-        line,
-        parts: passed.parts,
-    };
-    Ok(CompactedFeature {
-        found,
-        triples: passed.triples,
-    })
-}
-
-/// Where no triples were found.
-const NO_TRIPLES: Span = Span { from: 0, end: 0 };
-
-/// What the pass over a whole text found: its compact text is `line`, and after it the text from `from` up to `end`.
-#[derive(Drop)]
-pub(super) struct Passed {
-    pub(super) line: Line,
-    pub(super) from: usize,
-    pub(super) end: usize,
-    pub(super) parts: Vec<Part>,
-    pub(super) triples: Span,
-}
-
-/// The text in which the pass wrote nothing: it is compact up to the end of the object. Room that it does not need is
-/// given back.
-fn kept(text: Line, passed: Passed) -> CompactedFeature
-    ensures line { result.found.line ≡ take passed.end text }
-    ensures parts { result.found.parts.items ≡ passed.parts.items }
-    ensures triples { result.triples ≡ passed.triples }
-{
-    let mut bytes = text.into_vec();
-    bytes.truncate(passed.end);
-    bytes.shrink_to_fit();
-    let found = Compacted {
-        line: Line::from_vec(bytes),
-        parts: passed.parts,
-    };
-    CompactedFeature {
-        found,
-        triples: passed.triples,
-    }
-}
-
-/// Goes over a whole text. What `line` held is dropped; it is taken for its memory.
-pub(super) fn pass(alloc: Global, text: &[u8], line: Line) -> Option<Passed>
-    ensures object { IfSome result (λ passed. (members : MemberTrees)
-        × Spells text.now (object members) × Fits (object members) × (¬ IsDeep text.now)
-        × (shown passed.line text.now passed.from passed.end ≡ compact (object members))
-        × AreParts 1 passed.parts.items members) }
-    ensures copied { IfSome result (λ passed. passed.from ≤ passed.end) }
-    ensures within { IfSome result (λ passed. passed.end ≤ length text.now) }
-    ensures triples { IfSome result (λ passed.
-        HasTriples (shown passed.line text.now passed.from passed.end) passed.triples) }
-{
-    if !simdutf8::is_utf8(text) {
-        return None;
-    }
-    let mut draft = begun(alloc, text.len(), line);
-    let mut parts = Vec::with_capacity(alloc, COMMON_PARTS).ok()?;
-    let mut triples = NO_TRIPLES;
-    let at = skip_white(text, 0, &mut draft)?;
-    if at == text.len() || text[at] != b'{' {
-        return None;
-    }
-    let end = members(
-        text,
-        at + 1,
-        MAX_DEPTH - 1,
-        &mut draft,
-        &mut parts,
-        &mut triples,
-    )?;
-    if white_end(text, end) < text.len() {
-        return None;
-    }
-    Some(Passed {
-        line: draft.line,
-        from: draft.from,
-        end,
-        parts,
-        triples,
-    })
-}
 
 /// The members after the first brace, and the closing one: where it ends.
-fn members(
+pub(super) fn members(
     text: &[u8],
     at: usize,
     levels: usize,
@@ -264,7 +94,12 @@ fn member(
     let value = top_value(text, start, levels, draft)?;
     let ended = written_len(text, value.end, draft)?;
     *triples = noted(*triples, value.are_triples, valued, ended);
-    list_part(named, valued, ended, parts)?;
+    let part = Part {
+        at: named,
+        value: valued,
+        end: ended,
+    };
+    list_part(part, parts)?;
     Some(value.end)
 }
 
@@ -326,16 +161,4 @@ fn top_value(text: &[u8], at: usize, levels: usize, draft: &mut Draft) -> Option
         end,
         are_triples: false,
     })
-}
-
-/// Puts a part after the parts.
-#[inline(always)]
-fn list_part(at: usize, value: usize, end: usize, parts: &mut Vec<Part>) -> Option<()>
-    ensures { OnSome result ((p : Part) × (p.at ≡ at) × (p.value ≡ value) × (p.end ≡ end)
-        × (parts.new.items ≡ parts.old.items ++ p ∷ [])) }
-{
-    if parts.push(Part { at, value, end }).is_err() {
-        return None;
-    }
-    Some(())
 }

@@ -1,5 +1,5 @@
 use Rattle.std.proofs.Common.{◌∙◌, ap, arith, slice_range}
-use Rattle.city_json.specs.declared.compacting.parts.Part.{Part}
+use Rattle.city_json.specs.declared.compacting.places.Part.{Part}
 use Rattle.city_json.specs.Compact.{quoted}
 use Rattle.city_cut.specs.Chosen.{named_at}
 use Rattle.city_cut.proofs.QuickFeatures.{name_there}

@@ -1,5 +1,5 @@
 use Rattle.std.proofs.Common.{◌≤◌, ◌-◌, length}
-use Rattle.city_json.specs.declared.compacting.parts.Part.{Part}
+use Rattle.city_json.specs.declared.compacting.places.Part.{Part}
 use Rattle.std.specs.Prelude.{List}
 use Rattle.city_cut.specs.FrontMembers.{GoesOn}
 use Rattle.city_cut.proofs.quick.members.value_place.Given as goal

@@ -1,5 +1,5 @@
 use Rattle.std.proofs.Common.{slice_range}
-use Rattle.city_json.specs.declared.compacting.parts.Part.{Part}
+use Rattle.city_json.specs.declared.compacting.places.Part.{Part}
 use Rattle.city_cut.specs.Overviews.{HasChildrenIn, HasHolders, HasParentsIn}
 use Rattle.city_cut.specs.declared.quick.holders.HeldParts.{HeldParts}
 use Rattle.city_cut.proofs.QuickOverviews.{zip_more}

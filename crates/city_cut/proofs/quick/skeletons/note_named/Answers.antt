@@ -1,5 +1,5 @@
 use Rattle.std.proofs.Common.{◌∙◌, ap, arith, length, slice_range}
-use Rattle.city_json.specs.declared.compacting.parts.Part.{Part}
+use Rattle.city_json.specs.declared.compacting.places.Part.{Part}
 use Rattle.city_cut.specs.Skeletons.{SkeletonPlace}
 use Rattle.city_cut.proofs.QuickOverviews.{holders_at}
 use Rattle.city_cut.proofs.QuickTexts.{if_some_more}

@@ -25,13 +25,12 @@ returns-clause-taken c =
     (names c.name_and_colon.new.draft.names)
     (names c.top_value.new.draft.names)
     c.in_ok-start.ensures.taken c.in_ok-value.ensures.taken c.in_ok-value.ensures.names in
-    let part = c.in_ok-list_part.ensures in
     record {
       taken = taken;
-      part = part.0;
-      is_part = part_is before mid after taken.name taken.value part.0 taken.is_shown c.in_ok-value.ensures.taken.is_shown
-          (part.1 ∙ c.in_ok-named.ensures) (part.2 ∙ c.in_ok-valued.ensures) (part.3 ∙ c.in_ok-ended.ensures);
-      parts_are = part.4;
+      part = record { at = c.in_ok-named.named; value = c.in_ok-valued.valued; end = c.in_ok-ended.ended };
+      is_part = part_is before mid after taken.name taken.value _ taken.is_shown c.in_ok-value.ensures.taken.is_shown
+          c.in_ok-named.ensures c.in_ok-valued.ensures c.in_ok-ended.ensures;
+      parts_are = c.in_ok-list_part.ensures;
     }
 
 pub returns-clause-triples : goal.returns-clause-triples

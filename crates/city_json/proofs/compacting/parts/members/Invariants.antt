@@ -2,7 +2,7 @@ use Rattle.std.proofs.Common.{◌++◌, ◌≤◌, ◌-◌, List, ℕ, length, d
 use Rattle.city_json.specs.Compacting.{shown}
 use Rattle.city_json.specs.ListedNames.{names_in}
 use Rattle.city_json.specs.Triples.{HasTriples}
-use Rattle.city_json.specs.declared.compacting.parts.Part.{Part}
+use Rattle.city_json.specs.declared.compacting.places.Part.{Part}
 use Rattle.city_json.proofs.PassParts.{PartsFrom, PartsWhole}
 use Rattle.city_json.proofs.compacting.parts.members.Given as goal
 

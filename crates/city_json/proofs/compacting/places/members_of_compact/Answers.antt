@@ -1,6 +1,6 @@
 use Rattle.std.proofs.Common.{arith}
 use Rattle.city_json.proofs.CompactMembers.{has_parts, parts_begin, parts_go_on, parts_none, parts_stop}
-use Rattle.city_json.proofs.compacting.members.members_of_compact.Goals as goal
+use Rattle.city_json.proofs.compacting.places.members_of_compact.Goals as goal
 
 pub returns-then-text-eq125 : goal.returns-then-text-eq125
 returns-then-text-eq125 c =

@@ -5,7 +5,7 @@ use Rattle.city_json.specs.Fits.{members_depth}
 use Rattle.city_json.specs.Tree.{MemberTrees, object}
 use Rattle.city_json.specs.Writable.{AreWritableMembers}
 use Rattle.city_json.proofs.CompactMembers.{PartsLeft}
-use Rattle.city_json.proofs.compacting.members.members_of_compact.Given as goal
+use Rattle.city_json.proofs.compacting.places.members_of_compact.Given as goal
 
 abbrev pub invariant-members : goal.invariant-members
 invariant-members l = record {

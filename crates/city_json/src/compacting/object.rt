@@ -1,0 +1,173 @@
+//! The compact text of an object, which stays where it was read where it is compact already.
+ghost use Rattle.std.specs.Prelude.{◌≡◌, ◌≤◌, [], length, IfSome, OnOk};
+ghost use Rattle.city_json.specs.Compact.{compact};
+ghost use Rattle.city_json.specs.Compacting.{shown};
+ghost use Rattle.city_json.specs.Depth.{IsDeep};
+ghost use Rattle.city_json.specs.Fits.{Fits};
+ghost use Rattle.city_json.specs.Grammar.{Spells};
+ghost use Rattle.city_json.specs.ListedNames.{names_in};
+ghost use Rattle.city_json.specs.Parts.{AreParts};
+ghost use Rattle.city_json.specs.TextPlace.{text_at};
+ghost use Rattle.city_json.specs.Tree.{MemberTrees, object};
+ghost use Rattle.city_json.specs.Triples.{HasTriples};
+
+use super::draft::{Draft, begun, copy_to, skip_white, white_end};
+use super::parts::members;
+use super::places::{Part, Span, no_parts};
+use byte_streams::Line;
+use byte_streams::limits::MAX_DEPTH;
+use std::alloc::{AllocError, Global};
+use std::mem;
+
+/// Where a compact text stands.
+#[derive(Clone, Copy, Debug, PartialEq, Eq)]
+pub enum TextPlace {
+    /// Where it was read: it is the text that was read, up to this place, in bytes from its beginning.
+    Read(usize),
+    /// In the buffer that was given for it.
+    Written,
+}
+
+impl TextPlace {
+    /// The text that stands there, of what was read and the buffer that was given for it.
+    pub fn bytes<'a>(&self, read: &'a [u8], buffer: &'a Line) -> &'a [u8]
+        ensures { result.now ≡ text_at self.now read.now buffer.now }
+    {
+        match *self {
+            TextPlace::Read(end) => &read[..end.min(read.len())],
+            TextPlace::Written => buffer.items(),
+        }
+    }
+
+    /// Puts the text into the buffer, where it does not stand there already. Out of memory, the buffer is lost.
+    pub fn copy_to_buffer(self, read: &[u8], buffer: &mut Line) -> Result<(), AllocError>
+        ensures { OnOk result (buffer.new ≡ text_at self read.now buffer.old) }
+    {
+        match self {
+            TextPlace::Read(end) => {
+                buffer.truncate(0);
+                buffer.append(&read[..end.min(read.len())])
+            }
+            TextPlace::Written => Ok(()),
+        }
+    }
+}
+
+/// Where the compact text of an object stands, where each of its members lies in it, in their order, and where in it an
+/// array stands of arrays of three whole numbers each, as the vertices of a feature are (CityJSON 2.0, CityJSONFeature).
+/// Whose value these triples are is not promised, nor that some are noted where there are any; who uses them compares
+/// the places.
+#[derive(Debug, Drop)]
+pub struct CompactObject {
+    pub place: TextPlace,
+    pub parts: Vec<Part>,
+    pub triples: Span,
+}
+
+/// The compact text of an object, and the place of each of its members in it.
+#[derive(Debug, Drop)]
+pub struct Compacted {
+    pub line: Line,
+    pub parts: Vec<Part>,
+}
+
+/// The compact text of the object that the text spells. It stays where it was read where white space stands at its end
+/// alone and no string in it has an escape; else it stands in `buffer`. What the buffer held is dropped; it is taken for
+/// its memory.
+///
+/// `None`: undecided; [`crate::read`] decides.
+pub fn compact_object(alloc: Global, text: &[u8], buffer: &mut Line) -> Option<CompactObject>
+    ensures object { IfSome result (λ found. (members : MemberTrees)
+        × Spells text.now (object members) × Fits (object members) × (¬ IsDeep text.now)
+        × (text_at found.place text.now buffer.new ≡ compact (object members))
+        × AreParts 1 found.parts.items members) }
+    ensures triples { IfSome result (λ found.
+        HasTriples (text_at found.place text.now buffer.new) found.triples) }
+{
+    let line = mem::replace(buffer, Line::new(alloc));
+    let mut draft = begun(alloc, text.len(), line);
+    let WholeObject {
+        end,
+        parts,
+        triples,
+    } = pass(text, &mut draft)?;
+    let place = place_of(text, end, &mut draft)?;
+    *buffer = draft.line;
+    Some(CompactObject {
+        place,
+        parts,
+        triples,
+    })
+}
+
+/// The same, where the text is always in memory of its own. What `line` held is dropped; it is taken for its memory.
+///
+/// `None`: undecided; [`crate::read`] decides.
+pub fn compact_parts(alloc: Global, text: &[u8], line: Line) -> Option<Compacted>
+    ensures { IfSome result (λ found. (members : MemberTrees)
+        × Spells text.now (object members) × Fits (object members) × (¬ IsDeep text.now)
+        × (found.line ≡ compact (object members)) × AreParts 1 found.parts.items members) }
+{
+    let mut line = line;
+    let CompactObject { place, parts, .. } = compact_object(alloc, text, &mut line)?;
+    place.copy_to_buffer(text, &mut line).ok()?;
+    Some(Compacted { line, parts })
+}
+
+/// What the pass over a whole text found: where its object ends, where its members lie in what is written, and where
+/// triples stand there.
+#[derive(Drop)]
+struct WholeObject {
+    end: usize,
+    parts: Vec<Part>,
+    triples: Span,
+}
+
+/// Goes over a whole text, of which nothing was written yet.
+fn pass(text: &[u8], draft: &mut Draft) -> Option<WholeObject>
+    requires line { draft.old.line ≡ [] }
+    requires from { draft.old.from ≡ 0 }
+    requires names { names_in text.now draft.old.names ≡ [] }
+    ensures object { IfSome result (λ found. (members : MemberTrees)
+        × Spells text.now (object members) × Fits (object members) × (¬ IsDeep text.now)
+        × (shown draft.new.line text.now draft.new.from found.end ≡ compact (object members))
+        × AreParts 1 found.parts.items members) }
+    ensures copied { IfSome result (λ found. draft.new.from ≤ found.end) }
+    ensures within { IfSome result (λ found. found.end ≤ length text.now) }
+    ensures triples { IfSome result (λ found.
+        HasTriples (shown draft.new.line text.now draft.new.from found.end) found.triples) }
+{
+    if !simdutf8::is_utf8(text) {
+        return None;
+    }
+    let mut parts = no_parts(draft.alloc)?;
+    let mut triples = Span { from: 0, end: 0 };
+    let at = skip_white(text, 0, draft)?;
+    if at == text.len() || text[at] != b'{' {
+        return None;
+    }
+    let levels = MAX_DEPTH - 1;
+    let end = members(text, at + 1, levels, draft, &mut parts, &mut triples)?;
+    if white_end(text, end) < text.len() {
+        return None;
+    }
+    Some(WholeObject {
+        end,
+        parts,
+        triples,
+    })
+}
+
+/// Where the text stands that a draft shows up to this place: where it was read, if nothing was written.
+fn place_of(text: &[u8], end: usize, draft: &mut Draft) -> Option<TextPlace>
+    requires copied { draft.old.from ≤ end }
+    requires within { end ≤ length text.now }
+    ensures { IfSome result (λ place. text_at place text.now draft.new.line
+        ≡ shown draft.old.line text.now draft.old.from end) }
+{
+    if draft.from == 0 && draft.line.items().is_empty() {
+        return Some(TextPlace::Read(end));
+    }
+    copy_to(text, end, end, draft)?;
+    Some(TextPlace::Written)
+}
