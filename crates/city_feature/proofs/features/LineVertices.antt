@@ -1,5 +1,5 @@
--- The line of a feature once its vertices are moved.
-use Rattle.std.proofs.Common.{◌≡◌, ◌∙◌, ◌++◌, ◌-◌, ◌≤◌, ◌↔◌, ℕ, pos, ◌+ℤ◌, sym, ap, refl, subst, Bool, false, List, [], ◌∷◌, take, drop, slice_range, All, Option, Some, None, codes, arith, option_map, IsTrue, IfSome, MatchBool}
+-- The line of a feature by what becomes of its vertices.
+use Rattle.std.proofs.Common.{◌≡◌, ◌∙◌, ◌++◌, ◌-◌, ◌≤◌, ◌↔◌, ℕ, pos, ◌+ℤ◌, sym, ap, refl, subst, Bool, true, false, List, [], ◌∷◌, take, drop, slice_range, All, Option, Some, None, codes, arith, option_map, IsTrue, IfSome}
 use Rattle.std.proofs.Math.IntN.{+ℤ_idr}
 use Rattle.std.proofs.lemmas.List.{drop-drop, take-append-drop}
 use Rattle.city_json.proofs.SpelledWritable.{spelled_writable}
@@ -7,21 +7,26 @@ use Rattle.city_json.specs.Compact.{compact}
 use Rattle.city_json.specs.Depth.{IsDeep}
 use Rattle.city_json.specs.Fits.{Fits}
 use Rattle.city_json.specs.Grammar.{Spells}
-use Rattle.city_json.specs.Lent.{lent_bytes}
 use Rattle.city_json.specs.Members.{first_named}
 use Rattle.city_json.specs.Parts.{AreParts, with_value}
 use Rattle.city_json.specs.Tree.{Tree, MemberTrees, object}
-use Rattle.city_json.specs.declared.compacting.lent.LentText.{LentText}
 use Rattle.city_json.specs.declared.compacting.places.Part.{Part}
 use Rattle.city_grid.specs.Axes.{Triple, triple, IsInRange, sum}
 use Rattle.city_feature.proofs.features.QuickTypes.{moved_types}
 use Rattle.city_feature.specs.Area.{Meets}
 use Rattle.city_feature.specs.Choice.{HasType, IsChosen}
+use Rattle.city_feature.specs.declared.choices.area.Area.{Area}
 use Rattle.city_feature.specs.declared.choices.Choice.{Choice}
+use Rattle.city_feature.specs.declared.features.on_text.Vertices.{Vertices}
+use Rattle.city_feature.specs.declared.features.on_text.Vertices.TheVariants.{Stay}
 use Rattle.city_feature.specs.Feature.{FeatureValue, IsFeature, moved, moved_vertices, vertices_tree}
 use Rattle.city_feature.specs.FeatureLine.{GivesFeature, SpellsMoved}
+use Rattle.city_feature.specs.LineVertices.{AreKnown, BecomeOf, text_with}
 use Rattle.city_feature.specs.Quick.{IsCompacted, IsLine, IsPlaceOf, no_steps}
 use Rattle.city_feature.specs.Shapes.{IsText, IsThere}
+
+pub not_both : (b : Bool) → b ≡ false → ¬ IsTrue b
+not_both b is_not = λ is. cc
 
 -- what lies in a part, put there again
 pub kept : (line value : List ℕ) (part : Part) → part.value ≤ part.end → slice_range line part.value part.end ≡ value
@@ -45,107 +50,78 @@ pub unmoved : (ps : List Triple) → moved_vertices ps no_steps ≡ ps
 unmoved [] = refl
 unmoved (p ∷ ps) = ap (λ q. q ∷ moved_vertices ps no_steps) (unmoved_one p) ∙ ap (λ qs. p ∷ qs) (unmoved ps)
 
-pub kept_line : (line given : List ℕ) (part : Part) (ps qs : List Triple) (k : Triple) → given ≡ line
-    → with_value given part (compact (vertices_tree ps)) ≡ given → qs ≡ moved_vertices ps k → k ≡ no_steps
-    → with_value line part (compact (vertices_tree qs)) ≡ line
-kept_line line given part ps qs k same there moved_is none =
-    let stay : qs ≡ ps = moved_is ∙ ap (moved_vertices ps) none ∙ unmoved ps in
-    ap (λ vs. with_value line part (compact (vertices_tree vs))) stay
-    ∙ ap (λ l. with_value l part (compact (vertices_tree ps))) (sym same) ∙ there ∙ same
-
--- and what stands there once it is moved
-pub moved_there : (bytes line items : List ℕ) (parts passed : List Part) (members : MemberTrees) (part : Part)
-    (ps qs : List Triple) (k : Triple) (types : Option (List (List ℕ))) (has : Bool) → Spells bytes (object members)
-    → Fits (object members) → line ≡ compact (object members) → AreParts 1 parts members → items ≡ line → passed ≡ parts
-    → (IsLine items passed members → IsFeature (object members) ps × IsPlaceOf (codes "vertices") members items part)
-    → (IsLine items passed members → IsThere IsText (first_named (codes "id") members) → IsTrue has
-    ↔ IfSome types (λ names. HasType names (object members)))
-    → qs ≡ moved_vertices ps k → All IsInRange qs
-    → (there : FeatureValue) × SpellsMoved k bytes there × (there.vertices ≡ qs)
-    × (compact there.value ≡ with_value line part (compact (vertices_tree qs)))
-    × (IsTrue has ↔ IfSome types (λ names. HasType names there.value))
-moved_there bytes line items parts passed members part ps qs k types has spells fits written are_parts same_line
-    same_parts placed typed moved_is moved_range =
-    let is : IsLine items passed members =
+-- vertices that stay as they stand
+pub stay_there : (area : Option Area) (k : Triple) (line : List ℕ) (parts : List Part) (part : Part) (ps : List Triple)
+    (meets : Bool) → k ≡ no_steps
+    → ((members : MemberTrees) → IsLine line parts members
+    → IsFeature (object members) ps × IsPlaceOf (codes "vertices") members line part)
+    → All IsInRange ps → part.value ≤ part.end → slice_range line part.value part.end ≡ compact (vertices_tree ps)
+    → IsTrue meets ↔ IfSome area (λ one. Meets one ps) → BecomeOf area k line parts (Stay meets)
+stay_there area k line parts part ps meets still placed range ordered lies met =
+    let same : ps ≡ moved_vertices ps k = sym (ap (moved_vertices ps) still ∙ unmoved ps) in
     record {
-      written = same_line ∙ written;
-      are_parts =
-          subst (λ l. AreParts 1 l members) (sym same_parts) are_parts;
-      names_differ = fits.1.0;
-      writable =
-          spelled_writable bytes (object members) spells;
-    } in
-    let at = placed is in
-    let feature : FeatureValue = record { value = object members; vertices = ps } in (
-      moved feature k,
-      (feature, (spells, fits, at.0), subst (All IsInRange) moved_is moved_range, refl),
-      sym moved_is,
-      at.1 (vertices_tree (moved_vertices ps k))
-          ∙ ap (λ rs. with_value items part (compact (vertices_tree rs))) (sym moved_is)
-          ∙ ap (λ l. with_value l part (compact (vertices_tree qs))) same_line,
-      moved_types types has (vertices_tree (moved_vertices ps k)) members (typed is at.0.0.1),
-    )
+      part = part;
+      ps = ps;
+      placed = placed;
+      range = subst (All IsInRange) same range;
+      text = sym (kept line (compact (vertices_tree ps)) part ordered lies)
+          ∙ ap (λ vs. with_value line part (compact (vertices_tree vs))) same;
+      known = subst (λ vs. IsTrue meets ↔ IfSome area (λ one. Meets one vs)) same met;
+    }
 
-pub gives_moved : (IsWanted : FeatureValue → Type 0) (k : Triple) (bytes line : List ℕ) (part : Part)
-    (there : FeatureValue) (qs passed : List Triple) (given : List ℕ) → SpellsMoved k bytes there → there.vertices ≡ qs
-    → compact there.value ≡ with_value line part (compact (vertices_tree qs)) → passed ≡ qs
-    → IsWanted (record { value = there.value; vertices = passed })
-    → given ≡ with_value line part (compact (vertices_tree qs)) → GivesFeature IsWanted k bytes (Some given)
-gives_moved IsWanted k bytes line part there qs passed given spells same written also wanted put =
-    let wanted_there : IsWanted there =
-    subst (λ vs. IsWanted (record { value = there.value; vertices = vs })) (also ∙ sym same) wanted in
-    (there, spells, (wanted_there, put ∙ sym written))
+-- what becomes of the vertices, and whether the feature is chosen
+module _ (choice : Choice) (k : Triple) (bytes line : List ℕ) (parts : List Part) (vertices : Vertices)
+    (has chosen : Bool) (found : BecomeOf choice.area k line parts vertices)
+    (typed : (members : MemberTrees) → Fits (object members) → IsLine line parts members
+    → IsThere IsText (first_named (codes "id") members)
+    → IsTrue has ↔ IfSome choice.types (λ types. HasType types (object members)))
+    (selects : (value : Tree) (ps : List Triple) → IsTrue has ↔ IfSome choice.types (λ types. HasType types value)
+    → AreKnown choice.area ps vertices
+    → IsTrue chosen ↔ IsChosen choice (record { value = value; vertices = ps }))
+    (is : IsCompacted bytes line parts) where
+  of_line : IsLine line parts is.0
+  of_line = record {
+    written = is.3;
+    are_parts = is.4;
+    names_differ = is.2.1.0;
+    writable = spelled_writable bytes (object is.0) is.1;
+  }
 
-pub not_both : (b : Bool) → b ≡ false → ¬ IsTrue b
-not_both b is_not = λ is. cc
+  abbrev feature : FeatureValue
+  feature = record { value = object is.0; vertices = found.ps }
 
-pub gives_none : (IsWanted : FeatureValue → Type 0) (k : Triple) (bytes : List ℕ) (there : FeatureValue)
-    (qs passed : List Triple) → SpellsMoved k bytes there → there.vertices ≡ qs → passed ≡ qs
-    → ¬ IsWanted (record { value = there.value; vertices = passed }) → GivesFeature IsWanted k bytes None
-gives_none IsWanted k bytes there qs passed spells same also unwanted =
-    let unwanted_there : ¬ IsWanted there =
-    subst (λ vs. ¬ IsWanted (record { value = there.value; vertices = vs })) (also ∙ sym same) unwanted in
-    (there, spells, unwanted_there)
+  spells : SpellsMoved k bytes (moved feature k)
+  spells = (feature, (is.1, is.2, (found.placed is.0 of_line).0), found.range, refl)
 
--- where no area is asked for, the vertices choose nothing
-pub chosen_anywhere : (choice : Choice) (value : Tree) (ps qs : List Triple) → choice.area ≡ None
-    → IsChosen choice (record { value = value; vertices = ps })
-    → IsChosen choice (record { value = value; vertices = qs })
-chosen_anywhere choice value ps qs none chosen =
-    subst (λ a. MatchBool choice.exclude
-    (¬ (IfSome choice.types (λ types. HasType types value) × IfSome a (λ area. Meets area qs)))
-    (IfSome choice.types (λ types. HasType types value) × IfSome a (λ area. Meets area qs))) (sym none)
-    (subst (λ a. MatchBool choice.exclude
-    (¬ (IfSome choice.types (λ types. HasType types value) × IfSome a (λ area. Meets area ps)))
-    (IfSome choice.types (λ types. HasType types value) × IfSome a (λ area. Meets area ps))) none chosen)
+  wanted : IsTrue chosen ↔ IsChosen choice (moved feature k)
+  wanted =
+      let vertices = moved_vertices found.ps k in
+      selects (moved feature k).value vertices (moved_types choice.types has (vertices_tree vertices) is.0
+      (typed is.0 is.2 of_line (found.placed is.0 of_line).0.0.1)) found.known
 
--- a line whose vertices stay, and are known
-pub measured_there : (bytes line items : List ℕ) (parts passed : List Part) (members : MemberTrees) (part : Part)
-    (ps : List Triple) (types : Option (List (List ℕ))) (has : Bool) → Spells bytes (object members)
-    → Fits (object members) → line ≡ compact (object members) → AreParts 1 parts members → items ≡ line → passed ≡ parts
-    → (IsLine items passed members → IsFeature (object members) ps × IsPlaceOf (codes "vertices") members items part)
-    → (IsLine items passed members → IsThere IsText (first_named (codes "id") members) → IsTrue has
-    ↔ IfSome types (λ names. HasType names (object members)))
-    → All IsInRange ps → with_value items part (compact (vertices_tree ps)) ≡ items
-    → (there : FeatureValue) × SpellsMoved no_steps bytes there × (there.vertices ≡ ps) × (compact there.value ≡ line)
-    × (IsTrue has ↔ IfSome types (λ names. HasType names there.value))
-measured_there bytes line items parts passed members part ps types has spells fits written are_parts same_line
-    same_parts placed typed range stays =
-    let stay : ps ≡ moved_vertices ps no_steps = sym (unmoved ps) in
-    let (there, moved_is, vertices, text, typed_there) =
-    moved_there bytes line items parts passed members part ps ps no_steps types has spells fits written are_parts
-    same_line same_parts placed typed stay range in
-    (there, moved_is, vertices, text ∙ kept_line line items part ps ps no_steps same_line stays stay refl, typed_there)
+  pub chosen_text : IsTrue chosen → GivesFeature (IsChosen choice) k bytes (Some (text_with vertices line))
+  chosen_text chosen_is = (
+    moved feature k,
+    spells,
+    (wanted.0 chosen_is, found.text ∙ sym ((found.placed is.0 of_line).1 (vertices_tree (moved_vertices found.ps k)))),
+  )
 
-pub still_given : (IsWanted : FeatureValue → Type 0) (shift : Triple) (line : List ℕ) (parts : List Part)
-    (found : Option (Option LentText)) → shift ≡ no_steps
-    → IfSome found (λ given. (bytes : List ℕ) → IsCompacted bytes line parts
-    → GivesFeature IsWanted no_steps bytes (option_map lent_bytes given))
-    → IfSome found (λ given. (bytes : List ℕ) → IsCompacted bytes line parts
-    → GivesFeature IsWanted shift bytes (option_map lent_bytes given))
-still_given IsWanted shift line parts found still told =
-    subst (λ k. IfSome found (λ given. (bytes : List ℕ) → IsCompacted bytes line parts
-    → GivesFeature IsWanted k bytes (option_map lent_bytes given))) (sym still) told
+  pub chosen_none : chosen ≡ false → GivesFeature (IsChosen choice) k bytes None
+  chosen_none is_not = (moved feature k, spells, λ is_wanted. not_both chosen is_not (wanted.1 is_wanted))
+
+-- the text of the feature by what becomes of its vertices
+pub given_text : (IsWanted : FeatureValue → Type 0) (k : Triple) (spelled line text : List ℕ)
+    (chosen : Option Vertices) (vertices : Vertices) → chosen ≡ Some vertices → text ≡ text_with vertices line
+    → GivesFeature IsWanted k spelled (option_map (λ found. text_with found line) chosen)
+    → GivesFeature IsWanted k spelled (Some text)
+given_text IsWanted k spelled line text chosen vertices is same gives =
+    subst (λ t. GivesFeature IsWanted k spelled (Some t)) (sym same)
+    (subst (λ o. GivesFeature IsWanted k spelled (option_map (λ found. text_with found line) o)) is gives)
+
+pub compacted_here : (bytes line given : List ℕ) (parts passed : List Part) → given ≡ line → passed ≡ parts
+    → IsCompacted bytes line parts → IsCompacted bytes given passed
+compacted_here bytes line given parts passed same_line same_parts (members, spells, fits, written, are) =
+    (members, spells, fits, same_line ∙ written, subst (λ l. AreParts 1 l members) (sym same_parts) are)
 
 pub compacted : (bytes line : List ℕ) (parts : List Part) → (members : MemberTrees) × Spells bytes (object members)
     × Fits (object members) × (¬ IsDeep bytes) × (line ≡ compact (object members)) × AreParts 1 parts members

@@ -1,138 +1,43 @@
-//! The line of a feature with no tree: checked, moved and written on its compact text.
+//! The line of a feature on its compact text: its members are looked up there, and its vertices looked at, measured or
+//! moved.
 //!
 //! It decides only lines in the common spellings that have no fault.
-ghost use Rattle.std.specs.Prelude.{◌≡◌, ◌<◌, ◌≤◌, ◌++◌, ◌∷◌, [], ℕ, List, All, Option, None, codes, slice_range, ◌↔◌, is_some, option_map, unwrap_or, IfSome, IfNone, IsTrue, IsUtf8, OnOk, OnSome};
-ghost use Rattle.city_json.specs.Bytes.{colon};
-ghost use Rattle.city_json.specs.Compact.{compact, quoted};
-ghost use Rattle.city_json.specs.Lent.{lent_bytes};
-ghost use Rattle.city_json.specs.Members.{first_named};
-ghost use Rattle.city_json.specs.Parts.{AreParts, with_value, IsPartNamed};
-ghost use Rattle.city_json.specs.Triples.{HasTriples};
+ghost use Rattle.std.specs.Prelude.{◌≡◌, ◌≤◌, ◌↔◌, ℕ, List, All, slice_range, option_map, IfSome, IsTrue, OnSome};
+ghost use Rattle.city_json.specs.Compact.{compact};
+ghost use Rattle.city_json.specs.Parts.{with_value};
+ghost use Rattle.city_json.specs.TextPlace.{text_at};
 ghost use Rattle.city_json.specs.Tree.{Tree, MemberTrees, object};
-ghost use Rattle.city_grid.specs.Axes.{IsInRange};
+ghost use Rattle.city_json.specs.Triples.{HasTriples};
+ghost use Rattle.city_grid.specs.Axes.{IsInRange, Triple};
 ghost use Rattle.city_feature.specs.Choice.{HasType, IsChosen};
-ghost use Rattle.city_feature.specs.Feature.{FeatureValue, IsFeature, moved_vertices, vertices_tree};
-ghost use Rattle.city_feature.specs.FeatureLine.{GivesFeature, SpellsMoved};
-ghost use Rattle.city_feature.specs.Quick.{HasOtherMembers, IsCompacted, IsLine, IsPlaceOf, SpellsVertices, no_steps};
-ghost use Rattle.city_feature.specs.Texts.{IsCompactOf};
+ghost use Rattle.city_feature.specs.Feature.{moved_vertices, vertices_tree};
+ghost use Rattle.city_feature.specs.FeatureLine.{GivesFeature};
+ghost use Rattle.city_feature.specs.LineVertices.{AreKnown, BecomeOf, text_with};
+ghost use Rattle.city_feature.specs.Quick.{HasOtherMembers, IsCompacted, IsLine, SpellsVertices, no_steps};
 
-mod kept;
-pub(crate) mod measured;
 mod types;
+pub(crate) mod unread;
 
 use crate::choices::Choice;
-use crate::choices::selecting::selects_of;
-use crate::choices::types::Types;
+use crate::choices::area::Area;
+use crate::choices::selecting::{meets_given_area, selects_measured, selects_of};
 use crate::features::moving::moved_all;
 use crate::features::texts::{SpelledVertices, append_vertices, vertices_of, vertices_of_triples};
 use byte_streams::Line;
 use city_grid::{Shift, Vertex, byte_is};
-use city_json::{LentFeature, LentText, Part, Span, compact_lent};
-use kept::{has_vertices, kept_text};
-use measured::{measured, measured_text};
+use city_json::{CompactObject, Part, Span, TextPlace, between, is_between, part_named};
 use std::alloc::Global;
 use std::mem::swap;
 use types::has_given_type;
+use unread::unread_vertices_meet;
 
-/// The vertices of a line, their place in it, and whether they stand there as they would be written.
+/// What becomes of the vertices of a feature's line.
 #[derive(Drop)]
-struct PlacedVertices {
-    part: Part,
-    vertices: Vec<Vertex>,
-    as_written: bool,
-}
-
-/// A line in its compact text, the place of its vertices, the vertices that are to stand there, whether they do, and
-/// whether the feature has one of the types that are asked for.
-#[derive(Drop)]
-struct MovedLine<'a> {
-    text: LentText<'a>,
-    part: Part,
-    vertices: Vec<Vertex>,
-    stay: bool,
-    has_type: bool,
-}
-
-/// The text between two places.
-pub fn between(text: &[u8], from: usize, to: usize) -> Option<&[u8]>
-    ensures some { IfSome result (λ found. found.now ≡ slice_range text.now from to) }
-    ensures ordered { IfSome result (λ found. from ≤ to) }
-{
-    if from > to {
-        return None;
-    }
-    if to > text.len() {
-        return None;
-    }
-    Some(&text[from..to])
-}
-
-/// Whether this text stands between two places.
-pub fn is_between(text: &[u8], from: usize, to: usize, other: &[u8]) -> bool
-    ensures { IsTrue result → slice_range text.now from to ≡ other.now }
-{
-    let Some(found) = between(text, from, to) else {
-        return false;
-    };
-    found == other
-}
-
-/// The first part of a name, which is given as it stands in the line, with its marks and its colon.
-pub fn part_named(line: &[u8], parts: &[Part], name: &[u8]) -> Option<Part>
-    ensures { IfSome result (λ part. IsPartNamed line.now parts.now name.now part) }
-{
-    for part in parts {
-        if is_between(line, part.at, part.value, name) {
-            return Some(*part);
-        }
-    }
-    None
-}
-
-/// Whether this text may stand between two places: no means that it does not.
-fn may_stand(text: &[u8], from: usize, to: usize, other: &[u8]) -> bool
-    ensures { slice_range text.now from to ≡ other.now → IsTrue result }
-{
-    let Some(found) = between(text, from, to) else {
-        return true;
-    };
-    found == other
-}
-
-/// Whether no member of the object whose compact text this is has this name, which is given as in [`part_named`].
-pub fn is_absent(text: &[u8], parts: &[Part], name: &[u8]) -> bool
-    ensures { IsTrue result → (members : MemberTrees) → IsCompactOf text.now (object members)
-        → AreParts 1 parts.now members → (other : List ℕ) → name.now ≡ quoted other ++ colon ∷ []
-        → first_named other members ≡ None }
-{
-    for part in parts {
-        if may_stand(text, part.at, part.value, name) {
-            return false;
-        }
-    }
-    true
-}
-
-/// The compact text of the value of a member; another one, where there is no member of this name, which is given in the
-/// same way.
-pub fn member_or<'a>(
-    text: &'a [u8],
-    parts: &[Part],
-    name: &[u8],
-    other: &'a [u8],
-) -> Option<&'a [u8]>
-    ensures { IfSome result (λ found. (members : MemberTrees) → IsCompactOf text.now (object members)
-        → AreParts 1 parts.now members → (named : List ℕ) → IsUtf8 named → name.now ≡ quoted named ++ colon ∷ []
-        → (value : Tree) → IsCompactOf other.now value
-        → IsCompactOf found.now (unwrap_or (first_named named members) value)) }
-{
-    let Some(part) = part_named(text, parts, name) else {
-        if !is_absent(text, parts, name) {
-            return None;
-        }
-        return Some(other);
-    };
-    between(text, part.value, part.end)
+enum Vertices {
+    /// They stay as they stand. Whether their extent meets the area, where one is asked for.
+    Stay(bool),
+    /// What stands in this part is exchanged for the text of these.
+    Move(Part, Vec<Vertex>),
 }
 
 /// Whether the line has the type of a feature, an identifier and city objects.
@@ -158,14 +63,6 @@ fn has_other_members(line: &[u8], parts: &[Part]) -> bool
     byte_is(line, objects.value, b'{')
 }
 
-/// Whether the value in a part is the triples that were found.
-fn are_value(triples: Span, part: Part) -> bool
-    ensures { IsTrue result
-        → (triples.from < triples.end) × (triples.from ≡ part.value) × (triples.end ≡ part.end) }
-{
-    triples.from < triples.end && triples.from == part.value && triples.end == part.end
-}
-
 /// The vertices in a part of a line, which most often are the triples that were found there.
 fn spelled_vertices(
     alloc: Global,
@@ -181,7 +78,7 @@ fn spelled_vertices(
         → slice_range line.now part.value part.end ≡ compact (vertices_tree found.vertices.items)) }
     ensures range { IfSome result (λ found. All IsInRange found.vertices.items) }
 {
-    if are_value(triples, part) {
+    if triples.is_value_of(part) {
         let vertices = vertices_of_triples(alloc, line, triples.from, triples.end)?;
         return Some(SpelledVertices {
             vertices,
@@ -191,33 +88,6 @@ fn spelled_vertices(
     let text = between(line, part.value, part.end)?;
     let found = vertices_of(alloc, text)?;
     Some(found)
-}
-
-/// The vertices of a line that is a feature, and where they stand.
-fn placed_vertices(
-    alloc: Global,
-    line: &[u8],
-    parts: &[Part],
-    triples: Span,
-) -> Option<PlacedVertices>
-    requires triples { HasTriples line.now triples }
-    ensures feature { IfSome result (λ placed. (members : MemberTrees) → IsLine line.now parts.now members
-        → IsFeature (object members) placed.vertices.items
-        × IsPlaceOf (codes "vertices") members line.now placed.part) }
-    ensures range { IfSome result (λ placed. All IsInRange placed.vertices.items) }
-    ensures text { IfSome result (λ placed. IsTrue placed.as_written
-        → with_value line.now placed.part (compact (vertices_tree placed.vertices.items)) ≡ line.now) }
-{
-    if !has_other_members(line, parts) {
-        return None;
-    }
-    let part = part_named(line, parts, b"\"vertices\":")?;
-    let found = spelled_vertices(alloc, line, triples, part)?;
-    Some(PlacedVertices {
-        part,
-        vertices: found.vertices,
-        as_written: found.as_written,
-    })
 }
 
 /// Whether all vertices stay where they are.
@@ -235,180 +105,134 @@ fn shifted_vertices(vertices: Vec<Vertex>, shift: Shift) -> Option<Vec<Vertex>>
     if is_still(shift) {
         return Some(vertices);
     }
-    let Ok(moved) = moved_all(vertices, shift) else {
-        return None;
-    };
-    Some(moved)
+    moved_all(vertices, shift).ok()
 }
 
-/// Whether vertices are to stand as they stood.
-fn are_to_stay(as_written: bool, shift: Shift) -> bool
-    ensures { IsTrue result → (IsTrue as_written × (shift ≡ no_steps)) }
-{
-    as_written && is_still(shift)
-}
-
-/// Takes a line as a feature, and moves its vertices.
-fn moved_line<'a>(
-    alloc: Global,
-    found: LentFeature<'a>,
-    shift: Shift,
-    types: &Option<Types>,
-) -> Option<MovedLine<'a>>
-    requires triples { HasTriples (lent_bytes found.text) found.triples }
-    ensures there { IfSome result (λ moved. (bytes : List ℕ)
-        → IsCompacted bytes (lent_bytes found.entry.text) found.entry.parts.items
-        → (there : FeatureValue)
-        × SpellsMoved shift bytes there
-        × (there.vertices ≡ moved.vertices.items)
-        × (compact there.value
-        ≡ with_value (lent_bytes moved.text) moved.part (compact (vertices_tree moved.vertices.items)))
-        × (IsTrue moved.has_type ↔ IfSome types.now (λ types. HasType types there.value))) }
-    ensures same { IfSome result (λ moved. IsTrue moved.stay
-        → with_value (lent_bytes moved.text) moved.part (compact (vertices_tree moved.vertices.items))
-        ≡ lent_bytes moved.text) }
-{
-    let (line, parts) = (found.text.bytes(), found.parts.as_slice());
-    let placed = placed_vertices(alloc, line, parts, found.triples)?;
-    let has_type = has_given_type(alloc, types, line, parts)?;
-    let stay = are_to_stay(placed.as_written, shift);
-    let vertices = shifted_vertices(placed.vertices, shift)?;
-    Some(MovedLine {
-        text: found.text,
-        part: placed.part,
-        vertices,
-        stay,
-        has_type,
-    })
-}
-
-/// Appends the line with the vertices in their place.
-fn append_moved(moved: &MovedLine<'_>, to: &mut Line) -> Option<()>
-    ensures { OnSome result (to.new ≡ to.old
-        ++ with_value (lent_bytes moved.now.text) moved.now.part (compact (vertices_tree moved.now.vertices.items))) }
-{
-    let line = moved.text.bytes();
-    let front = between(line, 0, moved.part.value)?;
-    let back = between(line, moved.part.end, line.len())?;
-    to.append(front).ok()?;
-    append_vertices(&moved.vertices, to).ok()?;
-    to.append(back).ok()
-}
-
-/// The line with the vertices in their place: the one that was read, where they stand there already.
-fn written<'a>(alloc: Global, moved: MovedLine<'a>) -> Option<LentText<'a>>
-    ensures { IfSome result (λ text. (IsTrue moved.entry.stay
-        → with_value (lent_bytes moved.entry.text) moved.entry.part (compact (vertices_tree moved.entry.vertices.items))
-        ≡ lent_bytes moved.entry.text)
-        → lent_bytes text ≡ with_value (lent_bytes moved.entry.text) moved.entry.part
-        (compact (vertices_tree moved.entry.vertices.items))) }
-{
-    if moved.stay {
-        return Some(moved.text);
-    }
-    // vertices that are moved away from 0 have more digits
-    let length = moved.text.bytes().len();
-    let room = length.saturating_add(length / 4);
-    let mut line = Line::from_vec(Vec::with_capacity(alloc, room).ok()?);
-    append_moved(&moved, &mut line)?;
-    Some(LentText::Written(line))
-}
-
-/// The memory of an empty text; else a line that has none.
-fn spare_of(alloc: Global, text: &mut Line) -> Line
-    ensures { text.new ≡ text.old }
-{
-    let mut spare = Line::new(alloc);
-    if text.items().is_empty() {
-        swap(text, &mut spare);
-    }
-    spare
-}
-
-/// Puts a text after another; one that has memory of its own after an empty one without a copy.
-fn put_after(given: LentText<'_>, to: &mut Line) -> Option<()>
-    ensures some { OnSome result (to.new ≡ to.old ++ lent_bytes given.entry) }
-    ensures none { IfNone result (to.new ≡ to.old) }
-{
-    if to.items().is_empty() {
-        *to = given.into_line()?;
-        return Some(());
-    }
-    let Ok(_) = to.append(given.bytes()) else {
-        return None;
-    };
-    Some(())
-}
-
-/// The text of the feature that was found in a line, moved by the shift, where it is chosen then. `None`: undecided.
+/// What becomes of the vertices of a line that is a feature, which is moved by the shift. `None`: undecided.
 #[inline(always)]
-pub(super) fn compacted_text<'a>(
+fn line_vertices(
     alloc: Global,
-    found: LentFeature<'a>,
+    line: &[u8],
+    parts: &[Part],
+    triples: Span,
+    shift: Shift,
+    area: &Option<Area>,
+) -> Option<Vertices>
+    requires triples { HasTriples line.now triples }
+    ensures { IfSome result (BecomeOf area.now shift line.now parts.now) }
+{
+    if !has_other_members(line, parts) {
+        return None;
+    }
+    let part = part_named(line, parts, b"\"vertices\":")?;
+    let stay = is_still(shift);
+    if stay {
+        if let Some(meets) = unread_vertices_meet(area, line, triples, part) {
+            return Some(Vertices::Stay(meets));
+        }
+    }
+    let found = spelled_vertices(alloc, line, triples, part)?;
+    if found.as_written && stay {
+        return Some(Vertices::Stay(meets_given_area(area, &found.vertices)));
+    }
+    let vertices = shifted_vertices(found.vertices, shift)?;
+    Some(Vertices::Move(part, vertices))
+}
+
+/// Whether the choice selects the feature of these vertices; `has_type` says whether it has one of the types, where the
+/// choice gives any.
+fn selects_vertices(choice: &Choice, has_type: bool, vertices: &Vertices) -> bool
+    ensures { (value : Tree) (ps : List Triple)
+        → (IsTrue has_type ↔ IfSome choice.now.types (λ types. HasType types value))
+        → AreKnown choice.now.area ps vertices.now
+        → (IsTrue result ↔ IsChosen choice.now (record { value = value; vertices = ps })) }
+{
+    match vertices {
+        Vertices::Stay(meets) => selects_measured(choice, has_type, *meets),
+        Vertices::Move(_, vertices) => selects_of(choice, has_type, vertices),
+    }
+}
+
+/// What becomes of the vertices of a line that is a feature, where the choice selects it once it is moved by the shift.
+/// `None`: undecided.
+#[inline(always)]
+fn chosen_vertices(
+    alloc: Global,
+    line: &[u8],
+    parts: &[Part],
+    triples: Span,
     shift: Shift,
     choice: &Choice,
-) -> Option<Option<LentText<'a>>>
-    requires triples { HasTriples (lent_bytes found.text) found.triples }
-    ensures { IfSome result (λ given. (bytes : List ℕ)
-        → IsCompacted bytes (lent_bytes found.entry.text) found.entry.parts.items
-        → GivesFeature (IsChosen choice.now) shift bytes (option_map lent_bytes given)) }
+) -> Option<Option<Vertices>>
+    requires triples { HasTriples line.now triples }
+    ensures { IfSome result (λ chosen. (bytes : List ℕ) → IsCompacted bytes line.now parts.now
+        → GivesFeature (IsChosen choice.now) shift bytes
+        (option_map (λ vertices. text_with vertices line.now) chosen)) }
 {
-    if is_still(shift) {
-        if choice.area.is_none() {
-            if has_vertices(found.text.bytes(), &found.parts, found.triples) {
-                return kept_text(alloc, found, choice);
-            }
-        }
-        if let Some(area) = &choice.area {
-            let (line, parts) = (found.text.bytes(), found.parts.as_slice());
-            if let Some(meets) = measured(line, parts, found.triples, area) {
-                return measured_text(alloc, found, meets, choice);
-            }
-        }
-    }
-    let moved = moved_line(alloc, found, shift, &choice.types)?;
-    if !selects_of(choice, moved.has_type, &moved.vertices) {
+    let vertices = line_vertices(alloc, line, parts, triples, shift, &choice.area)?;
+    let has_type = has_given_type(alloc, &choice.types, line, parts)?;
+    if !selects_vertices(choice, has_type, &vertices) {
         return Some(None);
     }
-    let given = written(alloc, moved)?;
-    Some(Some(given))
+    Some(Some(vertices))
 }
 
-/// The compact text of the feature that a line spells, moved by the shift, where it is chosen then. What `spare` held is
-/// dropped; it is taken for its memory. `None`: undecided.
-pub fn quick_text<'a>(
-    alloc: Global,
-    bytes: &'a [u8],
-    shift: Shift,
-    choice: &Choice,
-    spare: Line,
-) -> Option<Option<LentText<'a>>>
-    ensures { IfSome result (λ given.
-        GivesFeature (IsChosen choice.now) shift bytes.now (option_map lent_bytes given)) }
+/// Writes a line with these vertices in a part of it. What `text` held is lost.
+fn write_moved(line: &[u8], part: Part, vertices: &[Vertex], text: &mut Line) -> Option<()>
+    ensures { OnSome result (text.new ≡ with_value line.now part (compact (vertices_tree vertices.now))) }
 {
-    let found = compact_lent(alloc, bytes, spare)?;
-    compacted_text(alloc, found, shift, choice)
+    let front = between(line, 0, part.value)?;
+    let back = between(line, part.end, line.len())?;
+    text.truncate(0);
+    // vertices that are moved away from 0 have more digits
+    let room = line.len().saturating_add(line.len() / 4);
+    text.reserve(room).ok()?;
+    text.append(front).ok()?;
+    append_vertices(vertices, text).ok()?;
+    text.append(back).ok()
 }
 
-/// Appends the compact text of the feature that a line spells, moved by the shift, where it is chosen then, and says
-/// whether it is. `None`: undecided; the text is unchanged.
-pub fn quick_line(
+/// Puts a compact text that was written into the other buffer.
+fn hand_over(place: TextPlace, compact: &mut Line, text: &mut Line)
+    ensures { (read : List ℕ) → text_at place read text.new ≡ text_at place read compact.old }
+{
+    if place == TextPlace::Written {
+        swap(compact, text);
+    }
+}
+
+/// The text of the feature that is the object whose compact text stands at a place, moved by the shift, where it is chosen
+/// then: none, or where it stands. `compact` and `text` are buffers; what they held is lost. `None`: undecided.
+#[inline(always)]
+pub(super) fn object_text(
     alloc: Global,
     bytes: &[u8],
+    object: &CompactObject,
     shift: Shift,
     choice: &Choice,
+    compact: &mut Line,
     text: &mut Line,
-) -> Option<bool>
-    ensures some { IfSome result (λ is_chosen. (given : Option (List ℕ))
-        × GivesFeature (IsChosen choice.now) shift bytes.now given
-        × (is_some given ≡ is_chosen)
-        × (text.new ≡ text.old ++ unwrap_or given [])) }
-    ensures none { IfNone result (text.new ≡ text.old) }
+) -> Option<Option<TextPlace>>
+    requires triples { HasTriples (text_at object.now.place bytes.now compact.old) object.now.triples }
+    ensures { IfSome result (λ given. (spelled : List ℕ)
+        → IsCompacted spelled (text_at object.now.place bytes.now compact.old) object.now.parts.items
+        → GivesFeature (IsChosen choice.now) shift spelled
+        (option_map (λ place. text_at place bytes.now text.new) given)) }
 {
-    let spare = spare_of(alloc, text);
-    let Some(given) = quick_text(alloc, bytes, shift, choice, spare)? else {
-        return Some(false);
+    let line = object.place.bytes(bytes, compact);
+    let triples = object.triples;
+    let Some(vertices) = chosen_vertices(alloc, line, &object.parts, triples, shift, choice)?
+    else {
+        return Some(None);
     };
-    put_after(given, text)?;
-    Some(true)
+    match vertices {
+        Vertices::Stay(_) => {
+            hand_over(object.place, compact, text);
+            Some(Some(object.place))
+        }
+        Vertices::Move(part, vertices) => {
+            write_moved(line, part, &vertices, text)?;
+            Some(Some(TextPlace::Written))
+        }
+    }
 }

@@ -10,11 +10,11 @@ ghost use Rattle.city_feature.specs.Quick.{AreLetters, IsLetter, IsLine};
 ghost use Rattle.city_feature.specs.Shapes.{IsText, IsThere, member_in};
 ghost use Rattle.city_feature.specs.Texts.{IsCompactOf};
 
-use super::{between, member_or, part_named};
 use crate::choices::types::Types;
+use crate::features::members::member_or;
 use byte_streams::Line;
 use city_grid::byte_is;
-use city_json::{Json, Part, members_of_compact, read};
+use city_json::{Json, Part, between, members_of_compact, part_named, read};
 use std::alloc::Global;
 
 /// The compact text of a member of the value whose compact text this is; that of `null`, where there is none. The name is

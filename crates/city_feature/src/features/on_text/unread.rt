@@ -1,28 +1,19 @@
-//! The line of a feature whose vertices are triples and stay where they are, and of which an area is asked: they are
-//! measured in their text, with no list of them and no z.
-ghost use Rattle.std.specs.Prelude.{◌≡◌, ◌≤◌, ◌+◌, ◌↔◌, ℕ, List, All, Some, option_map, length, slice_range, IfSome, IsTrue};
+//! Vertices that stay as they stand and are not read: they are looked at or, where an area is asked for and they are
+//! triples, measured in their text, with no list of them and no z.
+ghost use Rattle.std.specs.Prelude.{◌≡◌, ◌≤◌, ◌+◌, ◌↔◌, List, All, length, slice_range, IfSome, IsTrue};
 ghost use Rattle.city_grid.specs.Axes.{IsInRange, Triple};
 ghost use Rattle.city_json.specs.Compact.{compact};
-ghost use Rattle.city_json.specs.Lent.{lent_bytes};
 ghost use Rattle.city_json.specs.Triples.{HasTriples, IsTriplesText};
 ghost use Rattle.city_feature.specs.Area.{Meets};
-ghost use Rattle.city_feature.specs.Choice.{IsChosen};
 ghost use Rattle.city_feature.specs.Extent.{IsExtent};
 ghost use Rattle.city_feature.specs.Feature.{vertices_tree};
-ghost use Rattle.city_feature.specs.FeatureLine.{GivesFeature};
-ghost use Rattle.city_feature.specs.Quick.{IsCompacted, IsMeasured, no_steps};
-ghost use Rattle.city_feature.specs.declared.choices.area.Area.{Area};
+ghost use Rattle.city_feature.specs.Quick.{IsVerticesText};
 
-use super::types::has_given_type;
-use super::{are_value, has_other_members, part_named};
-use crate::choices::Choice;
 use crate::choices::area::Area;
 use crate::choices::extents::{Extent, extended, reaches};
-use crate::choices::selecting::selects_measured;
-use crate::features::texts::MIN_LEN;
+use crate::features::texts::{MIN_LEN, is_vertices_text};
 use city_grid::triple_plan_at;
-use city_json::{LentFeature, LentText, Part, Span};
-use std::alloc::Global;
+use city_json::{Part, Span, between};
 
 /// The extent of the vertices that stand between two places of a text as triples of short whole numbers, so that they need
 /// no check; `None`: undecided.
@@ -48,13 +39,14 @@ fn extent_of_triples(text: &[u8], from: usize, end: usize) -> Option<Extent>
     }
 }
 
-/// Whether their extent meets the area; `None`: undecided.
-fn triples_meet(area: &Area, text: &[u8], from: usize, end: usize) -> Option<bool>
-    requires { IsTriplesText text.now from end }
+/// Whether the extent of the vertices meets the area that stand in a text as triples; `None`: undecided, or there are none.
+pub fn triples_meet(area: &Area, text: &[u8], triples: Span) -> Option<bool>
+    requires triples { HasTriples text.now triples }
     ensures { IfSome result (λ meets. (ps : List Triple)
-        × (slice_range text.now from end ≡ compact (vertices_tree ps)) × All IsInRange ps
+        × (slice_range text.now triples.from triples.end ≡ compact (vertices_tree ps)) × All IsInRange ps
         × (IsTrue meets ↔ Meets area.now ps)) }
 {
+    let Span { from, end } = triples;
     if end > text.len() || from >= end || end - from < MIN_LEN {
         return None;
     }
@@ -62,40 +54,42 @@ fn triples_meet(area: &Area, text: &[u8], from: usize, end: usize) -> Option<boo
     Some(reaches(extent, area))
 }
 
-/// Whether the extent of a feature's vertices, which are triples, meets the area; `None`: undecided, or no such feature.
-pub fn measured(line: &[u8], parts: &[Part], triples: Span, area: &Area) -> Option<bool>
+/// Whether what stands in a part of a line is what would be written for its vertices, which most often are the triples
+/// that were found there; `false`: undecided.
+#[inline(always)]
+fn are_as_written(line: &[u8], triples: Span, part: Part) -> bool
     requires triples { HasTriples line.now triples }
-    ensures { IfSome result (λ meets. IsMeasured line.now parts.now area.now meets) }
+    ensures { IsTrue result → (part.value ≤ part.end)
+        × IsVerticesText (slice_range line.now part.value part.end) }
 {
-    if !has_other_members(line, parts) {
-        return None;
+    if triples.is_value_of(part) {
+        return true;
     }
-    let part = part_named(line, parts, b"\"vertices\":")?;
-    if !are_value(triples, part) {
-        return None;
-    }
-    let meets = triples_meet(area, line, triples.from, triples.end)?;
-    Some(meets)
+    let Some(text) = between(line, part.value, part.end) else {
+        return false;
+    };
+    is_vertices_text(text)
 }
 
-/// The line of a feature that was measured, where it is chosen. `None`: undecided.
+/// Whether the vertices in a part of a line, which need not be read to stay as they stand, meet the area, where there is
+/// one. `None`: undecided.
 #[inline(always)]
-pub(super) fn measured_text<'a>(
-    alloc: Global,
-    found: LentFeature<'a>,
-    meets: bool,
-    choice: &Choice,
-) -> Option<Option<LentText<'a>>>
-    requires { (area : Area) × (choice.now.area ≡ Some area)
-        × IsMeasured (lent_bytes found.text) found.parts.items area meets }
-    ensures { IfSome result (λ given. (bytes : List ℕ)
-        → IsCompacted bytes (lent_bytes found.entry.text) found.entry.parts.items
-        → GivesFeature (IsChosen choice.now) no_steps bytes (option_map lent_bytes given)) }
+pub(super) fn unread_vertices_meet(
+    area: &Option<Area>,
+    line: &[u8],
+    triples: Span,
+    part: Part,
+) -> Option<bool>
+    requires triples { HasTriples line.now triples }
+    ensures { IfSome result (λ meets. (part.value ≤ part.end) × (ps : List Triple)
+        × (slice_range line.now part.value part.end ≡ compact (vertices_tree ps)) × All IsInRange ps
+        × (IsTrue meets ↔ IfSome area.now (λ area. Meets area ps))) }
 {
-    let (line, parts) = (found.text.bytes(), found.parts.as_slice());
-    let has_type = has_given_type(alloc, &choice.types, line, parts)?;
-    if !selects_measured(choice, has_type, meets) {
-        return Some(None);
+    let Some(area) = area else {
+        return are_as_written(line, triples, part).then_some(true);
+    };
+    if !triples.is_value_of(part) {
+        return None;
     }
-    Some(Some(found.text))
+    triples_meet(area, line, triples)
 }

@@ -1,7 +1,7 @@
 use Rattle.std.proofs.Common.{arith}
 use Rattle.city_feature.proofs.NamedTexts.{absent_there, not_named_more}
-use Rattle.city_feature.proofs.features.QuickMoves.{not_both}
-use Rattle.city_feature.proofs.features.quick.is_absent.Goals as goal
+use Rattle.city_feature.proofs.features.LineVertices.{not_both}
+use Rattle.city_feature.proofs.features.members.is_absent.Goals as goal
 
 pub loop-part-init : goal.loop-part-init
 loop-part-init c = λ i d below. absurd (omega (arith, below))

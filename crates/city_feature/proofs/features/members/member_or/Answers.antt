@@ -1,7 +1,7 @@
 use Rattle.std.proofs.Common.{subst, sym, unwrap_or}
 use Rattle.city_feature.specs.Texts.{IsCompactOf}
 use Rattle.city_feature.proofs.NamedTexts.{if_some_more, value_or}
-use Rattle.city_feature.proofs.features.quick.member_or.Goals as goal
+use Rattle.city_feature.proofs.features.members.member_or.Goals as goal
 
 pub returns-in_default : goal.returns-in_default
 returns-in_default c = λ members of are named utf8 is value of_other.

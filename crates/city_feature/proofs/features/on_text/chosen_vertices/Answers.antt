@@ -1,23 +1,14 @@
-use Rattle.city_json.specs.Lent.{lent_bytes}
-use Rattle.city_feature.proofs.features.QuickMoves.{kept_line, moved_there}
-use Rattle.city_feature.proofs.features.quick.moved_line.Goals as goal
+use Rattle.city_feature.proofs.features.LineVertices.{chosen_none, chosen_text}
+use Rattle.city_feature.proofs.features.on_text.chosen_vertices.Goals as goal
 
-pub returns-clause-there : goal.returns-clause-there
-returns-clause-there c = λ bytes compacted.
-    let found = c.args.found in
-    let (members, spells, fits, written, are_parts) = compacted in
-    let placed = c.in_ok-placed.placed in
-    let moved = c.in_ok-vertices.ensures c.in_ok-placed.ensures.range in
-    moved_there bytes (lent_bytes found.text) c.bytes-line.result.now found.parts.items c.as_slice-parts.result.now members
-    placed.part placed.vertices.items c.in_ok-vertices.vertices.items c.args.shift c.args.types.now
-    c.in_ok-has_type.has_type spells fits written are_parts c.bytes-line.ensures c.as_slice-parts.ensures.value
-    (c.in_ok-placed.ensures.feature members) (c.in_ok-has_type.ensures members fits) moved.0 moved.1
+pub returns-then-not-selects_vertices : goal.returns-then-not-selects_vertices
+returns-then-not-selects_vertices c = λ bytes is.
+    chosen_none c.args.choice.now c.args.shift bytes c.args.line.now c.args.parts.now c.in_ok-vertices.vertices
+    c.in_ok-has_type.has_type c.selects_vertices.result c.in_ok-vertices.ensures c.in_ok-has_type.ensures
+    c.selects_vertices.ensures is c.if-not-selects_vertices.true
 
-pub returns-clause-same : goal.returns-clause-same
-returns-clause-same c = λ stay.
-    let found = c.args.found in
-    let placed = c.in_ok-placed.placed in
-    let (as_written, still) = c.are_to_stay-stay.ensures stay in
-    kept_line (lent_bytes found.text) c.bytes-line.result.now placed.part placed.vertices.items c.in_ok-vertices.vertices.items
-    c.args.shift c.bytes-line.ensures (c.in_ok-placed.ensures.text as_written)
-    (c.in_ok-vertices.ensures c.in_ok-placed.ensures.range).0 still
+pub returns : goal.returns
+returns c = λ bytes is.
+    chosen_text c.args.choice.now c.args.shift bytes c.args.line.now c.args.parts.now c.in_ok-vertices.vertices
+    c.in_ok-has_type.has_type c.selects_vertices.result c.in_ok-vertices.ensures c.in_ok-has_type.ensures
+    c.selects_vertices.ensures is c.if-not-selects_vertices.false

@@ -1,7 +1,7 @@
 use Rattle.std.proofs.Common.{codes, refl}
 use Rattle.city_json.specs.Tree.{string}
 use Rattle.city_feature.proofs.QuickLines.{found_at, says_at, text_at, object_at, utf8}
-use Rattle.city_feature.proofs.features.quick.has_other_members.Goals as goal
+use Rattle.city_feature.proofs.features.on_text.has_other_members.Goals as goal
 
 pub returns : goal.returns
 returns c = λ braced members is.

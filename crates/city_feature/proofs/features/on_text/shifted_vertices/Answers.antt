@@ -1,7 +1,7 @@
 use Rattle.std.proofs.Common.{◌∙◌, ap, sym}
-use Rattle.city_feature.proofs.features.QuickMoves.{unmoved}
+use Rattle.city_feature.proofs.features.LineVertices.{unmoved}
 use Rattle.city_feature.specs.Feature.{moved_vertices}
-use Rattle.city_feature.proofs.features.quick.shifted_vertices.Goals as goal
+use Rattle.city_feature.proofs.features.on_text.shifted_vertices.Goals as goal
 
 pub returns-then-is_still : goal.returns-then-is_still
 returns-then-is_still c = λ range. (

@@ -1,7 +1,7 @@
 use Rattle.std.proofs.Common.{◌∙◌, ◌++◌, ap, sym, length}
 use Rattle.std.proofs.lemmas.List.{take_rest}
 use Rattle.city_json.proofs.Scanning.{starts_with-splits}
-use Rattle.city_feature.proofs.features.quick.types.after_front.Goals as goal
+use Rattle.city_feature.proofs.features.on_text.types.after_front.Goals as goal
 
 pub returns-then-starts_with : goal.returns-then-starts_with
 returns-then-starts_with c =

@@ -2,7 +2,7 @@ use Rattle.std.proofs.Common.{codes, refl, ◌∙◌, ap, ◌++◌}
 use Rattle.city_feature.proofs.features.FirstTypes.{type_at, if_some_type}
 use Rattle.city_feature.proofs.QuickLines.{utf8}
 use Rattle.city_feature.proofs.features.QuickTypes.{text_there}
-use Rattle.city_feature.proofs.features.quick.types.first_type.Goals as goal
+use Rattle.city_feature.proofs.features.on_text.types.first_type.Goals as goal
 
 pub returns : goal.returns
 returns c =

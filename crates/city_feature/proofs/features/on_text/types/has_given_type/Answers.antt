@@ -3,7 +3,7 @@ use Rattle.city_json.specs.Tree.{object}
 use Rattle.city_feature.specs.Choice.{HasType}
 use Rattle.city_feature.proofs.NamedTexts.{if_some_more}
 use Rattle.city_feature.proofs.features.QuickTypes.{typed_there}
-use Rattle.city_feature.proofs.features.quick.types.has_given_type.Goals as goal
+use Rattle.city_feature.proofs.features.on_text.types.has_given_type.Goals as goal
 
 pub returns : goal.returns
 returns c = if_some_more c.spells_one_of.result (λ has told all fits is there.

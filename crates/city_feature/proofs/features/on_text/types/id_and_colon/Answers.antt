@@ -2,7 +2,7 @@ use Rattle.std.proofs.Common.{◌∙◌, ◌++◌, ◌∷◌, [], ap, codes, ref
 use Rattle.city_json.specs.Bytes.{colon}
 use Rattle.city_feature.proofs.QuickLines.{utf8}
 use Rattle.city_feature.proofs.features.QuickTypes.{text_there}
-use Rattle.city_feature.proofs.features.quick.types.id_and_colon.Goals as goal
+use Rattle.city_feature.proofs.features.on_text.types.id_and_colon.Goals as goal
 
 pub returns : goal.returns
 returns c = λ all is id says.

@@ -1,6 +1,6 @@
 use Rattle.std.proofs.Common.{arith}
 use Rattle.city_feature.proofs.features.FirstTypes.{letters_more}
-use Rattle.city_feature.proofs.features.quick.types.letters_len.Goals as goal
+use Rattle.city_feature.proofs.features.on_text.types.letters_len.Goals as goal
 
 pub loop-end-preserved : goal.loop-end-preserved
 loop-end-preserved c = record {

@@ -2,7 +2,7 @@ use Rattle.std.proofs.Common.{◌+◌, ◌∙◌, ◌++◌, ap, sym, arith, take
 use Rattle.std.proofs.lemmas.List.{take-append-drop}
 use Rattle.city_json.proofs.Places.{drop_one}
 use Rattle.city_json.specs.Bytes.{quotation_mark}
-use Rattle.city_feature.proofs.features.quick.types.letters_of.Goals as goal
+use Rattle.city_feature.proofs.features.on_text.types.letters_of.Goals as goal
 
 pub returns : goal.returns
 returns c =

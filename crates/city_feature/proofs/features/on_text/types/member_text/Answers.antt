@@ -4,8 +4,8 @@ use Rattle.city_json.specs.Parts.{AreParts}
 use Rattle.city_json.specs.Tree.{null, object}
 use Rattle.city_feature.specs.Texts.{IsCompactOf}
 use Rattle.city_feature.proofs.NamedTexts.{if_some_more, no_member, null_text}
-use Rattle.city_feature.proofs.features.QuickMoves.{not_both}
-use Rattle.city_feature.proofs.features.quick.types.member_text.Goals as goal
+use Rattle.city_feature.proofs.features.LineVertices.{not_both}
+use Rattle.city_feature.proofs.features.on_text.types.member_text.Goals as goal
 
 pub returns-then-not-byte_is : goal.returns-then-not-byte_is
 returns-then-not-byte_is c = λ value of named utf8 is.

@@ -5,7 +5,7 @@ use Rattle.city_feature.specs.Texts.{IsCompactOf}
 use Rattle.city_feature.proofs.NamedTexts.{if_some_more, null_text}
 use Rattle.city_feature.proofs.QuickLines.{utf8}
 use Rattle.city_feature.proofs.features.QuickTypes.{in_members}
-use Rattle.city_feature.proofs.features.quick.types.type_text.Goals as goal
+use Rattle.city_feature.proofs.features.on_text.types.type_text.Goals as goal
 
 pub returns : goal.returns
 returns c = if_some_more c.member_text-2.result (λ found holds all fits is id says.

@@ -1,11 +1,11 @@
 use Rattle.std.proofs.Common.{arith, subst, slice_range}
 use Rattle.city_feature.specs.Quick.{IsVerticesText}
 use Rattle.city_feature.proofs.features.TriplesAreVertices.{vertices_text}
-use Rattle.city_feature.proofs.features.quick.kept.are_vertices.Goals as goal
+use Rattle.city_feature.proofs.features.on_text.unread.are_as_written.Goals as goal
 
-pub returns-then-are_value : goal.returns-then-are_value
-returns-then-are_value c = λ _.
-    let (some, from, end) = c.are_value.ensures c.if-are_value.true in
+pub returns-then-is_value_of : goal.returns-then-is_value_of
+returns-then-is_value_of c = λ _.
+    let (some, from, end) = c.is_value_of.ensures c.if-is_value_of.true in
     let (within, t) = c.requires.triples some in (
       omega (arith, some, from, end),
       vertices_text c.args.line.now (slice_range c.args.line.now c.args.part.value c.args.part.end) c.args.triples.from

@@ -2,7 +2,7 @@ use Rattle.std.proofs.Common.{◌+◌, ◌++◌, ◌∷◌, ◌<◌, ◌≤◌, 
 use Rattle.std.proofs.lemmas.List.Elements.{All-nil, All-push}
 use Rattle.city_grid.specs.Axes.{IsInRange, triple}
 use Rattle.city_feature.proofs.features.TripleVertices.{GoesTo, Remain, all_remain, first_here, next, next_within, read_last, read_next}
-use Rattle.city_feature.proofs.features.quick.measured.extent_of_triples.Goals as goal
+use Rattle.city_feature.proofs.features.on_text.unread.extent_of_triples.Goals as goal
 
 pub vertices-init : goal.vertices-init
 vertices-init c =

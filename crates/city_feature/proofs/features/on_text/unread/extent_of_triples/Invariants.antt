@@ -2,7 +2,7 @@ use Rattle.std.proofs.Common.{◌<◌, ◌-◌, List, All}
 use Rattle.city_grid.specs.Axes.{IsInRange, Triple}
 use Rattle.city_feature.specs.Extent.{IsExtentSoFar}
 use Rattle.city_feature.proofs.features.TripleVertices.{GoesTo, Remain}
-use Rattle.city_feature.proofs.features.quick.measured.extent_of_triples.Given as goal
+use Rattle.city_feature.proofs.features.on_text.unread.extent_of_triples.Given as goal
 
 abbrev pub invariant-vertices : goal.invariant-vertices
 invariant-vertices l = record {
