@@ -2,6 +2,7 @@
 use Rattle.std.specs.Prelude.{◌≡◌, ◌≢◌, ◌≤◌, ◌↔◌, ℕ, Bool, IsTrue, List, [], ◌∷◌, length, slice_range, codes, pos, All}
 use Rattle.city_json.specs.Bytes.{backslash, plus}
 use Rattle.city_json.specs.Compact.{compact}
+use Rattle.city_json.specs.Depth.{IsDeep}
 use Rattle.city_json.specs.Fits.{Fits, HasDistinctNames}
 use Rattle.city_json.specs.Grammar.{Spells}
 use Rattle.city_json.specs.Members.{member_of}
@@ -66,5 +67,6 @@ IsCompacted bytes line parts =
     (members : MemberTrees)
     × Spells bytes (object members)
     × Fits (object members)
+    × (¬ IsDeep bytes)
     × (line ≡ compact (object members))
     × AreParts 1 parts members

@@ -185,8 +185,8 @@ fn stays_in_place(alloc: Global, line: &str, choice: &Choice) -> bool {
     };
     let mut compact = Line::from_vec(room);
     let mut text = Line::new(alloc);
-    let still = Shift::zero();
-    match feature_text(alloc, line.as_bytes(), still, choice, &mut compact, &mut text) {
+    let (bytes, still) = (line.as_bytes(), Shift::zero());
+    match feature_text(alloc, bytes, still, choice, &mut compact, &mut text) {
         Ok(Some(TextPlace::Read(_))) => true,
         Ok(Some(TextPlace::Written)) => text.into_vec().capacity() >= ROOM,
         _ => false,

@@ -7,7 +7,6 @@ use Rattle.city_json.proofs.Scanning.{after_white-blank}
 use Rattle.city_json.proofs.SpelledWritable.{spelled_writable}
 use Rattle.city_json.specs.Bytes.{open_brace, close_brace}
 use Rattle.city_json.specs.Compact.{compact, quoted}
-use Rattle.city_json.specs.Depth.{IsDeep}
 use Rattle.city_json.specs.Fits.{Fits}
 use Rattle.city_json.specs.Grammar.{Spells}
 use Rattle.city_json.specs.Members.{first_named}
@@ -20,6 +19,7 @@ use Rattle.city_grid.specs.Vertex.{RefusesVertex}
 use Rattle.city_feature.specs.Faults.{RefusesMoved, SpellsLeaving}
 use Rattle.city_feature.specs.Feature.{HasFeatureShape, IsFeature, RefusesFeature, RefusesFirst, moved_vertices}
 use Rattle.city_feature.specs.FeatureLine.{RefusesFeatureLine}
+use Rattle.city_feature.specs.Quick.{IsCompacted}
 use Rattle.city_feature.specs.Shapes.{IsArray, IsObject, IsText, IsThere}
 use Rattle.city_feature.specs.Texts.{IsCompactOf}
 use Rattle.city_feature.proofs.QuickLines.{utf8}
@@ -126,14 +126,8 @@ module _ (members : MemberTrees) (text : List ℕ) (shape : HasFeatureShape (obj
       )
 
 -- ---- the line
--- the members that the line spells, by its compact text
-abbrev SpellsMembers : List ℕ → List ℕ → List Part → Type 0
-SpellsMembers bytes line parts =
-    (members : MemberTrees) × Spells bytes (object members) × Fits (object members) × (¬ IsDeep bytes)
-    × (line ≡ compact (object members)) × AreParts 1 parts members
-
 module _ (k : Triple) (fault : Fault) (bytes line items : List ℕ) (parts passed : List Part) (same_line : items ≡ line)
-    (same_parts : passed ≡ parts) (given : SpellsMembers bytes line parts)
+    (same_parts : passed ≡ parts) (given : IsCompacted bytes line parts)
     (refused : (members : MemberTrees) → IsCompactOf items (object members) → AreParts 1 passed members
     → RefusesMoved k fault (object members)) where
   refused_here : RefusesMoved k fault (object given.0)

@@ -4,7 +4,6 @@ use Rattle.std.proofs.Math.IntN.{+ℤ_idr}
 use Rattle.std.proofs.lemmas.List.{drop-drop, take-append-drop}
 use Rattle.city_json.proofs.SpelledWritable.{spelled_writable}
 use Rattle.city_json.specs.Compact.{compact}
-use Rattle.city_json.specs.Depth.{IsDeep}
 use Rattle.city_json.specs.Fits.{Fits}
 use Rattle.city_json.specs.Grammar.{Spells}
 use Rattle.city_json.specs.Members.{first_named}
@@ -81,8 +80,8 @@ module _ (choice : Choice) (k : Triple) (bytes line : List ℕ) (parts : List Pa
     (is : IsCompacted bytes line parts) where
   of_line : IsLine line parts is.0
   of_line = record {
-    written = is.3;
-    are_parts = is.4;
+    written = is.4;
+    are_parts = is.5;
     names_differ = is.2.1.0;
     writable = spelled_writable bytes (object is.0) is.1;
   }
@@ -120,11 +119,5 @@ given_text IsWanted k spelled line text chosen vertices is same gives =
 
 pub compacted_here : (bytes line given : List ℕ) (parts passed : List Part) → given ≡ line → passed ≡ parts
     → IsCompacted bytes line parts → IsCompacted bytes given passed
-compacted_here bytes line given parts passed same_line same_parts (members, spells, fits, written, are) =
-    (members, spells, fits, same_line ∙ written, subst (λ l. AreParts 1 l members) (sym same_parts) are)
-
-pub compacted : (bytes line : List ℕ) (parts : List Part) → (members : MemberTrees) × Spells bytes (object members)
-    × Fits (object members) × (¬ IsDeep bytes) × (line ≡ compact (object members)) × AreParts 1 parts members
-    → IsCompacted bytes line parts
-compacted bytes line parts (members, spells, fits, shallow, written, are_parts) =
-    (members, spells, fits, written, are_parts)
+compacted_here bytes line given parts passed same_line same_parts (members, spells, fits, shallow, written, are) =
+    (members, spells, fits, shallow, same_line ∙ written, subst (λ l. AreParts 1 l members) (sym same_parts) are)

@@ -1,6 +1,5 @@
 ghost use Rattle.std.specs.Prelude.{◌↔◌, ℕ, List, IsTrue, IfSome, IfNone};
-ghost use Rattle.city_grid.specs.Axes.{Triple};
-ghost use Rattle.city_json.specs.Tree.{Tree, tree};
+ghost use Rattle.city_json.specs.Tree.{tree};
 ghost use Rattle.city_feature.specs.Area.{Meets};
 ghost use Rattle.city_feature.specs.Choice.{HasType, IsChosen, IsTypeOf, Matches};
 ghost use Rattle.city_feature.specs.Shapes.{Says};
@@ -88,24 +87,4 @@ pub fn selects(choice: &Choice, feature: &Feature) -> bool
     ensures { IsTrue result ↔ IsChosen choice.now (feature_value feature.now) }
 {
     matches(choice, feature) != choice.exclude
-}
-
-/// Whether the choice selects a feature of these vertices; `has_type` says whether the feature has one
-/// of the types, where the choice gives any.
-pub fn selects_of(choice: &Choice, has_type: bool, vertices: &[Vertex]) -> bool
-    ensures { (value : Tree)
-        → (IsTrue has_type ↔ IfSome choice.now.types (λ types. HasType types value))
-        → (IsTrue result ↔ IsChosen choice.now (record { value = value; vertices = vertices.now })) }
-{
-    (has_type && meets_given_area(&choice.area, vertices)) != choice.exclude
-}
-
-/// The same where it is known whether the extent of the vertices meets the area, where the choice gives one.
-pub fn selects_measured(choice: &Choice, has_type: bool, meets: bool) -> bool
-    ensures { (value : Tree) (vertices : List Triple)
-        → (IsTrue has_type ↔ IfSome choice.now.types (λ types. HasType types value))
-        → (IsTrue meets ↔ IfSome choice.now.area (λ area. Meets area vertices))
-        → (IsTrue result ↔ IsChosen choice.now (record { value = value; vertices = vertices })) }
-{
-    (has_type && meets) != choice.exclude
 }

@@ -9,6 +9,7 @@ ghost use Rattle.city_json.specs.TextPlace.{text_at};
 ghost use Rattle.city_json.specs.Tree.{Tree, MemberTrees, object};
 ghost use Rattle.city_json.specs.Triples.{HasTriples};
 ghost use Rattle.city_grid.specs.Axes.{IsInRange, Triple};
+ghost use Rattle.city_feature.specs.Area.{Meets};
 ghost use Rattle.city_feature.specs.Choice.{HasType, IsChosen};
 ghost use Rattle.city_feature.specs.Feature.{moved_vertices, vertices_tree};
 ghost use Rattle.city_feature.specs.FeatureLine.{GivesFeature};
@@ -20,7 +21,7 @@ pub(crate) mod unread;
 
 use crate::choices::Choice;
 use crate::choices::area::Area;
-use crate::choices::selecting::{meets_given_area, selects_measured, selects_of};
+use crate::choices::selecting::meets_given_area;
 use crate::features::moving::moved_all;
 use crate::features::texts::{SpelledVertices, append_vertices, vertices_of, vertices_of_triples};
 use byte_streams::Line;
@@ -139,6 +140,17 @@ fn line_vertices(
     Some(Vertices::Move(part, vertices))
 }
 
+/// Whether the extent of the vertices meets the area, where there is one.
+fn vertices_meet(area: &Option<Area>, vertices: &Vertices) -> bool
+    ensures { (ps : List Triple) → AreKnown area.now ps vertices.now
+        → (IsTrue result ↔ IfSome area.now (λ area. Meets area ps)) }
+{
+    match vertices {
+        Vertices::Stay(meets) => *meets,
+        Vertices::Move(_, vertices) => meets_given_area(area, vertices),
+    }
+}
+
 /// Whether the choice selects the feature of these vertices; `has_type` says whether it has one of the types, where the
 /// choice gives any.
 fn selects_vertices(choice: &Choice, has_type: bool, vertices: &Vertices) -> bool
@@ -147,10 +159,7 @@ fn selects_vertices(choice: &Choice, has_type: bool, vertices: &Vertices) -> boo
         → AreKnown choice.now.area ps vertices.now
         → (IsTrue result ↔ IsChosen choice.now (record { value = value; vertices = ps })) }
 {
-    match vertices {
-        Vertices::Stay(meets) => selects_measured(choice, has_type, *meets),
-        Vertices::Move(_, vertices) => selects_of(choice, has_type, vertices),
-    }
+    (has_type && vertices_meet(&choice.area, vertices)) != choice.exclude
 }
 
 /// What becomes of the vertices of a line that is a feature, where the choice selects it once it is moved by the shift.
@@ -221,8 +230,7 @@ pub(super) fn object_text(
 {
     let line = object.place.bytes(bytes, compact);
     let triples = object.triples;
-    let Some(vertices) = chosen_vertices(alloc, line, &object.parts, triples, shift, choice)?
-    else {
+    let Some(vertices) = chosen_vertices(alloc, line, &object.parts, triples, shift, choice)? else {
         return Some(None);
     };
     match vertices {

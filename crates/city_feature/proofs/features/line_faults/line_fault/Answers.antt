@@ -7,7 +7,7 @@ returns-clause-refusal c =
     let object = c.in_ok-object.object in
     if_some_more c.object_fault.result
     (λ fault refused. refuses_line c.args.shift fault c.args.bytes.now _
-    c.bytes.result.now object.parts.items c.deref.result.now c.bytes.ensures c.deref.ensures.value
+    c.bytes-line.result.now object.parts.items c.deref.result.now c.bytes-line.ensures c.deref.ensures.value
     c.in_ok-object.ensures.object refused) c.object_fault.ensures
 
 pub returns-clause-fault : goal.returns-clause-fault
@@ -15,5 +15,5 @@ returns-clause-fault c =
     let object = c.in_ok-object.object in
     if_some_more c.object_fault.result
     (λ fault refused. no_memory_line c.args.shift fault c.args.bytes.now _
-    c.bytes.result.now object.parts.items c.deref.result.now c.bytes.ensures c.deref.ensures.value
+    c.bytes-line.result.now object.parts.items c.deref.result.now c.bytes-line.ensures c.deref.ensures.value
     c.in_ok-object.ensures.object refused) c.object_fault.ensures
