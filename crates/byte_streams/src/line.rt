@@ -53,11 +53,11 @@ impl Line {
         self.bytes.extend_from_slice(bytes)
     }
 
-    /// Makes room for this many bytes more. Out of memory, the room is as before.
-    pub fn reserve(&mut self, more: usize) -> Result<(), AllocError>
+    /// Makes room for this many bytes more, and asks for no more than that. Out of memory, the room is as before.
+    pub fn reserve_exact(&mut self, more: usize) -> Result<(), AllocError>
         ensures { self.new ≡ self.old }
     {
-        self.bytes.reserve(more)
+        self.bytes.reserve_exact(more)
     }
 
     /// Keeps the first bytes, this many at most.

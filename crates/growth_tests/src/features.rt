@@ -375,27 +375,28 @@ fn lines_are_chosen(rt: &(impl AllocGlobal + Eprint)) -> Result<bool, Fault> {
     Ok(is_refused && line_is_appended(rt, SPACED, MOVED)?)
 }
 
-/// Whether a line is chosen when it is moved by the shift, with this text, which may be lent or written anew.
+/// Whether a line is chosen when it is moved by the shift, with this text, wherever it stands.
 fn gives(
     rt: &(impl AllocGlobal + Eprint),
     bytes: &[u8],
     shift: Option<Shift>,
-    text: &[u8],
+    moved: &[u8],
 ) -> Result<bool, Fault> {
     let choice = choice_of(rt.alloc())?;
     let shift = shift.ok_or(Fault::ShiftRange)?;
-    match feature_text(rt.alloc(), bytes, shift, &choice, Line::new(rt.alloc())) {
-        Ok(Some(given)) => Ok(given.bytes() == text),
+    let (mut compact, mut text) = (Line::new(rt.alloc()), Line::new(rt.alloc()));
+    match feature_text(rt.alloc(), bytes, shift, &choice, &mut compact, &mut text) {
+        Ok(Some(place)) => Ok(place.bytes(bytes, &text) == moved),
         Ok(None) => Ok(false),
         Err(fault) => refused(rt, Call("feature_text"), fault),
     }
 }
 
-fn texts_are_lent_or_written(rt: &(impl AllocGlobal + Eprint)) -> Result<bool, Fault> {
+fn texts_stay_or_are_written(rt: &(impl AllocGlobal + Eprint)) -> Result<bool, Fault> {
     let none = Shift::new(0, 0, 0);
     let is_refused = is_fault(gives(rt, FAULTY, none, b""), Fault::VertexNotInteger)?;
-    let is_lent = gives(rt, MOVED, none, MOVED)?;
-    Ok(is_refused && is_lent && gives(rt, SPACED, Shift::new(10, 20, 30), MOVED)?)
+    let stays = gives(rt, MOVED, none, MOVED)?;
+    Ok(is_refused && stays && gives(rt, SPACED, Shift::new(10, 20, 30), MOVED)?)
 }
 
 /// Its fault is told with no value read, unless memory is wanted.
@@ -622,7 +623,7 @@ fn vertices_headers_features_and_documents(rt: HostRuntime) -> Result<(), Fault>
     expect!(rt; features_are_moved(&rt));
     expect!(rt; features_are_refused(&rt));
     expect!(rt; lines_are_chosen(&rt));
-    expect!(rt; texts_are_lent_or_written(&rt));
+    expect!(rt; texts_stay_or_are_written(&rt));
     expect!(rt; line_fault_is_told(&rt));
     expect!(rt; vertices_fault_is_told(&rt));
     expect!(rt; end_is_told(&rt));

@@ -195,7 +195,7 @@ fn write_moved(line: &[u8], part: Part, vertices: &[Vertex], text: &mut Line) ->
     text.truncate(0);
     // vertices that are moved away from 0 have more digits
     let room = line.len().saturating_add(line.len() / 4);
-    text.reserve(room).ok()?;
+    text.reserve_exact(room).ok()?;
     text.append(front).ok()?;
     append_vertices(vertices, text).ok()?;
     text.append(back).ok()
