@@ -10,7 +10,7 @@ ghost use Rattle.city_json.specs.Writable.{IsWritable};
 ghost use Rattle.city_json.specs.declared.compacting.places.Part.{Part};
 ghost use Rattle.city_cut.specs.Boundaries.{IsAddress, IsGeometry, address_boundary, in_member, own_boundary};
 ghost use Rattle.city_cut.specs.Boundaries.{relabelled_boundary};
-ghost use Rattle.city_cut.specs.FrontMembers.{HasFrontParts, IsValuePlace};
+ghost use Rattle.city_json.specs.FrontMembers.{HasFrontParts, IsValuePlace};
 ghost use Rattle.city_cut.specs.Holders.{AreHeld, IsHeld, boundary_in, held_uses, relabelled_held, relabelled_in};
 ghost use Rattle.city_cut.specs.Leaves.{IsBoundary, leaves, relabelled};
 ghost use Rattle.city_cut.specs.Walks.{Walks};

@@ -1,6 +1,6 @@
 use Rattle.std.proofs.Common.{arith}
 use Rattle.city_json.proofs.CompactMembers.{member_leaves}
-use Rattle.city_cut.proofs.quick.members.member_from.Goals as goal
+use Rattle.city_json.proofs.compacting.members.member_from.Goals as goal
 
 pub returns-clause-is : goal.returns-clause-is
 returns-clause-is c =

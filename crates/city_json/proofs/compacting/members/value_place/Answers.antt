@@ -1,7 +1,7 @@
 use Rattle.std.proofs.Common.{arith, [], ◌∷◌, ◌++◌, refl}
 use Rattle.city_json.proofs.CompactMembers.{member_leaves}
-use Rattle.city_cut.proofs.QuickMembers.{members_begin, members_go_on}
-use Rattle.city_cut.proofs.quick.members.value_place.Goals as goal
+use Rattle.city_json.proofs.FrontMembers.{members_begin, members_go_on}
+use Rattle.city_json.proofs.compacting.members.value_place.Goals as goal
 
 pub members-init : goal.members-init
 members-init c = record {

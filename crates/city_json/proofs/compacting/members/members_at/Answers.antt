@@ -1,7 +1,7 @@
 use Rattle.std.proofs.Common.{length, refl}
-use Rattle.city_cut.proofs.QuickMembers.{object_has_parts, object_leaves}
-use Rattle.city_cut.proofs.QuickTexts.{slice_back}
-use Rattle.city_cut.proofs.quick.members.members_at.Goals as goal
+use Rattle.city_json.proofs.FrontMembers.{object_has_parts, object_leaves}
+use Rattle.city_json.proofs.Places.{slice_back}
+use Rattle.city_json.proofs.compacting.members.members_at.Goals as goal
 
 pub returns-clause-leaves : goal.returns-clause-leaves
 returns-clause-leaves c =

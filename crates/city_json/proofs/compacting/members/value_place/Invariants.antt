@@ -1,8 +1,8 @@
 use Rattle.std.proofs.Common.{◌≤◌, ◌-◌, length}
 use Rattle.city_json.specs.declared.compacting.places.Part.{Part}
 use Rattle.std.specs.Prelude.{List}
-use Rattle.city_cut.specs.FrontMembers.{GoesOn}
-use Rattle.city_cut.proofs.quick.members.value_place.Given as goal
+use Rattle.city_json.specs.FrontMembers.{GoesOn}
+use Rattle.city_json.proofs.compacting.members.value_place.Given as goal
 
 abbrev pub invariant-members : goal.invariant-members
 invariant-members l = record {

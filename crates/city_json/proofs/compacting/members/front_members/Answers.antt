@@ -1,6 +1,6 @@
 use Rattle.std.proofs.Common.{arith}
-use Rattle.city_cut.proofs.QuickMembers.{has_front_parts, members_begin, members_go_on, members_none, members_stop}
-use Rattle.city_cut.proofs.quick.members.front_members.Goals as goal
+use Rattle.city_json.proofs.FrontMembers.{has_front_parts, members_begin, members_go_on, members_none, members_stop}
+use Rattle.city_json.proofs.compacting.members.front_members.Goals as goal
 
 pub returns-then-text-eq125-clause-is : goal.returns-then-text-eq125-clause-is
 returns-then-text-eq125-clause-is c =

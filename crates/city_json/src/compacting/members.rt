@@ -1,21 +1,18 @@
-//! Where the members of an object lie that stands in front of other bytes in its compact text.
+//! Where the members of an object lie in its compact text, of one that stands in front of other bytes, too.
 //!
 //! As the ends of values, this knows that the text is compact, and checks nothing of it.
 ghost use Rattle.std.specs.Prelude.{◌≡◌, ◌++◌, ◌∷◌, [], ◌+◌, ◌<◌, ◌≤◌, length, drop, slice_range, IfSome, OnSome};
 ghost use Rattle.city_json.specs.CompactEnds.{LeavesString, LeavesValue};
 ghost use Rattle.city_json.specs.CompactMembers.{HasParts, LeavesMember};
-ghost use Rattle.city_cut.specs.FrontMembers.{EndsAfter, HasFrontParts, IsValuePlace};
+ghost use Rattle.city_json.specs.FrontMembers.{EndsAfter, HasFrontParts, IsValuePlace};
 
-use city_feature::is_between;
-use city_json::{Part, string_end, value_end};
+use super::ends::{string_end, value_end};
+use super::places::{Part, is_between, list_part, no_parts};
 use std::alloc::Global;
-
-/// Most objects have no more members.
-const COMMON_PARTS: usize = 8;
 
 /// The members of an object, and where it ends.
 #[derive(Drop)]
-pub(super) struct PlacedMembers {
+pub struct PlacedMembers {
     /// Where they lie, in bytes from the beginning of the object.
     pub parts: Vec<Part>,
     pub end: usize,
@@ -23,7 +20,7 @@ pub(super) struct PlacedMembers {
 
 /// Where the name ends of the member that begins at `at`: the place of the colon.
 #[inline(always)]
-fn colon_after(text: &[u8], at: usize) -> Option<usize>
+pub fn colon_after(text: &[u8], at: usize) -> Option<usize>
     ensures onward { IfSome result (λ colon. at < colon) }
     ensures within { IfSome result (λ colon. colon < length text.now) }
     ensures is { IfSome result (λ colon. LeavesString (drop (at + 1) text.now) (drop colon text.now)) }
@@ -70,24 +67,6 @@ fn member_at(text: &[u8], at: usize) -> Option<Part>
     member_from(text, at, colon)
 }
 
-/// No parts, with room for some.
-fn no_parts(alloc: Global) -> Option<Vec<Part>>
-    ensures { IfSome result (λ parts. parts.items ≡ []) }
-{
-    Vec::with_capacity(alloc, COMMON_PARTS).ok()
-}
-
-/// Puts a part after the parts.
-#[inline(always)]
-fn list_part(part: Part, parts: &mut Vec<Part>) -> Option<()>
-    ensures { OnSome result (parts.new.items ≡ parts.old.items ++ part ∷ []) }
-{
-    let Ok(_) = parts.push(part) else {
-        return None;
-    };
-    Some(())
-}
-
 /// The members of the object that stands in front.
 fn front_members(alloc: Global, text: &[u8]) -> Option<PlacedMembers>
     ensures within { IfSome result (λ found. found.end ≤ length text.now) }
@@ -117,8 +96,18 @@ fn front_members(alloc: Global, text: &[u8]) -> Option<PlacedMembers>
     }
 }
 
+/// Where the members lie of the object whose compact text this is, in their order.
+///
+/// `None`: undecided, or out of memory.
+pub fn members_of_compact(alloc: Global, text: &[u8]) -> Option<Vec<Part>>
+    ensures { IfSome result (λ parts. HasParts text.now parts.items) }
+{
+    let found = front_members(alloc, text)?;
+    Some(found.parts)
+}
+
 /// The members of the object that begins at `at`.
-pub(super) fn members_at(alloc: Global, text: &[u8], at: usize) -> Option<PlacedMembers>
+pub fn members_at(alloc: Global, text: &[u8], at: usize) -> Option<PlacedMembers>
     requires { at ≤ length text.now }
     ensures onward { IfSome result (λ found. at ≤ found.end) }
     ensures within { IfSome result (λ found. found.end ≤ length text.now) }
@@ -134,7 +123,7 @@ pub(super) fn members_at(alloc: Global, text: &[u8], at: usize) -> Option<Placed
 
 /// Where the value begins of the first member of this name in the object that stands in front. The name is given with
 /// its marks and its colon. `None`: none is found.
-pub(super) fn value_place(text: &[u8], name: &[u8]) -> Option<usize>
+pub fn value_place(text: &[u8], name: &[u8]) -> Option<usize>
     ensures within { IfSome result (λ value. value ≤ length text.now) }
     ensures is { IfSome result (λ value. IsValuePlace text.now name.now value) }
 {
@@ -162,7 +151,7 @@ pub(super) fn value_place(text: &[u8], name: &[u8]) -> Option<usize>
 }
 
 /// Where the object ends of which a member ends at `end`.
-pub(super) fn end_after(text: &[u8], end: usize) -> Option<usize>
+pub fn end_after(text: &[u8], end: usize) -> Option<usize>
     requires { end < length text.now }
     ensures onward { IfSome result (λ stop. end < stop) }
     ensures within { IfSome result (λ stop. stop ≤ length text.now) }

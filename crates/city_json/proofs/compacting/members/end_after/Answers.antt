@@ -1,6 +1,6 @@
 use Rattle.std.proofs.Common.{arith}
-use Rattle.city_cut.proofs.QuickMembers.{ends_from, goes_nowhere, goes_on_from}
-use Rattle.city_cut.proofs.quick.members.end_after.Goals as goal
+use Rattle.city_json.proofs.FrontMembers.{ends_from, goes_nowhere, goes_on_from}
+use Rattle.city_json.proofs.compacting.members.end_after.Goals as goal
 
 pub members-init : goal.members-init
 members-init c = record {

@@ -1,6 +1,6 @@
 use Rattle.std.proofs.Common.{◌≤◌, ◌-◌, length}
-use Rattle.city_cut.specs.FrontMembers.{GoesOn}
-use Rattle.city_cut.proofs.quick.members.front_members.Given as goal
+use Rattle.city_json.specs.FrontMembers.{GoesOn}
+use Rattle.city_json.proofs.compacting.members.front_members.Given as goal
 
 abbrev pub invariant-members : goal.invariant-members
 invariant-members l = record {

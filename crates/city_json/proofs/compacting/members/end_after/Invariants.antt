@@ -1,6 +1,6 @@
 use Rattle.std.proofs.Common.{◌≤◌, ◌<◌, ◌-◌, length}
-use Rattle.city_cut.proofs.QuickMembers.{GoesFrom}
-use Rattle.city_cut.proofs.quick.members.end_after.Given as goal
+use Rattle.city_json.proofs.FrontMembers.{GoesFrom}
+use Rattle.city_json.proofs.compacting.members.end_after.Given as goal
 
 abbrev pub invariant-members : goal.invariant-members
 invariant-members l = record {

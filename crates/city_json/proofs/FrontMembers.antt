@@ -16,7 +16,7 @@ use Rattle.city_json.specs.Parts.{IsPart, AreParts}
 use Rattle.city_json.specs.Tree.{Tree, null, boolean, number, string, array, object, MemberTrees, no_members, member}
 use Rattle.city_json.specs.Writable.{IsWritable, AreWritableMembers}
 use Rattle.city_json.specs.declared.compacting.places.Part.{Part}
-use Rattle.city_cut.specs.FrontMembers.{EndsAfter, GoesOn, GoneTo, HasFrontParts, IsThere, MembersLeft}
+use Rattle.city_json.specs.FrontMembers.{EndsAfter, GoesOn, GoneTo, HasFrontParts, IsThere, MembersLeft}
 
 after_brace : (text rest : List ℕ) (all : MemberTrees) → text ≡ compact (object all) ++ rest
     → drop 1 text ≡ compact_members all ++ close_brace ∷ rest
