@@ -10,7 +10,6 @@ ghost use Rattle.city_json.specs.Fits.{Fits};
 ghost use Rattle.city_json.specs.Grammar.{Spells};
 ghost use Rattle.city_json.specs.Tree.{Tree};
 
-pub(crate) mod digits;
 mod draft;
 mod ends;
 mod flat;

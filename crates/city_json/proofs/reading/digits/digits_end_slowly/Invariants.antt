@@ -1,7 +1,7 @@
 use Rattle.std.proofs.Common.{◌≡◌, ◌≤◌, ◌+◌, ◌-◌, length, drop}
 use Rattle.std.specs.Char.{is_ascii_digit}
 use Rattle.std.specs.List.{prefix_len}
-use Rattle.city_json.proofs.compacting.digits.digits_end_slowly.Given as goal
+use Rattle.city_json.proofs.reading.digits.digits_end_slowly.Given as goal
 
 abbrev pub invariant-loop-end : goal.invariant-loop-end
 invariant-loop-end l = (l.at ≤ l.end) × (l.end ≤ length l.text)

@@ -4,7 +4,7 @@ use Rattle.std.specs.Char.{is_ascii_digit}
 use Rattle.std.specs.List.{prefix_len}
 use lib.Count.{count_trailing_zeros}
 use Rattle.city_json.proofs.DigitRuns.{digits_stop, digits_within, past_is}
-use Rattle.city_json.proofs.compacting.digits.digits_end.Goals as goal
+use Rattle.city_json.proofs.reading.digits.digits_end.Goals as goal
 
 pub returns-then-stops-ne0-clause-within : goal.returns-then-stops-ne0-clause-within
 returns-then-stops-ne0-clause-within c =

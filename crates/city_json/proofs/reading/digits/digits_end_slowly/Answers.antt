@@ -1,7 +1,7 @@
 use Rattle.std.proofs.Common.{◌∙◌, ◌+◌, ap, sym, arith, drop}
 use lib.Count.{count_trailing_zeros}
 use Rattle.city_json.proofs.DigitRuns.{digits_go_on, digits_stop, digits_within, past_at, same_rest}
-use Rattle.city_json.proofs.compacting.digits.digits_end_slowly.Goals as goal
+use Rattle.city_json.proofs.reading.digits.digits_end_slowly.Goals as goal
 
 pub returns-then-stops-ne0-clause-within : goal.returns-then-stops-ne0-clause-within
 returns-then-stops-ne0-clause-within c =
