@@ -14,7 +14,7 @@ ghost use Rattle.city_grid.specs.Vertex.{vertex_tree};
 
 use crate::vertices::Vertex;
 use crate::vertices::digits::digits_value_between;
-use crate::vertices::texts::PlacedVertex;
+use crate::vertices::spelled::PlacedVertex;
 use byte_streams::limits::MAX_STEPS;
 use std::simd::prelude::*;
 

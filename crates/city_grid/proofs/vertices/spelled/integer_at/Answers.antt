@@ -3,7 +3,7 @@ use Rattle.std.proofs.lemmas.Int.{ints}
 use Rattle.city_grid.specs.Decimal.{signed}
 use Rattle.city_grid.specs.Vertex.{IsInteger}
 use Rattle.city_grid.proofs.vertices.SpelledIntegers.{unsigned_integer, negative_integer}
-use Rattle.city_grid.proofs.vertices.spelled.spelled_integer_at.Goals as goal
+use Rattle.city_grid.proofs.vertices.spelled.integer_at.Goals as goal
 
 pub returns-then-byte_is-clause-spelled : goal.returns-then-byte_is-clause-spelled
 returns-then-byte_is-clause-spelled c =
