@@ -53,6 +53,13 @@ impl Line {
         self.bytes.extend_from_slice(bytes)
     }
 
+    /// Makes room for this many bytes more. Out of memory, the room is as before.
+    pub fn reserve(&mut self, more: usize) -> Result<(), AllocError>
+        ensures { self.new ≡ self.old }
+    {
+        self.bytes.reserve(more)
+    }
+
     /// Keeps the first bytes, this many at most.
     pub fn truncate(&mut self, len: usize)
         ensures { self.new ≡ take len self.old }

@@ -4,7 +4,7 @@ pub mod MovedLines
 pub mod StillFeature
 pub mod TextVertices
 pub mod QuickTypes
-pub mod QuickMoves
+pub mod LineVertices
 pub mod FirstTypes
 pub mod TriplesAreVertices
 pub mod TripleVertices

@@ -9,6 +9,7 @@ pub mod FeatureLine
 pub mod Header
 pub mod Joined
 pub mod JoinedMembers
+pub mod LineVertices
 pub mod Origin
 pub mod Pieces
 pub mod Quick

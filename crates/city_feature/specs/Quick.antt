@@ -68,24 +68,3 @@ IsCompacted bytes line parts =
     × Fits (object members)
     × (line ≡ compact (object members))
     × AreParts 1 parts members
-
--- the line is a feature whose vertices stand as they would be written
-abbrev pub IsAsWritten : List ℕ → List Part → Type 0
-IsAsWritten line parts =
-    (part : Part)
-    × (ps : List Triple)
-    × All IsInRange ps
-    × (with_value line part (compact (vertices_tree ps)) ≡ line)
-    × ((members : MemberTrees) → IsLine line parts members → IsFeature (object members) ps
-    × IsPlaceOf (codes "vertices") members line part)
-
--- the same, and whether the extent of these vertices meets the area
-abbrev pub IsMeasured : List ℕ → List Part → Area → Bool → Type 0
-IsMeasured line parts area meets =
-    (part : Part)
-    × (ps : List Triple)
-    × All IsInRange ps
-    × (with_value line part (compact (vertices_tree ps)) ≡ line)
-    × ((members : MemberTrees) → IsLine line parts members → IsFeature (object members) ps
-    × IsPlaceOf (codes "vertices") members line part)
-    × (IsTrue meets ↔ Meets area ps)

@@ -6,7 +6,7 @@ use city_feature::{
     Choice, Feature, area, feature, feature_line, feature_text, line, selects, shifted, types,
 };
 use city_grid::Shift;
-use city_json::{LentText, read};
+use city_json::{TextPlace, read};
 use std::alloc::{AllocError, Global};
 
 /// A field of what is asked for: how far features are moved, their types, their area, and `others` where all but these
@@ -68,7 +68,7 @@ pub(crate) fn is_answered(
         && is_answered_alone(alloc, bytes, (shift, choice), added, fault)
 }
 
-/// The same of the line's text by itself.
+/// The same of the line's text by itself, in buffers that hold other lines.
 fn is_answered_alone(
     alloc: Global,
     bytes: &[u8],
@@ -76,11 +76,13 @@ fn is_answered_alone(
     added: &[u8],
     fault: Option<Fault>,
 ) -> bool {
-    let Ok(spare) = front(alloc) else {
+    let (Ok(mut compact), Ok(mut text)) = (front(alloc), front(alloc)) else {
         return false;
     };
-    match feature_text(alloc, bytes, shift, choice, spare) {
-        Ok(Some(text)) => fault.is_none() && !added.is_empty() && text.bytes() == added,
+    match feature_text(alloc, bytes, shift, choice, &mut compact, &mut text) {
+        Ok(Some(place)) => {
+            fault.is_none() && !added.is_empty() && place.bytes(bytes, &text) == added
+        }
         Ok(None) => fault.is_none() && added.is_empty(),
         Err(found) => fault == Some(found),
     }
@@ -175,14 +177,20 @@ pub(crate) fn gives_asked(alloc: Global, line: &str, asked: &str, wanted: &str) 
 /// More than any line of these tests has.
 const ROOM: usize = 1 << 24;
 
-/// Whether the feature is chosen, and its text stands in the memory that the text had.
+/// Whether the feature is chosen, and its text stands where it was read, or in the memory that was given for the compact
+/// text of the line.
 fn stays_in_place(alloc: Global, line: &str, choice: &Choice) -> bool {
     let Ok(room) = Vec::with_capacity(alloc, ROOM) else {
         return false;
     };
-    let mut text = Line::from_vec(room);
-    let answer = feature_line(alloc, line.as_bytes(), Shift::zero(), choice, &mut text);
-    answer == Ok(true) && text.into_vec().capacity() >= ROOM
+    let mut compact = Line::from_vec(room);
+    let mut text = Line::new(alloc);
+    let still = Shift::zero();
+    match feature_text(alloc, line.as_bytes(), still, choice, &mut compact, &mut text) {
+        Ok(Some(TextPlace::Read(_))) => true,
+        Ok(Some(TextPlace::Written)) => text.into_vec().capacity() >= ROOM,
+        _ => false,
+    }
 }
 
 fn takes_over(alloc: Global, line: &str, names: &str, exclude: bool) -> bool {
@@ -193,26 +201,27 @@ fn takes_over(alloc: Global, line: &str, names: &str, exclude: bool) -> bool {
 }
 
 /// Whether the line is answered with no value built, where features of these types are asked for, or all others. That
-/// is seen by the memory that the text has: such a line takes it over, and a value is printed into memory of its own.
+/// is seen by where its text stands: the compact text of such a line is its text, and a value is printed into memory of its
+/// own.
 pub(crate) fn takes_memory_over(alloc: Global, line: &str, names: &str) -> bool {
     takes_over(alloc, line, names, false) || takes_over(alloc, line, names, true)
 }
 
-/// Whether the line is lent where it is chosen, and not where it is not.
-pub(crate) fn is_lent(
-    alloc: Global,
-    line: &str,
-    names: &str,
-    area: &str,
-    is_chosen: bool,
-) -> Result<bool, Fault> {
-    let choice = choice_of(alloc, names, area, false)?;
+/// Where the text of the line stands, in the common words for it: `read`, up to the end or a place before it, `written`, or
+/// `none` where it is not chosen.
+pub(crate) fn place_of(alloc: Global, line: &str, asked: &str) -> Result<&'static str, Fault> {
+    let shift = asked_shift(asked).ok_or(Fault::ShiftRange)?;
+    let choice = asked_choice(alloc, asked)?;
+    let (mut compact, mut text) = (Line::new(alloc), Line::new(alloc));
     let bytes = line.as_bytes();
-    match feature_text(alloc, bytes, Shift::zero(), &choice, Line::new(alloc))? {
-        Some(LentText::AsRead(lent, _)) => Ok(is_chosen && lent == bytes),
-        Some(LentText::Written(_)) => Ok(false),
-        None => Ok(!is_chosen),
-    }
+    Ok(
+        match feature_text(alloc, bytes, shift, &choice, &mut compact, &mut text)? {
+            Some(TextPlace::Read(end)) if end == line.trim().len() => "read",
+            Some(TextPlace::Read(_)) => "elsewhere",
+            Some(TextPlace::Written) => "written",
+            None => "none",
+        },
+    )
 }
 
 /// The form in which what is wanted is put: a fault, `chosen` and `none` stand for themselves.
@@ -244,9 +253,10 @@ pub(crate) fn holds(
 /// Whether the text has room for a quarter more than the line that it is written from: it is asked for at once where no
 /// value is built, and vertices are written anew.
 fn has_room_for_more(alloc: Global, line: &[u8], shift: Shift, choice: &Choice) -> bool {
-    let mut text = Line::new(alloc);
-    let answer = feature_line(alloc, line, shift, choice, &mut text);
-    answer == Ok(true) && text.into_vec().capacity() == line.len() + line.len() / 4
+    let (mut compact, mut text) = (Line::new(alloc), Line::new(alloc));
+    let answer = feature_text(alloc, line, shift, choice, &mut compact, &mut text);
+    answer == Ok(Some(TextPlace::Written))
+        && text.into_vec().capacity() == line.len() + line.len() / 4
 }
 
 /// The same of the line of a row.

@@ -1,5 +1,5 @@
 //! Lines of features: which are chosen, how they are moved, and which fault they have.
-use crate::answers::{gives_asked, has_room, holds, is_answered, is_lent};
+use crate::answers::{gives_asked, has_room, holds, is_answered, place_of};
 use crate::texts::{Numbers, below, filled, repeated, split};
 use byte_streams::Fault;
 use city_feature::Choice;
@@ -513,26 +513,61 @@ fn a_feature_without_a_type_is_among_all_others(rt: HostRuntime) -> Result<(), A
     Ok(())
 }
 
-/// Lines that are their own compact text, of a building.
-const COMPACT: &str = r#"
-{"type":"CityJSONFeature","id":"b","CityObjects":{"b":{"type":"Building"}},"vertices":[]}
-{"type":"CityJSONFeature","id":"b","CityObjects":{"b":{"type":"Building"}},"vertices":[[10,20,30]]}
-{"vertices":[[10,20,30],[-1,0,9007199254740991]],"type":"CityJSONFeature","id":"b","CityObjects":{"b":{"type":"Building"}}}
+/// Lines of a building, and where the text stands of a feature whose vertices stay as they stand.
+const LINES: &str = r#"
+{"type":"CityJSONFeature","id":"b","CityObjects":{"b":{"type":"Building"}},"vertices":ROW} => read
+{"vertices":ROW,"type":"CityJSONFeature","id":"b","CityObjects":{"b":{"type":"Building"}}} => read
+{"type":"CityJSONFeature","id":"b","CityObjects":{"b":{"type":"Building"}},"vertices":ROW}  => read
+ {"type":"CityJSONFeature","id":"b","CityObjects":{"b":{"type":"Building"}},"vertices":ROW} => written
+{"type":"CityJSONFeature","id":"b","CityObjects":{"b":{"type":"Building"}},"vertices": ROW } => written
+{"type": "CityJSONFeature", "id": "b", "vertices": ROW, "CityObjects": {"b": {"type": "Building"}}} => written
+{"type":"CityJSONFeature","id":"\u0062","CityObjects":{"b":{"type":"Building"}},"vertices":ROW} => written
 "#;
 
-/// They are lent, whether they are asked for by nothing, a type or an area.
+/// What is asked for, vertices, and where the text stands: `there` for where such a line says.
+const STANDING: &str = "
+all => [] => there
+all => [[10,20,30]] => there
+;Building => [] => there
+;Building => [[10,20,30]] => there
+;Building => [[10,20,30],[-1,0,9007199254740991]] => there
+;Building;0,0,20,30 => [] => none
+;Building;0,0,20,30 => [[10,20,30]] => there
+;Building;0,0,20,30 => [[10,20,30],[-1,0,9007199254740991]] => there
+;Building;0,0,20,30;others => [] => there
+;Building;0,0,20,30;others => [[10,20,30]] => none
+;Building;0,0,9,30 => [[10,20,30]] => none
+;Road => [[10,20,30]] => none
+;Road => [[10,20,9007199254740991]] => none
+all => [[10,-0,30]] => written
+;Building;0,0,20,30 => [[10,-0,30]] => written
+;Building;0,0,9,30 => [[10,-0,30]] => none
+10,20,30 => [[10,20,30]] => written
+10,20,30;Building;20,40,20,40 => [[10,20,30]] => written
+10,20,30;Building;0,0,19,39 => [[10,20,30]] => none
+10,20,30;Road => [[10,20,30]] => none
+10,20,30 => [[10,20,9007199254740000]] => written
+";
+
+fn stands(alloc: Global, form: &str, row: &str, there: &str) -> Result<bool, Fault> {
+    let (asked, texts) = split(row);
+    let (vertices, wanted) = split(texts);
+    let line = filled(alloc, form, vertices)?;
+    let wanted = if wanted == "there" { there } else { wanted };
+    Ok(place_of(alloc, &line, asked)? == wanted)
+}
+
+/// The text of a compact line whose vertices stay as they stand is the line; each other one is written.
 #[test]
-fn compact_lines_are_lent(rt: HostRuntime) {
-    for row in COMPACT.lines() {
-        for area in ["", "0,0,20,30"].iter() {
-            let is_so = is_lent(
-                rt.alloc(),
-                row,
-                "Building",
-                area,
-                row.contains("[[") || area.is_empty(),
+fn texts_stand_where_they_were_read_or_are_written(rt: HostRuntime) {
+    for form in LINES.lines() {
+        let (form, there) = split(form);
+        for row in STANDING.lines() {
+            let is_so = form.is_empty() || row.is_empty();
+            assert!(rt;
+                is_so || stands(rt.alloc(), form, row, there) == Ok(true),
+                "{form} {row}"
             );
-            assert!(rt; row.is_empty() || is_so == Ok(true), "{row}");
         }
     }
 }

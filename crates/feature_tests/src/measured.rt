@@ -1,8 +1,8 @@
 //! Triples are measured in their text, and an answer is given: else each feature of which an area is asked would be read.
 use crate::texts::{filled, split};
 use byte_streams::Line;
-use city_feature::{area, measured};
-use city_json::compact_lent;
+use city_feature::{area, triples_meet};
+use city_json::{compact_object, part_named};
 use std::alloc::{AllocError, Global};
 
 /// A feature whose vertices are the last triples of its line, and the same with other members.
@@ -32,9 +32,15 @@ const TRIPLES: &str = "
 
 /// Whether the vertices of a line meet an area. `None`: that is not said.
 fn meets(alloc: Global, line: &str, corners: &str) -> Option<bool> {
-    let found = compact_lent(alloc, line.as_bytes(), Line::new(alloc))?;
+    let mut buffer = Line::new(alloc);
+    let object = compact_object(alloc, line.as_bytes(), &mut buffer)?;
+    let text = object.place.bytes(line.as_bytes(), &buffer);
+    let part = part_named(text, &object.parts, b"\"vertices\":")?;
+    if !object.triples.is_value_of(part) {
+        return None;
+    }
     let area = area(corners)?;
-    measured(found.text.bytes(), &found.parts, found.triples, &area)
+    triples_meet(&area, text, object.triples)
 }
 
 /// Whether it is said of a row what it tells.

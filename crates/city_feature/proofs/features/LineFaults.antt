@@ -24,7 +24,7 @@ use Rattle.city_feature.specs.Shapes.{IsArray, IsObject, IsText, IsThere}
 use Rattle.city_feature.specs.Texts.{IsCompactOf}
 use Rattle.city_feature.proofs.QuickLines.{utf8}
 use Rattle.city_feature.proofs.features.FeatureVertices.{feature_refused}
-use Rattle.city_feature.proofs.features.QuickMoves.{not_both}
+use Rattle.city_feature.proofs.features.LineVertices.{not_both}
 
 -- this byte stands first
 abbrev Begins : List ℕ → ℕ → Type 0

@@ -65,7 +65,7 @@ fn has_given_type(types: &Option<Types>, feature: &Json) -> bool
 }
 
 /// Whether the extent of the vertices meets the area, where there is one.
-fn meets_given_area(area: &Option<Area>, vertices: &[Vertex]) -> bool
+pub fn meets_given_area(area: &Option<Area>, vertices: &[Vertex]) -> bool
     ensures { IsTrue result ↔ IfSome area.now (λ area. Meets area vertices.now) }
 {
     match area {

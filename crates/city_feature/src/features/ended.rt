@@ -4,8 +4,8 @@ ghost use Rattle.city_json.specs.Bytes.{close_brace, comma, open_brace};
 ghost use Rattle.city_json.specs.Compact.{compact};
 ghost use Rattle.city_json.specs.Fits.{Fits};
 ghost use Rattle.city_json.specs.Grammar.{Spells};
-ghost use Rattle.city_json.specs.Lent.{lent_bytes};
 ghost use Rattle.city_json.specs.Members.{first_named};
+ghost use Rattle.city_json.specs.TextPlace.{text_at};
 ghost use Rattle.city_json.specs.Tree.{MemberTrees, Tree, object};
 ghost use Rattle.city_json.specs.Writable.{IsWritable};
 ghost use Rattle.city_feature.specs.Choice.{IsChosen};
@@ -13,10 +13,11 @@ ghost use Rattle.city_feature.specs.Ended.{IsAppearanceEnd, appearance_alone};
 ghost use Rattle.city_feature.specs.FeatureLine.{GivesFeature};
 
 use crate::choices::Choice;
-use crate::features::quick::{compacted_text, is_absent, part_named};
+use crate::features::members::is_absent;
+use crate::features::on_text::object_text;
 use byte_streams::Line;
 use city_grid::Shift;
-use city_json::{LentText, compact_lent};
+use city_json::{TextPlace, compact_object, part_named};
 use std::alloc::Global;
 
 fn are_same(text: &[u8], other: &[u8]) -> bool
@@ -44,14 +45,15 @@ fn is_appearance_alone(alloc: Global, text: &[u8]) -> bool
         × IsWritable appearance
         × Fits (object (appearance_alone appearance)) }
 {
-    let Some(found) = compact_lent(alloc, text, Line::new(alloc)) else {
+    let mut buffer = Line::new(alloc);
+    let Some(object) = compact_object(alloc, text, &mut buffer) else {
         return false;
     };
-    if found.parts.len() != 1 {
+    if object.parts.len() != 1 {
         return false;
     }
-    let line = found.text.bytes();
-    let Some(_part) = part_named(line, &found.parts, b"\"appearance\":") else {
+    let line = object.place.bytes(text, &buffer);
+    let Some(_part) = part_named(line, &object.parts, b"\"appearance\":") else {
         return false;
     };
     are_same(text, line)
@@ -70,25 +72,27 @@ pub fn is_appearance_end(alloc: Global, end: &[u8]) -> bool
 }
 
 /// The compact text of the feature of a line that is compact and has no appearance, moved by the shift, where it is chosen
-/// then. `None`: undecided.
-fn closed_text<'a>(
+/// then: none, or where it stands, in the line or in `text`. `None`: undecided.
+fn closed_text(
     alloc: Global,
-    line: &'a [u8],
+    line: &[u8],
     shift: Shift,
     choice: &Choice,
-) -> Option<Option<LentText<'a>>>
+    text: &mut Line,
+) -> Option<Option<TextPlace>>
     ensures { IfSome result (λ given. (members : MemberTrees) × Spells line.now (object members)
         × (line.now ≡ compact (object members))
         × (first_named (codes "appearance") members ≡ None)
-        × GivesFeature (IsChosen choice.now) shift line.now (option_map lent_bytes given)) }
+        × GivesFeature (IsChosen choice.now) shift line.now
+        (option_map (λ place. text_at place line.now text.new) given)) }
 {
-    let found = compact_lent(alloc, line, Line::new(alloc))?;
-    let text = found.text.bytes();
-    if !are_same(line, text) || !is_absent(text, &found.parts, b"\"appearance\":") {
+    let mut compact = Line::new(alloc);
+    let object = compact_object(alloc, line, &mut compact)?;
+    let found = object.place.bytes(line, &compact);
+    if !are_same(line, found) || !is_absent(found, &object.parts, b"\"appearance\":") {
         return None;
     }
-    let given = compacted_text(alloc, found, shift, choice)?;
-    Some(given)
+    object_text(alloc, line, &object, shift, choice, &mut compact, text)
 }
 
 /// Makes of a feature's own part the text of an object.
@@ -126,9 +130,11 @@ pub fn own_text(
         → GivesFeature (IsChosen choice.now) shift (own.now ++ end) (option_map (λ front. front ++ end) given)) }
 {
     close(own, buffer)?;
-    let Some(text) = closed_text(alloc, buffer.items(), shift, choice)? else {
+    let closed = buffer.items();
+    let mut text = Line::new(alloc);
+    let Some(place) = closed_text(alloc, closed, shift, choice, &mut text)? else {
         return Some(None);
     };
-    let front = before_brace(alloc, text.bytes())?;
+    let front = before_brace(alloc, place.bytes(closed, &text))?;
     Some(Some(front))
 }

@@ -12,12 +12,12 @@ ghost use Rattle.city_feature.specs.Shapes.{IsArray, IsObject, IsText};
 ghost use Rattle.city_feature.specs.Texts.{IsCompactOf};
 
 use crate::features::faults::vertices_fault;
+use crate::features::members::member_or;
 use crate::features::moving::moved_all;
-use crate::features::quick::member_or;
 use crate::features::texts::vertices_of;
 use byte_streams::{Fault, Line};
 use city_grid::{Shift, byte_is};
-use city_json::{Part, check, compact_lent, spells_no_object};
+use city_json::{Part, check, compact_object, spells_no_object};
 use std::alloc::Global;
 
 /// Whether the value whose compact text this is is the type of a feature.
@@ -50,7 +50,7 @@ pub fn is_array(text: &[u8]) -> bool
 }
 
 /// The compact text of the value of a member, of `null` where there is none; its name is given as in
-/// [`part_named`](super::quick::part_named).
+/// [`part_named`](city_json::part_named).
 pub(crate) fn value_named<'a>(line: &'a [u8], parts: &[Part], name: &[u8]) -> Option<&'a [u8]>
     ensures { IfSome result (λ found. (members : MemberTrees) → IsCompactOf line.now (object members)
         → AreParts 1 parts.now members → (named : List ℕ) → IsUtf8 named → name.now ≡ quoted named ++ colon ∷ []
@@ -113,8 +113,9 @@ pub fn line_fault(alloc: Global, bytes: &[u8], shift: Shift) -> Option<Fault>
     ensures refusal { IfSome result (λ fault. RefusesFeatureLine shift fault bytes.now) }
     ensures fault { IfSome result (λ fault. fault ≢ Fault.Memory) }
 {
-    let found = compact_lent(alloc, bytes, Line::new(alloc))?;
-    object_fault(alloc, found.text.bytes(), &found.parts, shift)
+    let mut buffer = Line::new(alloc);
+    let object = compact_object(alloc, bytes, &mut buffer)?;
+    object_fault(alloc, object.place.bytes(bytes, &buffer), &object.parts, shift)
 }
 
 /// Refuses a line that gives no feature which is moved by the shift, as far as that is told with no value of it; the faults

@@ -1,5 +1,6 @@
+//! The line of a feature, from its bytes to its text.
 ghost use Rattle.std.specs.Prelude.{◌≡◌, ◌++◌, ℕ, List, [], Option, is_some, option_map, unwrap_or, OnErr, IfOk, IfErr};
-ghost use Rattle.city_json.specs.Lent.{lent_bytes};
+ghost use Rattle.city_json.specs.TextPlace.{text_at};
 ghost use Rattle.city_feature.specs.Choice.{IsChosen};
 ghost use Rattle.city_feature.specs.FeatureLine.{GivesFeature, RefusesFeatureLine, SpellsMoved};
 ghost use Rattle.city_feature.specs.Values.{feature_value};
@@ -9,11 +10,11 @@ use crate::choices::selecting::selects;
 use crate::features::Feature;
 use crate::features::line_faults::check_line;
 use crate::features::moving::shifted;
-use crate::features::quick::{quick_line, quick_text};
+use crate::features::on_text::object_text;
 use crate::features::reader::feature;
 use byte_streams::{Fault, Line};
 use city_grid::Shift;
-use city_json::{LentText, print, read};
+use city_json::{TextPlace, compact_object, print, read};
 use std::alloc::Global;
 
 /// Reads a line as a feature, and moves it by the shift.
@@ -26,8 +27,8 @@ fn moved_feature(alloc: Global, bytes: &[u8], shift: Shift) -> Result<Feature, F
     shifted(alloc, feature, shift)
 }
 
-/// The same for a line that is not answered at once: why there is no text is told by the line's compact text where that
-/// can be, else by its value.
+/// The text that [`feature_text`] gives of a line that is not answered on its compact text: why there is none is told by
+/// that where it can be, else by the line's value. The text is written into `text`.
 #[inline(never)]
 fn plain_line(
     alloc: Global,
@@ -35,39 +36,45 @@ fn plain_line(
     shift: Shift,
     choice: &Choice,
     text: &mut Line,
-) -> Result<bool, Fault>
-    ensures ok { IfOk result (λ is_chosen. (given : Option (List ℕ))
-        × GivesFeature (IsChosen choice.now) shift bytes.now given
-        × (is_some given ≡ is_chosen)
-        × (text.new ≡ text.old ++ unwrap_or given [])) }
-    ensures err { OnErr result (text.new ≡ text.old) }
+) -> Result<Option<TextPlace>, Fault>
+    ensures ok { IfOk result (λ given. GivesFeature (IsChosen choice.now) shift bytes.now
+        (option_map (λ place. text_at place bytes.now text.new) given)) }
     ensures refusal { IfErr result (λ fault. RefusesFeatureLine shift fault bytes.now) }
 {
     check_line(alloc, bytes, shift)?;
     let moved = moved_feature(alloc, bytes, shift)?;
     if !selects(choice, &moved) {
-        return Ok(false);
+        return Ok(None);
     }
+    text.truncate(0);
     print(moved.json(), text)?;
-    Ok(true)
+    Ok(Some(TextPlace::Written))
 }
 
-/// The same in a text of its own.
-fn plain_text<'a>(
+/// The compact text of the feature that a line spells, moved by the shift, where it is chosen then: none, or where it
+/// stands, in the line as it was read or in `text`. `compact` and `text` are buffers; what they held is lost.
+///
+/// # Errors
+///
+/// Those of [`feature_line`].
+pub fn feature_text(
     alloc: Global,
     bytes: &[u8],
     shift: Shift,
     choice: &Choice,
-) -> Result<Option<LentText<'a>>, Fault>
-    ensures ok { IfOk result (λ given.
-        GivesFeature (IsChosen choice.now) shift bytes.now (option_map lent_bytes given)) }
+    compact: &mut Line,
+    text: &mut Line,
+) -> Result<Option<TextPlace>, Fault>
+    ensures ok { IfOk result (λ given. GivesFeature (IsChosen choice.now) shift bytes.now
+        (option_map (λ place. text_at place bytes.now text.new) given)) }
     ensures refusal { IfErr result (λ fault. RefusesFeatureLine shift fault bytes.now) }
 {
-    let mut text = Line::new(alloc);
-    if !plain_line(alloc, bytes, shift, choice, &mut text)? {
-        return Ok(None);
+    if let Some(object) = compact_object(alloc, bytes, compact) {
+        if let Some(given) = object_text(alloc, bytes, &object, shift, choice, compact, text) {
+            return Ok(given);
+        }
     }
-    Ok(Some(LentText::Written(text)))
+    plain_line(alloc, bytes, shift, choice, text)
 }
 
 /// Appends the compact text of the feature that a line spells, moved by the shift, where it is chosen
@@ -94,31 +101,11 @@ pub fn feature_line(
     ensures err { OnErr result (text.new ≡ text.old) }
     ensures refusal { IfErr result (λ fault. RefusesFeatureLine shift fault bytes.now) }
 {
-    if let Some(is_chosen) = quick_line(alloc, bytes, shift, choice, text) {
-        return Ok(is_chosen);
-    }
-    plain_line(alloc, bytes, shift, choice, text)
-}
-
-/// The compact text of the feature that a line spells, moved by the shift, where it is chosen then. It may be lent,
-/// where it is the line itself but for white space at its end. What `spare` held is dropped; it is taken for its memory.
-///
-/// # Errors
-///
-/// Those of [`feature_line`].
-pub fn feature_text<'a>(
-    alloc: Global,
-    bytes: &'a [u8],
-    shift: Shift,
-    choice: &Choice,
-    spare: Line,
-) -> Result<Option<LentText<'a>>, Fault>
-    ensures ok { IfOk result (λ given.
-        GivesFeature (IsChosen choice.now) shift bytes.now (option_map lent_bytes given)) }
-    ensures refusal { IfErr result (λ fault. RefusesFeatureLine shift fault bytes.now) }
-{
-    if let Some(given) = quick_text(alloc, bytes, shift, choice, spare) {
-        return Ok(given);
-    }
-    plain_text(alloc, bytes, shift, choice)
+    let (mut compact, mut own) = (Line::new(alloc), Line::new(alloc));
+    let given = feature_text(alloc, bytes, shift, choice, &mut compact, &mut own)?;
+    let Some(place) = given else {
+        return Ok(false);
+    };
+    text.append(place.bytes(bytes, &own))?;
+    Ok(true)
 }

@@ -1,5 +1,5 @@
 use Rattle.std.proofs.Common.{arith}
-use Rattle.city_feature.proofs.features.QuickMoves.{not_both}
+use Rattle.city_feature.proofs.features.LineVertices.{not_both}
 use Rattle.city_feature.proofs.features.ThreeNumbers.{number_before, other_before}
 use Rattle.city_feature.proofs.features.faults.after_number.Goals as goal
 

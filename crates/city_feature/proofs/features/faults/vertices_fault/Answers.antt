@@ -1,6 +1,6 @@
 use Rattle.std.proofs.Common.{arith}
 use Rattle.city_feature.proofs.features.FirstFaults.{err_told, fault_found, faults_begin, faults_go_on, ok_told}
-use Rattle.city_feature.proofs.features.QuickMoves.{not_both}
+use Rattle.city_feature.proofs.features.LineVertices.{not_both}
 use Rattle.city_feature.proofs.features.faults.vertices_fault.Goals as goal
 
 pub vertices-init : goal.vertices-init

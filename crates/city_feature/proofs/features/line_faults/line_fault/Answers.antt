@@ -1,20 +1,19 @@
-use Rattle.city_json.specs.Lent.{lent_bytes}
 use Rattle.city_feature.proofs.NamedTexts.{if_some_more}
 use Rattle.city_feature.proofs.features.LineFaults.{no_memory_line, refuses_line}
 use Rattle.city_feature.proofs.features.line_faults.line_fault.Goals as goal
 
 pub returns-clause-refusal : goal.returns-clause-refusal
 returns-clause-refusal c =
-    let found = c.in_ok-found.found in
+    let object = c.in_ok-object.object in
     if_some_more c.object_fault.result
-    (λ fault refused. refuses_line c.args.shift fault c.args.bytes.now (lent_bytes found.text)
-    c.bytes.result.now found.parts.items c.deref.result.now c.bytes.ensures c.deref.ensures.value
-    c.in_ok-found.ensures.object refused) c.object_fault.ensures
+    (λ fault refused. refuses_line c.args.shift fault c.args.bytes.now _
+    c.bytes.result.now object.parts.items c.deref.result.now c.bytes.ensures c.deref.ensures.value
+    c.in_ok-object.ensures.object refused) c.object_fault.ensures
 
 pub returns-clause-fault : goal.returns-clause-fault
 returns-clause-fault c =
-    let found = c.in_ok-found.found in
+    let object = c.in_ok-object.object in
     if_some_more c.object_fault.result
-    (λ fault refused. no_memory_line c.args.shift fault c.args.bytes.now (lent_bytes found.text)
-    c.bytes.result.now found.parts.items c.deref.result.now c.bytes.ensures c.deref.ensures.value
-    c.in_ok-found.ensures.object refused) c.object_fault.ensures
+    (λ fault refused. no_memory_line c.args.shift fault c.args.bytes.now _
+    c.bytes.result.now object.parts.items c.deref.result.now c.bytes.ensures c.deref.ensures.value
+    c.in_ok-object.ensures.object refused) c.object_fault.ensures

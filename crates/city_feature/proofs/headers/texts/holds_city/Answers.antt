@@ -2,7 +2,7 @@ use Rattle.std.proofs.Common.{◌≡◌, Bool, true, codes, inl, inr, refl}
 use Rattle.city_json.specs.Members.{first_named}
 use Rattle.city_feature.proofs.QuickLines.{utf8}
 use Rattle.city_feature.proofs.features.LineFaults.{there_or, value_of}
-use Rattle.city_feature.proofs.features.QuickMoves.{not_both}
+use Rattle.city_feature.proofs.features.LineVertices.{not_both}
 use Rattle.city_feature.specs.Shapes.{IsFilledArray, IsFilledObject}
 use Rattle.city_feature.proofs.headers.texts.holds_city.Goals as goal
 

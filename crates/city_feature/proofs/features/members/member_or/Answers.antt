@@ -1,0 +1,14 @@
+use Rattle.std.proofs.Common.{subst, sym, unwrap_or}
+use Rattle.city_feature.specs.Texts.{IsCompactOf}
+use Rattle.city_feature.proofs.NamedTexts.{if_some_more, value_or}
+use Rattle.city_feature.proofs.features.members.member_or.Goals as goal
+
+pub returns-in_default : goal.returns-in_default
+returns-in_default c = λ members of are named utf8 is value of_other.
+    let none = c.is_absent.ensures c.if-not-is_absent.false members of are named is in
+    subst (λ o. IsCompactOf c.args.other.now (unwrap_or o value)) (sym none) of_other
+
+pub returns : goal.returns
+returns c = if_some_more c.between.result (λ found lies members of are named utf8 is value of_other.
+    value_or c.args.text.now found.now c.args.name.now named c.args.parts.now c.in-Some.part members value of are utf8
+    is c.in-Some.ensures lies) c.between.ensures.some

@@ -1,0 +1,178 @@
+//! The type of a feature, found on the compact text of its line.
+ghost use Rattle.std.specs.Prelude.{◌≡◌, ◌≤◌, ◌++◌, ◌∷◌, [], ◌↔◌, List, ℕ, length, take, Contains, Some, codes, unwrap_or, IsUtf8, IfSome, IsTrue};
+ghost use Rattle.city_json.specs.Bytes.{colon, quotation_mark};
+ghost use Rattle.city_json.specs.Compact.{quoted};
+ghost use Rattle.city_json.specs.Fits.{Fits};
+ghost use Rattle.city_json.specs.Members.{first_named, member_of};
+ghost use Rattle.city_json.specs.Tree.{Tree, MemberTrees, null, object, string};
+ghost use Rattle.city_feature.specs.Choice.{HasType};
+ghost use Rattle.city_feature.specs.Quick.{AreLetters, IsLetter, IsLine};
+ghost use Rattle.city_feature.specs.Shapes.{IsText, IsThere, member_in};
+ghost use Rattle.city_feature.specs.Texts.{IsCompactOf};
+
+use crate::choices::types::Types;
+use crate::features::members::member_or;
+use byte_streams::Line;
+use city_grid::byte_is;
+use city_json::{Json, Part, between, members_of_compact, part_named, read};
+use std::alloc::Global;
+
+/// The compact text of a member of the value whose compact text this is; that of `null`, where there is none. The name is
+/// given as it stands in the text, with its marks and its colon.
+fn member_text<'a>(alloc: Global, text: &'a [u8], name: &[u8]) -> Option<&'a [u8]>
+    ensures { IfSome result (λ found. (value : Tree) → IsCompactOf text.now value
+        → (named : List ℕ) → IsUtf8 named → name.now ≡ quoted named ++ colon ∷ []
+        → IsCompactOf found.now (unwrap_or (member_of named value) null)) }
+{
+    if !byte_is(text, 0, b'{') {
+        return Some(b"null");
+    }
+    let parts = members_of_compact(alloc, text)?;
+    member_or(text, &parts, name, b"null")
+}
+
+/// The text that is the line's `id`, with its marks, and a colon after it.
+fn id_and_colon(alloc: Global, line: &[u8], parts: &[Part]) -> Option<Line>
+    ensures { IfSome result (λ name. (all : MemberTrees) → IsLine line.now parts.now all
+        → (id : List ℕ) → first_named (codes "id") all ≡ Some (string id)
+        → IsUtf8 id × (name ≡ quoted id ++ colon ∷ [])) }
+{
+    let part = part_named(line, parts, b"\"id\":")?;
+    let id = between(line, part.value, part.end)?;
+    let mut name = Line::new(alloc);
+    let Ok(_) = name.append(id) else {
+        return None;
+    };
+    let Ok(_) = name.append(b":") else {
+        return None;
+    };
+    Some(name)
+}
+
+/// The compact text of the member `type` of the city object that the line's `id` names; that of `null`, where there is
+/// none.
+#[inline(never)]
+fn type_text<'a>(alloc: Global, line: &'a [u8], parts: &[Part]) -> Option<&'a [u8]>
+    ensures { IfSome result (λ found. (all : MemberTrees) → Fits (object all) → IsLine line.now parts.now all
+        → (id : List ℕ) → first_named (codes "id") all ≡ Some (string id)
+        → IsCompactOf found.now (unwrap_or
+        (member_in (codes "type") (member_in id (first_named (codes "CityObjects") all))) null)) }
+{
+    let id = id_and_colon(alloc, line, parts)?;
+    let objects = member_or(line, parts, b"\"CityObjects\":", b"null")?;
+    let object = member_text(alloc, objects, id.items())?;
+    member_text(alloc, object, b"\"type\":")
+}
+
+/// What stands in a text after these first bytes. None: it does not begin with them.
+fn after_front<'a>(text: &'a [u8], front: &[u8]) -> Option<&'a [u8]>
+    ensures { IfSome result (λ rest. text.now ≡ front.now ++ rest.now) }
+{
+    if text.starts_with(front) {
+        Some(&text[front.len()..])
+    } else {
+        None
+    }
+}
+
+/// Whether the byte is a letter, a digit or a plus: the names of most types have no others.
+#[inline(always)]
+fn is_letter(byte: u8) -> bool
+    ensures { IsTrue result → IsLetter byte }
+{
+    matches!(byte, b'a'..=b'z' | b'A'..=b'Z' | b'0'..=b'9' | b'+')
+}
+
+/// How many letters stand first.
+fn letters_len(text: &[u8]) -> usize
+    ensures within { result ≤ length text.now }
+    ensures letters { AreLetters (take result text.now) }
+{
+    let mut end = 0usize;
+    while end < text.len() && is_letter(text[end]) {
+        end += 1;
+    }
+    end
+}
+
+/// The letters that stand first, up to a quotation mark.
+fn letters_of(text: &[u8]) -> Option<&[u8]>
+    ensures { IfSome result (λ name. AreLetters name.now
+        × (more : List ℕ) × (text.now ≡ name.now ++ quotation_mark ∷ more)) }
+{
+    let end = letters_len(text);
+    if end == text.len() || text[end] != b'"' {
+        return None;
+    }
+    Some(&text[..end])
+}
+
+/// The text of that type, where the city object stands first among the objects and its type first in it.
+fn first_type<'a>(line: &'a [u8], parts: &[Part]) -> Option<&'a [u8]>
+    ensures { IfSome result (λ name. (all : MemberTrees) → IsLine line.now parts.now all
+        → (id : List ℕ) → first_named (codes "id") all ≡ Some (string id)
+        → member_in (codes "type") (member_in id (first_named (codes "CityObjects") all))
+        ≡ Some (string name.now)) }
+{
+    let id_part = part_named(line, parts, b"\"id\":")?;
+    let id = between(line, id_part.value, id_part.end)?;
+    let objects_part = part_named(line, parts, b"\"CityObjects\":")?;
+    let objects = between(line, objects_part.value, objects_part.end)?;
+    let first = after_front(objects, b"{")?;
+    let object = after_front(first, id)?;
+    let value = after_front(object, b":{\"type\":\"")?;
+    letters_of(value)
+}
+
+/// Whether the name is one of the types.
+fn is_one_of(types: &Types, name: &[u8]) -> bool
+    ensures { IsTrue result ↔ Contains types.now name.now }
+{
+    types
+        .items()
+        .iter()
+        .any(|each| each.as_str().as_bytes() == name)
+}
+
+/// Whether the value whose compact text this is is one of the types; one that is no text is none. `None`: undecided.
+#[inline(never)]
+fn spells_one_of(alloc: Global, types: &Types, text: &[u8]) -> Option<bool>
+    ensures { IfSome result (λ is. (value : Tree) → IsCompactOf text.now value
+        → (IsTrue is ↔ ((name : List ℕ) × (value ≡ string name) × Contains types.now name))) }
+{
+    if !byte_is(text, 0, b'"') {
+        return Some(false);
+    }
+    if let Some(name) = letters_of(&text[1..]) {
+        return Some(is_one_of(types, name));
+    }
+    let Ok(value) = read(alloc, text) else {
+        return None;
+    };
+    let Json::Text(name) = &value else {
+        return None;
+    };
+    Some(is_one_of(types, name.as_str().as_bytes()))
+}
+
+/// Whether the feature of a line has one of the types, where there are any. `None`: undecided, which a line that fits is
+/// only where memory ran out.
+pub fn has_given_type(
+    alloc: Global,
+    types: &Option<Types>,
+    line: &[u8],
+    parts: &[Part],
+) -> Option<bool>
+    ensures { IfSome result (λ has. (all : MemberTrees) → Fits (object all) → IsLine line.now parts.now all
+        → IsThere IsText (first_named (codes "id") all)
+        → (IsTrue has ↔ IfSome types.now (λ types. HasType types (object all)))) }
+{
+    let Some(types) = types else {
+        return Some(true);
+    };
+    if let Some(name) = first_type(line, parts) {
+        return Some(is_one_of(types, name));
+    }
+    let text = type_text(alloc, line, parts)?;
+    spells_one_of(alloc, types, text)
+}

@@ -1,0 +1,95 @@
+//! Vertices that stay as they stand and are not read: they are looked at or, where an area is asked for and they are
+//! triples, measured in their text, with no list of them and no z.
+ghost use Rattle.std.specs.Prelude.{◌≡◌, ◌≤◌, ◌+◌, ◌↔◌, List, All, length, slice_range, IfSome, IsTrue};
+ghost use Rattle.city_grid.specs.Axes.{IsInRange, Triple};
+ghost use Rattle.city_json.specs.Compact.{compact};
+ghost use Rattle.city_json.specs.Triples.{HasTriples, IsTriplesText};
+ghost use Rattle.city_feature.specs.Area.{Meets};
+ghost use Rattle.city_feature.specs.Extent.{IsExtent};
+ghost use Rattle.city_feature.specs.Feature.{vertices_tree};
+ghost use Rattle.city_feature.specs.Quick.{IsVerticesText};
+
+use crate::choices::area::Area;
+use crate::choices::extents::{Extent, extended, reaches};
+use crate::features::texts::{MIN_LEN, is_vertices_text};
+use city_grid::triple_plan_at;
+use city_json::{Part, Span, between};
+
+/// The extent of the vertices that stand between two places of a text as triples of short whole numbers, so that they need
+/// no check; `None`: undecided.
+#[inline(never)]
+fn extent_of_triples(text: &[u8], from: usize, end: usize) -> Option<Extent>
+    requires triples { IsTriplesText text.now from end }
+    requires within { end ≤ length text.now }
+    requires long { from + 4 ≤ end }
+    ensures { IfSome result (λ extent. (ps : List Triple)
+        × (slice_range text.now from end ≡ compact (vertices_tree ps)) × All IsInRange ps
+        × IsExtent ps extent) }
+{
+    let mut extent = None;
+    let mut at = from + 1;
+    'vertices: loop {
+        let found = triple_plan_at(text, at)?;
+        let wider = extended(extent, found);
+        if found.end + 1 >= end {
+            return Some(wider);
+        }
+        extent = Some(wider);
+        at = found.end + 1;
+    }
+}
+
+/// Whether the extent of the vertices meets the area that stand in a text as triples; `None`: undecided, or there are none.
+pub fn triples_meet(area: &Area, text: &[u8], triples: Span) -> Option<bool>
+    requires triples { HasTriples text.now triples }
+    ensures { IfSome result (λ meets. (ps : List Triple)
+        × (slice_range text.now triples.from triples.end ≡ compact (vertices_tree ps)) × All IsInRange ps
+        × (IsTrue meets ↔ Meets area.now ps)) }
+{
+    let Span { from, end } = triples;
+    if end > text.len() || from >= end || end - from < MIN_LEN {
+        return None;
+    }
+    let extent = extent_of_triples(text, from, end)?;
+    Some(reaches(extent, area))
+}
+
+/// Whether what stands in a part of a line is what would be written for its vertices, which most often are the triples
+/// that were found there; `false`: undecided.
+#[inline(always)]
+fn are_as_written(line: &[u8], triples: Span, part: Part) -> bool
+    requires triples { HasTriples line.now triples }
+    ensures { IsTrue result → (part.value ≤ part.end)
+        × IsVerticesText (slice_range line.now part.value part.end) }
+{
+    if triples.is_value_of(part) {
+        return true;
+    }
+    let Some(text) = between(line, part.value, part.end) else {
+        return false;
+    };
+    is_vertices_text(text)
+}
+
+/// Whether the vertices in a part of a line, which need not be read to stay as they stand, meet the area, where there is
+/// one. `None`: undecided.
+#[inline(always)]
+pub(super) fn unread_vertices_meet(
+    area: &Option<Area>,
+    line: &[u8],
+    triples: Span,
+    part: Part,
+) -> Option<bool>
+    requires triples { HasTriples line.now triples }
+    ensures { IfSome result (λ meets. (part.value ≤ part.end) × (ps : List Triple)
+        × (slice_range line.now part.value part.end ≡ compact (vertices_tree ps)) × All IsInRange ps
+        × (IsTrue meets ↔ IfSome area.now (λ area. Meets area ps))) }
+{
+    let Some(area) = area else {
+        return are_as_written(line, triples, part).then_some(true);
+    };
+    if !triples.is_value_of(part) {
+        return None;
+    }
+    triples_meet(area, line, triples)
+}
