@@ -115,7 +115,12 @@ pub fn line_fault(alloc: Global, bytes: &[u8], shift: Shift) -> Option<Fault>
 {
     let mut buffer = Line::new(alloc);
     let object = compact_object(alloc, bytes, &mut buffer)?;
-    object_fault(alloc, object.place.bytes(bytes, &buffer), &object.parts, shift)
+    object_fault(
+        alloc,
+        object.place.bytes(bytes, &buffer),
+        &object.parts,
+        shift,
+    )
 }
 
 /// Refuses a line that gives no feature which is moved by the shift, as far as that is told with no value of it; the faults

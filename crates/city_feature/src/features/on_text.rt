@@ -221,8 +221,7 @@ pub(super) fn object_text(
 {
     let line = object.place.bytes(bytes, compact);
     let triples = object.triples;
-    let Some(vertices) = chosen_vertices(alloc, line, &object.parts, triples, shift, choice)?
-    else {
+    let Some(vertices) = chosen_vertices(alloc, line, &object.parts, triples, shift, choice)? else {
         return Some(None);
     };
     match vertices {
