@@ -37,7 +37,6 @@ mod QuickGeometries
 mod QuickHeaders
 mod QuickGraphs
 mod QuickNames
-mod QuickMembers
 mod QuickObjects
 mod QuickOverviews
 mod QuickPoints

@@ -16,13 +16,13 @@ use Rattle.city_json.specs.declared.compacting.places.Part.{Part}
 use Rattle.city_feature.proofs.QuickLines.{utf8}
 use Rattle.city_cut.specs.Boundaries.{IsGeometry, changed_members, own_boundary, relabelled_boundary}
 use Rattle.city_cut.specs.Copied.{CopiesItems, CopiesPart}
-use Rattle.city_cut.specs.FrontMembers.{EndsAfter, HasFrontParts, IsValuePlace}
+use Rattle.city_json.specs.FrontMembers.{EndsAfter, HasFrontParts, IsValuePlace}
 use Rattle.city_cut.specs.Leaves.{IsBoundary, IsNested, leaves, relabelled}
 use Rattle.city_cut.specs.Walks.{Labelling, Walks, walks_so, walks_text}
 use Rattle.city_feature.specs.Texts.{IsCompactOf}
 use Rattle.city_cut.proofs.CopiedArrays.{part_array}
 use Rattle.city_cut.proofs.CopiedTexts.{shown_here}
-use Rattle.city_cut.proofs.QuickMembers.{has_front_parts}
+use Rattle.city_json.proofs.FrontMembers.{has_front_parts}
 use Rattle.city_cut.proofs.QuickTexts.{changed_absent, walks_exchanged, member_there}
 
 part_boundary : (count : ℕ) (value : Tree) (rest tail : List ℕ) → IsWritable value

@@ -100,12 +100,6 @@ walks_exchanged s line line₁ s' line₂ line₃ text part members name value u
     (sym (changed_with name (f change) value members differ is))))
 
 -- ---- slices
-pub slice_back : (text : List ℕ) (from to : ℕ) → to ≡ length text → from ≤ to
-    → slice_range text from to ≡ drop from text
-slice_back text from to is within =
-    ap (λ l. take (to - from) l) (sym (append-nil (drop from text)))
-    ∙ take_at (drop from text) [] (to - from) (omega (arith, length-drop from text, is, within))
-
 pub slice_first : (text x : List ℕ) (at end : ℕ) → at ≤ end → end ≤ length text → drop at text ≡ x ++ drop end text
     → slice_range text at end ≡ x
 slice_first text x at end onward within is =

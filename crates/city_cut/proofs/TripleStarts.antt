@@ -19,7 +19,7 @@ use Rattle.city_json.specs.Bytes.{comma, open_bracket, close_bracket, digit_zero
 use Rattle.city_json.specs.Compact.{compact, compact_items, compact_more_items}
 use Rattle.city_json.specs.Tree.{Tree, ItemTrees, array, item, no_items}
 use Rattle.city_json.specs.Triples.{AreTriples, IsShortNumeral, IsTriple, three_numbers}
-use Rattle.city_grid.proofs.ShortIntegers.{integer}
+use Rattle.city_feature.proofs.features.TriplesAreVertices as triples
 use Rattle.city_grid.specs.Axes.{IsInRange, Triple, triple}
 use Rattle.city_grid.specs.Vertex.{vertex_tree}
 use Rattle.city_feature.specs.Feature.{vertices_tree}
@@ -27,39 +27,6 @@ use Rattle.city_cut.specs.Chosen.{point_at}
 use Rattle.city_cut.specs.TripleStarts.{IsTriplesArray, is_close, starts_behind}
 use Rattle.city_cut.specs.VertexTexts.{StandAt}
 use Rattle.city_cut.proofs.QuickPoints.{trees_of}
-
--- ---- the vertices
-record IsPrintedVertex (value : Tree) : Type 0 where
-  vertex : Triple
-  is : value ≡ vertex_tree vertex
-  range : IsInRange vertex
-
-vertex_of : (value : Tree) → IsTriple value → IsPrintedVertex value
-vertex_of value t =
-    let x = integer t.x t.short_x in
-    let y = integer t.y t.short_y in
-    let z = integer t.z t.short_z in
-    record {
-      vertex = triple x.value y.value z.value;
-      is = t.is ∙ (λ i. three_numbers (x.printed i) (y.printed i) (z.printed i));
-      range = (x.small, y.small, z.small);
-    }
-
-record ArePrinted (items : ItemTrees) : Type 0 where
-  points : List Triple
-  are : items ≡ trees_of points
-  range : All IsInRange points
-
-points_of : (items : ItemTrees) → AreTriples items → ArePrinted items
-points_of no_items are = record { points = []; are = refl; range = All-nil IsInRange }
-points_of (item value others) are =
-    let first = vertex_of value are.0 in
-    let rest = points_of others are.1 in
-    record {
-      points = first.vertex ∷ rest.points;
-      are = λ i. item (first.is i) (rest.are i);
-      range = All-cons IsInRange first.vertex rest.points first.range rest.range;
-    }
 
 -- ---- the first closing bracket of a block
 abbrev open_len : List ℕ → ℕ
@@ -315,8 +282,8 @@ pub stand_there : (text starts : List ℕ) (last : ℕ) → IsTriplesArray text 
     → starts ≡ 1 ∷ starts_behind 0 (slice_range text 0 last)
     → (points : List Triple) × (text ≡ compact (vertices_tree points)) × All IsInRange points × StandAt text starts points
 stand_there text starts last (items, are, written) is_last is =
-    let printed = points_of items are in
-    let ps = printed.points in
+    let printed = triples.vertices items are in
+    let ps = printed.vertices in
     let same : text ≡ compact (array (trees_of ps)) = written ∙ ap (λ o. compact (array o)) printed.are in
     let triples : AreTriples (trees_of ps) = subst AreTriples printed.are are in
     let inner = open_bracket ∷ compact_items (trees_of ps) in

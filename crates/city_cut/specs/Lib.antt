@@ -8,7 +8,6 @@ pub mod Cut
 pub mod Families
 pub mod Faults
 pub mod FeatureText
-pub mod FrontMembers
 pub mod Graphs
 pub mod HeaderText
 pub mod HeldTexts

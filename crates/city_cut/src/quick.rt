@@ -12,7 +12,6 @@ mod holders;
 mod items;
 mod kin;
 pub(crate) mod made;
-mod members;
 mod moving;
 mod names;
 mod notes;
@@ -57,8 +56,8 @@ use crate::cuts::CutTexts;
 use crate::families::{Kin, check_belonging};
 use crate::held::FeatureTexts;
 use byte_streams::Line;
-use city_feature::{between, part_named};
-use city_json::{Part, Span, compact_lent};
+
+use city_json::{Part, Span, between, compact_object, part_named};
 use features::{are_short, feature_texts};
 use graph::graph_of;
 use headers::header_of;
@@ -240,7 +239,7 @@ fn cut_on(
 }
 
 /// Cuts the document whose compact text this is, and whose members lie in these parts, as
-/// [`city_json::compact_parts`] gives them.
+/// [`city_json::compact_object`] gives them.
 /// `None`: undecided, or out of memory; [`crate::cut_texts`] decides.
 pub fn cut_compacted(alloc: Global, line: &[u8], parts: &[Part]) -> Option<CutTexts>
     requires { (members : MemberTrees) × IsCompactOf line.now (object members) × AreParts 1 parts.now members }
@@ -260,7 +259,7 @@ pub fn cut_compacted(alloc: Global, line: &[u8], parts: &[Part]) -> Option<CutTe
     cut_on(alloc, line, parts, &VertexTexts { text, starts })
 }
 
-/// The same, where it is known that triples of whole numbers stand in the line, as [`city_json::compact_given`] tells.
+/// The same, where it is known that triples of whole numbers stand in the line, as [`city_json::compact_object`] tells.
 /// `None`: undecided, or out of memory; [`crate::cut_texts`] decides.
 pub fn cut_compacted_triples(
     alloc: Global,
@@ -291,6 +290,8 @@ pub fn quick_cut(alloc: Global, text: &[u8]) -> Option<CutTexts>
         × (features : List FeatureValue) × IsCut document (header_value cut.header) features
         × (texts_in cut.texts ≡ texts_of features)) }
 {
-    let found = compact_lent(alloc, text, Line::new(alloc))?;
-    cut_compacted_triples(alloc, found.text.bytes(), &found.parts, found.triples)
+    let mut buffer = Line::new(alloc);
+    let found = compact_object(alloc, text, &mut buffer)?;
+    let line = found.place.bytes(text, &buffer);
+    cut_compacted_triples(alloc, line, &found.parts, found.triples)
 }

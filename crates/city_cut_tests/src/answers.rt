@@ -8,7 +8,7 @@ ghost use Rattle.city_feature.specs.Texts.{IsCompactOf};
 use crate::texts::{expect, filled, put_texts, repeated, texts_are, with_repeated};
 use byte_streams::Line;
 use city_cut::{CutTexts, cut_compacted, cut_compacted_triples, quick_cut, triples_text};
-use city_json::{CompactedFeature, compact_given};
+use city_json::{Compacted, Span, compact_object};
 use std::alloc::{AllocError, AllocGlobal, Global};
 use std::process::Abort;
 
@@ -17,16 +17,30 @@ fn is_plain(alloc: Global, cut: &mut CutTexts, document: &str) -> bool {
     put_texts(&mut stream, alloc, cut).is_ok() && texts_are(alloc, document, stream.items(), None)
 }
 
+/// A document in its compact text, and the triples that are noted in it.
+#[derive(Drop)]
+pub(crate) struct Given {
+    pub(crate) found: Compacted,
+    pub(crate) triples: Span,
+}
+
 /// The document in its compact text, in which its triples are noted.
-pub(crate) fn given(alloc: Global, document: &str) -> Option<CompactedFeature>
+pub(crate) fn given(alloc: Global, document: &str) -> Option<Given>
     ensures { IfSome result (λ feature. (members : MemberTrees) × IsCompactOf feature.found.line (object members)
         × AreParts 1 feature.found.parts.items members × HasTriples feature.found.line feature.triples) }
 {
-    let text = document.as_bytes().to_vec(alloc).ok()?;
-    match compact_given(alloc, Line::from_vec(text), Line::new(alloc)) {
-        Ok(feature) => Some(feature),
-        Err(_) => None,
-    }
+    let text = document.as_bytes();
+    let mut line = Line::new(alloc);
+    let object = compact_object(alloc, text, &mut line)?;
+    object.place.copy_to_buffer(text, &mut line).ok()?;
+    let found = Compacted {
+        line,
+        parts: object.parts,
+    };
+    Some(Given {
+        found,
+        triples: object.triples,
+    })
 }
 
 /// The document, cut where its compact text is known.
@@ -368,7 +382,7 @@ fn vertices_are_told_to_be_triples(rt: HostRuntime) {
     }
 }
 
-fn has_triples(feature: &CompactedFeature) -> bool {
+fn has_triples(feature: &Given) -> bool {
     feature.triples.from < feature.triples.end
 }
 

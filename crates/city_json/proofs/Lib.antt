@@ -11,6 +11,7 @@ pub mod DepthLaws
 pub mod DepthLemmas
 pub mod DigitRuns
 pub mod EndedNames
+pub mod FrontMembers
 pub mod Fronts
 pub mod GivenTexts
 pub mod HeldNames

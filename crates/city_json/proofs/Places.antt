@@ -1,8 +1,8 @@
 -- Places in a text, and what is written where the text up to them is taken.
-use Rattle.std.proofs.Common.{◌≡◌, ◌++◌, ◌∙◌, ◌≤◌, ◌<◌, ◌+◌, ◌-◌, ℕ, List, [], ◌∷◌, length, take, drop, get_or, ap, sym, arith, append_assoc, slice_range}
+use Rattle.std.proofs.Common.{◌≡◌, ◌++◌, ◌∙◌, ◌≤◌, ◌<◌, ◌+◌, ◌-◌, ℕ, List, [], ◌∷◌, length, take, drop, get_or, ap, sym, arith, append_assoc, append-nil, length-drop, slice_range}
 use Rattle.std.proofs.lemmas.List.Edits.{between_none}
 use Rattle.std.proofs.Math.Seq.{take-add}
-use Rattle.std.proofs.lemmas.List.{drop-drop, drop_more}
+use Rattle.std.proofs.lemmas.List.{drop-drop, drop_more, take_at}
 use Rattle.city_json.specs.Compacting.{shown}
 use Rattle.city_json.specs.Reading.{after_white}
 
@@ -14,6 +14,12 @@ slice_more text from at end order more =
     ap (λ n. take n (drop from text)) count ∙ take-add (at - from) (end - at) (drop from text)
     ∙ ap (λ l. slice_range text from at ++ take (end - at) l) (drop-drop (at - from) from text
     ∙ ap (λ n. drop n text) place)
+
+pub slice_back : (text : List ℕ) (from to : ℕ) → to ≡ length text → from ≤ to
+    → slice_range text from to ≡ drop from text
+slice_back text from to is within =
+    ap (λ l. take (to - from) l) (sym (append-nil (drop from text)))
+    ∙ take_at (drop from text) [] (to - from) (omega (arith, length-drop from text, is, within))
 
 pub shown_more : (line text : List ℕ) (from at end : ℕ) → from ≤ at → at ≤ end
     → shown line text from end ≡ shown line text from at ++ slice_range text at end

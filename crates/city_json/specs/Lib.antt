@@ -8,6 +8,7 @@ pub mod Compacting
 pub mod Depth
 pub mod Fits
 pub mod Flat
+pub mod FrontMembers
 pub mod Gives
 pub mod Grammar
 pub mod ListedNames

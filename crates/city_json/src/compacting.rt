@@ -10,10 +10,10 @@ ghost use Rattle.city_json.specs.Fits.{Fits};
 ghost use Rattle.city_json.specs.Grammar.{Spells};
 ghost use Rattle.city_json.specs.Tree.{Tree};
 
-pub(crate) mod digits;
 mod draft;
 mod ends;
 mod flat;
+mod members;
 mod name;
 mod names;
 mod object;
@@ -31,8 +31,11 @@ use byte_streams::Line;
 use byte_streams::limits::MAX_DEPTH;
 use draft::{begun, copy_to, skip_white};
 pub use ends::{string_end, value_end};
+pub use members::{
+    PlacedMembers, colon_after, end_after, members_at, members_of_compact, value_place,
+};
 pub use object::{CompactObject, Compacted, TextPlace, compact_object, compact_parts};
-pub use places::{Part, Span, between, is_between, members_of_compact, part_named};
+pub use places::{Part, Span, between, is_between, part_named};
 use std::alloc::Global;
 use values::value;
 

@@ -16,6 +16,7 @@ ghost use Rattle.city_json.specs.Tree.{Tree, tree, named_tree, items_tree, membe
 ghost use Rattle.city_json.specs.Writable.{IsWritable};
 
 pub(crate) mod depth;
+pub(crate) mod digits;
 mod distinct;
 pub(crate) mod names;
 pub(crate) mod numbers;

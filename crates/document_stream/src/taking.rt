@@ -18,7 +18,9 @@ use byte_streams::limits::MAX_LINE_BYTES;
 use byte_streams::{Fault, Line, Source, Stop, read_all};
 use city_cut::{CutTexts, FeatureTexts, cut_compacted_triples, cut_fault, cut_texts};
 use city_feature::Header;
-use city_json::{Compacted, Json, Span, check, compact_given, print, read, spells_no_object};
+use city_json::{
+    Compacted, Json, Span, check, compact_object, print, read, spells_no_object,
+};
 use std::alloc::Global;
 
 /// The stream of a document that was cut.
@@ -95,10 +97,15 @@ fn cut_text(alloc: Global, text: Vec<u8>) -> Result<CutTexts, Fault>
     if is_white_space(&text) {
         return Err(Fault::NoHeader);
     }
-    match compact_given(alloc, Line::from_vec(text), Line::new(alloc)) {
-        Ok(feature) => cut_compact(alloc, feature.found, feature.triples),
-        Err(text) => plain_cut(alloc, text.items()),
-    }
+    let mut buffer = Line::new(alloc);
+    let Some(found) = compact_object(alloc, &text, &mut buffer) else {
+        return plain_cut(alloc, &text);
+    };
+    let compacted = Compacted {
+        line: found.place.into_line(text, buffer),
+        parts: found.parts,
+    };
+    cut_compact(alloc, compacted, found.triples)
 }
 
 /// Cuts the document that a text spells by its value, once it is known to spell one.

@@ -1,7 +1,9 @@
 //! Vertices in compact texts: what is read of them, and what is looked at, at each length of their numbers.
 use crate::expect;
 use byte_streams::{Fault, Line};
-use city_grid::{Vertex, append_vertex, spelled_vertex_at, vertex_at, vertex_end};
+use city_grid::{
+    PlacedVertex, SpelledVertex, Vertex, append_vertex, spelled_vertex_at, vertex_at, vertex_end,
+};
 use std::alloc::{AllocError, AllocGlobal, Global};
 use std::process::Abort;
 
@@ -60,13 +62,14 @@ fn has_vertex(bytes: &[u8], vertex: Vertex, end: usize) -> bool {
     if bytes.is_empty() {
         return false;
     }
-    let Some(placed) = vertex_at(bytes, 1) else {
-        return false;
+    let spelled = SpelledVertex {
+        vertex,
+        end,
+        as_written: true,
     };
-    placed.vertex == vertex
-        && placed.end == end
+    vertex_at(bytes, 1) == Some(PlacedVertex { vertex, end })
         && vertex_end(bytes, 1) == end
-        && spelled_vertex_at(bytes, 1) == Some(placed)
+        && spelled_vertex_at(bytes, 1) == Some(spelled)
 }
 
 /// Whether the vertex ends here, and stands in a text otherwise than it is written: only the one call reads it.
@@ -74,11 +77,12 @@ fn has_spelled(bytes: &[u8], vertex: Vertex, end: usize) -> bool {
     if bytes.is_empty() {
         return false;
     }
-    let Some(placed) = spelled_vertex_at(bytes, 1) else {
-        return false;
+    let spelled = SpelledVertex {
+        vertex,
+        end,
+        as_written: false,
     };
-    placed.vertex == vertex
-        && placed.end == end
+    spelled_vertex_at(bytes, 1) == Some(spelled)
         && vertex_end(bytes, 1) == 1
         && vertex_at(bytes, 1).is_none()
 }

@@ -2,7 +2,7 @@
 
 use byte_streams::{Bin, Fault, Line, Sequence, Stop, Tape, read_all, write_all};
 use city_json::{
-    Json, NumText, Part, Str, check, compact, compact_given, compact_lent, compact_parts, print,
+    Json, NumText, Part, Str, check, compact, compact_object, compact_parts, print,
     read,
 };
 use growth_support::{Call, expect, is_fault, refused, wanted};
@@ -360,51 +360,29 @@ fn text_is_compact_with_parts(rt: &(impl AllocGlobal + Eprint)) -> Result<bool, 
     }
 }
 
-/// A text that is given away becomes its compact text, or comes back as it was where memory is wanted.
-fn given_text_is_compact(
+/// Of a text nothing is said where memory is wanted, and only there. It is copied only where it is not compact, or to be
+/// held.
+fn text_stands_compact(
     rt: &(impl AllocGlobal + Eprint),
     text: &[u8],
     compact: &[u8],
 ) -> Result<bool, Fault> {
-    let given = Line::from_vec(text.to_vec(rt.alloc())?);
-    match compact_given(rt.alloc(), given, Line::new(rt.alloc())) {
-        Ok(feature) => Ok(feature.found.line.items() == compact),
-        Err(back) => {
-            if back.items() != text {
-                return Ok(false);
-            }
-            refused(rt, Call("compact_given"), Fault::Memory)
-        }
-    }
-}
-
-fn given_texts_are_compact(rt: &(impl AllocGlobal + Eprint)) -> Result<bool, Fault> {
-    for (text, compact) in [(TEXT, COMPACT), (PLAIN, PLAIN)].iter() {
-        if !given_text_is_compact(rt, text, compact)? {
-            return Ok(false);
-        }
-    }
-    Ok(true)
-}
-
-/// Of a text that is lent nothing is said where memory is wanted, and only there.
-fn lent_text_is_compact(
-    rt: &(impl AllocGlobal + Eprint),
-    text: &[u8],
-    compact: &[u8],
-) -> Result<bool, Fault> {
-    let Some(found) = compact_lent(rt.alloc(), text, Line::new(rt.alloc())) else {
-        return refused(rt, Call("compact_lent"), Fault::Memory);
+    let mut buffer = Line::new(rt.alloc());
+    let Some(found) = compact_object(rt.alloc(), text, &mut buffer) else {
+        return refused(rt, Call("compact_object"), Fault::Memory);
     };
-    match found.text.into_line() {
-        Some(line) => Ok(line.items() == compact),
-        None => refused(rt, Call("LentText::into_line"), Fault::Memory),
+    if found.place.bytes(text, &buffer) != compact {
+        return Ok(false);
+    }
+    match found.place.copy_to_buffer(text, &mut buffer) {
+        Ok(()) => Ok(buffer.items() == compact),
+        Err(_) => refused(rt, Call("TextPlace::copy_to_buffer"), Fault::Memory),
     }
 }
 
-fn lent_texts_are_compact(rt: &(impl AllocGlobal + Eprint)) -> Result<bool, Fault> {
+fn texts_stand_compact(rt: &(impl AllocGlobal + Eprint)) -> Result<bool, Fault> {
     for (text, compact) in [(TEXT, COMPACT), (PLAIN, PLAIN)].iter() {
-        if !lent_text_is_compact(rt, text, compact)? {
+        if !text_stands_compact(rt, text, compact)? {
             return Ok(false);
         }
     }
@@ -429,7 +407,6 @@ fn bytes_values_and_texts(rt: HostRuntime) -> Result<(), Fault> {
     expect!(rt; bin_is_filled(&rt));
     expect!(rt; texts_are_compact(&rt));
     expect!(rt; text_is_compact_with_parts(&rt));
-    expect!(rt; given_texts_are_compact(&rt));
-    expect!(rt; lent_texts_are_compact(&rt));
+    expect!(rt; texts_stand_compact(&rt));
     Ok(())
 }

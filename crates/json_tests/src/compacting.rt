@@ -1,7 +1,7 @@
 //! Of the one pass: that it answers for the texts that users have, as the reader and the printer do.
 use crate::texts::{Pieces, expect, expect_of_pieces, is_answered, is_compacted, text_of};
 use byte_streams::Line;
-use city_json::{compact_given, compact_parts};
+use city_json::{compact_object, compact_parts};
 use std::alloc::{AllocError, Global};
 
 /// Texts and their compact texts.
@@ -251,14 +251,10 @@ const ROOM: usize = 1_000;
 
 /// What a text that is given away becomes, with room to spare for a copy.
 fn given(alloc: Global, text: Vec<u8>, spare: Line) -> Option<Vec<u8>> {
-    match compact_given(alloc, Line::from_vec(text), spare) {
-        Ok(feature) => {
-            let found = feature.found;
-            let line = found.line;
-            Some(line.into_vec())
-        }
-        Err(_) => None,
-    }
+    let mut buffer = spare;
+    let found = compact_object(alloc, &text, &mut buffer)?;
+    let line = found.place.into_line(text, buffer);
+    Some(line.into_vec())
 }
 
 /// The text in more room than it needs.

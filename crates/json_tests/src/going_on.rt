@@ -2,15 +2,16 @@
 //! the pass says what the reader says.
 use crate::texts::{Pieces, expect_at, read_and_printed, text_of};
 use byte_streams::Line;
-use city_json::compact_lent;
+use city_json::compact_object;
 use std::alloc::{AllocError, Global};
 
 /// Whether the pass over an object's members answers as the reader does, which takes the text or not, as is wanted.
 fn is_told(alloc: Global, text: &[u8], is_taken: bool) -> bool {
     let wanted = read_and_printed(alloc, text);
-    match compact_lent(alloc, text, Line::new(alloc)) {
-        Some(feature) => is_taken
-            && wanted.is_some_and(|line| line.items() == feature.text.bytes()),
+    let mut buffer = Line::new(alloc);
+    match compact_object(alloc, text, &mut buffer) {
+        Some(found) => is_taken
+            && wanted.is_some_and(|line| line.items() == found.place.bytes(text, &buffer)),
         None => !is_taken && wanted.is_none(),
     }
 }

@@ -1,8 +1,8 @@
 //! Of texts that are lent: that they are where they are their own compact text, and else written, and that the same is
 //! told of them as of others.
-use crate::texts::{expect, expect_at, text_of};
+use crate::texts::{expect, expect_at, read_and_printed, text_of};
 use byte_streams::Line;
-use city_json::{CompactedFeature, LentFeature, LentText, compact_given, compact_lent};
+use city_json::{CompactObject, TextPlace, compact_object, compact_parts};
 use std::alloc::{AllocError, Global};
 
 /// Texts that are their own compact text but for white space at their end, and how long they are without it.
@@ -51,68 +51,79 @@ fn old_line(alloc: Global) -> Result<Line, AllocError> {
     Ok(Line::from_vec(b"an old line".to_vec(alloc)?))
 }
 
-/// What is told of a text that is lent. `None`: nothing, or out of memory.
-fn lent(alloc: Global, text: &[u8]) -> Option<LentFeature<'_>> {
-    let spare = old_line(alloc).ok()?;
-    compact_lent(alloc, text, spare)
+/// What is told of a text, and the buffer that it was given.
+#[derive(Drop)]
+struct Found {
+    object: CompactObject,
+    buffer: Line,
 }
 
-/// Whether two ways tell the same of a text.
-fn is_same(feature: &LentFeature<'_>, other: &CompactedFeature) -> bool {
-    feature.text.bytes() == other.found.line.items()
-        && feature.parts.as_slice() == other.found.parts.as_slice()
-        && feature.triples == other.triples
+/// What is told of a text. `None`: nothing, or out of memory.
+fn told(alloc: Global, text: &[u8]) -> Option<Found> {
+    let mut buffer = old_line(alloc).ok()?;
+    let object = compact_object(alloc, text, &mut buffer)?;
+    Some(Found { object, buffer })
 }
 
-/// Whether the text is told of as one that is given away.
-fn has_same_feature(alloc: Global, text: &[u8]) -> bool {
+/// Whether the text and its members are those that the call tells of which always copies.
+fn has_same_object(alloc: Global, text: &[u8]) -> bool {
+    let Some(parted) = compact_parts(alloc, text, Line::new(alloc)) else {
+        return false;
+    };
+    let Some(Found { object, buffer }) = told(alloc, text) else {
+        return false;
+    };
+    object.place.bytes(text, &buffer) == parted.line.items()
+        && object.parts.as_slice() == parted.parts.as_slice()
+}
+
+/// Whether the reader gives the same text.
+fn is_read_so(alloc: Global, text: &[u8]) -> bool {
+    let Some(Found { object, buffer }) = told(alloc, text) else {
+        return false;
+    };
+    read_and_printed(alloc, text).is_some_and(|line| line.items()
+        == object.place.bytes(text, &buffer))
+}
+
+/// Whether the text is this in memory of its own, too.
+fn is_held(alloc: Global, text: &[u8], told: Found, compact: &[u8]) -> bool {
+    let Found { object, mut buffer } = told;
+    if object.place.copy_to_buffer(text, &mut buffer).is_err() {
+        return false;
+    }
     let Ok(copy) = text.to_vec(alloc) else {
         return false;
     };
-    let given = compact_given(alloc, Line::from_vec(copy), Line::new(alloc));
-    match (lent(alloc, text), given) {
-        (Some(feature), Ok(other)) => is_same(&feature, &other),
-        (None, Err(back)) => back.items() == text,
-        _ => false,
-    }
+    buffer.items() == compact && object.place.into_line(copy, buffer).items() == compact
 }
 
-/// Whether the text is this in memory of its own.
-fn is_held(text: LentText<'_>, compact: &[u8]) -> bool {
-    match text.into_line() {
-        Some(line) => line.items() == compact,
-        None => false,
-    }
-}
-
-/// Whether the text up to this length is lent.
+/// Whether the text up to this length is lent, and nothing stands in the buffer.
 fn is_lent(alloc: Global, text: &[u8], len: usize) -> bool {
-    let Some(found) = lent(alloc, text) else {
+    let Some(told) = told(alloc, text) else {
         return false;
     };
-    let LentText::AsRead(bytes, _) = &found.text else {
-        return false;
-    };
-    let front = text.get(..len);
-    Some(*bytes) == front && is_held(found.text, front.unwrap_or(b""))
+    told.object.place == TextPlace::Read(len)
+        && told.buffer.items().is_empty()
+        && is_held(alloc, text, told, text.get(..len).unwrap_or(b""))
 }
 
 /// Whether this compact text is written for the text.
 fn is_written(alloc: Global, text: &[u8], compact: &[u8]) -> bool {
-    let Some(found) = lent(alloc, text) else {
+    let Some(told) = told(alloc, text) else {
         return false;
     };
-    let LentText::Written(line) = &found.text else {
-        return false;
-    };
-    line.items() == compact && is_held(found.text, compact)
+    told.object.place == TextPlace::Written
+        && told.buffer.items() == compact
+        && is_held(alloc, text, told, compact)
 }
 
 #[test]
 fn a_compact_text_is_lent(rt: HostRuntime) {
     for (text, len) in LENT.iter() {
         expect(&rt, is_lent(rt.alloc(), text, *len), text);
-        expect(&rt, has_same_feature(rt.alloc(), text), text);
+        expect(&rt, has_same_object(rt.alloc(), text), text);
+        expect(&rt, is_read_so(rt.alloc(), text), text);
     }
 }
 
@@ -120,14 +131,15 @@ fn a_compact_text_is_lent(rt: HostRuntime) {
 fn another_text_is_written(rt: HostRuntime) {
     for (text, compact) in WRITTEN.iter() {
         expect(&rt, is_written(rt.alloc(), text, compact), text);
-        expect(&rt, has_same_feature(rt.alloc(), text), text);
+        expect(&rt, has_same_object(rt.alloc(), text), text);
+        expect(&rt, is_read_so(rt.alloc(), text), text);
     }
 }
 
 #[test]
 fn of_no_object_nothing_is_told(rt: HostRuntime) {
     for text in NONE.iter() {
-        expect(&rt, lent(rt.alloc(), text).is_none(), text);
+        expect(&rt, told(rt.alloc(), text).is_none(), text);
     }
 }
 
@@ -154,7 +166,7 @@ fn is_told(alloc: Global, count: usize, blanks: usize) -> Result<bool, AllocErro
     } else {
         is_written(alloc, &text, &compact)
     };
-    Ok(is_so && has_same_feature(alloc, &text))
+    Ok(is_so && has_same_object(alloc, &text))
 }
 
 #[test]

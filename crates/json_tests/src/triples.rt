@@ -2,7 +2,7 @@
 use crate::chance::Chance;
 use crate::texts::{Pieces, expect, expect_at, has_one_answer, text_of};
 use byte_streams::Line;
-use city_json::{CompactedFeature, LentFeature, Span, compact, compact_given, compact_lent};
+use city_json::{Span, compact, compact_object};
 use std::alloc::{AllocError, Global};
 
 /// A text, and what is noted of it.
@@ -69,17 +69,18 @@ const NOTED: [(&[u8], &[u8]); 33] = [
     (b"{\"v\":[[1234567890123456,2,3],[1,2,3]]}", b""),
 ];
 
-/// The text at the place that is noted.
-fn noted<'a>(feature: &'a LentFeature<'_>) -> Option<&'a [u8]> {
-    let Span { from, end } = feature.triples;
-    feature.text.bytes().get(from..end)
+/// Whether the triples that are noted of a text are these, or none are noted where there are none of these. `None`:
+/// nothing is told of the text.
+fn noted(alloc: Global, text: &[u8], wanted: &[u8]) -> Option<bool> {
+    let mut buffer = Line::new(alloc);
+    let found = compact_object(alloc, text, &mut buffer)?;
+    let Span { from, end } = found.triples;
+    let line = found.place.bytes(text, &buffer);
+    Some(line.get(from..end) == Some(wanted))
 }
 
 fn notes(alloc: Global, text: &[u8], wanted: &[u8]) -> bool {
-    match compact_lent(alloc, text, Line::new(alloc)) {
-        Some(feature) => noted(&feature) == Some(wanted),
-        None => false,
-    }
+    noted(alloc, text, wanted) == Some(true)
 }
 
 fn is_noted_alike(alloc: Global, text: &[u8], wanted: &[u8]) -> bool {
@@ -138,32 +139,14 @@ const PIECES: [&[u8]; 12] = [
 
 /// Whether the pass has the reader's answer, and the same of an object with and without its parts.
 fn has_same_answer(alloc: Global, text: &[u8]) -> bool {
-    has_one_answer(alloc, text) && has_same_line(alloc, text) && has_same_feature(alloc, text)
-}
-
-/// Whether the pass finds the same in a text that is given away, or gives it back.
-fn has_same_feature(alloc: Global, text: &[u8]) -> bool {
-    let Ok(copy) = text.to_vec(alloc) else {
-        return false;
-    };
-    let given = compact_given(alloc, Line::from_vec(copy), Line::new(alloc));
-    match (compact_lent(alloc, text, Line::new(alloc)), given) {
-        (Some(feature), Ok(other)) => is_same(&feature, &other),
-        (None, Err(back)) => back.items() == text,
-        _ => false,
-    }
-}
-
-fn is_same(feature: &LentFeature<'_>, other: &CompactedFeature) -> bool {
-    feature.text.bytes() == other.found.line.items()
-        && feature.parts.as_slice() == other.found.parts.as_slice()
-        && feature.triples == other.triples
+    has_one_answer(alloc, text) && has_same_line(alloc, text)
 }
 
 fn has_same_line(alloc: Global, text: &[u8]) -> bool {
     let line = compact(alloc, text, Line::new(alloc));
-    match compact_lent(alloc, text, Line::new(alloc)) {
-        Some(feature) => line.is_some_and(|line| line.items() == feature.text.bytes()),
+    let mut buffer = Line::new(alloc);
+    match compact_object(alloc, text, &mut buffer) {
+        Some(found) => line.is_some_and(|line| line.items() == found.place.bytes(text, &buffer)),
         None => line.is_none(),
     }
 }
@@ -192,7 +175,7 @@ fn all_changed_have_same_answer(alloc: Global, at: usize) -> bool {
 fn a_byte_changed_in_triples_has_one_answer(rt: HostRuntime) {
     expect(
         &rt,
-        compact_lent(rt.alloc(), TEXT, Line::new(rt.alloc())).is_some(),
+        compact_object(rt.alloc(), TEXT, &mut Line::new(rt.alloc())).is_some(),
         TEXT,
     );
     for at in 0..TEXT.len() {
@@ -383,10 +366,7 @@ fn object_of(alloc: Global, triples: &[u8], end: &[u8]) -> Result<Vec<u8>, Alloc
 fn are_noted_in(alloc: Global, text: &[u8], triples: &[u8]) -> bool {
     let are = are_triples(triples);
     let wanted = if are { triples } else { b"" };
-    match compact_lent(alloc, text, Line::new(alloc)) {
-        Some(feature) => noted(&feature) == Some(wanted),
-        None => !are,
-    }
+    noted(alloc, text, wanted).unwrap_or(!are)
 }
 
 fn is_noted_as(alloc: Global, triples: &[u8], end: &[u8]) -> bool {

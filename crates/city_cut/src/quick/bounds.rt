@@ -18,9 +18,9 @@ ghost use Rattle.city_cut.specs.Overviews.{AreHolders, HasHolders, IsHolderPart}
 use super::holders::{HeldParts, Holder, ShortHeld};
 use super::short_parts::ShortPart;
 use super::texts::parts_of;
-use city_feature::{between, is_array, is_object, part_named};
+use city_feature::{is_array, is_object};
 use city_grid::byte_is;
-use city_json::{Part, value_end};
+use city_json::{Part, between, part_named, value_end};
 use std::alloc::Global;
 
 /// The number that the digits write up to this one, where those before it write `value`; 0 behind a bracket or a comma.

@@ -19,8 +19,8 @@ use super::points::starts_of;
 use super::texts::{member_or, parts_of};
 use crate::families::check_belonging;
 use byte_streams::Fault;
-use city_feature::{between, is_array, is_object, vertices_fault, vertices_of};
-use city_json::Part;
+use city_feature::{is_array, is_object, vertices_fault, vertices_of};
+use city_json::{Part, between};
 use std::alloc::Global;
 
 /// How many vertices a text spells. `None`: undecided.

@@ -16,8 +16,8 @@ ghost use Rattle.city_feature.specs.Texts.{IsCompactOf};
 use super::texts::{append_back, append_front, append_text, is_absent, parts_of};
 use crate::headers::drop_appearance;
 use byte_streams::{Fault, Line};
-use city_feature::{Header, between, header, is_city_json, is_version_2, part_named, transform_of};
-use city_json::{Json, Part, read};
+use city_feature::{Header, header, is_city_json, is_version_2, transform_of};
+use city_json::{Json, Part, between, part_named, read};
 use std::alloc::Global;
 
 /// The text with another value of the member of this name, where there is one. The name is given with its marks and its

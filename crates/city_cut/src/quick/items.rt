@@ -10,7 +10,7 @@ ghost use Rattle.city_json.specs.Writable.{IsWritable};
 ghost use Rattle.city_json.specs.declared.compacting.places.Part.{Part};
 ghost use Rattle.city_cut.specs.Boundaries.{IsAddress, IsGeometry, address_boundary, in_member, own_boundary};
 ghost use Rattle.city_cut.specs.Boundaries.{relabelled_boundary};
-ghost use Rattle.city_cut.specs.FrontMembers.{HasFrontParts, IsValuePlace};
+ghost use Rattle.city_json.specs.FrontMembers.{HasFrontParts, IsValuePlace};
 ghost use Rattle.city_cut.specs.Holders.{AreHeld, IsHeld, boundary_in, held_uses, relabelled_held, relabelled_in};
 ghost use Rattle.city_cut.specs.Leaves.{IsBoundary, leaves, relabelled};
 ghost use Rattle.city_cut.specs.Walks.{Walks};
@@ -18,11 +18,12 @@ ghost use Rattle.city_feature.specs.Texts.{IsCompactOf};
 
 use super::drafts::{Draft, Labels, copy_items};
 use super::holders::Holder;
-use super::members::{end_after, members_at, value_place};
 use super::texts::{append_back, append_front, append_text, is_absent, parts_of};
-use city_feature::{between, part_named};
+
 use city_grid::byte_is;
-use city_json::{Part, members_of_compact, value_end};
+use city_json::{
+    Part, between, end_after, members_at, members_of_compact, part_named, value_end, value_place,
+};
 use std::alloc::Global;
 
 /// Brackets nest no deeper than this in the brackets of a boundary.

@@ -9,9 +9,9 @@ ghost use Rattle.city_cut.specs.Kin.{AreQuoted, HasChildrenText, HasParents};
 ghost use Rattle.city_feature.specs.Texts.{IsCompactOf};
 
 use super::texts::member_or;
-use city_feature::{between, is_array};
+use city_feature::is_array;
 use city_grid::byte_is;
-use city_json::{Part, string_end};
+use city_json::{Part, between, string_end};
 use std::alloc::Global;
 
 pub(super) fn push_text<'a>(text: &'a [u8], to: &mut Vec<&'a [u8]>) -> Option<()>

@@ -21,8 +21,8 @@ use super::numbers::append_between;
 use super::objects::{append_one, append_two};
 use super::skeletons::Leaf;
 use super::texts::{append_back, append_front, append_text};
-use city_feature::between;
-use city_json::Part;
+
+use city_json::{Part, between};
 use std::alloc::Global;
 
 /// The leaves that were come upon, of boundaries that name vertices below a count.

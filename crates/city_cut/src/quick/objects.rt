@@ -20,8 +20,8 @@ use super::holders::{HeldParts, Holder};
 use super::items::append_held;
 use super::texts::{append_back, append_front, append_text};
 use crate::numbering::Numbering;
-use city_feature::between;
-use city_json::Part;
+
+use city_json::{Part, between};
 use std::alloc::Global;
 
 /// Copies an object in which boundaries stand in one member.

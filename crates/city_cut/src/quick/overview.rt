@@ -6,11 +6,10 @@ ghost use Rattle.city_cut.specs.Overviews.{AreHolders, HasChildrenIn, HasHolders
 
 use super::holders::{HeldParts, Holder, ShortHeld};
 use super::kin::{children_text, has_parents, push_text};
-use super::members::members_at;
 use super::short_parts::{ShortPart, list_short};
 use super::texts::is_absent;
-use city_feature::{between, part_named};
-use city_json::{Part, string_end};
+
+use city_json::{Part, between, colon_after, members_at, part_named};
 use std::alloc::Global;
 
 /// How many bytes the text of a city object has mostly at least.
@@ -53,13 +52,7 @@ fn object_at(alloc: Global, text: &[u8], at: usize) -> Option<PlacedObject>
     ensures members { IfSome result (λ found.
         HasParts (slice_range text.now found.part.value found.part.end) found.members.items) }
 {
-    if at >= text.len() {
-        return None;
-    }
-    let colon = string_end(text, at + 1);
-    if colon == text.len() {
-        return None;
-    }
+    let colon = colon_after(text, at)?;
     let found = members_at(alloc, text, colon + 1)?;
     if found.end == text.len() {
         return None;

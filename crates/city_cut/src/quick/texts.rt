@@ -5,9 +5,9 @@ ghost use Rattle.city_json.specs.Tree.{Tree, MemberTrees, object};
 ghost use Rattle.city_feature.specs.Texts.{IsCompactOf};
 
 use byte_streams::Line;
-use city_feature::between;
+
 pub(super) use city_feature::{is_absent, member_or};
-use city_json::{Part, members_of_compact};
+use city_json::{Part, between, members_of_compact};
 use std::alloc::Global;
 
 /// Where the members lie of the object whose compact text this is.

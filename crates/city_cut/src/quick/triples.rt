@@ -15,8 +15,8 @@ ghost use Rattle.city_cut.specs.VertexTexts.{HasPoints, StandAt};
 
 use super::points::COMMON_LEN;
 use crate::placing::push_place;
-use city_feature::{between, part_named};
-use city_json::{Part, Span};
+
+use city_json::{Part, Span, between, part_named};
 use std::alloc::Global;
 use std::simd::prelude::*;
 
@@ -32,7 +32,7 @@ pub fn triples_text<'a>(text: &'a [u8], parts: &[Part], triples: Span) -> Option
     ensures triples { IfSome result (λ found. IsTriplesArray found.now) }
 {
     let part = part_named(text, parts, b"\"vertices\":")?;
-    if part.value != triples.from || part.end != triples.end || part.value >= part.end {
+    if !triples.is_value_of(part) {
         return None;
     }
     between(text, part.value, part.end)

@@ -25,12 +25,12 @@ vertex value t =
       range = (x.small, y.small, z.small);
     }
 
-record ArePrinted (items : ItemTrees) : Type 0 where
-  vertices : List Triple
-  are : items ≡ item_trees (map vertex_tree vertices)
-  range : All IsInRange vertices
+pub record ArePrinted (items : ItemTrees) : Type 0 where
+  pub vertices : List Triple
+  pub are : items ≡ item_trees (map vertex_tree vertices)
+  pub range : All IsInRange vertices
 
-vertices : (items : ItemTrees) → AreTriples items → ArePrinted items
+pub vertices : (items : ItemTrees) → AreTriples items → ArePrinted items
 vertices no_items are = record { vertices = []; are = refl; range = All-nil IsInRange }
 vertices (item value others) are =
     let first = vertex value are.0 in

@@ -1,16 +1,13 @@
 //! The vertices of a feature in their compact text.
-ghost use Rattle.std.specs.Prelude.{◌≡◌, ◌++◌, ◌∷◌, [], ◌<◌, ◌≤◌, length, slice_range, All, IfSome, IsTrue, OnSome, OnOk};
+ghost use Rattle.std.specs.Prelude.{◌≡◌, ◌++◌, ◌∷◌, [], slice_range, All, IfSome, IsTrue, OnSome, OnOk};
 ghost use Rattle.city_json.specs.Compact.{compact};
 ghost use Rattle.city_json.specs.Triples.{IsTriplesText};
 ghost use Rattle.city_grid.specs.Axes.{IsInRange};
-ghost use Rattle.city_grid.specs.Vertex.{SpellsVertex, vertex_tree};
 ghost use Rattle.city_feature.specs.Feature.{vertices_tree};
 ghost use Rattle.city_feature.specs.Quick.{IsVerticesText, SpellsVertices};
 
 use byte_streams::Line;
-use city_grid::{
-    Vertex, append_vertex, byte_is, spelled_vertex_at, triple_vertex_at, vertex_at, vertex_end,
-};
+use city_grid::{Vertex, append_vertex, byte_is, spelled_vertex_at, triple_vertex_at, vertex_end};
 use std::alloc::{AllocError, Global};
 
 /// How many bytes the text of a vertex and a comma have mostly at least.
@@ -19,46 +16,11 @@ const COMMON_LEN: usize = 20;
 /// The text of an array of one vertex or more has at least so many bytes.
 pub(super) const MIN_LEN: usize = 4;
 
-/// A vertex, where its text ends, and whether that is the text that would be written for it.
-#[derive(Clone, Copy, Drop)]
-struct SpelledVertex {
-    vertex: Vertex,
-    end: usize,
-    as_written: bool,
-}
-
 /// The vertices that a text spells, and whether it is the text that would be written for them.
 #[derive(Drop)]
 pub struct SpelledVertices {
     pub vertices: Vec<Vertex>,
     pub as_written: bool,
-}
-
-/// The vertex at `at`; `None`: undecided.
-#[inline(always)]
-fn spelled_at(text: &[u8], at: usize) -> Option<SpelledVertex>
-    requires { at ≤ length text.now }
-    ensures onward { IfSome result (λ found. at < found.end) }
-    ensures within { IfSome result (λ found. found.end ≤ length text.now) }
-    ensures spelled { IfSome result (λ found.
-        SpellsVertex (slice_range text.now at found.end) found.vertex) }
-    ensures written { IfSome result (λ found. IsTrue found.as_written
-        → slice_range text.now at found.end ≡ compact (vertex_tree found.vertex)) }
-    ensures range { IfSome result (λ found. IsInRange found.vertex) }
-{
-    if let Some(found) = vertex_at(text, at) {
-        return Some(SpelledVertex {
-            vertex: found.vertex,
-            end: found.end,
-            as_written: true,
-        });
-    }
-    let found = spelled_vertex_at(text, at)?;
-    Some(SpelledVertex {
-        vertex: found.vertex,
-        end: found.end,
-        as_written: false,
-    })
 }
 
 #[inline(always)]
@@ -99,7 +61,7 @@ pub fn vertices_of(alloc: Global, text: &[u8]) -> Option<SpelledVertices>
     }
     let mut at = 1usize;
     'vertices: loop {
-        let found = spelled_at(text, at)?;
+        let found = spelled_vertex_at(text, at)?;
         push_vertex(found.vertex, &mut vertices)?;
         as_written = both(as_written, found.as_written);
         if byte_is(text, found.end, b']') {

@@ -31,20 +31,6 @@ pub struct Digits {
     pub end: usize,
 }
 
-/// An integer, and where its text ends.
-#[derive(Clone, Copy, Drop)]
-pub(super) struct PlacedInteger {
-    pub value: i64,
-    pub end: usize,
-}
-
-/// A vertex, and where its text ends.
-#[derive(Clone, Copy, Debug, PartialEq, Eq)]
-pub struct PlacedVertex {
-    pub vertex: Vertex,
-    pub end: usize,
-}
-
 /// Whether this byte stands at that place.
 #[inline(always)]
 pub fn byte_is(text: &[u8], at: usize, byte: u8) -> bool
@@ -112,64 +98,6 @@ pub fn number_at(text: &[u8], at: usize) -> Option<Digits>
         return Some(digits);
     }
     Some(digits)
-}
-
-/// The integer at `at` that is written as it would be printed, in at most sixteen digits.
-#[inline(always)]
-fn integer_at(text: &[u8], at: usize) -> Option<PlacedInteger>
-    requires { at ≤ length text.now }
-    ensures onward { IfSome result (λ found. at < found.end) }
-    ensures within { IfSome result (λ found. found.end ≤ length text.now) }
-    ensures written { IfSome result (λ found. slice_range text.now at found.end
-        ≡ signed_decimal found.value) }
-{
-    if byte_is(text, at, b'-') {
-        let found = number_at(text, at + 1)?;
-        if found.size == 0 {
-            return None;
-        }
-        return Some(PlacedInteger {
-            value: -(found.size as i64),
-            end: found.end,
-        });
-    }
-    let found = number_at(text, at)?;
-    Some(PlacedInteger {
-        value: found.size as i64,
-        end: found.end,
-    })
-}
-
-/// The vertex at `at`, where it is in the text that would be written for it; `None`: undecided.
-#[inline(always)]
-pub fn vertex_at(text: &[u8], at: usize) -> Option<PlacedVertex>
-    requires { at ≤ length text.now }
-    ensures onward { IfSome result (λ found. at < found.end) }
-    ensures within { IfSome result (λ found. found.end ≤ length text.now) }
-    ensures written { IfSome result (λ found. slice_range text.now at found.end
-        ≡ compact (vertex_tree found.vertex)) }
-    ensures range { IfSome result (λ found. IsInRange found.vertex) }
-{
-    if !byte_is(text, at, b'[') {
-        return None;
-    }
-    let x = integer_at(text, at + 1)?;
-    if !byte_is(text, x.end, b',') {
-        return None;
-    }
-    let y = integer_at(text, x.end + 1)?;
-    if !byte_is(text, y.end, b',') {
-        return None;
-    }
-    let z = integer_at(text, y.end + 1)?;
-    if !byte_is(text, z.end, b']') {
-        return None;
-    }
-    let vertex = Vertex::new(x.value, y.value, z.value)?;
-    Some(PlacedVertex {
-        vertex,
-        end: z.end + 1,
-    })
 }
 
 /// A bit for each byte that is no digit.

@@ -14,7 +14,7 @@ ghost use Rattle.city_grid.specs.Vertex.{vertex_tree};
 
 use crate::vertices::Vertex;
 use crate::vertices::digits::digits_value_between;
-use crate::vertices::texts::PlacedVertex;
+use crate::vertices::spelled::PlacedVertex;
 use byte_streams::limits::MAX_STEPS;
 use std::simd::prelude::*;
 
@@ -29,7 +29,7 @@ const MAX_DIGITS: usize = 16;
 
 /// Where the three numbers of a vertex end.
 #[derive(Clone, Copy, Drop)]
-struct Ends {
+struct NumberEnds {
     first: usize,
     second: usize,
     third: usize,
@@ -37,7 +37,7 @@ struct Ends {
 
 /// How long a number is, and a bit for each byte that may end one after the byte that ends it.
 #[derive(Clone, Copy, Drop)]
-struct Run {
+struct NumberRun {
     len: usize,
     after: u64,
 }
@@ -60,7 +60,7 @@ fn stops_in_more(bytes: u8x64) -> u64
 
 /// The run up to the first of the bits; `None`: there is none.
 #[inline(always)]
-fn first_run(stops: u64) -> Option<Run>
+fn first_run(stops: u64) -> Option<NumberRun>
     ensures few { IfSome result (λ run. run.len ≤ 63) }
     ensures is { IfSome result (λ run. (bytes : List ℕ) → length bytes ≤ 64
         → stops ≡ mask_l (map ends_number bytes)
@@ -74,7 +74,7 @@ fn first_run(stops: u64) -> Option<Run>
     if len > 63 {
         return None;
     }
-    Some(Run {
+    Some(NumberRun {
         len: len as usize,
         after: (stops >> len) >> 1,
     })
@@ -83,7 +83,7 @@ fn first_run(stops: u64) -> Option<Run>
 /// Where the three numbers end of the array whose opening bracket is at `at`, where they end among the bytes whose bits
 /// these are: those from the bracket on.
 #[inline(always)]
-fn ends_by(text: &[u8], at: usize, stops: u64) -> Option<Ends>
+fn ends_by(text: &[u8], at: usize, stops: u64) -> Option<NumberEnds>
     requires { at < length text.now }
     ensures { IfSome result (λ ends. (count : ℕ) → count ≤ 64 → at + count ≤ length text.now
         → stops ≡ mask_l (map ends_number (take count (drop at text.now)))
@@ -94,7 +94,7 @@ fn ends_by(text: &[u8], at: usize, stops: u64) -> Option<Ends>
     let z = first_run(y.after)?;
     let first = at + 1 + x.len;
     let second = first + 1 + y.len;
-    Some(Ends {
+    Some(NumberEnds {
         first,
         second,
         third: second + 1 + z.len,
@@ -103,7 +103,7 @@ fn ends_by(text: &[u8], at: usize, stops: u64) -> Option<Ends>
 
 /// Where the three numbers end of the array whose opening bracket is at `at`, where that is not far.
 #[inline(always)]
-fn near_ends(text: &[u8], at: usize) -> Option<Ends>
+fn near_ends(text: &[u8], at: usize) -> Option<NumberEnds>
     requires { at + 32 ≤ length text.now }
     ensures are { IfSome result (λ ends. AreEnds text.now at ends.first ends.second ends.third) }
     ensures within { IfSome result (λ ends. ends.third < length text.now) }
@@ -114,7 +114,7 @@ fn near_ends(text: &[u8], at: usize) -> Option<Ends>
 
 /// The same, where it is farther.
 #[inline(always)]
-fn wide_ends(text: &[u8], at: usize) -> Option<Ends>
+fn wide_ends(text: &[u8], at: usize) -> Option<NumberEnds>
     requires { at + 64 ≤ length text.now }
     ensures are { IfSome result (λ ends. AreEnds text.now at ends.first ends.second ends.third) }
     ensures within { IfSome result (λ ends. ends.third < length text.now) }
@@ -139,7 +139,7 @@ fn number_end(text: &[u8], at: usize) -> Option<usize>
 }
 
 /// The same as of [`near_ends`], wherever they are, number by number.
-fn ends_by_numbers(text: &[u8], at: usize) -> Option<Ends>
+fn ends_by_numbers(text: &[u8], at: usize) -> Option<NumberEnds>
     requires { at < length text.now }
     ensures are { IfSome result (λ ends. AreEnds text.now at ends.first ends.second ends.third) }
     ensures within { IfSome result (λ ends. ends.third < length text.now) }
@@ -147,7 +147,7 @@ fn ends_by_numbers(text: &[u8], at: usize) -> Option<Ends>
     let first = number_end(text, at + 1)?;
     let second = number_end(text, first + 1)?;
     let third = number_end(text, second + 1)?;
-    Some(Ends {
+    Some(NumberEnds {
         first,
         second,
         third,
@@ -156,7 +156,7 @@ fn ends_by_numbers(text: &[u8], at: usize) -> Option<Ends>
 
 /// The same, where they are not near, or the text ends soon.
 #[inline(never)]
-fn far_ends(text: &[u8], at: usize) -> Option<Ends>
+fn far_ends(text: &[u8], at: usize) -> Option<NumberEnds>
     requires { at < length text.now }
     ensures are { IfSome result (λ ends. AreEnds text.now at ends.first ends.second ends.third) }
     ensures within { IfSome result (λ ends. ends.third < length text.now) }
@@ -171,7 +171,7 @@ fn far_ends(text: &[u8], at: usize) -> Option<Ends>
 
 /// Where the three numbers end of the array whose opening bracket is at `at`.
 #[inline(always)]
-fn ends_at(text: &[u8], at: usize) -> Option<Ends>
+fn ends_at(text: &[u8], at: usize) -> Option<NumberEnds>
     requires { at < length text.now }
     ensures are { IfSome result (λ ends. AreEnds text.now at ends.first ends.second ends.third) }
     ensures within { IfSome result (λ ends. ends.third < length text.now) }

@@ -11,21 +11,21 @@ use super::scalars::integer_end;
 
 /// Where a run of whole numbers ends: after the bracket that closes the array, or before an item.
 #[derive(Clone, Copy, Drop)]
-pub(super) struct Run {
+pub(super) struct NumbersEnd {
     pub(super) at: usize,
     pub(super) closed: bool,
 }
 
 /// Where the next item begins, and how many arrays are open there; with none open, where the last one ended.
 #[derive(Clone, Copy, Drop)]
-pub(super) struct Place {
+pub(super) struct ItemPlace {
     pub(super) at: usize,
     pub(super) depth: usize,
 }
 
 /// Goes over whole numbers from `at` on, where an item is next. One blank may stand before each but the first.
 #[inline(always)]
-pub(super) fn numbers(text: &[u8], at: usize, draft: &mut Draft) -> Option<Run>
+pub(super) fn numbers(text: &[u8], at: usize, draft: &mut Draft) -> Option<NumbersEnd>
     requires copied { draft.old.from ≤ at }
     requires within { at ≤ length text.now }
     ensures onward { IfSome result (λ run. at ≤ run.at) }
@@ -47,19 +47,19 @@ pub(super) fn numbers(text: &[u8], at: usize, draft: &mut Draft) -> Option<Run>
     'numbers: loop {
         let stop = integer_end(text, i);
         if i == stop || stop == text.len() {
-            return Some(Run {
+            return Some(NumbersEnd {
                 at: i,
                 closed: false,
             });
         }
         if text[stop] == b']' {
-            return Some(Run {
+            return Some(NumbersEnd {
                 at: stop + 1,
                 closed: true,
             });
         }
         if text[stop] != b',' {
-            return Some(Run {
+            return Some(NumbersEnd {
                 at: i,
                 closed: false,
             });
@@ -92,7 +92,12 @@ fn past_blank(text: &[u8], at: usize, draft: &mut Draft) -> Option<usize>
 
 /// Goes on after an item that ends at `at`, with so many arrays open: over brackets that close them, and a comma.
 #[inline(always)]
-pub(super) fn after_item(text: &[u8], at: usize, depth: usize, draft: &mut Draft) -> Option<Place>
+pub(super) fn after_item(
+    text: &[u8],
+    at: usize,
+    depth: usize,
+    draft: &mut Draft,
+) -> Option<ItemPlace>
     requires copied { draft.old.from ≤ at }
     requires within { at ≤ length text.now }
     ensures onward { IfSome result (λ next. at ≤ next.at) }
@@ -114,7 +119,7 @@ pub(super) fn after_item(text: &[u8], at: usize, depth: usize, draft: &mut Draft
             return None;
         }
         if text[place] == b',' {
-            return Some(Place {
+            return Some(ItemPlace {
                 at: place + 1,
                 depth: left,
             });
@@ -125,7 +130,7 @@ pub(super) fn after_item(text: &[u8], at: usize, depth: usize, draft: &mut Draft
         left -= 1;
         end = place + 1;
     }
-    Some(Place { at: end, depth: 0 })
+    Some(ItemPlace { at: end, depth: 0 })
 }
 
 /// Whether an array with an item begins at `at`, and no white space stands in it before that; `false`: undecided.

@@ -51,6 +51,20 @@ impl TextPlace {
             TextPlace::Written => Ok(()),
         }
     }
+
+    /// The text in the memory in which it stands; the other memory is dropped. Room behind a text that stands where it
+    /// was read is given back.
+    pub fn into_line(self, read: Vec<u8>, buffer: Line) -> Line
+        ensures { result ≡ text_at self read.items buffer }
+    {
+        let TextPlace::Read(end) = self else {
+            return buffer;
+        };
+        let mut bytes = read;
+        bytes.truncate(end);
+        bytes.shrink_to_fit();
+        Line::from_vec(bytes)
+    }
 }
 
 /// Where the compact text of an object stands, where each of its members lies in it, in their order, and where in it an

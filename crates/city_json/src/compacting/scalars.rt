@@ -4,7 +4,7 @@ ghost use Rattle.city_json.specs.Bytes.{quotation_mark};
 ghost use Rattle.city_json.specs.Compacting.{IsScalarText, IsPlainString};
 ghost use Rattle.city_json.specs.Reading.{after_white};
 
-use super::digits::digits_end;
+use crate::reading::digits::digits_end;
 use crate::reading::numbers::number;
 use crate::reading::plain::plain_len;
 

@@ -34,7 +34,7 @@ struct Numbers {
 
 /// A bit for each byte that ends the first number after an opening bracket, and the second, and the third.
 #[derive(Clone, Copy, Drop)]
-struct Ends {
+struct EndMarks {
     first: u64,
     second: u64,
     third: u64,
@@ -121,7 +121,7 @@ fn ends_after(marks: u64, numbers: u64) -> u64
 }
 
 #[inline(always)]
-fn ends_of(opens: u64, numbers: u64) -> Ends
+fn ends_of(opens: u64, numbers: u64) -> EndMarks
     requires apart { AreApart opens numbers }
     ensures first { AreNext opens numbers result.first }
     ensures second { AreNext result.first numbers result.second }
@@ -130,7 +130,7 @@ fn ends_of(opens: u64, numbers: u64) -> Ends
     let first = ends_after(opens, numbers);
     let second = ends_after(first, numbers);
     let third = ends_after(second, numbers);
-    Ends {
+    EndMarks {
         first,
         second,
         third,
@@ -140,7 +140,7 @@ fn ends_of(opens: u64, numbers: u64) -> Ends
 /// A bit for each byte that may not stand where it stands: at the end of a number, two places after a triple, or at the
 /// block's front.
 #[inline(always)]
-fn wrong_ends(kinds: Kinds, ends: Ends) -> u64
+fn wrong_ends(kinds: Kinds, ends: EndMarks) -> u64
     ensures { (i : ℕ) → i < 64 → HasNoBit result i
         → DoEndsFit kinds.commas kinds.opens kinds.closes ends.first ends.second ends.third i }
 {

@@ -6,7 +6,7 @@ ghost use Rattle.city_json.specs.ListedNames.{names_in};
 ghost use Rattle.city_json.specs.Reading.{after_white};
 
 use super::draft::{Draft, skip};
-use super::flat::{Place, after_item, numbers, opens_array};
+use super::flat::{ItemPlace, after_item, numbers, opens_array};
 use super::scalars::{integer_end, scalar_end};
 use super::strings::{name_and_colon, text_value};
 use super::whole_arrays::{whole_after_comma, whole_from};
@@ -167,7 +167,7 @@ fn next_item(
     depth: usize,
     levels: usize,
     draft: &mut Draft,
-) -> Option<Place>
+) -> Option<ItemPlace>
     requires utf8 { IsUtf8 text.now }
     requires copied { draft.old.from ≤ at }
     requires within { at ≤ length text.now }
@@ -198,7 +198,7 @@ fn next_item(
     }
     if depth < levels {
         if opens_array(text, item) {
-            return Some(Place {
+            return Some(ItemPlace {
                 at: item + 1,
                 depth: depth + 1,
             });

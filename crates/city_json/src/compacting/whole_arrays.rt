@@ -209,7 +209,7 @@ fn stays_open(depth: usize, opens: u64, closes: u64) -> bool
 /// How many arrays are open at a place, how deep its items may still nest, and whether a zero that begins a number
 /// stands before it.
 #[derive(Clone, Copy, Drop)]
-struct Place {
+struct OpenArrays {
     depth: usize,
     room: usize,
     zeroed: bool,
@@ -217,7 +217,7 @@ struct Place {
 
 /// What stands after the 64 bytes at `at`, where they go on with arrays of whole numbers.
 #[inline(always)]
-fn after_block(text: &[u8], at: usize, from: Place) -> Option<Place>
+fn after_block(text: &[u8], at: usize, from: OpenArrays) -> Option<OpenArrays>
     requires some { 0 < at }
     requires within { at + 64 ≤ length text.now }
     requires levels { from.depth + from.room ≤ max_depth + 1 }
@@ -238,7 +238,7 @@ fn after_block(text: &[u8], at: usize, from: Place) -> Option<Place>
     {
         return None;
     }
-    Some(Place {
+    Some(OpenArrays {
         depth: from.depth + opened - closed,
         room: from.room + closed - opened,
         zeroed: found.zeroed,
@@ -247,7 +247,7 @@ fn after_block(text: &[u8], at: usize, from: Place) -> Option<Place>
 
 /// What stands after the byte at `at`, where it goes on with arrays of whole numbers.
 #[inline(always)]
-fn after_byte(text: &[u8], at: usize, from: Place) -> Option<Place>
+fn after_byte(text: &[u8], at: usize, from: OpenArrays) -> Option<OpenArrays>
     requires some { 0 < at }
     requires within { at < length text.now }
     requires open { 0 < from.depth }
@@ -268,7 +268,7 @@ fn after_byte(text: &[u8], at: usize, from: Place) -> Option<Place>
         if from.zeroed {
             return None;
         }
-        return Some(Place {
+        return Some(OpenArrays {
             depth: from.depth,
             room: from.room,
             zeroed: begins_with_zero(before, byte),
@@ -278,7 +278,7 @@ fn after_byte(text: &[u8], at: usize, from: Place) -> Option<Place>
         if may_not_follow(before, b',') {
             return None;
         }
-        return Some(Place {
+        return Some(OpenArrays {
             depth: from.depth,
             room: from.room,
             zeroed: false,
@@ -291,7 +291,7 @@ fn after_byte(text: &[u8], at: usize, from: Place) -> Option<Place>
         if from.room == 0 {
             return None;
         }
-        return Some(Place {
+        return Some(OpenArrays {
             depth: from.depth + 1,
             room: from.room - 1,
             zeroed: false,
@@ -301,7 +301,7 @@ fn after_byte(text: &[u8], at: usize, from: Place) -> Option<Place>
         if may_not_follow(before, b']') {
             return None;
         }
-        return Some(Place {
+        return Some(OpenArrays {
             depth: from.depth - 1,
             room: from.room + 1,
             zeroed: false,
@@ -422,7 +422,7 @@ fn front_len(marks: Marks) -> usize
 
 /// How many bytes at the front of a block close all arrays that are open after the byte `before`; 0: undecided.
 #[inline(always)]
-fn closing_len(block: u8x64, before: u8, from: Place) -> usize
+fn closing_len(block: u8x64, before: u8, from: OpenArrays) -> usize
     requires levels { from.depth + from.room ≤ max_depth + 1 }
     requires place { is_place before ≡ true }
     ensures within { result ≤ 63 }
@@ -448,7 +448,7 @@ fn closing_len(block: u8x64, before: u8, from: Place) -> usize
 
 /// Where the bytes from `at` on have closed all arrays that are open, within a block; `at`: undecided.
 #[inline(always)]
-fn closing_end(text: &[u8], at: usize, from: Place) -> usize
+fn closing_end(text: &[u8], at: usize, from: OpenArrays) -> usize
     requires some { 0 < at }
     requires within { at ≤ length text.now }
     requires levels { from.depth + from.room ≤ max_depth + 1 }
@@ -466,7 +466,7 @@ fn closing_end(text: &[u8], at: usize, from: Place) -> usize
 
 /// The same near the end of the text.
 #[inline(never)]
-fn short_closing_end(text: &[u8], at: usize, from: Place) -> usize
+fn short_closing_end(text: &[u8], at: usize, from: OpenArrays) -> usize
     requires some { 0 < at }
     requires within { at ≤ length text.now }
     requires few { length text.now < at + 64 }
@@ -501,7 +501,7 @@ fn whole_end(text: &[u8], at: usize, levels: usize) -> usize
         → Closes 1 levels (stage_of (slice_index text.now (at - 1)) false) (slice_range text.now at result) }
 {
     let mut i = at;
-    let mut place = Place {
+    let mut place = OpenArrays {
         depth: 1,
         room: levels,
         zeroed: false,

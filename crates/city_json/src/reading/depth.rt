@@ -39,7 +39,7 @@ pub(crate) fn is_deep(bytes: &[u8]) -> bool
 /// A front of the bytes: how long it is, how many opening and closing brackets stand in it outside
 /// strings, and whether it ends in a string.
 #[derive(Clone, Copy)]
-struct Run {
+struct BracketRun {
     len: usize,
     opened: usize,
     closed: usize,
@@ -49,7 +49,7 @@ struct Run {
 /// A front of bytes that begin in a string or not. It is of one byte where it has more than `room`
 /// opening brackets.
 #[inline(always)]
-fn next_run(bytes: &[u8], in_string: bool, room: usize) -> Run
+fn next_run(bytes: &[u8], in_string: bool, room: usize) -> BracketRun
     requires { 0 < length bytes.now }
     ensures run { IsBracketRun in_string (take result.len bytes.now) (drop result.len bytes.now)
         result.opened result.closed result.in_string }
@@ -68,7 +68,7 @@ fn next_run(bytes: &[u8], in_string: bool, room: usize) -> Run
 }
 
 /// The first byte, with the byte that it escapes.
-fn run_of_byte(bytes: &[u8], in_string: bool) -> Run
+fn run_of_byte(bytes: &[u8], in_string: bool) -> BracketRun
     requires { 0 < length bytes.now }
     ensures run { IsBracketRun in_string (take result.len bytes.now) (drop result.len bytes.now)
         result.opened result.closed result.in_string }
@@ -78,14 +78,14 @@ fn run_of_byte(bytes: &[u8], in_string: bool) -> Run
 {
     let byte = bytes[0];
     if !in_string {
-        return Run {
+        return BracketRun {
             len: 1,
             opened: usize::from(byte == b'[' || byte == b'{'),
             closed: usize::from(byte == b']' || byte == b'}'),
             in_string: byte == b'"',
         };
     }
-    Run {
+    BracketRun {
         len: 1 + usize::from(byte == b'\\' && bytes.len() > 1),
         opened: 0,
         closed: 0,
@@ -95,7 +95,7 @@ fn run_of_byte(bytes: &[u8], in_string: bool) -> Run
 
 /// The first `len` bytes of a block, which have no backslash among them.
 #[inline(always)]
-fn run_of_block(block: u8x64, len: usize, in_string: bool) -> Run
+fn run_of_block(block: u8x64, len: usize, in_string: bool) -> BracketRun
     requires some { 0 < len }
     requires plain { len ≤ position_or_len (λ b. b == backslash) block }
     ensures run { (back : List ℕ) → IsBracketRun in_string (take len block) back
@@ -104,7 +104,7 @@ fn run_of_block(block: u8x64, len: usize, in_string: bool) -> Run
     ensures few { result.opened ≤ len }
 {
     let outside = outside_marks(block, len, in_string);
-    Run {
+    BracketRun {
         len,
         opened: (marks_of_either(block, b'[', b'{') & outside).count_ones() as usize,
         closed: (marks_of_either(block, b']', b'}') & outside).count_ones() as usize,

@@ -4,7 +4,7 @@ ghost use Rattle.std.specs.Option.{option_map};
 ghost use Rattle.city_json.specs.Number.{IsNumber};
 ghost use Rattle.city_json.specs.NumberAt.{number_at, past_number, past_minus, past_whole, past_fraction, past_exponent, past_sign, past_some_digits, past_digits};
 
-use crate::compacting::digits::digits_end;
+use crate::reading::digits::digits_end;
 
 /// The number at the front of the bytes, and what follows it.
 #[tactic(auto, using(crate::proofs::NumberLaws::rest_is_short))]

@@ -2,7 +2,7 @@
 
 use byte_streams::Fault;
 use city_grid::{
-    PlacedVertex, Shift, Transform, Vertex, decimal, least_of, moved, shift_of, spelled_vertex_at,
+    PlacedVertex, Shift, SpelledVertex, Transform, Vertex, decimal, least_of, moved, shift_of, spelled_vertex_at,
     three_numbers, transform, vertex, vertex_at, vertex_end,
 };
 use city_json::{NumText, read};
@@ -215,12 +215,19 @@ fn is_found(found: Option<PlacedVertex>, vertex: Option<Vertex>, end: usize) -> 
     }
 }
 
+fn is_spelled(found: Option<SpelledVertex>, vertex: Option<Vertex>, end: usize) -> bool {
+    match found {
+        Some(found) => Some(found.vertex) == vertex && found.end == end && !found.as_written,
+        None => false,
+    }
+}
+
 #[test]
 fn vertices_are_found_in_a_text(rt: HostRuntime) {
     let gone = take(rt.alloc());
     let text = b"[[-17,0,12345],[-0,1,2]]";
     assert!(rt; is_found(vertex_at(text, 1), Vertex::new(-17, 0, 12345), 14));
     assert!(rt; vertex_end(text, 1) == 14);
-    assert!(rt; is_found(spelled_vertex_at(text, 15), Vertex::new(0, 1, 2), 23));
+    assert!(rt; is_spelled(spelled_vertex_at(text, 15), Vertex::new(0, 1, 2), 23));
     assert!(rt; give(rt.alloc(), gone));
 }

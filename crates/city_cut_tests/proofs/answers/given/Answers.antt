@@ -1,17 +1,20 @@
+use Rattle.std.proofs.Common.{◌∙◌, subst, sym}
 use Rattle.city_json.proofs.SpelledWritable.{spelled_writable}
 use Rattle.city_json.specs.Tree.{object}
+use Rattle.city_json.specs.Triples.{HasTriples}
 use Rattle.city_cut_tests.proofs.answers.given.Goals as goal
 
-pub returns-in-Ok : goal.returns-in-Ok
-returns-in-Ok c =
-    let (members, spells, fits, shallow, written, are) = c.in-Ok.ensures.object in (
+pub returns : goal.returns
+returns c =
+    let (members, spells, fits, shallow, written, are) = c.in_ok-object.ensures.object in
+    let same = c.in_ok-ok.ensures in (
       members,
       record {
-        is = written;
-        writable = spelled_writable c.from_vec.result (object members) spells;
+        is = same ∙ written;
+        writable = spelled_writable c.args.document.now (object members) spells;
         distinct = fits.1;
         within = fits.0;
       },
       are,
-      c.in-Ok.ensures.triples,
+      subst (λ line. HasTriples line c.in_ok-object.object.triples) (sym same) c.in_ok-object.ensures.triples,
     )

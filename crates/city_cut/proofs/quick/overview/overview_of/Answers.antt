@@ -1,5 +1,5 @@
 use Rattle.std.proofs.Common.{arith}
-use Rattle.city_cut.proofs.QuickMembers.{has_front_parts, members_begin, members_go_on, members_none, members_stop, whole_parts}
+use Rattle.city_json.proofs.FrontMembers.{has_front_parts, members_begin, members_go_on, members_none, members_stop, whole_parts}
 use Rattle.city_cut.proofs.QuickOverviews.{none_yet}
 use Rattle.city_cut.proofs.quick.overview.overview_of.Goals as goal
 

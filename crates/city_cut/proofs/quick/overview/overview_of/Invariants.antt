@@ -1,7 +1,7 @@
 use Rattle.std.proofs.Common.{◌≤◌, ◌-◌, length}
 use Rattle.std.specs.List.{AllZip}
 use Rattle.city_cut.specs.Overviews.{AreHolders, HasChildrenIn, HasParentsIn}
-use Rattle.city_cut.specs.FrontMembers.{GoesOn}
+use Rattle.city_json.specs.FrontMembers.{GoesOn}
 use Rattle.city_cut.proofs.quick.overview.overview_of.Given as goal
 
 abbrev pub invariant-objects : goal.invariant-objects

@@ -1,0 +1,9 @@
+use Rattle.std.proofs.Common.{arith}
+use Rattle.city_json.proofs.CompactMembers.{member_leaves}
+use Rattle.city_json.proofs.compacting.members.member_from.Goals as goal
+
+pub returns-clause-is : goal.returns-clause-is
+returns-clause-is c =
+    let text = c.args.text.now in
+    member_leaves text c.args.at c.args.colon c.value_end-end.result (omega (arith, c.requires.order, c.requires.within))
+    c.requires.within c.value_end-end.ensures.within c.requires.is c.value_end-end.ensures.is
