@@ -19,7 +19,7 @@ use Rattle.city_json.specs.Bytes.{comma, open_bracket, close_bracket, digit_zero
 use Rattle.city_json.specs.Compact.{compact, compact_items, compact_more_items}
 use Rattle.city_json.specs.Tree.{Tree, ItemTrees, array, item, no_items}
 use Rattle.city_json.specs.Triples.{AreTriples, IsShortNumeral, IsTriple, three_numbers}
-use Rattle.city_feature.proofs.features.TriplesAreVertices as triples
+use Rattle.city_feature.proofs.TriplesAreVertices as triples
 use Rattle.city_grid.specs.Axes.{IsInRange, Triple, triple}
 use Rattle.city_grid.specs.Vertex.{vertex_tree}
 use Rattle.city_feature.specs.Feature.{vertices_tree}

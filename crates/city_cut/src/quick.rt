@@ -56,7 +56,6 @@ use crate::cuts::CutTexts;
 use crate::families::{Kin, check_belonging};
 use crate::held::FeatureTexts;
 use byte_streams::Line;
-
 use city_json::{Part, Span, between, compact_object, part_named};
 use features::{are_short, feature_texts};
 use graph::graph_of;

@@ -8,3 +8,4 @@ pub mod NamedMembers
 pub mod NamedTexts
 pub mod NoObjects
 pub mod QuickLines
+pub mod TriplesAreVertices

@@ -6,7 +6,6 @@ pub mod TextVertices
 pub mod QuickTypes
 pub mod LineVertices
 pub mod FirstTypes
-pub mod TriplesAreVertices
 pub mod TripleVertices
 pub mod EndedTexts
 pub mod ThreeNumbers

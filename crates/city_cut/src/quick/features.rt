@@ -35,7 +35,7 @@ use crate::families::{Family, Kin, family_at, no_marks};
 use crate::held::Pieces;
 use crate::numbering::Numbering;
 use byte_streams::Line;
-use city_json::{between};
+use city_json::between;
 use std::alloc::Global;
 
 /// Copies the object at a place, with its name.

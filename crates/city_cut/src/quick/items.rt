@@ -19,7 +19,6 @@ ghost use Rattle.city_feature.specs.Texts.{IsCompactOf};
 use super::drafts::{Draft, Labels, copy_items};
 use super::holders::Holder;
 use super::texts::{append_back, append_front, append_text, is_absent, parts_of};
-
 use city_grid::byte_is;
 use city_json::{
     Part, between, end_after, members_at, members_of_compact, part_named, value_end, value_place,

@@ -21,7 +21,6 @@ use super::numbers::append_between;
 use super::objects::{append_one, append_two};
 use super::skeletons::Leaf;
 use super::texts::{append_back, append_front, append_text};
-
 use city_json::{Part, between};
 use std::alloc::Global;
 

@@ -20,7 +20,6 @@ use super::holders::{HeldParts, Holder};
 use super::items::append_held;
 use super::texts::{append_back, append_front, append_text};
 use crate::numbering::Numbering;
-
 use city_json::{Part, between};
 use std::alloc::Global;
 

@@ -8,7 +8,6 @@ use super::holders::{HeldParts, Holder, ShortHeld};
 use super::kin::{children_text, has_parents, push_text};
 use super::short_parts::{ShortPart, list_short};
 use super::texts::is_absent;
-
 use city_json::{Part, between, colon_after, members_at, part_named};
 use std::alloc::Global;
 

@@ -19,7 +19,7 @@ use super::notes::{NotedLeaves, note_object};
 use super::short_parts::ShortPart;
 use super::texts::append_text;
 use byte_streams::Line;
-use city_json::{between};
+use city_json::between;
 use std::alloc::Global;
 use std::marker::Model;
 

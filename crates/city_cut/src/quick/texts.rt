@@ -5,7 +5,6 @@ ghost use Rattle.city_json.specs.Tree.{Tree, MemberTrees, object};
 ghost use Rattle.city_feature.specs.Texts.{IsCompactOf};
 
 use byte_streams::Line;
-
 pub(super) use city_feature::{is_absent, member_or};
 use city_json::{Part, between, members_of_compact};
 use std::alloc::Global;

@@ -15,7 +15,6 @@ ghost use Rattle.city_cut.specs.VertexTexts.{HasPoints, StandAt};
 
 use super::points::COMMON_LEN;
 use crate::placing::push_place;
-
 use city_json::{Part, Span, between, part_named};
 use std::alloc::Global;
 use std::simd::prelude::*;
