@@ -11,19 +11,19 @@ pub cut_compacted_triples-requires-clause-members : goal.cut_compacted_triples-r
 cut_compacted_triples-requires-clause-members c =
     let (members, spells, fits, shallow, written, are) = c.in_ok-found.ensures.object in (
       members,
-      compact_of c.args.text.now (text_at c.in_ok-found.found.place c.args.text.now c.compact_object.new.buffer) c.bytes.result.now members spells fits written
-          c.bytes.ensures,
+      compact_of c.args.text.now (text_at c.in_ok-found.found.place c.args.text.now c.compact_object.new.buffer) c.bytes-line.result.now members spells fits written
+          c.bytes-line.ensures,
       subst (λ p. AreParts 1 p members) (sym c.deref.ensures.value) are,
     )
 
 pub cut_compacted_triples-requires-clause-triples : goal.cut_compacted_triples-requires-clause-triples
 cut_compacted_triples-requires-clause-triples c =
-    subst (λ line. HasTriples line c.in_ok-found.found.triples) (sym c.bytes.ensures) c.in_ok-found.ensures.triples
+    subst (λ line. HasTriples line c.in_ok-found.found.triples) (sym c.bytes-line.ensures) c.in_ok-found.ensures.triples
 
 pub returns : goal.returns
 returns c = if_some_more c.cut_compacted_triples.result (λ cut holds.
     let (members, spells, fits, shallow, written, are) = c.in_ok-found.ensures.object in
     let (cuttable, features, is_cut, texts) =
-    holds members (compact_of c.args.text.now (text_at c.in_ok-found.found.place c.args.text.now c.compact_object.new.buffer) c.bytes.result.now members spells fits
-    written c.bytes.ensures) (subst (λ p. AreParts 1 p members) (sym c.deref.ensures.value) are) in
+    holds members (compact_of c.args.text.now (text_at c.in_ok-found.found.place c.args.text.now c.compact_object.new.buffer) c.bytes-line.result.now members spells fits
+    written c.bytes-line.ensures) (subst (λ p. AreParts 1 p members) (sym c.deref.ensures.value) are) in
     (object members, spells, fits, shallow, cuttable, features, is_cut, texts)) c.cut_compacted_triples.ensures
