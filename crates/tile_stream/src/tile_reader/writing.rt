@@ -9,8 +9,8 @@ ghost use Rattle.tile_stream.specs.Progress.{HasBegun, HasWritten, IsRefusedAfte
 ghost use Rattle.tile_stream.specs.Unread.{has_failed, is_read, most_left};
 ghost use Rattle.tile_stream.specs.Whole.{IsWhole};
 
-use crate::filter::write_text;
 use crate::tile_reader::TileReader;
+use crate::writing::write_text;
 use byte_streams::{Fault, Line, MergeFault, Sink, Source};
 use city_feature::{Choice, feature_text};
 use city_grid::Shift;
