@@ -1,22 +1,20 @@
 -- What is still to come, step by step.
-use Rattle.std.proofs.Common.{◌≡◌, ◌<◌, ◌+◌, ◌++◌, ℕ, Bool, true, false, List, [], ◌∷◌, Option, Some, None, length, take, drop, get_or, refl, sym, ap, subst, ◌∙◌, arith, append_assoc, append-nil}
+use Rattle.std.proofs.Common.{◌≡◌, ◌≤◌, ◌<◌, ◌+◌, ◌-◌, ◌++◌, ℕ, Bool, true, false, List, [], ◌∷◌, Option, Some, None, length, take, drop, get_or, slice_range, refl, sym, ap, subst, ◌∙◌, arith, append_assoc, append-nil, ⊎_elim, inr}
 use Rattle.std.proofs.lemmas.Grind.{common_steps}
-use Rattle.std.proofs.lemmas.Bool.{false_from_ne_true}
+use Rattle.std.proofs.lemmas.Bool.{cases_lt, false_from_ne_true, false≢true}
 use Rattle.std.proofs.lemmas.Bool.Decides.{nat_tests}
-use Rattle.std.proofs.lemmas.List.{drop_more, take-append-drop}
-use Rattle.std.proofs.lemmas.List.Elements.{All-append}
+use Rattle.std.proofs.lemmas.List.{drop_more, get_or-drop, get_or-take, length-drop, length-take-le, take-append-drop, take_rest}
 use Rattle.memchr.specs.Find.{IsFirstByte}
 use Rattle.city_json.specs.Bytes.{newline}
-use Rattle.byte_streams.specs.Source.{GivesFirst}
 use Rattle.byte_streams.specs.declared.fault.Fault.{Fault}
 use Rattle.byte_streams.specs.declared.fault.Fault.TheVariants.{LineTooLong, TileTooLong, Read, Memory}
 use Rattle.tile_stream.specs.declared.limits.Limits.{Limits}
 use Rattle.tile_stream.specs.Ahead.{Ahead, MayCome}
-use Rattle.tile_stream.specs.Taking.{HasNoNewline, IsFineFront, IsLimitFault, IsFillFault, IsRefusedLine, IsRefusal}
-use Rattle.tile_stream.specs.Tile.{is_newline, fault_between}
+use Rattle.tile_stream.specs.Parts.{ComesBack, HasNoNewline, IsFineFront, IsLimitFault, IsFillFault, IsNextPart, IsRefusedLine, IsRefusal, ReadsMore}
+use Rattle.tile_stream.specs.Tile.{is_newline, fault_between, lines_from}
 use Rattle.tile_stream.proofs.FirstParts.{refused_early, refused_whole, refused_at_end}
 
-is_code : (b : ℕ) → is_newline b ≡ true → b ≡ newline
+pub is_code : (b : ℕ) → is_newline b ≡ true → b ≡ newline
 is_code b is = grind (arith, nat_tests)
 
 at_any : (xs : List ℕ) (k d : ℕ) → k < length xs → is_newline (get_or xs k d) ≡ true → is_newline (get_or xs k 0) ≡ true
@@ -49,8 +47,11 @@ parts_found held count found =
     ∙ ap (λ rest. take count held ++ rest) (drop_more held count 0 found.0.high)
     ∙ ap (λ b. take count held ++ b ∷ drop (count + 1) held) (is_code (get_or held count 0) found.1)
 
-pub no_newline : (line more : List ℕ) → HasNoNewline line → HasNoNewline more → HasNoNewline (line ++ more)
-no_newline line more one two = All-append (λ b. is_newline b ≡ false) line more one two
+-- the same with what comes behind
+pub parts_behind : (held : List ℕ) (count : ℕ) → IsFirstByte is_newline held (Some count) → (others : List ℕ)
+    → held ++ others ≡ take count held ++ newline ∷ (drop (count + 1) held ++ others)
+parts_behind held count found others = ap (λ bytes. bytes ++ others) (parts_found held count found)
+    ∙ append_assoc (take count held) (newline ∷ drop (count + 1) held) others
 
 -- a line that is refused by its limits is refused
 pub limit_refusal : (fault : Fault) (limits : Limits) (start : ℕ) (before : List ℕ → Bool → Type 0) → IsLimitFault fault
@@ -67,6 +68,44 @@ fill_refusal Read limits start before kind failed some = failed refl
 fill_refusal Memory limits start before kind failed some = some
 fill_refusal other limits start before kind failed some = absurd kind
 
+-- what was found behind the bytes that were seen
+module _ (held : List ℕ) (seen : ℕ) (none : HasNoNewline (take seen held)) (within : seen ≤ length held) where
+  seen_none : (k : ℕ) → k < seen → is_newline (get_or held k 0) ≡ true → ⊥
+  seen_none k below passes =
+      false≢true (sym (none k 0 (omega (arith, below, within, length-take-le seen held within)))
+      ∙ ap is_newline (get_or-take seen held k 0 below) ∙ passes)
+
+  behind : (k : ℕ) → seen ≤ k → is_newline (get_or held k 0) ≡ true
+      → is_newline (get_or (drop seen held) (k - seen) 0) ≡ true
+  behind k from passes =
+      let place : seen + (k - seen) ≡ k = omega (arith, from) in
+      ap is_newline (get_or-drop seen held (k - seen) 0 ∙ ap (λ i. get_or held i 0) place) ∙ passes
+
+  pub found_behind : (more : ℕ) → IsFirstByte is_newline (slice_range held seen (length held)) (Some more)
+      → IsFirstByte is_newline held (Some (seen + more))
+  found_behind more found =
+      let here : IsFirstByte is_newline (drop seen held) (Some more) = rw (← take_rest held seen) found in (
+        record {
+          low = omega arith;
+          high = omega (arith, here.0.high, length-drop seen held);
+          before = λ k low high passes. ⊎_elim
+              (λ (early : k < seen). seen_none k early passes)
+              (λ (late : seen ≤ k). here.0.before (k - seen) (omega arith) (omega (arith, late, high))
+              (behind k late passes))
+              (cases_lt k seen);
+        },
+        ap is_newline (sym (get_or-drop seen held more 0)) ∙ here.1,
+      )
+
+  pub none_behind : IsFirstByte is_newline (slice_range held seen (length held)) None → HasNoNewline held
+  none_behind found =
+      let here : IsFirstByte is_newline (drop seen held) None = rw (← take_rest held seen) found in
+      none_found held (λ k low high passes. ⊎_elim
+      (λ (early : k < seen). seen_none k early passes)
+      (λ (late : seen ≤ k). here (k - seen) (omega arith) (omega (arith, late, high, length-drop seen held))
+      (behind k late passes))
+      (cases_lt k seen))
+
 -- what was tested of the line's end, of its length
 pub ends : (limits : Limits) (start end : ℕ) (text : List ℕ) (answer : Option Fault) → end ≡ start + length text
     → answer ≡ fault_between limits (end + 1) false start end
@@ -78,105 +117,95 @@ pub goes_on : (limits : Limits) (start end : ℕ) (text : List ℕ) (answer : Op
     → fault_between limits (start + length text) false start (start + length text) ≡ answer
 goes_on limits start end text answer is tested = sym (tested ∙ ap (λ n. fault_between limits n false start n) is)
 
-module _ {R : Type 0} (gives : R → List ℕ → Bool → Type 0) (first now : Ahead R) (line : List ℕ)
-    (follows : (bytes : List ℕ) (fails : Bool) → MayCome gives now bytes fails
-    → MayCome gives first (line ++ bytes) fails) where
+module _ {R : Type 0} (gives : R → List ℕ → Bool → Type 0) (first now : Ahead R)
+    (back : ComesBack (MayCome gives first) (MayCome gives now))
+    (some : (bytes : List ℕ) × ((fails : Bool) × gives now.reader bytes fails)) where
   -- something was to come
-  pub something : ((bytes : List ℕ) × ((fails : Bool) × gives now.reader bytes fails)) → (bytes : List ℕ)
-      × (fails : Bool) × MayCome gives first bytes fails
-  something some = (
-    line ++ (now.held ++ some.0),
-    some.1.0,
-    follows (now.held ++ some.0) some.1.0 (some.0, some.1.1, refl),
-  )
-
-  -- all that is held comes after the line
-  pub all_held : (others : List ℕ) (fails : Bool) → gives now.reader others fails
-      → MayCome gives first ((line ++ now.held) ++ others) fails
-  all_held others fails given =
-      let P : List ℕ → Type 0 = λ bytes. MayCome gives first bytes fails in
-      subst P (sym (append_assoc line now.held others)) (follows (now.held ++ others) fails (others, given, refl))
-
-  -- all that was held was taken, and nothing more was read
-  pub all_taken : (next : Ahead R) → next.reader ≡ now.reader → next.held ≡ [] → (bytes : List ℕ) (fails : Bool)
-      → MayCome gives next bytes fails → MayCome gives first ((line ++ now.held) ++ bytes) fails
-  all_taken next same empty bytes fails comes =
-      let P : List ℕ → Type 0 = λ more. MayCome gives first ((line ++ now.held) ++ more) fails in
-      let Gives : R → Type 0 = λ reader. gives reader comes.0 fails in
-      let is : comes.0 ≡ bytes = sym (comes.2 ∙ ap (λ held. held ++ comes.0) empty) in
-      subst P is (all_held comes.0 fails (subst Gives same comes.1))
-
-  -- the end came, or an error
-  pub end_came : (skipped : Ahead R) (fails : Bool) → skipped.reader ≡ now.reader → gives skipped.reader [] fails
-      → MayCome gives first (line ++ now.held) fails
-  end_came skipped fails same ended =
-      let P : List ℕ → Type 0 = λ bytes. MayCome gives first bytes fails in
-      let Ends : R → Type 0 = λ reader. gives reader [] fails in
-      subst P (append-nil (line ++ now.held)) (all_held [] fails (subst Ends same ended))
+  pub something : (bytes : List ℕ) × (fails : Bool) × MayCome gives first bytes fails
+  something = (now.held ++ some.0, some.1.0, back (now.held ++ some.0) some.1.0 (some.0, some.1.1, refl))
 
   -- a newline was found
-  module _ (count : ℕ) (found : IsFirstByte is_newline now.held (Some count)) where
-    pub whole : (next : Ahead R) → next ≡ record now { held = drop (count + 1) now.held }
-        → (bytes : List ℕ) (fails : Bool) → MayCome gives next bytes fails
-        → MayCome gives first ((line ++ take count now.held) ++ newline ∷ bytes) fails
-    whole next is bytes fails comes =
-        let P : List ℕ → Type 0 = λ all. MayCome gives first all fails in
-        let Comes : Ahead R → Type 0 = λ ahead. MayCome gives ahead bytes fails in
-        let here = subst Comes is comes in
-        let split = ap (λ held. held ++ here.0) (parts_found now.held count found)
-        ∙ append_assoc (take count now.held) (newline ∷ drop (count + 1) now.held) here.0 in
-        let after : take count now.held ++ newline ∷ bytes ≡ now.held ++ here.0 =
-        ap (λ rest. take count now.held ++ newline ∷ rest) here.2 ∙ sym split in
-        subst P (sym (append_assoc line (take count now.held) (newline ∷ bytes)))
-        (follows (take count now.held ++ newline ∷ bytes) fails (here.0, here.1, after))
-
-    pub whole_refused : (limits : Limits) (start : ℕ) (fault : Fault) → HasNoNewline line
-        → ((bytes : List ℕ) × ((fails : Bool) × gives now.reader bytes fails))
-        → fault_between limits (start + length (line ++ take count now.held) + 1) false start
-        (start + length (line ++ take count now.held)) ≡ Some fault
-        → IsRefusedLine fault limits start (MayCome gives first)
-    whole_refused limits start fault none some is =
-        let next : Ahead R = record now { held = drop (count + 1) now.held } in
-        let text = line ++ take count now.held in
-        let rest = drop (count + 1) now.held ++ some.0 in (
-          text ++ newline ∷ rest,
-          some.1.0,
-          whole next refl rest some.1.0 (some.0, some.1.1, refl),
-          λ number. refused_whole limits number start text
-              (no_newline line (take count now.held) none (none_before now.held count found)) rest some.1.0 fault is,
-        )
+  pub whole_refused : (count : ℕ) → IsFirstByte is_newline now.held (Some count) → (limits : Limits) (start : ℕ)
+      (fault : Fault)
+      → fault_between limits (start + length (take count now.held) + 1) false start
+      (start + length (take count now.held)) ≡ Some fault
+      → IsRefusedLine fault limits start (MayCome gives first)
+  whole_refused count found limits start fault is = (
+    now.held ++ some.0,
+    some.1.0,
+    back (now.held ++ some.0) some.1.0 (some.0, some.1.1, refl),
+    λ number. ap (λ bytes. lines_from limits number start bytes some.1.0) (parts_behind now.held count found some.0)
+        ∙ refused_whole limits number start (take count now.held) (none_before now.held count found)
+        (drop (count + 1) now.held ++ some.0) some.1.0 fault is,
+  )
 
   -- none was found
-  module _ (found : IsFirstByte is_newline now.held None) (none : HasNoNewline line) where
-    pub part_refused : (limits : Limits) (start : ℕ) (fault : Fault)
-        → ((bytes : List ℕ) × ((fails : Bool) × gives now.reader bytes fails))
-        → fault_between limits (start + length (line ++ now.held)) false start (start + length (line ++ now.held))
-        ≡ Some fault → IsRefusedLine fault limits start (MayCome gives first)
-    part_refused limits start fault some is = (
-      (line ++ now.held) ++ some.0,
+  module _ (none : HasNoNewline now.held) (limits : Limits) (start : ℕ) where
+    pub part_refused : (fault : Fault)
+        → fault_between limits (start + length now.held) false start (start + length now.held) ≡ Some fault
+        → IsRefusedLine fault limits start (MayCome gives first)
+    part_refused fault is = (
+      now.held ++ some.0,
       some.1.0,
-      all_held some.0 some.1.0 some.1.1,
-      λ number. refused_early limits number start (line ++ now.held)
-          (no_newline line now.held none (none_found now.held found)) some.0 some.1.0 fault is,
+      back (now.held ++ some.0) some.1.0 (some.0, some.1.1, refl),
+      λ number. refused_early limits number start now.held none some.0 some.1.0 fault is,
     )
 
-    pub end_refused : (limits : Limits) (start : ℕ) (skipped : Ahead R) → skipped.reader ≡ now.reader
-        → gives skipped.reader [] true → IsFineFront limits start (line ++ now.held)
-        → IsRefusedLine Read limits start (MayCome gives first)
-    end_refused limits start skipped same failed fine = (
-      line ++ now.held,
-      true,
-      end_came skipped true same failed,
-      λ number. refused_at_end limits number start (line ++ now.held)
-          (no_newline line now.held none (none_found now.held found)) fine,
-    )
+-- the end came, or an error
+module _ {R : Type 0} (gives : R → List ℕ → Bool → Type 0) (first now : Ahead R)
+    (back : ComesBack (MayCome gives first) (MayCome gives now)) where
+  pub end_came : (fails : Bool) → gives now.reader [] fails → MayCome gives first now.held fails
+  end_came fails ended = back now.held fails ([], ended, sym (append-nil now.held))
 
-  -- more bytes came, once all that was held was taken
-  pub more_came : (skipped next : Ahead R) → skipped.reader ≡ now.reader
-      → GivesFirst (gives skipped.reader) (gives next.reader) next.held
-      → (bytes : List ℕ) (fails : Bool) → MayCome gives next bytes fails
-      → MayCome gives first ((line ++ now.held) ++ bytes) fails
-  more_came skipped next same came bytes fails comes =
-      let P : List ℕ → Type 0 = λ all. MayCome gives first ((line ++ now.held) ++ all) fails in
-      let Comes : R → Type 0 = λ reader. gives reader (next.held ++ comes.0) fails in
-      subst P (sym comes.2) (all_held (next.held ++ comes.0) fails (subst Comes same (came comes.0 fails comes.1)))
+  pub end_refused : HasNoNewline now.held → (limits : Limits) (start : ℕ) → gives now.reader [] true
+      → IsFineFront limits start now.held → IsRefusedLine Read limits start (MayCome gives first)
+  end_refused none limits start failed fine = (
+    now.held,
+    true,
+    end_came true failed,
+    λ number. refused_at_end limits number start now.held none fine,
+  )
+
+  -- more bytes came
+  pub more_came : (next : Ahead R) (count : ℕ) → ReadsMore gives now next count
+      → ComesBack (MayCome gives first) (MayCome gives next)
+  more_came next count reads bytes fails comes = back bytes fails (
+    reads.more ++ comes.0,
+    reads.given comes.0 fails comes.1,
+    comes.2 ∙ ap (λ held. held ++ comes.0) reads.held ∙ append_assoc now.held reads.more comes.0,
+  )
+
+-- the end came: the part is the last
+nothing_more : (count : ℕ) (more : List ℕ) → count ≡ length more → count ≡ 0 → more ≡ []
+nothing_more count [] is none = refl
+nothing_more count (b ∷ more) is none = absurd (omega (arith, is, none))
+
+pub last_part : {R : Type 0} (gives : R → List ℕ → Bool → Type 0) (first now next : Ahead R)
+    → ComesBack (MayCome gives first) (MayCome gives now) → (limits : Limits) (start count all : ℕ)
+    → HasNoNewline now.held → IsFineFront limits start now.held → ReadsMore gives now next count → count ≡ 0
+    → gives now.reader [] false → all ≡ length now.held → IsNextPart gives limits start first next all
+last_part gives first now next back limits start count all none fine reads nothing over is =
+    let same : next.held ≡ now.held = reads.held
+    ∙ ap (λ more. now.held ++ more) (nothing_more count reads.more reads.counted nothing) ∙ append-nil now.held in
+    record {
+      part = inr (record {
+        all = is ∙ ap length (sym same);
+        none = subst HasNoNewline (sym same) none;
+        fine = subst (IsFineFront limits start) (sym same) fine;
+      });
+      back = more_came gives first now back next count reads;
+      last = λ whole. subst (λ held. MayCome gives first held false) (sym same)
+          (end_came gives first now back false over);
+    }
+
+-- the part of this length and its newline were taken
+pub part_taken : {R : Type 0} (gives : R → List ℕ → Bool → Type 0) (now next : Ahead R) (count : ℕ)
+    → IsFirstByte is_newline now.held (Some count) → next ≡ record now { held = drop (count + 1) now.held }
+    → (bytes : List ℕ) (fails : Bool) → MayCome gives next bytes fails
+    → MayCome gives now (take count now.held ++ newline ∷ bytes) fails
+part_taken gives now next count found is bytes fails comes =
+    let here = subst (λ (ahead : Ahead _). MayCome gives ahead bytes fails) is comes in (
+      here.0,
+      here.1,
+      ap (λ rest. take count now.held ++ newline ∷ rest) here.2 ∙ sym (parts_behind now.held count found here.0),
+    )

@@ -12,7 +12,7 @@ use Rattle.byte_streams.specs.declared.fault.Fault.{Fault}
 use Rattle.byte_streams.specs.declared.fault.Fault.TheVariants.{Read}
 use Rattle.byte_streams.specs.declared.places.LineFault.{LineFault}
 use Rattle.tile_stream.specs.declared.limits.Limits.{Limits}
-use Rattle.tile_stream.specs.Taking.{HasNoNewline, IsFineFront, IsFineLine}
+use Rattle.tile_stream.specs.Parts.{HasNoNewline, IsFineFront, IsFineLine}
 use Rattle.tile_stream.specs.Tile.{Part, TileLines, part_of, is_newline, is_blank, fault_at, fault_between, faulty_line, first_of, end_number, lines_of_parts, lines_from, number_parts, line_before, only_fault, nothing_left}
 
 module _ (limits : Limits) (size : ℕ) (fails : Bool) (part : Part) (others : List Part) where

@@ -3,22 +3,19 @@ use Rattle.std.proofs.Common.{◌≡◌, ◌≢◌, ◌<◌, ◌^◌, length, �
 use Rattle.city_json.specs.Compact.{compact}
 use Rattle.city_json.specs.Fits.{Fits}
 use Rattle.city_json.specs.Grammar.{Spells}
-use Rattle.city_json.specs.Members.{member_of}
 use Rattle.city_json.specs.Parts.{AreParts}
 use Rattle.city_json.specs.Tree.{MemberTrees, Tree, object, tree}
 use Rattle.city_json.specs.declared.compacting.places.Part as member_part
 use Rattle.city_json.specs.declared.json.Json.{Json}
 use Rattle.byte_streams.specs.declared.fault.Fault.{Fault}
 use Rattle.byte_streams.specs.declared.fault.Fault.TheVariants.{NoHeader, Memory, Write}
-use Rattle.city_cut.specs.CityObjects.{objects_of}
-use Rattle.city_cut.specs.Cut.{IsCut, IsCuttable, IsFeatureOf}
+use Rattle.city_cut.specs.Cut.{IsCut, IsCuttable}
 use Rattle.city_cut.specs.Lines.{texts_of}
 use Rattle.city_feature.specs.Feature.{FeatureValue}
 use Rattle.city_feature.specs.FeatureLine.{SpellsFeature}
 use Rattle.city_cut.proofs.SpelledFeatures.{texts_spell}
 use Rattle.std.specs.List.{AllZip}
 use Rattle.city_feature.specs.Header.{HeaderValue, HoldsCity, IsHeader}
-use Rattle.std.specs.Prelude.{codes}
 use Rattle.city_feature.specs.Texts.{IsCompactOf}
 use Rattle.city_feature.specs.Values.{HeaderJson, header_value}
 use Rattle.tile_stream.specs.Head.{SpellsHead, SpellsHeadOf, HoldsHead, RefusesHeadValue, RefusesHead, HasNoHead, LinesHaveNoHead, SomeTile, GivesHead, GivesHeld}

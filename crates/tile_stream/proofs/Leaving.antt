@@ -1,22 +1,25 @@
 -- What one cut does to what may be left.
-use Rattle.std.proofs.Common.{◌≡◌, ◌≤◌, ◌+◌, ◌++◌, ℕ, Bool, true, false, List, [], ◌∷◌, Option, Some, None, length, refl, sym, ap, subst, ◌∙◌, arith, ⊎_elim, ◌⊎◌, inl, inr}
+use Rattle.std.proofs.Common.{◌<◌, ◌≡◌, ◌≤◌, ◌+◌, ◌++◌, ℕ, Bool, true, false, List, [], ◌∷◌, Option, Some, None, length, take, drop, take_all, refl, sym, ap, subst, ◌∙◌, arith, ⊎_elim, ◌⊎◌, inl, inr}
 use Rattle.std.proofs.lemmas.Bool.{cases_Bool}
+use Rattle.std.proofs.lemmas.List.{length-take-le}
 use Rattle.city_json.specs.Bytes.{newline}
 use Rattle.byte_streams.specs.declared.fault.Fault.{Fault}
 use Rattle.byte_streams.specs.declared.fault.Fault.TheVariants.{LineTooLong, TileTooLong, Read, Memory}
 use Rattle.byte_streams.specs.declared.places.LineFault.{LineFault}
 use Rattle.tile_stream.specs.declared.limits.Limits.{Limits}
 use Rattle.tile_stream.specs.Ahead.{Ahead, MayCome}
-use Rattle.tile_stream.specs.Taking.{HasNoNewline, IsFineFront, IsFineLine, IsRefusal}
-use Rattle.tile_stream.specs.Unread.{Unread, Leaves, part_before, IsRefused, BeginsFrom, ComesFrom, EndsFrom}
+use Rattle.tile_stream.specs.Parts.{HasNoNewline, IsEndedPart, IsFineFront, IsFineLine, IsLastPart, IsNextPart, IsPart, IsRefusal}
+use Rattle.tile_stream.specs.Unread.{Unread, GivesPart, Leaves, LeavesIf, StandsAt, part_before, IsRefused, BeginsFrom, ComesFrom, EndsFrom}
 use Rattle.tile_stream.specs.Tile.{Part, TileLines, part_of, number_parts, is_blank, fault_at, lines_of_parts, lines_from, line_before, nothing_left, only_fault}
+use Rattle.tile_stream.specs.Whole.{IsNext}
+use Rattle.tile_stream.proofs.Coming.{none_before, part_taken}
 use Rattle.tile_stream.proofs.FirstParts.{split-cons, by_fault, after_blank, after_line, by_blank, whole_blank, whole_line, last_blank, last_line}
 
-part_blank : (number start : ℕ) (bytes : List ℕ) (left : TileLines) → is_blank bytes ≡ true
+pub part_blank : (number start : ℕ) (bytes : List ℕ) (left : TileLines) → is_blank bytes ≡ true
     → part_before (part_of number start bytes) left ≡ left
 part_blank number start bytes left blank = rw blank refl
 
-part_full : (number start : ℕ) (bytes : List ℕ) (left : TileLines) → is_blank bytes ≡ false
+pub part_full : (number start : ℕ) (bytes : List ℕ) (left : TileLines) → is_blank bytes ≡ false
     → part_before (part_of number start bytes) left ≡ line_before (part_of number start bytes) left
 part_full number start bytes left full = rw full refl
 
@@ -105,22 +108,19 @@ module _ {R : Type 0} (gives : R → List ℕ → Bool → Type 0) (limits : Lim
             (cases_Bool (is_blank line)),
       )
 
-  pub by_last_blank : (line : List ℕ) → HasNoNewline line → IsFineFront limits start line
-      → MayCome gives before line false → is_blank line ≡ true
-      → Leaves gives (unread before number start) (nothing_left number)
-  by_last_blank line none fine comes blank =
-      (line, false, comes, sym (last_blank limits number start line none fine blank))
-
+  -- no newline ends the last part
   pub by_last : (line : List ℕ) → HasNoNewline line → IsFineFront limits start line → MayCome gives before line false
-      → is_blank line ≡ false
-      → (left : TileLines) → left ≡ nothing_left number
-      → Leaves gives (unread before number start) (part_before (part_of number start line) left)
-  by_last line none fine comes full left is = (
+      → Leaves gives (unread before number start) (part_before (part_of number start line) (nothing_left number))
+  by_last line none fine comes = (
     line,
     false,
     comes,
-    part_full number start line left full ∙ ap (line_before (part_of number start line)) is
-        ∙ sym (last_line limits number start line none fine full),
+    ⊎_elim
+        (λ blank. part_blank number start line (nothing_left number) blank
+        ∙ sym (last_blank limits number start line none fine blank))
+        (λ full. part_full number start line (nothing_left number) full
+        ∙ sym (last_line limits number start line none fine full))
+        (cases_Bool (is_blank line)),
   )
 
   pub by_refusal : (fault : Fault) → IsRefusal fault limits start (MayCome gives before)
@@ -135,16 +135,86 @@ module _ {R : Type 0} (gives : R → List ℕ → Bool → Type 0) (limits : Lim
   by_refusal Read is = (is.0, is.1, is.2, sym (is.3 number))
   by_refusal other is = absurd is
 
-  pub by_whole : (line : List ℕ) (after : Ahead R) (next : ℕ) → next ≡ start + length line + 1 → HasNoNewline line
-      → IsFineLine limits start line
-      → ((bytes : List ℕ) (fails : Bool) → MayCome gives after bytes fails
-      → MayCome gives before (line ++ newline ∷ bytes) fails)
-      → is_blank line ≡ false
-      → (left : TileLines) → Leaves gives (unread after (number + 1) next) left
-      → Leaves gives (unread before number start) (line_before (part_of number start line) left)
-  by_whole line after next place none fine follows full left leaves =
-      subst (Leaves gives (unread before number start)) (part_full number start line left full)
-      (by_ended line after next place none fine follows left leaves)
+ended_part : (limits : Limits) (start : ℕ) (held : List ℕ) (count : ℕ) → IsPart limits start held count
+    → count < length held → IsEndedPart limits start held count
+ended_part limits start held count (inl part) within = part
+ended_part limits start held count (inr part) within = absurd (omega (arith, part.all, within))
+
+last_part : (limits : Limits) (start : ℕ) (held : List ℕ) (count : ℕ) → IsPart limits start held count
+    → ¬ (count < length held) → IsLastPart limits start held count
+last_part limits start held count (inl part) all = absurd (all part.ends.0.high)
+last_part limits start held count (inr part) all = part
+
+-- the next part stands whole, and is left
+module _ {R : Type 0} (gives : R → List ℕ → Bool → Type 0) (before now : Unread R) (count : ℕ)
+    (next : IsNext gives before now count) where
+  abbrev line : List ℕ
+  line = take count now.ahead.held
+
+  -- a newline ends it
+  pub left_ended : count < length now.ahead.held → (after : Ahead R)
+      → after ≡ record now.ahead { held = drop (count + 1) now.ahead.held } → GivesPart (Leaves gives before)
+      (Leaves gives (unread gives now.limits now.number now.start now.ahead after (now.number + 1) (now.start + (count + 1))))
+      now.number line
+  left_ended within after is =
+      let part = ended_part now.limits now.start now.ahead.held count next.whole.part within in
+      let place : now.start + (count + 1) ≡ now.start + length line + 1 =
+      omega (arith, length-take-le count now.ahead.held (omega (arith, within))) in
+      let By : TileLines → Option TileLines → Type 0 = λ left ended. LeavesIf ended gives now left in (
+        now.start,
+        λ left leaves. next.back _ (subst (By _) (sym next.whole.going)
+            (by_ended gives now.limits now.number now.start now.ahead line after (now.start + (count + 1)) place
+            (none_before now.ahead.held count part.ends) part.fine
+            (part_taken gives now.ahead after count part.ends is) left leaves)),
+      )
+
+  -- it is the last
+  pub left_last : ¬ (count < length now.ahead.held)
+      → GivesPart (Leaves gives before) (λ left. left ≡ nothing_left now.number) now.number line
+  left_last all =
+      let part = last_part now.limits now.start now.ahead.held count next.whole.part all in
+      let whole : line ≡ now.ahead.held = take_all count now.ahead.held (omega (arith, part.all)) in (
+        now.start,
+        λ left is. subst (Leaves gives before) (ap (λ bytes. part_before (part_of now.number now.start bytes) (nothing_left now.number)) (sym whole)
+            ∙ ap (part_before (part_of now.number now.start line)) (sym is)) (next.last part.all),
+      )
+
+-- the next part was completed
+pub next_of : {R : Type 0} (gives : R → List ℕ → Bool → Type 0) (first : Unread R) (limits : Limits) (number start : ℕ)
+    (before after : Ahead R) (count : ℕ)
+    → ((left : TileLines) → Leaves gives (unread gives limits number start before before number start) left → Leaves gives first left)
+    → IsNextPart gives limits start before after count
+    → IsNext gives first (unread gives limits number start before after number start) count
+next_of gives first limits number start before after count back stands = record {
+  whole = record { going = refl; part = stands.part };
+  back = λ left leaves. back left (leaves.0, leaves.1, stands.back leaves.0 leaves.1 leaves.2, leaves.3);
+  last = λ all.
+      let part = last_part limits start after.held count stands.part (λ within. absurd (omega (arith, all, within))) in
+      back _ (by_last gives limits number start before after.held part.none part.fine (stands.last all));
+}
+
+-- there is no memory for the next line, which stands whole
+module _ {R : Type 0} (gives : R → List ℕ → Bool → Type 0) (before now : Unread R) (count : ℕ)
+    (next : IsNext gives before now count) where
+  goes_back : (bytes : List ℕ) (fails : Bool) → MayCome gives now.ahead bytes fails
+      → Leaves gives before (lines_from now.limits now.number now.start bytes fails)
+  goes_back bytes fails comes =
+      let By : Option TileLines → Type 0 = λ ended.
+      LeavesIf ended gives now (lines_from now.limits now.number now.start bytes fails) in
+      next.back _ (subst By (sym next.whole.going) (bytes, fails, comes, refl))
+
+  pub stands_there : StandsAt now.number now.limits (Leaves gives before) (MayCome gives now.ahead)
+  stands_there = (now.start, [], λ k d below. absurd (omega (arith, below)), goes_back)
+
+  pub out_of_memory : ((reader : R) → (bytes : List ℕ) × ((fails : Bool) × gives reader bytes fails))
+      → IsRefused Memory now.number (Leaves gives before)
+  out_of_memory some =
+      let rest = some now.ahead.reader in
+      let bytes = now.ahead.held ++ rest.0 in (
+        lines_from now.limits now.number now.start bytes rest.1.0,
+        goes_back bytes rest.1.0 (rest.0, rest.1.1, refl),
+        lines_come now.limits now.number now.start bytes rest.1.0,
+      )
 
 -- a line that was refused before is refused again
 pub by_kept : (fault : Fault) (line : ℕ) → IsRefused fault line (λ left. left ≡ only_fault line fault)

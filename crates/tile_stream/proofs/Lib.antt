@@ -9,6 +9,7 @@ pub mod HeldFeatures
 pub mod HeldFirst
 pub mod HeldTexts
 pub mod Leaving
+pub mod Reading
 pub mod Steps
 pub mod StandingLines
 pub mod WantedTexts

@@ -1,16 +1,14 @@
 -- Lines that stand whole, in what is left of some bytes.
-use Rattle.std.proofs.Common.{◌≡◌, ◌≤◌, ◌<◌, ◌+◌, ◌-◌, ◌++◌, ◌∷◌, [], ℕ, zero, suc, true, false, Bool, ◌&&◌, ◌||◌, refl, Some, None, Ok, Err, List, take, drop, slice_index, slice_range, sym, subst, ap, ◌∙◌, arith}
-use Rattle.std.proofs.lemmas.List.{drop-take, get_or-drop, length-drop}
-use Rattle.std.proofs.lemmas.Bool.{and_parts, false≢true}
-use Rattle.memchr.specs.Find.{IsFirstByte}
+use Rattle.std.proofs.Common.{◌≡◌, ◌≤◌, ◌<◌, ◌+◌, ◌-◌, ◌++◌, ◌∷◌, [], ℕ, zero, suc, true, false, Bool, ◌&&◌, ◌||◌, refl, List, drop, length, slice_index, slice_range, Some, sym, subst, ap, ◌∙◌, arith, ⊎_elim}
+use Rattle.std.proofs.lemmas.List.{get_or-drop, length-drop, take_rest}
+use Rattle.std.proofs.lemmas.Bool.{and_parts, cases_lt, false≢true}
+use Rattle.memchr.specs.Find.{IsLastByte}
 use Rattle.city_json.specs.Bytes.{newline}
-use Rattle.byte_streams.specs.declared.fault.Fault.{Fault}
-use Rattle.tile_stream.specs.declared.lines.part.NextPart.TheVariants.{Ended}
 use Rattle.tile_stream.specs.Ahead.{Ahead}
-use Rattle.tile_stream.specs.Taking.{HoldsNewline, TookHeld}
+use Rattle.tile_stream.specs.Parts.{HasNoNewline, HoldsNewline}
 use Rattle.tile_stream.specs.Tile.{is_blank, is_newline}
 use Rattle.tile_stream.specs.Whole.{EndsTexts, HoldsLine, IsEnded, is_white}
-use Rattle.tile_stream.proofs.Coming.{parts_found}
+use Rattle.tile_stream.proofs.Coming.{is_code}
 
 -- what stands behind some first bytes
 pub behind : (bytes : List ℕ) (count at : ℕ) → IsEnded bytes (count + at) → IsEnded (drop count bytes) at
@@ -34,27 +32,47 @@ before bytes count at here = record {
   ends = sym (get_or-drop count bytes here.end 0) ∙ here.ends;
 }
 
-left : (bytes : List ℕ) (at filled : ℕ) → at ≤ filled → drop at (take filled bytes) ≡ slice_range bytes at filled
-left bytes at filled order =
-    let room : at + (filled - at) ≡ filled = omega (arith, order) in
-    ap (λ n. drop at (take n bytes)) (sym room) ∙ drop-take at (filled - at) bytes
+-- the place behind the last is told from where the first bytes end
+pub ends_later : (bytes : List ℕ) (end count : ℕ) → EndsTexts bytes end → EndsTexts (drop count bytes) (end - count)
+ends_later bytes end count ends = record {
+  is = λ here. behind bytes count (end - count - 1)
+      (subst (λ i. IsEnded bytes i) (omega (arith, here)) (ends.is (omega (arith, here))));
+  last = λ at here. omega (arith, ends.last (count + at) (before bytes count at here));
+}
 
--- A line that is not blank stands whole among the bytes from one place to another, if the last such ends behind the first.
-pub stands : (bytes : List ℕ) (at filled texts : ℕ) → at ≤ filled → EndsTexts (take filled bytes) texts → at < texts
-    → HoldsLine (slice_range bytes at filled)
-stands bytes at filled texts order ends here =
-    let place : texts - 1 ≡ at + (texts - 1 - at) = omega (arith, here) in
-    let whole = subst (λ i. IsEnded (take filled bytes) i) place (ends.is (omega (arith, here))) in (
-      texts - 1 - at,
-      subst (λ xs. IsEnded xs (texts - 1 - at)) (left bytes at filled order) (behind (take filled bytes) at _ whole),
-    )
+-- where no newline stands, no line does
+pub none_ends : (bytes : List ℕ) → HasNoNewline bytes → EndsTexts bytes 0
+none_ends bytes none = record {
+  is = λ here. absurd (omega (arith, here));
+  last = λ at here. absurd (false≢true (sym (none here.end 0 here.within) ∙ ap is_newline here.ends));
+}
 
--- and only then
-pub ends_behind : (bytes : List ℕ) (at filled texts : ℕ) → at ≤ filled → EndsTexts (take filled bytes) texts
-    → HoldsLine (slice_range bytes at filled) → at < texts
-ends_behind bytes at filled texts order ends (i, here) =
-    let there = subst (λ xs. IsEnded xs i) (sym (left bytes at filled order)) here in
-    omega (arith, ends.last (at + i) (before (take filled bytes) at i there))
+-- the last byte of a line that is not blank stands before the last newline, and only white ones between them
+pub ends_before : (bytes : List ℕ) (seen last end : ℕ)
+    → IsLastByte is_newline (slice_range bytes seen (length bytes)) (Some last)
+    → end ≤ seen + last → (0 < end → is_white (slice_index bytes (end - 1)) ≡ false)
+    → ((i : ℕ) → end ≤ i → i < seen + last → is_white (slice_index bytes i) ≡ true) → EndsTexts bytes end
+ends_before bytes seen last end stands order full white =
+    let found : IsLastByte is_newline (drop seen bytes) (Some last) = rw (← take_rest bytes seen) stands in record {
+      is = λ here. record {
+        full = full here;
+        end = seen + last;
+        later = omega (arith, here, order);
+        within = omega (arith, found.0.high, length-drop seen bytes);
+        ends = is_code (slice_index bytes (seen + last)) (ap is_newline (sym (get_or-drop seen bytes last 0)) ∙ found.1);
+      };
+      last = λ at here. ⊎_elim
+          (λ (early : at < end). early)
+          (λ (late : end ≤ at). absurd (⊎_elim
+          (λ (low : at < seen + last). false≢true (sym here.full ∙ white at late low))
+          (λ (high : seen + last ≤ at).
+          let place : seen + (here.end - seen) ≡ here.end = omega (arith, high, here.later) in
+          found.0.after (here.end - seen) (omega (arith, high, here.later))
+          (omega (arith, high, here.later, here.within, length-drop seen bytes))
+          (ap is_newline (get_or-drop seen bytes (here.end - seen) 0 ∙ ap (λ i. slice_index bytes i) place ∙ here.ends)))
+          (cases_lt at (seen + last))))
+          (cases_lt at end);
+    }
 
 one_more : (n : ℕ) → suc n ≡ 1 + n
 one_more n = omega (arith)
@@ -77,29 +95,10 @@ behind_blank (b ∷ line) after blank (zero, here) =
 behind_blank (b ∷ line) after blank (suc n, here) =
     behind_blank line after (and_parts _ (is_blank line) blank).1 (n, next b (line ++ newline ∷ after) n here)
 
--- ---- what a part is taken of ----
-
-none_held : (held : List ℕ) → IsFirstByte is_newline held None → HoldsNewline held → ⊥
-none_held held found (end, below, is) = found end (omega (arith)) below (ap is_newline is)
-
 -- where none was found, none was held at first, if the same was held then
-pub none_now : {R : Type 0} (now first : Ahead R) → IsFirstByte is_newline now.held None → now ≡ first
-    → HoldsNewline first.held → ⊥
-none_now now first found same holds =
-    none_held now.held found (subst (λ ahead. HoldsNewline ahead.held) (sym same) holds)
-
-pub none_read : {R : Type 0} (fault : Fault) (first now : Ahead R) → now ≡ first → TookHeld (Err fault) first now
-none_read fault first now same = record { reader = ap (λ ahead. ahead.reader) same; part = tt }
-
-pub first_taken : {R : Type 0} (first now later : Ahead R) (line text : List ℕ) (count : ℕ)
-    → IsFirstByte is_newline now.held (Some count) → later ≡ record now { held = drop (count + 1) now.held }
-    → now ≡ first → line ≡ [] → text ≡ line ++ take count now.held → TookHeld (Ok (Ended text)) first later
-first_taken first now later line text count found is same empty put =
-    let front : text ≡ take count now.held = put ∙ ap (λ line. line ++ take count now.held) empty in
-    let split = ap (λ ahead. ahead.held) (sym same) ∙ parts_found now.held count found
-    ∙ ap (λ rest. take count now.held ++ newline ∷ rest) (sym (ap (λ ahead. ahead.held) is))
-    ∙ ap (λ line. line ++ newline ∷ later.held) (sym front) in
-    record { reader = ap (λ ahead. ahead.reader) is ∙ ap (λ ahead. ahead.reader) same; part = split }
+pub none_now : {R : Type 0} (now first : Ahead R) → HasNoNewline now.held → now ≡ first → HoldsNewline first.held → ⊥
+none_now now first none same (end, below, is) =
+    false≢true (sym (subst (λ (ahead : Ahead _). HasNoNewline ahead.held) same none end 0 below) ∙ ap is_newline is)
 
 pub ends_too : (held : List ℕ) → HoldsLine held → HoldsNewline held
 ends_too held (at, here) = (here.end, here.within, here.ends)

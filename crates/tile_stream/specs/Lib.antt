@@ -4,11 +4,11 @@ pub mod Filtered
 pub mod GivenTexts
 pub mod Head
 pub mod Held
+pub mod Parts
 pub mod Progress
 pub mod Ready
 pub mod Shared
 pub mod Stream
-pub mod Taking
 pub mod TapeLines
 pub mod Texts
 pub mod Tile

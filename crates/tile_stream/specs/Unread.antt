@@ -34,11 +34,12 @@ IsLineFault Read = Unit {0}
 IsLineFault Memory = Unit {0}
 IsLineFault other = ⊥
 
--- A refused line bears this number or a higher one, and a fault of lines.
-abbrev pub IsKeptFrom : ℕ → State → Type 0
-IsKeptFrom number Open = Unit {0}
-IsKeptFrom number (Over last) = Unit {0}
-IsKeptFrom number (Refused at) = (number ≤ at.line) × IsLineFault at.fault
+-- While lines may be to come, each before the next took a byte at least; a refused line bears the next number or a higher
+-- one, and a fault of lines.
+abbrev pub IsKeptFrom : ℕ → ℕ → State → Type 0
+IsKeptFrom number start Open = number ≤ start + 1
+IsKeptFrom number start (Over last) = Unit {0}
+IsKeptFrom number start (Refused at) = (number ≤ at.line) × IsLineFault at.fault
 
 -- These lines and this fault may be left: what some bytes give that may be to come.
 abbrev pub LeavesIf : {R : Type 0} → Option TileLines → (R → List ℕ → Bool → Type 0) → Unread R → TileLines → Type 0

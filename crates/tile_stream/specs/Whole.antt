@@ -1,17 +1,21 @@
 -- Lines that stand whole among the bytes that were read.
-use Rattle.std.specs.Prelude.{◌≡◌, ◌<◌, ◌-◌, ◌||◌, ℕ, Bool, false, List, [], ◌∷◌, Some, None, length, slice_index, take}
+use Rattle.std.specs.Prelude.{◌≡◌, ◌<◌, ◌-◌, ◌||◌, ℕ, Bool, false, List, [], ◌∷◌, None, length, slice_index}
 use Rattle.city_json.specs.Bytes.{newline}
-use Rattle.memchr.specs.Find.{IsFirstByte}
-use Rattle.tile_stream.specs.Taking.{IsFineLine}
-use Rattle.tile_stream.specs.Tile.{is_blank, is_newline}
-use Rattle.tile_stream.specs.Unread.{Unread}
+use Rattle.tile_stream.specs.Parts.{IsPart}
+use Rattle.tile_stream.specs.Tile.{TileLines, is_blank, is_newline, nothing_left, part_of}
+use Rattle.tile_stream.specs.Unread.{Unread, Leaves, part_before}
 
--- The next line has this length: a newline that was read ends it. It is not blank, and within the limits.
+-- The next line, blank or not, stands whole in front, and has this length.
 pub record IsWhole {R : Type 0} (lines : Unread R) (count : ℕ) : Type 0 where
   pub going : lines.ended ≡ None
-  pub ends : IsFirstByte is_newline lines.ahead.held (Some count)
-  pub fine : IsFineLine lines.limits lines.start (take count lines.ahead.held)
-  pub full : is_blank (take count lines.ahead.held) ≡ false
+  pub part : IsPart lines.limits lines.start lines.ahead.held count
+
+-- It is the next of what may have been left before. Where no newline ends it, nothing was left behind it.
+pub record IsNext {R : Type 0} (gives : R → List ℕ → Bool → Type 0) (before now : Unread R) (count : ℕ) : Type 0 where
+  pub whole : IsWhole now count
+  pub back : (left : TileLines) → Leaves gives now left → Leaves gives before left
+  pub last : count ≡ length now.ahead.held
+      → Leaves gives before (part_before (part_of now.number now.start now.ahead.held) (nothing_left now.number))
 
 -- it may stand in a blank line, or end a line
 abbrev pub is_white : ℕ → Bool

@@ -1,3 +1,4 @@
+//! The filter of one tile: the stream of its chosen features.
 ghost use Rattle.std.specs.Prelude.{◌≡◌, ◌≢◌, ◌⊎◌, ◌≤◌, ◌<◌, ◌+◌, ◌++◌, ℕ, List, [], length, take, false, Some, None, IfOk, IfErr, OnOk, OnErr};
 ghost use Rattle.std.specs.Io.KnownBytes.{Appends, Keeps};
 ghost use Rattle.city_json.specs.Compact.{compact};
@@ -16,10 +17,10 @@ ghost use Rattle.tile_stream.specs.TileState.{most_to_come, most_texts};
 ghost use Rattle.tile_stream.specs.Unread.{IsOfTile, Leaves, most_left, has_failed, is_read, failed_reads_between};
 ghost use Rattle.tile_stream.specs.Whole.{HoldsLine};
 
-use crate::spare::emptied;
 use crate::tile_reader::writing::write_next;
 use crate::tile_reader::{Head, TileReader};
-use byte_streams::{Fault, Line, LineFault, MergeFault, Sink, Source, write_all};
+use crate::writing::write_line;
+use byte_streams::{Fault, Line, LineFault, MergeFault, Sink, Source};
 use city_feature::Choice;
 use city_grid::Shift;
 use city_json::print;
@@ -278,63 +279,4 @@ pub fn pass_on<R: Source, W: Sink>(tile: &TileReader<R>, output: &mut W) -> Resu
         return Ok(());
     }
     output.flush()
-}
-
-/// Writes a line and its newline, and gives the line back empty, for its memory.
-///
-/// # Errors
-///
-/// [`Fault::Write`] where a write failed; some first bytes of the line were written then.
-pub fn write_line<W: Sink>(output: &mut W, line: Line) -> Result<Line, Fault>
-    ensures all { IfOk result (λ text. (text ≡ [])
-        × Appends (W.taken output.old) (W.taken output.new) (with_newline line)) }
-    ensures some { OnErr result ((count : ℕ)
-        × Appends (W.taken output.old) (W.taken output.new) (take count (with_newline line))) }
-    ensures failures { W.failures output.new ≡ after_call result (W.failures output.old) }
-    ensures fault { IfErr result (λ fault. fault ≡ Fault.Write) }
-{
-    match write_text(output, line.items()) {
-        Ok(()) => return Ok(emptied(line)),
-        Err(fault) => return Err(fault),
-    }
-}
-
-/// Writes a text in two parts, and its newline.
-///
-/// # Errors
-///
-/// [`Fault::Write`] where a write failed; some first bytes of the line were written then.
-pub fn write_parts<W: Sink>(own: &[u8], common: &[u8], output: &mut W) -> Result<(), Fault>
-    ensures ok { OnOk result (Appends (W.taken output.old) (W.taken output.new)
-        (with_newline (own.now ++ common.now))) }
-    ensures some { OnErr result ((count : ℕ) × Appends (W.taken output.old) (W.taken output.new)
-        (take count (with_newline (own.now ++ common.now)))) }
-    ensures failures { W.failures output.new ≡ after_call result (W.failures output.old) }
-    ensures fault { IfErr result (λ fault. fault ≡ Fault.Write) }
-{
-    write_all(output, own)?;
-    write_text(output, common)
-}
-
-/// Writes a text and its newline.
-///
-/// # Errors
-///
-/// [`Fault::Write`] where a write failed; some first bytes of the line were written then.
-pub fn write_text<W: Sink>(output: &mut W, text: &[u8]) -> Result<(), Fault>
-    ensures all { OnOk result
-        (Appends (W.taken output.old) (W.taken output.new) (with_newline text.now)) }
-    ensures some { OnErr result ((count : ℕ)
-        × Appends (W.taken output.old) (W.taken output.new) (take count (with_newline text.now))) }
-    ensures failures { W.failures output.new ≡ after_call result (W.failures output.old) }
-    ensures fault { IfErr result (λ fault. fault ≡ Fault.Write) }
-{
-    match write_all(output, text) {
-        Ok(()) => {}
-        Err(fault) => return Err(fault),
-    }
-    match write_all(output, b"\n") {
-        Ok(()) => return Ok(()),
-        Err(fault) => return Err(fault),
-    }
 }

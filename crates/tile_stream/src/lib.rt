@@ -9,9 +9,11 @@ mod limits;
 mod lines;
 mod spare;
 mod tile_reader;
+mod writing;
 
 pub use byte_streams::{LineFault, MergeFault};
-pub use filter::{filter_stream, filter_tile, pass_on, write_line, write_parts, write_text};
+pub use filter::{filter_stream, filter_tile, pass_on};
 pub use laws::tape_leaves_one_list;
 pub use lines::{Lines, NumberedLine};
 pub use tile_reader::{Head, Passed, ReadyTexts, TileReader};
+pub use writing::{write_line, write_parts, write_text};

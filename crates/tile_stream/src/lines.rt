@@ -1,24 +1,22 @@
-ghost use Rattle.std.specs.Prelude.{◌≡◌, ◌≤◌, ◌<◌, ◌+◌, ◌++◌, ◌∷◌, ◌↔◌, false, length, take, Some, None, IfOk, IfErr, IfSome, IfNone, IsTrue};
+//! The lines of a tile, taken from its reader while it is read.
+ghost use Rattle.std.specs.Prelude.{◌≡◌, ◌≤◌, ◌<◌, ◌+◌, ◌++◌, ◌∷◌, ◌↔◌, false, length, take, Some, IfOk, IfErr, IfSome, IfNone, IsTrue};
 ghost use Rattle.byte_streams.specs.Limits.{max_tile_bytes};
 ghost use Rattle.city_json.specs.Bytes.{newline};
 ghost use Rattle.tile_stream.specs.Ahead.{MayCome};
-ghost use Rattle.tile_stream.specs.Taking.{HoldsNewline};
-ghost use Rattle.tile_stream.specs.Tile.{TileLines, only_fault, limits_of, stream_limits};
-ghost use Rattle.tile_stream.specs.Unread.{Leaves, IsOfTile, GivesPart, GivesLine, MayBeOver, StandsAt, IsRefused, IsLineFault, IsAgain, BeginsFrom, EndsFrom, is_refused, most_left, has_failed, failed_reads_between};
-ghost use Rattle.tile_stream.specs.Whole.{HoldsLine, IsWhole};
+ghost use Rattle.tile_stream.specs.Parts.{HoldsNewline};
+ghost use Rattle.tile_stream.specs.Tile.{TileLines, is_blank, only_fault, limits_of, stream_limits};
+ghost use Rattle.tile_stream.specs.Unread.{Unread, Leaves, IsOfTile, GivesPart, GivesLine, MayBeOver, StandsAt, IsRefused, IsLineFault, IsAgain, BeginsFrom, EndsFrom, is_refused, most_left, has_failed, failed_reads_between};
+ghost use Rattle.tile_stream.specs.Whole.{HoldsLine, IsNext, IsWhole};
 
-mod part;
+mod parts;
 mod read_ahead;
 mod state;
-mod taking;
 
 use crate::limits::{Limits, STREAM_LIMITS};
-use crate::lines::part::NextPart;
+use crate::lines::parts::{complete_part, is_blank};
 use crate::lines::read_ahead::ReadAhead;
 use crate::lines::state::State;
-use crate::lines::taking::{fault_between, is_blank, take_part};
 use byte_streams::{Fault, Line, LineFault, Source};
-use memchr::memchr;
 use std::alloc::Global;
 use std::marker::Model;
 
@@ -29,8 +27,8 @@ pub struct NumberedLine {
     pub bytes: Line,
 }
 
-/// The lines of a tile, taken from its reader while it is read. Of the tile it holds one piece of
-/// 64 KiB and the line that it is at.
+/// The lines of a tile, taken from its reader while it is read. Of the tile it holds the line that it is at, and at
+/// most 64 KiB behind that.
 #[derive(Debug, Drop)]
 pub struct Lines<R> {
     alloc: Global,
@@ -57,7 +55,7 @@ impl<R> Model for Lines<R> {
     } };
 
     ghost invariant = { λ l. (l.limits.tile ≤ max_tile_bytes) × (l.start ≤ l.limits.tile)
-        × (0 < l.number) × (l.number ≤ l.start + 1) × IsKeptFrom l.number l.state };
+        × (0 < l.number) × IsKeptFrom l.number l.start l.state };
 }
 
 impl<R: Source> Lines<R> {
@@ -134,17 +132,17 @@ impl<R: Source> Lines<R> {
         ensures failures { R.failures self.new.ahead.reader ≡ failed_reads_between
             (has_failed self.old) (has_failed self.new) (R.failures self.old.ahead.reader) }
     {
-        'parts: loop {
-            match self.next_part() {
-                Ok(Some(line)) => {
-                    if !is_blank(line.bytes.items()) {
-                        return Ok(Some(line));
-                    }
-                }
-                Ok(None) => return Ok(None),
-                Err(fault) => return Err(fault),
-            }
-        }
+        let count = match self.next_len() {
+            Ok(Some(count)) => count,
+            Ok(None) => return Ok(None),
+            Err(at) => return Err(at),
+        };
+        let mut bytes = Line::new(self.alloc);
+        let Ok(()) = bytes.append(self.front(count)) else {
+            return Err(self.refuse(Fault::Memory));
+        };
+        let number = self.leave_line(count);
+        Ok(Some(NumberedLine { number, bytes }))
     }
 
     /// Whether the next line that is not blank was read already, and the newline that ends it.
@@ -154,27 +152,56 @@ impl<R: Source> Lines<R> {
         self.ahead.holds_line()
     }
 
-    /// How long the next line is, where the newline that ends it was read already, it is not blank and within the
-    /// limits. `None`: [`Lines::next`] tells what comes.
-    pub(crate) fn whole_len(&self) -> Option<usize>
-        ensures { IfSome result (λ count. IsWhole self.now count) }
+    /// Makes the next line that is not blank stand whole in front, and gives its length, or none after the last line.
+    /// It reads on only where no such line stands whole among the bytes that it holds.
+    ///
+    /// # Errors
+    ///
+    /// Those of [`Lines::next`].
+    pub(crate) fn next_len(&mut self) -> Result<Option<usize>, LineFault>
+        ensures line { IfOk result (λ next. IfSome next (λ count.
+            IsNext R.gives self.old self.new count)) }
+        ensures full { IfOk result (λ next. IfSome next (λ count.
+            is_blank (take count self.new.ahead.held) ≡ false)) }
+        ensures over { IfOk result (λ next. IfNone next (MayBeOver (Leaves R.gives self.old))) }
+        ensures stays_over { IfOk result (λ next. IfNone next
+            (MayBeOver (λ left. self.new.ended ≡ Some left))) }
+        ensures refused { IfErr result (λ e. IsRefused e.fault e.line (Leaves R.gives self.old)) }
+        ensures kind { IfErr result (λ e. IsLineFault e.fault) }
+        ensures stays { IfErr result (λ e. self.new.ended ≡ Some (only_fault e.line e.fault)) }
+        ensures again { IsAgain self.old.ended result }
+        ensures first { IfOk result (λ next. IfSome next (λ count. self.old.number ≤ self.new.number)) }
+        ensures at { IfErr result (λ e. self.old.number ≤ e.line) }
+        ensures stands { IfErr result (λ e. e.fault ≡ Fault.Memory → is_refused self.old ≡ false
+            → StandsAt e.line self.new.limits (Leaves R.gives self.old)
+            (MayCome R.gives self.new.ahead)) }
+        ensures counted { IfErr result (λ e. 0 < e.line) }
+        ensures fewer { most_left self.new ≤ most_left self.old }
+        ensures most { most_left self.new ≤ max_tile_bytes + 1 }
+        ensures ended { EndsFrom self.new.number self.new.ended }
+        ensures had_not_failed { IfOk result (λ next. has_failed self.old ≡ false) }
+        ensures not_failed { IfOk result (λ next. has_failed self.new ≡ false) }
+        ensures not_read { HoldsLine self.old.ahead.held
+            → self.new.ahead.reader ≡ self.old.ahead.reader }
+        ensures failures { R.failures self.new.ahead.reader ≡ failed_reads_between
+            (has_failed self.old) (has_failed self.new) (R.failures self.old.ahead.reader) }
     {
-        let State::Open = self.state else {
-            return None;
-        };
-        if !self.ahead.holds_line() {
-            return None;
+        'parts: loop {
+            match self.state {
+                State::Open => {}
+                State::Over(_) => return Ok(None),
+                State::Refused(fault) => return Err(fault),
+            }
+            match complete_part(&mut self.ahead, self.limits, self.start) {
+                Ok(count) => {
+                    if !is_blank(self.front(count)) {
+                        return Ok(Some(count));
+                    }
+                    self.leave_line(count);
+                }
+                Err(fault) => return Err(self.refuse(fault)),
+            }
         }
-        let held = self.ahead.held();
-        let count = memchr(b'\n', held)?;
-        let end = self.start + count as u64;
-        if fault_between(self.limits, end + 1, self.start, end).is_some() {
-            return None;
-        }
-        if is_blank(&held[..count]) {
-            return None;
-        }
-        Some(count)
     }
 
     /// The first bytes that were read and not taken yet, this many.
@@ -185,87 +212,53 @@ impl<R: Source> Lines<R> {
         &self.ahead.held()[..count]
     }
 
-    /// Leaves the line that stands whole in front, of this length: its number.
+    /// Leaves the line that stands whole in front, of this length, blank or not: its number. After one that no newline
+    /// ends the tile is over.
     pub(crate) fn leave_line(&mut self, count: usize) -> u64
         requires { IsWhole self.old count }
-        ensures line { GivesLine (Leaves R.gives self.old) (Leaves R.gives self.new) result
+        ensures part { (before : Unread R) → IsNext R.gives before self.old count
+            → GivesPart (Leaves R.gives before) (Leaves R.gives self.new) result
+            (take count self.old.ahead.held) }
+        ensures line { is_blank (take count self.old.ahead.held) ≡ false → (before : Unread R)
+            → IsNext R.gives before self.old count
+            → GivesLine (Leaves R.gives before) (Leaves R.gives self.new) result
             (take count self.old.ahead.held) }
         ensures number { result ≡ self.old.number }
+        ensures counted { 0 < result }
         ensures later { result < self.new.number }
         ensures fewer { most_left self.new < most_left self.old }
-        ensures is_open { self.new.ended ≡ None }
-        ensures failures { R.failures self.new.ahead.reader ≡ R.failures self.old.ahead.reader }
+        ensures most { most_left self.new ≤ max_tile_bytes + 1 }
+        ensures ended { EndsFrom self.new.number self.new.ended }
+        ensures not_refused { is_refused self.new ≡ false }
+        ensures not_failed { has_failed self.new ≡ false }
+        ensures of_held { HoldsNewline self.old.ahead.held → self.old.ahead.held
+            ≡ take count self.old.ahead.held ++ newline ∷ self.new.ahead.held }
+        ensures reader { self.new.ahead.reader ≡ self.old.ahead.reader }
     {
         let number = self.number;
-        self.ahead.skip(count + 1);
-        self.start += count as u64 + 1;
         self.number += 1;
+        if count < self.ahead.held().len() {
+            self.ahead.skip(self.alloc, count + 1);
+            self.start += count as u64 + 1;
+        } else {
+            self.ahead.skip(self.alloc, count);
+            self.state = State::Over(number);
+        }
         number
     }
 
-    /// The next part, blank or not; a last one that is blank is left out.
-    fn next_part(&mut self) -> Result<Option<NumberedLine>, LineFault>
-        ensures part { IfOk result (λ next. IfSome next (λ line.
-            GivesPart (Leaves R.gives self.old) (Leaves R.gives self.new) line.number line.bytes)) }
-        ensures over { IfOk result (λ next. IfNone next (MayBeOver (Leaves R.gives self.old))) }
-        ensures stays_over { IfOk result (λ next. IfNone next
-            (MayBeOver (λ left. self.new.ended ≡ Some left))) }
-        ensures refused { IfErr result (λ e. IsRefused e.fault e.line (Leaves R.gives self.old)) }
-        ensures kind { IfErr result (λ e. IsLineFault e.fault) }
-        ensures stays { IfErr result (λ e. self.new.ended ≡ Some (only_fault e.line e.fault)) }
-        ensures again { IsAgain self.old.ended result }
-        ensures was_open { IfOk result (λ next. IfSome next (λ line. self.old.ended ≡ None)) }
-        ensures first { IfOk result (λ next. IfSome next (λ line. self.old.number ≤ line.number)) }
-        ensures later { IfOk result (λ next. IfSome next (λ line. line.number < self.new.number)) }
-        ensures at { IfErr result (λ e. self.old.number ≤ e.line) }
-        ensures stands { IfErr result (λ e. e.fault ≡ Fault.Memory → is_refused self.old ≡ false
-            → StandsAt e.line self.new.limits (Leaves R.gives self.old)
-            (MayCome R.gives self.new.ahead)) }
-        ensures goes_on { IfOk result (λ next. IfSome next (λ line. is_refused self.new ≡ false)) }
-        ensures counted { IfErr result (λ e. 0 < e.line) }
-        ensures given_counted { IfOk result (λ next. IfSome next (λ line. 0 < line.number)) }
-        ensures fewer { IfOk result (λ next. IfSome next (λ line.
-            most_left self.new < most_left self.old)) }
-        ensures most { most_left self.new ≤ max_tile_bytes + 1 }
-        ensures ended { EndsFrom self.new.number self.new.ended }
-        ensures had_not_failed { IfOk result (λ next. has_failed self.old ≡ false) }
-        ensures not_failed { IfOk result (λ next. has_failed self.new ≡ false) }
-        ensures not_read { HoldsNewline self.old.ahead.held
-            → self.new.ahead.reader ≡ self.old.ahead.reader }
-        ensures of_held { HoldsNewline self.old.ahead.held → IfOk result (λ next. IfSome next (λ line.
-            self.old.ahead.held ≡ line.bytes ++ newline ∷ self.new.ahead.held)) }
-        ensures failures { R.failures self.new.ahead.reader ≡ failed_reads_between
-            (has_failed self.old) (has_failed self.new) (R.failures self.old.ahead.reader) }
+    /// Nothing more is read: the next line is refused.
+    fn refuse(&mut self, fault: Fault) -> LineFault
+        requires { IsLineFault fault }
+        ensures at { result ≡ record { line = self.old.number; fault = fault } }
+        ensures refused { self.new
+            ≡ record self.old { ended = Some (only_fault self.old.number fault) } }
     {
-        match self.state {
-            State::Open => {}
-            State::Over(_) => return Ok(None),
-            State::Refused(fault) => return Err(fault),
-        }
-        let number = self.number;
-        match take_part(self.alloc, &mut self.ahead, self.limits, self.start) {
-            Ok(NextPart::Ended(bytes)) => {
-                self.start += bytes.items().len() as u64 + 1;
-                self.number += 1;
-                Ok(Some(NumberedLine { number, bytes }))
-            }
-            Ok(NextPart::Last(bytes)) => {
-                self.state = State::Over(number);
-                if is_blank(bytes.items()) {
-                    return Ok(None);
-                }
-                self.start += bytes.items().len() as u64;
-                self.number += 1;
-                Ok(Some(NumberedLine { number, bytes }))
-            }
-            Err(fault) => {
-                let at = LineFault {
-                    line: number,
-                    fault,
-                };
-                self.state = State::Refused(at);
-                Err(at)
-            }
-        }
+        let at = LineFault {
+            line: self.number,
+            fault,
+        };
+        self.state = State::Refused(at);
+        at
     }
 }

@@ -1,3 +1,4 @@
+//! A tile that is being read: its head, and what each of its lines comes to.
 ghost use Rattle.std.specs.Prelude.{◌≡◌, ◌≢◌, ◌≤◌, ◌<◌, ◌↔◌, ℕ, List, [], true, false, Some, None, IfOk, IfErr, IfSome, IfNone, IsTrue, OnOk, OnErr, ◌+◌, length};
 ghost use Rattle.city_feature.specs.Choice.{IsChosen};
 ghost use Rattle.city_feature.specs.Values.{header_value};
@@ -6,7 +7,7 @@ ghost use Rattle.tile_stream.specs.Head.{HasNoHead, SomeTile, GivesHeld, RanOutA
 ghost use Rattle.tile_stream.specs.Tile.{TileLines, stream_limits};
 ghost use Rattle.tile_stream.specs.TileState.{most_to_come, most_texts};
 ghost use Rattle.tile_stream.specs.Unread.{Leaves, IsOfTile, most_left, has_failed, is_read, is_refused, failed_reads_between};
-ghost use Rattle.tile_stream.specs.Whole.{HoldsLine, IsWhole};
+ghost use Rattle.tile_stream.specs.Whole.{HoldsLine};
 
 mod head;
 mod held;
@@ -112,8 +113,8 @@ impl<R: Source> TileReader<R> {
             (R.failures self.old.lines.ahead.reader) }
     {
         self.held.texts = FeatureTexts::none(alloc);
-        let line = match self.lines.next() {
-            Ok(Some(line)) => line,
+        let count = match self.lines.next_len() {
+            Ok(Some(count)) => count,
             Ok(None) => {
                 return Err(LineFault {
                     line: 0,
@@ -122,23 +123,15 @@ impl<R: Source> TileReader<R> {
             }
             Err(at) => return Err(at),
         };
-        let number = line.number;
-        match read_first_line(alloc, line.bytes.items()) {
+        let first = read_first_line(alloc, self.lines.front(count));
+        let line = self.lines.leave_line(count);
+        match first {
             Ok(FirstLine { header, texts }) => {
                 texts.known();
-                self.held = Held {
-                    line: number,
-                    texts,
-                };
-                Ok(Head {
-                    header,
-                    line: number,
-                })
+                self.held = Held { line, texts };
+                Ok(Head { header, line })
             }
-            Err(fault) => Err(LineFault {
-                line: number,
-                fault,
-            }),
+            Err(fault) => Err(LineFault { line, fault }),
         }
     }
 
@@ -222,70 +215,19 @@ impl<R: Source> TileReader<R> {
             (has_failed self.old.lines) (has_failed self.new.lines)
             (R.failures self.old.lines.ahead.reader) }
     {
-        if let Some(count) = self.lines.whole_len() {
-            return match self.pass_whole(alloc, count, shift, choice, spare) {
-                Ok(passed) => Ok(Some(passed)),
-                Err(at) => Err(at),
-            };
-        }
-        let line = match self.lines.next() {
-            Ok(Some(line)) => line,
+        let count = match self.lines.next_len() {
+            Ok(Some(count)) => count,
             Ok(None) => return Ok(None),
             Err(at) => return Err(at),
         };
         let mut text = emptied(spare);
-        match feature_line(alloc, line.bytes.items(), shift, choice, &mut text) {
-            Ok(is_chosen) => Ok(Some(Passed { is_chosen, text })),
-            Err(fault) => Err(LineFault {
-                line: line.number,
-                fault,
-            }),
-        }
-    }
-
-    /// The same of the next line where it stands whole among the bytes that were read, of this length: it is taken from
-    /// there, with no copy.
-    fn pass_whole(
-        &mut self,
-        alloc: Global,
-        count: usize,
-        shift: Shift,
-        choice: &Choice,
-        spare: Line,
-    ) -> Result<Passed, LineFault>
-        requires { IsWhole self.old.lines count }
-        ensures text { IfOk result (λ passed. passed.is_chosen ≡ true
-            → GivesText (LinesMayComeTo R.gives (IsChosen choice.now) shift self.old.lines)
-            (LinesMayComeTo R.gives (IsChosen choice.now) shift self.new.lines) passed.text) }
-        ensures skipped { IfOk result (λ passed. passed.is_chosen ≡ false
-            → (passed.text ≡ [])
-            × ComesBack (LinesMayComeTo R.gives (IsChosen choice.now) shift self.old.lines)
-            (LinesMayComeTo R.gives (IsChosen choice.now) shift self.new.lines)) }
-        ensures refused { IfErr result (λ e. LinesMayComeTo R.gives (IsChosen choice.now) shift
-            self.old.lines [] (Some (record { line = e.line; fault = e.fault }))) }
-        ensures kind { IfErr result (λ e. (e.fault ≢ Fault.Write) × (is_read e.fault ≡ false)) }
-        ensures some { SomethingComes
-            (LinesMayComeTo R.gives (IsChosen choice.now) shift self.new.lines) }
-        ensures fewer { most_left self.new.lines < most_left self.old.lines }
-        ensures held { self.new.held ≡ self.old.held }
-        ensures had_not_failed { has_failed self.old.lines ≡ false }
-        ensures not_failed { has_failed self.new.lines ≡ false }
-        ensures failures { R.failures self.new.lines.ahead.reader
-            ≡ R.failures self.old.lines.ahead.reader }
-    {
-        let mut text = emptied(spare);
         let given = feature_line(alloc, self.lines.front(count), shift, choice, &mut text);
-        let number = self.lines.leave_line(count);
+        let line = self.lines.leave_line(count);
         let is_chosen = match given {
             Ok(is_chosen) => is_chosen,
-            Err(fault) => {
-                return Err(LineFault {
-                    line: number,
-                    fault,
-                });
-            }
+            Err(fault) => return Err(LineFault { line, fault }),
         };
-        Ok(Passed { is_chosen, text })
+        Ok(Some(Passed { is_chosen, text }))
     }
 
     /// Whether the next line that is not blank was read already, so that taking it does not wait for the reader. It

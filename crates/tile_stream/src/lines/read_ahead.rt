@@ -1,28 +1,35 @@
-ghost use Rattle.std.specs.Prelude.{◌≡◌, ◌≤◌, ◌<◌, ◌-◌, ◌↔◌, ℕ, true, false, [], length, drop, slice_index, IfOk, IfErr, IsTrue};
+//! A reader, and what was read from it and not taken yet, in a buffer that grows where it must.
+ghost use Rattle.std.specs.Prelude.{◌≡◌, ◌≤◌, ◌<◌, ◌-◌, ◌+◌, ◌^◌, ◌↔◌, ℕ, true, false, [], length, take, drop, slice_index, slice_range, vec_len, IfOk, IfErr, OnOk, OnErr, IsTrue};
+ghost use Rattle.byte_streams.specs.Failures.{after_call};
 ghost use Rattle.byte_streams.specs.Source.{GivesFirst};
-ghost use Rattle.tile_stream.specs.Taking.{IsFillFault, failed_reads_after_call};
+ghost use Rattle.tile_stream.specs.Parts.{HasNoNewline, IsFillFault, ReadsMore, failed_reads_after_call};
 ghost use Rattle.tile_stream.specs.Whole.{EndsTexts, HoldsLine, is_white};
 
-use crate::lines::taking::is_blank;
+use crate::lines::parts::is_blank;
 use byte_streams::limits::MAX_PIECE_BYTES;
 use byte_streams::{Fault, Source};
 use memchr::memrchr;
-use std::alloc::Global;
+use std::alloc::{AllocError, Global};
 use std::marker::Model;
 
-/// A reader, and the bytes of its last read that were not taken yet.
+/// In bytes: how long a buffer may be that is kept once the line was left that it grew for. 256 KiB, our own choice:
+/// lines of up to some 100 kB find their room there, and longer ones hoard nothing.
+const MAX_KEPT_BYTES: usize = 4 * MAX_PIECE_BYTES;
+
+/// A reader, and the bytes that were read and not taken yet: those of `piece` from `at` to `filled`.
 #[derive(Debug, Drop)]
 pub struct ReadAhead<R> {
     reader: R,
+    // as long as it was ever filled since it was made
     piece: Vec<u8>,
     at: usize,
     filled: usize,
-    // behind the last byte of a line that is not blank and ends in the piece
+    // behind the last byte of a line that is not blank and ends among those that are held, or not behind `at`
     texts: usize,
 }
 
 impl<R> Model for ReadAhead<R> {
-    ghost use Rattle.std.specs.Prelude.{◌≤◌, slice_range, take, vec_len};
+    ghost use Rattle.std.specs.Prelude.{◌≤◌, ◌-◌, slice_range, vec_len};
     ghost use Rattle.tile_stream.specs.Ahead.{Ahead};
     ghost use Rattle.tile_stream.specs.Whole.{EndsTexts};
 
@@ -34,7 +41,7 @@ impl<R> Model for ReadAhead<R> {
     } };
 
     ghost invariant = { λ a. (a.at ≤ a.filled) × (a.filled ≤ vec_len a.piece)
-        × EndsTexts (take a.filled a.piece.items) a.texts };
+        × EndsTexts (slice_range a.piece.items a.at a.filled) (a.texts - a.at) };
 }
 
 impl<R: Source> ReadAhead<R> {
@@ -65,42 +72,112 @@ impl<R: Source> ReadAhead<R> {
         self.at < self.texts
     }
 
-    /// Takes the first of the bytes that are held.
-    pub fn skip(&mut self, count: usize)
+    /// Takes the first of the bytes that are held, and gives a large buffer back where few are left.
+    pub fn skip(&mut self, alloc: Global, count: usize)
         requires { count ≤ length self.old.held }
         ensures { self.new ≡ record self.old { held = drop count self.old.held } }
     {
         self.at += count;
+        self.shrink(alloc);
     }
 
-    /// One read, where no bytes are held. Returns how many bytes came, which is 0 at the end.
+    /// Gives a large buffer back where few bytes are held, unless there is no memory for these.
+    fn shrink(&mut self, alloc: Global)
+        ensures { self.new ≡ self.old }
+    {
+        if self.piece.len() <= MAX_KEPT_BYTES || self.filled - self.at > MAX_PIECE_BYTES {
+            return;
+        }
+        if let Ok(piece) = piece_of(alloc, &self.piece[self.at..self.filled]) {
+            self.piece = piece;
+            self.texts = self.texts.saturating_sub(self.at);
+            self.filled -= self.at;
+            self.at = 0;
+        }
+    }
+
+    /// One read, behind the bytes that are held, among which no line ends. Returns how many bytes came, which is 0 at
+    /// the end.
     ///
     /// # Errors
     ///
-    /// `Read` where the read failed, and `Memory` where there was no memory to read into.
+    /// `Read` where the read failed, and `Memory` where there was no memory to read into. What is held stays.
     pub fn fill(&mut self) -> Result<usize, Fault>
-        requires { self.old.held ≡ [] }
-        ensures more { IfOk result (λ count. GivesFirst (R.gives self.old.reader)
-            (R.gives self.new.reader) self.new.held) }
-        ensures count { IfOk result (λ count. count ≡ length self.new.held) }
+        requires { HasNoNewline self.old.held }
+        ensures more { IfOk result (λ count. ReadsMore R.gives self.old self.new count) }
         ensures end { IfOk result (λ count. count ≡ 0 → R.gives self.old.reader [] false) }
         ensures failed { IfErr result (λ fault. fault ≡ Fault.Read
             → R.gives self.old.reader [] true) }
         ensures kind { IfErr result IsFillFault }
+        ensures held { OnErr result (self.new.held ≡ self.old.held) }
         ensures kept { IfErr result (λ fault. fault ≡ Fault.Memory → self.new ≡ self.old) }
         ensures failures { R.failures self.new.reader
             ≡ failed_reads_after_call result (R.failures self.old.reader) }
     {
-        if self.piece.is_empty() {
-            self.piece.resize(MAX_PIECE_BYTES, 0)?;
-        }
+        let held = move_to_front(&mut self.piece, self.at, self.filled);
         self.at = 0;
-        self.filled = 0;
+        self.filled = held;
         self.texts = 0;
-        self.filled = self.reader.read(&mut self.piece)?;
-        self.texts = texts_end(&self.piece[..self.filled]);
-        Ok(self.filled)
+        make_room(&mut self.piece, held)?;
+        let count = read_behind(&mut self.reader, &mut self.piece, held)?;
+        self.filled = held + count;
+        self.texts = texts_end(&self.piece[..self.filled], held);
+        Ok(count)
     }
+}
+
+/// A buffer that begins with these bytes, and with room behind them.
+fn piece_of(alloc: Global, bytes: &[u8]) -> Result<Vec<u8>, AllocError>
+    requires { length bytes.now ≤ 2 ^ 40 }
+    ensures { IfOk result (λ piece. piece.items ≡ bytes.now) }
+{
+    let mut piece = Vec::with_capacity(alloc, bytes.len() + MAX_PIECE_BYTES)?;
+    piece.extend_from_slice(bytes)?;
+    Ok(piece)
+}
+
+/// Moves the bytes from `at` to `filled` to the front, and says how many they are.
+fn move_to_front(piece: &mut [u8], at: usize, filled: usize) -> usize
+    requires order { at ≤ filled }
+    requires filled { filled ≤ length piece.old }
+    ensures count { result ≡ filled - at }
+    ensures length { length piece.new ≡ length piece.old }
+    ensures front { take result piece.new ≡ slice_range piece.old at filled }
+{
+    if at > 0 {
+        piece.copy_within(at..filled, 0);
+    }
+    filled - at
+}
+
+/// Makes room behind the bytes that are filled, where there is none.
+fn make_room(piece: &mut Vec<u8>, filled: usize) -> Result<(), AllocError>
+    requires { filled ≤ vec_len piece.old }
+    ensures front { take filled piece.new.items ≡ take filled piece.old.items }
+    ensures filled { filled ≤ vec_len piece.new }
+    ensures room { OnOk result (filled < vec_len piece.new) }
+{
+    if filled < piece.len() {
+        return Ok(());
+    }
+    piece.resize(filled + MAX_PIECE_BYTES, 0)
+}
+
+/// One read into what stands behind the first `held` bytes, which stay.
+fn read_behind<R: Source>(reader: &mut R, piece: &mut [u8], held: usize) -> Result<usize, Fault>
+    requires { held < length piece.old }
+    ensures front { take held piece.new ≡ take held piece.old }
+    ensures length { length piece.new ≡ length piece.old }
+    ensures bound { IfOk result (λ count. held + count ≤ length piece.new) }
+    ensures given { IfOk result (λ count. GivesFirst (R.gives reader.old) (R.gives reader.new)
+        (take count (drop held piece.new))) }
+    ensures end { IfOk result (λ count. count ≡ 0 → R.gives reader.old [] false) }
+    ensures failure { OnErr result (R.gives reader.old [] true) }
+    ensures failures { R.failures reader.new ≡ after_call result (R.failures reader.old) }
+    ensures fault { IfErr result (λ fault. fault ≡ Fault.Read) }
+{
+    let end = piece.len().min(held + MAX_PIECE_BYTES);
+    reader.read(&mut piece[held..end])
 }
 
 /// Whether a byte may stand in a blank line, or ends a line.
@@ -124,12 +201,15 @@ fn full_end(bytes: &[u8], end: usize) -> usize
     at
 }
 
-/// The place behind the last byte of a line that is not blank and that a newline ends, or 0 where there is none.
-fn texts_end(bytes: &[u8]) -> usize
+/// The place behind the last byte of a line that is not blank and that a newline ends, or 0 where there is none. No
+/// newline stands among the first `seen` bytes.
+fn texts_end(bytes: &[u8], seen: usize) -> usize
+    requires within { seen ≤ length bytes.now }
+    requires seen { HasNoNewline (take seen bytes.now) }
     ensures { EndsTexts bytes.now result }
 {
-    match memrchr(b'\n', bytes) {
-        Some(last) => full_end(bytes, last),
+    match memrchr(b'\n', &bytes[seen..]) {
+        Some(last) => full_end(bytes, seen + last),
         None => 0,
     }
 }

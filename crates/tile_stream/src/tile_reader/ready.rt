@@ -8,7 +8,7 @@ ghost use Rattle.tile_stream.specs.Ready.{whole_text};
 ghost use Rattle.tile_stream.specs.Shared.{text_ready};
 ghost use Rattle.tile_stream.specs.Stream.{with_newline};
 
-use crate::filter::{write_parts, write_text};
+use crate::writing::{write_parts, write_text};
 use byte_streams::{Fault, Line, Sink};
 use city_cut::FeatureTexts;
 use std::alloc::{AllocError, Global};

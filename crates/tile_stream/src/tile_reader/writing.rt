@@ -6,11 +6,10 @@ ghost use Rattle.city_json.specs.Lent.{lent_bytes};
 ghost use Rattle.tile_stream.specs.Coming.{LinesMayComeTo, SomethingComes};
 ghost use Rattle.tile_stream.specs.Filtered.{failed_reads_after_filter, failures_after_filter};
 ghost use Rattle.tile_stream.specs.Progress.{HasBegun, HasWritten, IsRefusedAfter, SoFar};
-ghost use Rattle.tile_stream.specs.Unread.{has_failed, is_read, most_left};
-ghost use Rattle.tile_stream.specs.Whole.{IsWhole};
+ghost use Rattle.tile_stream.specs.Unread.{has_failed, most_left};
 
-use crate::filter::write_text;
 use crate::tile_reader::TileReader;
+use crate::writing::write_text;
 use byte_streams::{Fault, Line, MergeFault, Sink, Source};
 use city_feature::{Choice, feature_text};
 use city_grid::Shift;
@@ -55,58 +54,9 @@ fn write_given<W: Sink>(
     }
 }
 
-/// Takes the next line of a tile, which stands whole among the bytes that were read, of this length, and writes the text
-/// of its feature, moved by the shift, where it is chosen when it is so moved. Where the text is lent, it is written from
-/// where it was read, with no copy of its own. `spare` is a buffer to reuse.
-///
-/// # Errors
-///
-/// Of tile 1 that of the line, or [`Fault::Memory`]; of no tile and no line [`Fault::Write`], where a write failed.
-fn write_whole<R: Source, W: Sink>(
-    alloc: Global,
-    tile: &mut TileReader<R>,
-    count: usize,
-    shift: Shift,
-    choice: &Choice,
-    spare: Line,
-    output: &mut W,
-) -> Result<Step, MergeFault>
-    requires { IsWhole tile.old.lines count }
-    ensures step { IfOk result (λ step. SoFar
-        (LinesMayComeTo R.gives (IsChosen choice.now) shift tile.old.lines)
-        (LinesMayComeTo R.gives (IsChosen choice.now) shift tile.new.lines) step.count
-        (W.taken output.old) (W.taken output.new)) }
-    ensures refused { IfErr result (λ e. IsRefusedAfter
-        (LinesMayComeTo R.gives (IsChosen choice.now) shift tile.old.lines) e.fault e.tile e.line
-        (W.taken output.old) (W.taken output.new)) }
-    ensures kind { IfErr result (λ e. is_read e.fault ≡ false) }
-    ensures some { SomethingComes
-        (LinesMayComeTo R.gives (IsChosen choice.now) shift tile.new.lines) }
-    ensures one { IfOk result (λ step. step.count ≤ 1) }
-    ensures fewer { most_left tile.new.lines < most_left tile.old.lines }
-    ensures not_failed { has_failed tile.new.lines ≡ false }
-    ensures failures { W.failures output.new
-        ≡ failures_after_filter result (W.failures output.old) }
-    ensures reads { R.failures tile.new.lines.ahead.reader
-        ≡ R.failures tile.old.lines.ahead.reader }
-{
-    let front = tile.lines.front(count);
-    let given = match feature_text(alloc, front, shift, choice, spare) {
-        Ok(given) => given,
-        Err(fault) => {
-            let number = tile.lines.leave_line(count);
-            return Err(MergeFault::of_line(number, fault));
-        }
-    };
-    let written = write_given(alloc, given, output);
-    tile.lines.leave_line(count);
-    match written {
-        Ok(step) => return Ok(step),
-        Err(_) => return Err(MergeFault::of_no_line(Fault::Write)),
-    }
-}
-
-/// The same of the next line of a tile, however it was read, which may come to nothing. None after the last.
+/// Takes the next line of a tile, which may come to nothing, and writes the text of its feature, moved by the shift, where
+/// it is chosen when it is so moved. Where the text is lent, it is written from where it was read, with no copy of its
+/// own. None after the last. `spare` is a buffer to reuse.
 ///
 /// # Errors
 ///
@@ -142,22 +92,21 @@ pub(crate) fn write_next<R: Source, W: Sink>(
     ensures reads { R.failures tile.new.lines.ahead.reader
         ≡ failed_reads_after_filter result (R.failures tile.old.lines.ahead.reader) }
 {
-    if let Some(count) = tile.lines.whole_len() {
-        return match write_whole(alloc, tile, count, shift, choice, spare, output) {
-            Ok(step) => Ok(Some(step)),
-            Err(refusal) => Err(refusal),
-        };
-    }
-    let line = match tile.lines.next() {
-        Ok(Some(line)) => line,
+    let count = match tile.lines.next_len() {
+        Ok(Some(count)) => count,
         Ok(None) => return Ok(None),
         Err(at) => return Err(MergeFault::of_line(at.line, at.fault)),
     };
-    let given = match feature_text(alloc, line.bytes.items(), shift, choice, spare) {
+    let given = match feature_text(alloc, tile.lines.front(count), shift, choice, spare) {
         Ok(given) => given,
-        Err(fault) => return Err(MergeFault::of_line(line.number, fault)),
+        Err(fault) => {
+            let line = tile.lines.leave_line(count);
+            return Err(MergeFault::of_line(line, fault));
+        }
     };
-    match write_given(alloc, given, output) {
+    let written = write_given(alloc, given, output);
+    tile.lines.leave_line(count);
+    match written {
         Ok(step) => return Ok(Some(step)),
         Err(_) => return Err(MergeFault::of_no_line(Fault::Write)),
     }

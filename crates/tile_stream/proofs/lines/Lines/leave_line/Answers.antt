@@ -1,19 +1,40 @@
-use Rattle.std.proofs.Common.{◌≡◌, ◌+◌, [], length, take, arith}
-use Rattle.std.proofs.lemmas.List.{length-take-le}
-use Rattle.tile_stream.proofs.Coming.{none_before, whole}
-use Rattle.tile_stream.proofs.Leaving.{by_whole}
+use Rattle.std.proofs.Common.{◌<◌, length, take, subst, arith}
+use Rattle.std.proofs.lemmas.Grind.{common_steps}
+use Rattle.tile_stream.specs.Unread.{Leaves, Unread, ended_by}
+use Rattle.tile_stream.proofs.Leaving.{left_ended, left_last, part_full}
 use Rattle.tile_stream.proofs.lines.Lines.leave_line.Goals as goal
 
-pub returns-clause-line : goal.returns-clause-line
-returns-clause-line g c =
+pub returns-then-count-held-clause-part : goal.returns-then-count-held-clause-part
+returns-then-count-held-clause-part g c before stands =
     let s = c.self.inside in
-    let count = c.args.count in
-    let is = rw (← c.self.view_is) at c.requires in
-    let line = take count s.ahead.held in
-    let place : s.start + (count + 1) ≡ s.start + length line + 1 =
-    omega (arith, length-take-le count s.ahead.held (omega (arith, is.ends.0.high))) in
-    let follows = whole g.R.Source.gives s.ahead s.ahead [] (λ bytes fails comes. comes) count is.ends
-    c.skip.new.self c.skip.ensures in
-    let by = by_whole g.R.Source.gives s.limits s.number s.start s.ahead line c.skip.new.self (s.start + (count + 1))
-    place (none_before s.ahead.held count is.ends) is.fine follows is.full in
-    rw (← c.self.view_is, is.going) (s.start, by)
+    let now : Unread _ = record { ahead = s.ahead; limits = s.limits; number = s.number; start = s.start; ended = ended_by s.state } in
+    let next = rw (← c.self.view_is) at stands in
+    let within : c.args.count < length s.ahead.held = grind (arith, common_steps) in
+    rw (← c.self.view_is, next.whole.going) (left_ended g.R.Source.gives before now c.args.count next within c.skip.new.self
+    c.skip.ensures)
+
+pub returns-then-count-held-clause-line : goal.returns-then-count-held-clause-line
+returns-then-count-held-clause-line g c full before stands =
+    let part = returns-then-count-held-clause-part g c before stands in (
+      part.0,
+      λ left leaves. subst (Leaves g.R.Source.gives before)
+          (part_full c.self.inside.number part.0 (take c.args.count c.args.self.now.ahead.held) left full)
+          (part.1 left leaves),
+    )
+
+pub returns-else-count-held-clause-part : goal.returns-else-count-held-clause-part
+returns-else-count-held-clause-part g c before stands =
+    let s = c.self.inside in
+    let now : Unread _ = record { ahead = s.ahead; limits = s.limits; number = s.number; start = s.start; ended = ended_by s.state } in
+    let next = rw (← c.self.view_is) at stands in
+    let all : ¬ (c.args.count < length s.ahead.held) = λ within. absurd (grind (arith, common_steps, within)) in
+    rw (← c.self.view_is) (left_last g.R.Source.gives before now c.args.count next all)
+
+pub returns-else-count-held-clause-line : goal.returns-else-count-held-clause-line
+returns-else-count-held-clause-line g c full before stands =
+    let part = returns-else-count-held-clause-part g c before stands in (
+      part.0,
+      λ left leaves. subst (Leaves g.R.Source.gives before)
+          (part_full c.self.inside.number part.0 (take c.args.count c.args.self.now.ahead.held) left full)
+          (part.1 left leaves),
+    )

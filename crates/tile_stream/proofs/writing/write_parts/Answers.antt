@@ -1,6 +1,6 @@
 use Rattle.std.proofs.lemmas.Result.{err_from_is_err_and}
 use Rattle.tile_stream.proofs.FirstBytes.{both_written, common_failed, on_err_more, on_ok_more, own_failed}
-use Rattle.tile_stream.proofs.filter.write_parts.Goals as goal
+use Rattle.tile_stream.proofs.writing.write_parts.Goals as goal
 
 pub returns-in_err-write_all-clause-some : goal.returns-in_err-write_all-clause-some
 returns-in_err-write_all-clause-some g c =

@@ -2,7 +2,7 @@ use Rattle.std.proofs.Common.{◌≡◌, ◌≤◌}
 use Rattle.tile_stream.specs.Tile.{TileLines}
 use Rattle.tile_stream.specs.Unread.{Leaves, most_left, has_failed, is_refused, IsSameOrOpen}
 use Rattle.tile_stream.specs.Whole.{HoldsLine}
-use Rattle.tile_stream.proofs.lines.Lines.next.Given as goal
+use Rattle.tile_stream.proofs.lines.Lines.next_len.Given as goal
 
 -- what may be left now may have been left at the start: only blank parts were skipped
 abbrev pub invariant-parts : goal.invariant-parts

@@ -1,13 +1,13 @@
--- What the taking of one part from what is to come may answer.
-use Rattle.std.specs.Prelude.{◌≡◌, ◌<◌, ◌+◌, ℕ, Bool, false, List, ◌∷◌, ◌++◌, None, length, slice_index, Result, Ok, Err, IfOk}
+-- The parts of what is to come, between newlines, and what one read and the completing of a part may answer.
+use Rattle.std.specs.Prelude.{◌≡◌, ◌⊎◌, ◌<◌, ◌+◌, ℕ, Bool, false, List, ◌++◌, Some, None, length, slice_index, take, Result, Ok, Err}
 use Rattle.std.specs.List.{All}
+use Rattle.memchr.specs.Find.{IsFirstByte}
 use Rattle.city_json.specs.Bytes.{newline}
+use Rattle.byte_streams.specs.Source.{GivesFirst}
 use Rattle.byte_streams.specs.declared.fault.Fault.{Fault}
 use Rattle.byte_streams.specs.declared.fault.Fault.TheVariants.{LineTooLong, TileTooLong, Read, Memory}
 use Rattle.tile_stream.specs.declared.limits.Limits.{Limits}
-use Rattle.tile_stream.specs.declared.lines.part.NextPart.{NextPart}
-use Rattle.tile_stream.specs.declared.lines.part.NextPart.TheVariants.{Ended, Last}
-use Rattle.tile_stream.specs.Ahead.{Ahead}
+use Rattle.tile_stream.specs.Ahead.{Ahead, MayCome}
 use Rattle.tile_stream.specs.Unread.{failed_reads_after}
 use Rattle.tile_stream.specs.Tile.{is_newline, fault_between, lines_from, only_fault}
 
@@ -51,29 +51,37 @@ IsRefusal TileTooLong limits start before = IsRefusedLine TileTooLong limits sta
 IsRefusal Read limits start before = IsRefusedLine Read limits start before
 IsRefusal other limits start before = ⊥
 
--- Some first bytes of a part were taken: whatever may be to come now may, after these, have been to come
--- before.
-abbrev pub StandsWithin : (List ℕ → Bool → Type 0) → (List ℕ → Bool → Type 0) → Type 0
-StandsWithin before after =
-    (front : List ℕ) × HasNoNewline front × ((bytes : List ℕ) (fails : Bool) → after bytes fails → before (front ++ bytes) fails)
-
 -- a newline stands among these bytes
 abbrev pub HoldsNewline : List ℕ → Type 0
 HoldsNewline bytes = (end : ℕ) × (end < length bytes) × (slice_index bytes end ≡ newline)
 
--- The part and the newline that ends it are the first of these bytes, and the others those after.
-abbrev pub IsFirstOf : NextPart → List ℕ → List ℕ → Type 0
-IsFirstOf (Ended line) before after = before ≡ line ++ newline ∷ after
-IsFirstOf (Last line) before after = ⊥
+-- Whatever may be to come now may have been to come before.
+abbrev pub ComesBack : (List ℕ → Bool → Type 0) → (List ℕ → Bool → Type 0) → Type 0
+ComesBack before after = (bytes : List ℕ) (fails : Bool) → after bytes fails → before bytes fails
 
--- Nothing was read, and a part that was taken is the first of what was held.
-pub record TookHeld {R : Type 0} (result : Result NextPart Fault) (before after : Ahead R) : Type 0 where
-  pub reader : after.reader ≡ before.reader
-  pub part : IfOk result (λ part. IsFirstOf part before.held after.held)
+-- So many bytes were read, and stand behind those that were held.
+pub record ReadsMore {R : Type 0} (gives : R → List ℕ → Bool → Type 0) (before after : Ahead R) (count : ℕ) : Type 0 where
+  pub more : List ℕ
+  pub counted : count ≡ length more
+  pub held : after.held ≡ before.held ++ more
+  pub given : GivesFirst (gives before.reader) (gives after.reader) more
 
--- What was to come, as `before` says, is this part and then what is to come now, as `after` says.
-abbrev pub IsTaken : NextPart → Limits → ℕ → (List ℕ → Bool → Type 0) → (List ℕ → Bool → Type 0) → Type 0
-IsTaken (Ended line) limits start before after =
-    HasNoNewline line × IsFineLine limits start line × ((bytes : List ℕ) (fails : Bool) → after bytes fails → before (line ++ newline ∷ bytes) fails)
-IsTaken (Last line) limits start before after =
-    HasNoNewline line × IsFineFront limits start line × before line false
+-- A newline that was read ends the part of this length, which is within the limits.
+pub record IsEndedPart (limits : Limits) (start : ℕ) (held : List ℕ) (count : ℕ) : Type 0 where
+  pub ends : IsFirstByte is_newline held (Some count)
+  pub fine : IsFineLine limits start (take count held)
+
+-- The part of this length is all that is held. No newline ends it, and it is within the limits.
+pub record IsLastPart (limits : Limits) (start : ℕ) (held : List ℕ) (count : ℕ) : Type 0 where
+  pub all : count ≡ length held
+  pub none : HasNoNewline held
+  pub fine : IsFineFront limits start held
+
+abbrev pub IsPart : Limits → ℕ → List ℕ → ℕ → Type 0
+IsPart limits start held count = IsEndedPart limits start held count ⊎ IsLastPart limits start held count
+
+-- The next part stands whole in front, and has this length. Where no newline ends it, nothing was to come behind it.
+pub record IsNextPart {R : Type 0} (gives : R → List ℕ → Bool → Type 0) (limits : Limits) (start : ℕ) (before after : Ahead R) (count : ℕ) : Type 0 where
+  pub part : IsPart limits start after.held count
+  pub back : ComesBack (MayCome gives before) (MayCome gives after)
+  pub last : count ≡ length after.held → MayCome gives before after.held false

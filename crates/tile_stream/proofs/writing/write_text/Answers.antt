@@ -1,5 +1,5 @@
 use Rattle.tile_stream.proofs.Steps.{text_failed, newline_failed}
-use Rattle.tile_stream.proofs.filter.write_text.Goals as goal
+use Rattle.tile_stream.proofs.writing.write_text.Goals as goal
 
 pub returns-in-Err-clause-some : goal.returns-in-Err-clause-some
 returns-in-Err-clause-some g c =
