@@ -1,5 +1,6 @@
 ghost use Rattle.std.specs.Prelude.{◌≡◌, ◌++◌, [], take, OnOk, OnErr};
 
+use crate::limits::MAX_PIECE_BYTES;
 use std::alloc::{AllocError, Global};
 use std::marker::Model;
 
@@ -65,5 +66,15 @@ impl Line {
         ensures { self.new ≡ take len self.old }
     {
         self.bytes.truncate(len);
+    }
+
+    /// Gives memory back of which little is used: more than a quarter of a megabyte, and more than four times the bytes.
+    /// Where that is refused, it stays.
+    pub fn trim(&mut self)
+        ensures { self.new ≡ self.old }
+    {
+        if self.bytes.capacity() / 4 > self.bytes.len().max(MAX_PIECE_BYTES) {
+            self.bytes.shrink_to_fit();
+        }
     }
 }
