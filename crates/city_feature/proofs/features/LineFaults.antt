@@ -24,7 +24,7 @@ use Rattle.city_feature.specs.Shapes.{IsArray, IsObject, IsText, IsThere}
 use Rattle.city_feature.specs.Texts.{IsCompactOf}
 use Rattle.city_feature.proofs.QuickLines.{utf8}
 use Rattle.city_feature.proofs.features.FeatureVertices.{feature_refused}
-use Rattle.city_feature.proofs.features.LineVertices.{not_both}
+use Rattle.city_feature.proofs.features.LineVertices.{compact_of, not_both}
 
 -- this byte stands first
 abbrev Begins : List ℕ → ℕ → Type 0
@@ -126,19 +126,11 @@ module _ (members : MemberTrees) (text : List ℕ) (shape : HasFeatureShape (obj
       )
 
 -- ---- the line
-module _ (k : Triple) (fault : Fault) (bytes line items : List ℕ) (parts passed : List Part) (same_line : items ≡ line)
-    (same_parts : passed ≡ parts) (given : IsCompacted bytes line parts)
-    (refused : (members : MemberTrees) → IsCompactOf items (object members) → AreParts 1 passed members
+module _ (k : Triple) (fault : Fault) (bytes line : List ℕ) (parts : List Part) (given : IsCompacted bytes line parts)
+    (refused : (members : MemberTrees) → IsCompactOf line (object members) → AreParts 1 parts members
     → RefusesMoved k fault (object members)) where
   refused_here : RefusesMoved k fault (object given.0)
-  refused_here =
-      let (members, spells, fits, shallow, written, are) = given in
-      refused members (record {
-        is = same_line ∙ written;
-        writable = spelled_writable bytes (object members) spells;
-        distinct = fits.1;
-        within = fits.0;
-      }) (subst (λ l. AreParts 1 l members) (sym same_parts) are)
+  refused_here = refused given.0 (compact_of bytes line parts given) given.5
 
   pub no_memory_line : fault ≢ Memory
   no_memory_line = refused_here.0
