@@ -25,7 +25,7 @@ use Rattle.city_feature.specs.declared.choices.Choice.{Choice}
 use Rattle.city_feature.specs.Ended.{IsAppearanceEnd, appearance_alone}
 use Rattle.city_feature.specs.Feature.{FeatureValue, IsFeature, moved, moved_vertices, vertices_tree}
 use Rattle.city_feature.specs.FeatureLine.{GivesFeature, SpellsFeature, SpellsMoved}
-use Rattle.city_feature.specs.Quick.{IsCompacted, IsLine}
+use Rattle.city_feature.specs.Quick.{IsCompacted}
 use Rattle.city_feature.specs.Shapes.{IsArray, IsObject, IsText, IsThere, member_in}
 
 -- ---- a member that comes last

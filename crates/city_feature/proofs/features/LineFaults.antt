@@ -1,18 +1,12 @@
 -- Why a feature's line is refused, by the texts of its members.
-use Rattle.std.proofs.Common.{◌≡◌, ◌≢◌, ◌⊎◌, ◌∙◌, ◌↔◌, ◌++◌, ◌<◌, ◌∷◌, [], ℕ, Bool, List, true, false, not, Option, Some, None, IsTrue, All, codes, length, get_or, unwrap_or, ap, sym, subst, refl, inl, inr, arith}
+use Rattle.std.proofs.Common.{◌≡◌, ◌≢◌, ◌⊎◌, ◌∙◌, ◌↔◌, ◌<◌, ℕ, Bool, List, false, Option, Some, None, IsTrue, All, codes, length, get_or, unwrap_or, ap, sym, subst, refl, inl, inr}
 use Rattle.byte_streams.specs.declared.fault.Fault.{Fault}
 use Rattle.byte_streams.specs.declared.fault.Fault.TheVariants.{VertexRange, Memory}
 use Rattle.city_json.proofs.CompactLaws.{compact-tells}
-use Rattle.city_json.proofs.Scanning.{after_white-blank}
-use Rattle.city_json.proofs.SpelledWritable.{spelled_writable}
-use Rattle.city_json.specs.Bytes.{open_brace, close_brace}
 use Rattle.city_json.specs.Compact.{compact, quoted}
-use Rattle.city_json.specs.Fits.{Fits}
-use Rattle.city_json.specs.Grammar.{Spells}
 use Rattle.city_json.specs.Members.{first_named}
 use Rattle.city_json.specs.Parts.{AreParts}
-use Rattle.city_json.specs.Reading.{after_white}
-use Rattle.city_json.specs.Tree.{Tree, null, boolean, number, string, array, object, ItemTrees, no_items, item, MemberTrees}
+use Rattle.city_json.specs.Tree.{Tree, null, string, array, object, ItemTrees, no_items, item, MemberTrees}
 use Rattle.city_json.specs.declared.compacting.places.Part.{Part}
 use Rattle.city_grid.specs.Axes.{IsInRange, Triple}
 use Rattle.city_grid.specs.Vertex.{RefusesVertex}

@@ -1,11 +1,10 @@
 -- The line of a feature by what becomes of its vertices.
-use Rattle.std.proofs.Common.{◌≡◌, ◌∙◌, ◌++◌, ◌-◌, ◌≤◌, ◌↔◌, ℕ, pos, ◌+ℤ◌, sym, ap, refl, subst, Bool, true, false, List, [], ◌∷◌, take, drop, slice_range, All, Option, Some, None, codes, arith, option_map, IsTrue, IfSome}
+use Rattle.std.proofs.Common.{◌≡◌, ◌∙◌, ◌++◌, ◌-◌, ◌≤◌, ◌↔◌, ℕ, pos, ◌+ℤ◌, sym, ap, refl, subst, Bool, false, List, [], ◌∷◌, take, drop, slice_range, All, Option, Some, None, codes, arith, option_map, IsTrue, IfSome}
 use Rattle.std.proofs.Math.IntN.{+ℤ_idr}
 use Rattle.std.proofs.lemmas.List.{drop-drop, take-append-drop}
 use Rattle.city_json.proofs.SpelledWritable.{spelled_writable}
 use Rattle.city_json.specs.Compact.{compact}
 use Rattle.city_json.specs.Fits.{Fits}
-use Rattle.city_json.specs.Grammar.{Spells}
 use Rattle.city_json.specs.Members.{first_named}
 use Rattle.city_json.specs.Parts.{AreParts, with_value}
 use Rattle.city_json.specs.Tree.{Tree, MemberTrees, object}
