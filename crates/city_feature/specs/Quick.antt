@@ -1,5 +1,5 @@
 -- What is found on the compact text of a feature's line, whose members lie in known parts.
-use Rattle.std.specs.Prelude.{◌≡◌, ◌≢◌, ◌≤◌, ◌↔◌, ℕ, Bool, IsTrue, List, [], ◌∷◌, length, slice_range, codes, pos, All}
+use Rattle.std.specs.Prelude.{◌≡◌, ◌≢◌, ◌≤◌, ℕ, List, [], ◌∷◌, codes, pos, All}
 use Rattle.city_json.specs.Bytes.{backslash, plus}
 use Rattle.city_json.specs.Compact.{compact}
 use Rattle.city_json.specs.Depth.{IsDeep}
@@ -11,10 +11,8 @@ use Rattle.city_json.specs.Tree.{Tree, array, ItemTrees, MemberTrees, object}
 use Rattle.city_json.specs.Writable.{AreWritableItems, IsWritable}
 use Rattle.city_json.specs.declared.compacting.places.Part.{Part}
 use Rattle.city_grid.specs.Axes.{Triple, triple, IsInRange}
-use Rattle.city_feature.specs.Area.{Meets}
 use Rattle.city_feature.specs.Changes.{with_member}
-use Rattle.city_feature.specs.Feature.{AreVertices, IsFeature, vertices_tree}
-use Rattle.city_feature.specs.declared.choices.area.Area.{Area}
+use Rattle.city_feature.specs.Feature.{AreVertices, vertices_tree}
 use Rattle.city_feature.specs.Shapes.{IsObject, IsText, IsThere, Says}
 
 -- the compact text of an object of these members, which lie in these parts

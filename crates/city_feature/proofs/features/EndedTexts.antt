@@ -16,6 +16,7 @@ use Rattle.city_json.specs.Writable.{AreWritableMembers, IsWritable}
 use Rattle.city_json.specs.declared.compacting.places.Part.{Part}
 use Rattle.city_grid.specs.Axes.{Triple}
 use Rattle.city_feature.proofs.QuickLines.{found_at, utf8}
+use Rattle.city_feature.proofs.features.LineVertices.{line_of}
 use Rattle.city_feature.proofs.features.StillFeature.{other_member}
 use Rattle.city_feature.specs.Area.{Meets}
 use Rattle.city_feature.specs.Changes.{with_named}
@@ -24,7 +25,7 @@ use Rattle.city_feature.specs.declared.choices.Choice.{Choice}
 use Rattle.city_feature.specs.Ended.{IsAppearanceEnd, appearance_alone}
 use Rattle.city_feature.specs.Feature.{FeatureValue, IsFeature, moved, moved_vertices, vertices_tree}
 use Rattle.city_feature.specs.FeatureLine.{GivesFeature, SpellsFeature, SpellsMoved}
-use Rattle.city_feature.specs.Quick.{IsLine}
+use Rattle.city_feature.specs.Quick.{IsCompacted}
 use Rattle.city_feature.specs.Shapes.{IsArray, IsObject, IsText, IsThere, member_in}
 
 -- ---- a member that comes last
@@ -354,25 +355,16 @@ end_there end rest text a begins opened is writable fits = record {
   fits = fits;
 }
 
-pub alone_there : (text line shown : List ℕ) (parts passed : List Part) (members : MemberTrees) (part : Part)
-    → Spells text (object members) → Fits (object members) → line ≡ compact (object members) → AreParts 1 parts members
-    → shown ≡ line → passed ≡ parts → length parts ≡ 1
-    → IsPartNamed shown passed (quoted (codes "appearance") ++ colon ∷ []) part → text ≡ shown
+pub alone_there : (text line : List ℕ) (parts : List Part) (part : Part) → IsCompacted text line parts
+    → length parts ≡ 1 → IsPartNamed line parts (quoted (codes "appearance") ++ colon ∷ []) part → text ≡ line
     → (a : Tree) × (text ≡ compact (object (appearance_alone a))) × IsWritable a × Fits (object (appearance_alone a))
-alone_there text line shown parts passed members part spells fits written are same_line same_parts one named same =
-    let writable = spelled_writable text (object members) spells in
-    let is : IsLine shown passed members =
-    record {
-      written = same_line ∙ written;
-      are_parts = subst (λ l. AreParts 1 l members) (sym same_parts) are;
-      names_differ = fits.1.0;
-      writable = writable;
-    } in
-    let found = found_at shown passed members (codes "appearance") part (utf8 (codes "appearance") refl) is named in
-    let (a, here) = alone members parts 1 found.value are one found.is in
-    let can : AreWritableMembers (appearance_alone a) = subst AreWritableMembers here writable in (
+alone_there text line parts part given one named same =
+    let is = line_of text line parts given in
+    let found = found_at line parts given.0 (codes "appearance") part (utf8 (codes "appearance") refl) is named in
+    let (a, here) = alone given.0 parts 1 found.value given.5 one found.is in
+    let can : AreWritableMembers (appearance_alone a) = subst AreWritableMembers here is.writable in (
       a,
-      same ∙ (same_line ∙ (written ∙ ap (λ m. compact (object m)) here)),
+      same ∙ (given.4 ∙ ap (λ m. compact (object m)) here),
       can.1,
-      subst (λ m. Fits (object m)) here fits,
+      subst (λ m. Fits (object m)) here given.2,
     )

@@ -1,18 +1,12 @@
 -- Why a feature's line is refused, by the texts of its members.
-use Rattle.std.proofs.Common.{◌≡◌, ◌≢◌, ◌⊎◌, ◌∙◌, ◌↔◌, ◌++◌, ◌<◌, ◌∷◌, [], ℕ, Bool, List, true, false, not, Option, Some, None, IsTrue, All, codes, length, get_or, unwrap_or, ap, sym, subst, refl, inl, inr, arith}
+use Rattle.std.proofs.Common.{◌≡◌, ◌≢◌, ◌⊎◌, ◌∙◌, ◌↔◌, ◌<◌, ℕ, Bool, List, false, Option, Some, None, IsTrue, All, codes, length, get_or, unwrap_or, ap, sym, subst, refl, inl, inr}
 use Rattle.byte_streams.specs.declared.fault.Fault.{Fault}
 use Rattle.byte_streams.specs.declared.fault.Fault.TheVariants.{VertexRange, Memory}
 use Rattle.city_json.proofs.CompactLaws.{compact-tells}
-use Rattle.city_json.proofs.Scanning.{after_white-blank}
-use Rattle.city_json.proofs.SpelledWritable.{spelled_writable}
-use Rattle.city_json.specs.Bytes.{open_brace, close_brace}
 use Rattle.city_json.specs.Compact.{compact, quoted}
-use Rattle.city_json.specs.Fits.{Fits}
-use Rattle.city_json.specs.Grammar.{Spells}
 use Rattle.city_json.specs.Members.{first_named}
 use Rattle.city_json.specs.Parts.{AreParts}
-use Rattle.city_json.specs.Reading.{after_white}
-use Rattle.city_json.specs.Tree.{Tree, null, boolean, number, string, array, object, ItemTrees, no_items, item, MemberTrees}
+use Rattle.city_json.specs.Tree.{Tree, null, string, array, object, ItemTrees, no_items, item, MemberTrees}
 use Rattle.city_json.specs.declared.compacting.places.Part.{Part}
 use Rattle.city_grid.specs.Axes.{IsInRange, Triple}
 use Rattle.city_grid.specs.Vertex.{RefusesVertex}
@@ -24,7 +18,7 @@ use Rattle.city_feature.specs.Shapes.{IsArray, IsObject, IsText, IsThere}
 use Rattle.city_feature.specs.Texts.{IsCompactOf}
 use Rattle.city_feature.proofs.QuickLines.{utf8}
 use Rattle.city_feature.proofs.features.FeatureVertices.{feature_refused}
-use Rattle.city_feature.proofs.features.LineVertices.{not_both}
+use Rattle.city_feature.proofs.features.LineVertices.{compact_of, not_both}
 
 -- this byte stands first
 abbrev Begins : List ℕ → ℕ → Type 0
@@ -126,19 +120,11 @@ module _ (members : MemberTrees) (text : List ℕ) (shape : HasFeatureShape (obj
       )
 
 -- ---- the line
-module _ (k : Triple) (fault : Fault) (bytes line items : List ℕ) (parts passed : List Part) (same_line : items ≡ line)
-    (same_parts : passed ≡ parts) (given : IsCompacted bytes line parts)
-    (refused : (members : MemberTrees) → IsCompactOf items (object members) → AreParts 1 passed members
+module _ (k : Triple) (fault : Fault) (bytes line : List ℕ) (parts : List Part) (given : IsCompacted bytes line parts)
+    (refused : (members : MemberTrees) → IsCompactOf line (object members) → AreParts 1 parts members
     → RefusesMoved k fault (object members)) where
   refused_here : RefusesMoved k fault (object given.0)
-  refused_here =
-      let (members, spells, fits, shallow, written, are) = given in
-      refused members (record {
-        is = same_line ∙ written;
-        writable = spelled_writable bytes (object members) spells;
-        distinct = fits.1;
-        within = fits.0;
-      }) (subst (λ l. AreParts 1 l members) (sym same_parts) are)
+  refused_here = refused given.0 (compact_of bytes line parts given) given.5
 
   pub no_memory_line : fault ≢ Memory
   no_memory_line = refused_here.0

@@ -1,4 +1,4 @@
-use Rattle.std.proofs.Common.{◌≡◌, Bool, true, codes, inl, inr, refl}
+use Rattle.std.proofs.Common.{codes, inl, inr, refl}
 use Rattle.city_json.specs.Members.{first_named}
 use Rattle.city_feature.proofs.QuickLines.{utf8}
 use Rattle.city_feature.proofs.features.LineFaults.{there_or, value_of}

@@ -1,4 +1,4 @@
-use Rattle.std.proofs.Common.{◌≡◌, ◌∙◌, subst, sym}
+use Rattle.std.proofs.Common.{◌∙◌, sym}
 use Rattle.std.proofs.lemmas.Slice.Eq.{bytes_eq-Decides}
 use Rattle.city_feature.proofs.features.LineVertices.{not_both}
 use Rattle.city_feature.proofs.headers.HeldCity.{filled_array, other_array, told_apart}
