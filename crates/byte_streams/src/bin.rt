@@ -1,3 +1,4 @@
+//! A sink in memory, for tests, which may take little at a time, fill up, or fail to flush.
 ghost use Rattle.std.specs.Prelude.{◌≡◌, ◌≤◌, ◌↔◌, true, Some, [], length, IfOk, IfErr, IsErr, IsTrue, OnOk, OnErr};
 ghost use Rattle.std.specs.Io.KnownBytes.{Keeps, WriteAppends};
 ghost use Rattle.byte_streams.specs.Failures.{after_call, after_write};

@@ -1,3 +1,4 @@
+//! The list of faults: why a call was refused, with a number and a text each.
 ghost use Rattle.std.specs.Prelude.{◌≡◌, ◌⊎◌, ◌<◌, ◌≤◌, length, IfSome, IfNone};
 ghost use Rattle.byte_streams.specs.Faults.{number_of, text_of};
 

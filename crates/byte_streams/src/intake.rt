@@ -1,3 +1,4 @@
+//! A source read to its end, or to where the reading stops.
 ghost use Rattle.std.specs.Prelude.{◌≡◌, ◌≤◌, ◌<◌, ◌+◌, true, false, [], length, take, drop, vec_len, IfOk, OnOk, OnErr};
 ghost use Rattle.byte_streams.specs.Failures.{after_call};
 ghost use Rattle.byte_streams.specs.Intake.{Stopped, after_stop};

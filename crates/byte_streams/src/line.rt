@@ -1,3 +1,4 @@
+//! Bytes that grow at their end.
 ghost use Rattle.std.specs.Prelude.{◌≡◌, ◌++◌, [], take, OnOk, OnErr};
 
 use crate::limits::MAX_PIECE_BYTES;

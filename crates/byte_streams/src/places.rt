@@ -1,3 +1,4 @@
+//! Where a fault belongs: its line, and its tile.
 ghost use Rattle.std.specs.Prelude.{◌≡◌};
 
 use crate::fault::Fault;

@@ -1,3 +1,4 @@
+//! Items that a contract sees as their list.
 ghost use Rattle.std.specs.Prelude.{◌≡◌, ◌^◌, ◌<◌, [], ◌∷◌, ◌++◌, length, is_ok, if◌then◌else◌};
 
 use std::alloc::{AllocError, Global};

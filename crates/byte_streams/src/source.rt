@@ -1,3 +1,4 @@
+//! What gives bytes.
 ghost use Rattle.std.specs.Prelude.{◌≡◌, ◌≤◌, ◌<◌, ℕ, Bool, true, false, List, [], length, take, IfOk, IfErr, OnErr};
 ghost use Rattle.byte_streams.specs.Failures.{after_call};
 ghost use Rattle.byte_streams.specs.Source.{GivesFirst};

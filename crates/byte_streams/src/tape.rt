@@ -1,3 +1,4 @@
+//! A source in memory, for tests, which gives a few bytes a read, and ends or fails.
 ghost use Rattle.std.specs.Prelude.{◌≡◌, ◌≤◌, ◌<◌, ◌++◌, true, false, [], length, take, drop, IfOk, IfErr, OnErr, refl};
 ghost use Rattle.byte_streams.specs.Failures.{after_call, one_more};
 ghost use Rattle.byte_streams.specs.Source.{GivesFirst};

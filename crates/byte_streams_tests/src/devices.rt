@@ -1,3 +1,4 @@
+//! Devices over readers and writers that fail, or are interrupted by a signal.
 use byte_streams::{Device, Fault, Sink, Source};
 use std::alloc::Global;
 use std::io::{self, ErrorKind, Read, Write};

@@ -1,3 +1,4 @@
+//! The numbers and the texts of faults.
 use byte_streams::Fault;
 use std::alloc::{AllocError, Global};
 

@@ -1,3 +1,4 @@
+//! Sequences keep their items.
 use byte_streams::Sequence;
 use std::alloc::{AllocError, Global};
 

@@ -1,3 +1,4 @@
+//! Tapes and bins, what is read to its end, and what is written whole.
 ghost use Rattle.std.specs.Prelude.{◌≤◌};
 
 use byte_streams::{Bin, Device, Fault, Line, Sink, Source, Stop, Tape, read_all, write_all};

@@ -1,3 +1,4 @@
+//! What a document is cut into: a header, and features or their texts.
 use crate::held::FeatureTexts;
 use byte_streams::Sequence;
 use city_feature::{Feature, Header};

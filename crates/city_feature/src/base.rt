@@ -1,3 +1,4 @@
+//! Whose translation joined tiles share.
 /// Whose translation the joined tiles share.
 #[derive(Clone, Copy, Debug, PartialEq, Eq)]
 pub enum Base {

@@ -1,3 +1,4 @@
+//! Which features are wanted.
 ghost use Rattle.std.specs.Prelude.{◌≡◌, IfOk, IfErr};
 
 pub(crate) mod area;

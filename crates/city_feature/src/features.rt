@@ -1,3 +1,4 @@
+//! A feature, with its vertices in steps of the grid.
 ghost use Rattle.std.specs.Prelude.{◌≡◌};
 ghost use Rattle.city_json.specs.Tree.{tree};
 ghost use Rattle.city_feature.specs.Feature.{IsFeature};

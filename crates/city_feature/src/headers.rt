@@ -1,3 +1,4 @@
+//! A header, with its transform.
 ghost use Rattle.std.specs.Prelude.{◌≡◌};
 ghost use Rattle.city_json.specs.Tree.{tree};
 ghost use Rattle.city_feature.specs.Header.{IsHeader};

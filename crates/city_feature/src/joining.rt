@@ -1,3 +1,4 @@
+//! The headers of tiles, joined to one, with a shift for each tile.
 ghost use Rattle.std.specs.Prelude.{◌≡◌, ◌<◌, ◌^◌, All, length, map, IfOk, IfErr};
 ghost use Rattle.city_feature.specs.Joined.{IsForward, IsJoined, RefusesJoin};
 ghost use Rattle.city_feature.specs.Values.{header_value};

@@ -1,3 +1,4 @@
+//! A value for each axis, and arrays of three numbers.
 ghost use Rattle.std.specs.Prelude.{◌≡◌, ◌≢◌, ℕ, List, IfSome, IfNone};
 ghost use Rattle.city_json.specs.Tree.{tree, number};
 ghost use Rattle.city_grid.specs.Axes.{Texts, number_texts, three};

@@ -1,3 +1,4 @@
+//! Decimals, exactly, in units of 10^-24.
 ghost use Rattle.std.specs.Prelude.{◌≡◌, ◌<◌, unsigned_abs};
 ghost use Rattle.city_grid.specs.Decimal.{decimal_bound, signed};
 

@@ -1,3 +1,4 @@
+//! Whole steps along each axis, as vertices and shifts have them.
 ghost use Rattle.std.specs.Prelude.{◌≡◌, ◌≤◌, ◌↔◌, IsTrue, pos, unsigned_abs};
 ghost use Rattle.std.specs.Option.{SomeIff};
 ghost use Rattle.city_grid.specs.Axes.{IsInRange, triple};

@@ -1,3 +1,4 @@
+//! Transforms: how long a step of a grid is, and where the grid begins.
 ghost use Rattle.std.specs.Prelude.{◌≡◌, ◌↔◌, IsTrue, pos, ◌<ℤ◌};
 ghost use Rattle.std.specs.Int.{int_min};
 ghost use Rattle.std.specs.Option.{SomeIff};

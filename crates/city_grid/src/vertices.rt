@@ -1,3 +1,4 @@
+//! Vertices, in steps of the grid, and how they are moved.
 ghost use Rattle.std.specs.Prelude.{◌≡◌, IfOk, IfErr};
 ghost use Rattle.std.specs.Option.{SomeIff};
 ghost use Rattle.city_grid.specs.Axes.{IsInRange, sum, triple};

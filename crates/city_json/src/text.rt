@@ -1,3 +1,4 @@
+//! The texts in a value: strings, and numbers as they were written.
 ghost use Rattle.std.specs.Prelude.{◌≡◌, [], ◌∷◌, drop, if◌then◌else◌, IfOk, IfErr};
 ghost use Rattle.std.specs.Str.Parse.{AllDigits, without_leading_sign};
 ghost use Rattle.city_json.specs.Bytes.{minus};

@@ -1,3 +1,4 @@
+//! What the words ask for, done.
 ghost use Rattle.std.specs.Prelude.{◌≡◌, ◌⊎◌, ◌<◌, length};
 ghost use Rattle.citymerge.specs.Answer.{DidMerge, IsDone, IsSaid, IsStatus, SaidFault};
 ghost use Rattle.command_line.specs.Asked.{HasTiles};

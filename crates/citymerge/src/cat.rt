@@ -1,3 +1,4 @@
+//! A run of `cat`, and its status.
 ghost use Rattle.std.specs.Prelude.{◌≡◌, ◌⊎◌, ℕ};
 ghost use Rattle.citymerge.specs.FaultLine.{fault_line};
 ghost use Rattle.citymerge.specs.Passing.{WroteOrFailed};

@@ -1,3 +1,4 @@
+//! The line on standard error that tells a refusal.
 ghost use Rattle.std.specs.Prelude.{◌≡◌, ◌+◌, ◌≤◌, ◌++◌, length, codes, decimal};
 ghost use Rattle.citymerge.specs.FaultLine.{fault_line, place_text};
 

@@ -1,3 +1,4 @@
+//! The program's output, which gathers short writes.
 ghost use Rattle.std.specs.Prelude.{◌≡◌, [], IfOk, IfErr};
 ghost use Rattle.std.specs.Io.Buffered.{writer_buffer, writer_capacity, writer_inner};
 ghost use Rattle.byte_streams.specs.Device.{failures_of, inner_of};

@@ -1,3 +1,4 @@
+//! What is shown of a fault, of help, and of wrong words, and the status of each.
 ghost use Rattle.std.specs.Prelude.{◌≡◌};
 ghost use Rattle.citymerge.specs.FaultLine.{fault_line};
 ghost use Rattle.citymerge.specs.Passing.{ShownOrFailed, WroteOrFailed};

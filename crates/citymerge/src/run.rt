@@ -1,3 +1,4 @@
+//! Runs of `filter` and of `merge`, and their status.
 ghost use Rattle.std.specs.Prelude.{◌≡◌, ◌⊎◌, ◌<◌, ℕ, List, false, length, IfOk, IfErr, OnOk};
 ghost use Rattle.city_feature.specs.Choice.{IsChosen};
 ghost use Rattle.citymerge.specs.FaultLine.{fault_line};

@@ -1,3 +1,4 @@
+//! The files of tiles, opened by their paths.
 ghost use Rattle.std.specs.Prelude.{◌≡◌, ◌<◌, ◌+◌, ℕ, List, Err, length, ⊤, IfErr, IfNone, IfOk, IfSome};
 ghost use Rattle.std.specs.List.{AllZip};
 ghost use Rattle.byte_streams.specs.Limits.{max_tiles};

@@ -1,3 +1,4 @@
+//! The choice that the options state.
 ghost use Rattle.std.specs.Prelude.{◌≡◌, IfErr, IfOk, option_map};
 ghost use Rattle.clap.specs.Words.{first_of};
 ghost use Rattle.command_line.specs.Answered.{HasBadArea, RefusesChoice};

@@ -1,3 +1,4 @@
+//! What `merge` is asked.
 ghost use Rattle.std.specs.Prelude.{◌≡◌, ◌<◌, IfErr, IfOk, codes, length, map, option_map};
 ghost use Rattle.clap.specs.Words.{all_of};
 ghost use Rattle.command_line.specs.Answered.{RefusesCommand};

@@ -1,3 +1,4 @@
+//! Why words are refused that `clap` takes, and what is said of it.
 ghost use Rattle.std.specs.Prelude.{◌≡◌, option_map};
 ghost use Rattle.command_line.specs.Answered.{message_of};
 ghost use Rattle.command_line.specs.declared.refusal.Refusal.TheVariants.{Memory};

@@ -1,3 +1,4 @@
+//! A document read to its end, and the stream of the features that it is cut into.
 ghost use Rattle.std.specs.Prelude.{◌≡◌, IfOk, IfErr, OnOk};
 ghost use Rattle.document_stream.specs.CutStream.{IsRefusedDocument, WroteCut};
 ghost use Rattle.document_stream.specs.Input.{SomeInput};

@@ -18,9 +18,7 @@ use byte_streams::limits::MAX_LINE_BYTES;
 use byte_streams::{Fault, Line, Source, Stop, read_all};
 use city_cut::{CutTexts, FeatureTexts, cut_compacted_triples, cut_fault, cut_texts};
 use city_feature::Header;
-use city_json::{
-    Compacted, Json, Span, check, compact_object, print, read, spells_no_object,
-};
+use city_json::{Compacted, Json, Span, check, compact_object, print, read, spells_no_object};
 use std::alloc::Global;
 
 /// The stream of a document that was cut.

@@ -1,3 +1,4 @@
+//! Objects of which a member is dropped or set.
 use crate::texts::split;
 use byte_streams::{Fault, Line};
 use city_feature::{drop_member, set_member};

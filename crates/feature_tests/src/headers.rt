@@ -1,3 +1,4 @@
+//! Headers that are taken, those that are refused, and which of them are documents.
 use crate::texts::{filled, is_named, split};
 use byte_streams::{Fault, Line};
 use city_feature::{Header, header, holds_city, is_document};

@@ -1,3 +1,4 @@
+//! Headers of tiles that join, and those that do not fit.
 use crate::texts::{Numbers, below, repeated};
 use crate::tiles::joins;
 use city_feature::Base;

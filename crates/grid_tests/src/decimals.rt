@@ -1,3 +1,4 @@
+//! Numbers that are decimals, and those that are none.
 use crate::expect;
 use byte_streams::Fault;
 use city_grid::decimal;

@@ -1,3 +1,4 @@
+//! Shifts between two transforms.
 use crate::expect;
 use crate::transforms::transform_of;
 use byte_streams::Fault;

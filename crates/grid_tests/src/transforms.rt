@@ -1,3 +1,4 @@
+//! Transforms that are read, those that are refused, and the lesser of two translations.
 use crate::expect;
 use byte_streams::Fault;
 use city_grid::{Transform, least_of, transform};

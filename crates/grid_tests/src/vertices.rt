@@ -1,3 +1,4 @@
+//! Vertices as values: read, refused, moved and written.
 use crate::expect;
 use byte_streams::{Fault, Line};
 use city_grid::{Shift, Vertex, moved, three_numbers, vertex, vertex_json, write_vertex};

@@ -1,3 +1,4 @@
+//! The one spelling in which values are written.
 use crate::texts::expect;
 use byte_streams::{Fault, Line};
 use city_json::{Json, Str, print, read};

@@ -1,3 +1,4 @@
+//! Members by their names, copies, and values that are the same or not.
 use crate::texts::expect;
 use byte_streams::Fault;
 use city_json::{Json, Str, read, same};

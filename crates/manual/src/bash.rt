@@ -1,3 +1,4 @@
+//! The completions for bash.
 use crate::filling::{NOTHING, Section};
 
 /// The completions for bash. It takes `--cotype=A` for three words, since `=` parts words.

@@ -1,3 +1,4 @@
+//! What the manual page and the completions tell of: the program, its commands, their options.
 use clap::{Arg, ArgAction, Command};
 use command_line::citymerge_command;
 use std::alloc::{AllocError, Global};

@@ -1,3 +1,4 @@
+//! The parts of a file, filled with what each entry says.
 use crate::entries::{Entry, Kind};
 use crate::output::Output;
 use crate::page::add_told;

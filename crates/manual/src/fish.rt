@@ -1,3 +1,4 @@
+//! The completions for fish.
 use crate::filling::Section;
 
 /// What stands for characters of a help text between single quotes.

@@ -1,3 +1,4 @@
+//! A text that is put together, and whether it is whole.
 use std::alloc::Global;
 
 /// A text that grows, and whether all was added to it.

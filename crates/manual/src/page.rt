@@ -1,3 +1,4 @@
+//! The manual page, in roff.
 use crate::filling::{NOTHING, Section};
 use crate::output::Output;
 use byte_streams::Fault;

@@ -1,3 +1,4 @@
+//! The completions for zsh.
 use crate::filling::{NOTHING, Section};
 
 /// What stands for characters of a help text between single quotes.

@@ -1,3 +1,4 @@
+//! What is asked of a row, and what it replies.
 use crate::note::End;
 use byte_streams::{Line, Sequence};
 

@@ -1,3 +1,4 @@
+//! What came of a run of a row, and the law of order and close.
 ghost use Rattle.std.specs.Prelude.{ℕ};
 ghost use Rattle.tile_handoff.specs.History.{History, IsLegal};
 ghost use Rattle.tile_handoff.specs.OrderAndClose.{InOrder, WholeAtEnd, NothingAfterClose};

@@ -1,3 +1,4 @@
+//! The traces of accepted events, which a row keeps.
 use byte_streams::Sequence;
 
 /// What an accepted event did.

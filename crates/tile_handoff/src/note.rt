@@ -1,3 +1,4 @@
+//! What goes through a queue or a ring: lines, and an end note.
 use byte_streams::Line;
 
 /// What a tile says at its end.

@@ -1,3 +1,4 @@
+//! What a put, a close and a take of a row answer.
 use crate::note::End;
 use byte_streams::Line;
 

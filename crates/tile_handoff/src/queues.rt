@@ -1,3 +1,4 @@
+//! A queue of notes for each tile, for one thread.
 ghost use Rattle.std.specs.Prelude.{◌≡◌, ◌+◌, ◌^◌, ◌<◌, ◌≤◌, ◌==◌, true, false, [], ◌∷◌, ◌++◌, drop, length, slice_get, OnOk, OnErr, IfOk, IfErr};
 ghost use Rattle.circular_buffer.specs.Buffer.{buffer};
 ghost use Rattle.tile_handoff.specs.Queues.{queue_of, empty_queues, longer, shorter, with_queue, HasPlace, HaveSameShape};

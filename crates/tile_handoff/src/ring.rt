@@ -1,3 +1,4 @@
+//! A tile's ring between two threads.
 ghost use Rattle.std.specs.Prelude.{◌≡◌, ◌<◌, ◌≤◌, [], IfOk, IfErr};
 ghost use Rattle.tile_handoff.specs.Ends.{notes_put, notes_taken, places_known, notes_known, capacity_of, ArePair};
 

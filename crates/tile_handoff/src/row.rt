@@ -1,3 +1,4 @@
+//! Queues with the marks of what was accepted.
 ghost use Rattle.std.specs.Prelude.{◌≡◌, ◌<◌, ◌≤◌, [], length, OnOk, OnErr, IfOk, IfErr, MatchResult};
 ghost use Rattle.tile_handoff.specs.Refusals.{line_of, PutCause, CloseCause, RefusesPut, RefusesClose};
 ghost use Rattle.tile_handoff.specs.Takes.{Takes, reply_of};

@@ -1,3 +1,4 @@
+//! Events that are asked of a row, one after the other.
 ghost use Rattle.std.specs.Prelude.{◌≡◌, ◌<◌, ◌≤◌, length, IfOk, IfErr};
 ghost use Rattle.std.specs.List.{All};
 ghost use Rattle.tile_handoff.specs.Takes.{reply_of};

@@ -1,3 +1,4 @@
+//! A ring between its two ends, in one thread and in two.
 ghost use Rattle.std.specs.Prelude.{◌≡◌, ◌<◌, ◌≤◌, [], ◌∷◌, ◌++◌, map, IfOk};
 ghost use Rattle.tile_handoff.specs.Ends.{notes_put, notes_carried, notes_taken, IsSameSender, IsSameReceiver, EndedIn};
 ghost use Rattle.tile_handoff.specs.declared.note.End.{End};

@@ -1,3 +1,4 @@
+//! What is asked of a row, and what it replies.
 ghost use Rattle.std.specs.Prelude.{◌≡◌, ◌<◌, ◌≤◌, IfOk};
 ghost use Rattle.std.specs.List.{All};
 ghost use Rattle.tile_handoff.specs.History.{event_tile};

@@ -1,3 +1,4 @@
+//! The two merges of several tiles, and what both are made of.
 pub(crate) mod ends;
 pub(crate) mod feed;
 pub(crate) mod in_turn;

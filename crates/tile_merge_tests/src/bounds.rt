@@ -1,3 +1,4 @@
+//! How far a tile is read ahead of what was written.
 use crate::devices::LineReader;
 use crate::merging::{PLAIN, merges_in_turn};
 use byte_streams::Device;

@@ -1,3 +1,4 @@
+//! Readers that fail at a line, writers that fail at a call, and what is written then.
 ghost use Rattle.std.specs.Prelude.{◌≤◌, length};
 
 use crate::merging::{PLAIN, Way, merges_in_turn, readers_of, stream_of, writes_in_turn};

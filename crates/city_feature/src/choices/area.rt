@@ -1,3 +1,4 @@
+//! The area that features are to meet.
 ghost use Rattle.std.specs.Prelude.{◌≤ℤ◌};
 
 pub(crate) mod reader;

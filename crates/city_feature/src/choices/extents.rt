@@ -1,3 +1,4 @@
+//! The extent of vertices in x and y, and whether it meets an area.
 ghost use Rattle.std.specs.Prelude.{◌≡◌, ◌↔◌, ◌⊎◌, ◌≤ℤ◌, ◌++◌, ℤ, List, [], ◌∷◌, IsTrue};
 ghost use Rattle.city_feature.specs.Area.{Meets};
 ghost use Rattle.city_feature.specs.Extent.{IsExtent, IsExtentSoFar};

@@ -1,3 +1,4 @@
+//! Whether a choice selects a feature.
 ghost use Rattle.std.specs.Prelude.{◌↔◌, ℕ, List, IsTrue, IfSome, IfNone};
 ghost use Rattle.city_json.specs.Tree.{tree};
 ghost use Rattle.city_feature.specs.Area.{Meets};

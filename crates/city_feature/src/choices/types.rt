@@ -1,3 +1,4 @@
+//! The types that features are to have, read from the text of an option.
 ghost use Rattle.std.specs.Prelude.{◌≡◌, ◌↔◌, IfOk, IfErr, IfSome, IsTrue};
 ghost use Rattle.city_feature.specs.Choice.{names_between_commas, HasEmptyName};
 

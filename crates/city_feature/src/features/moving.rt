@@ -1,3 +1,4 @@
+//! Features whose vertices are moved by a shift, in their values.
 ghost use Rattle.std.specs.Prelude.{◌≡◌, ◌↔◌, All, IfOk, IfErr, IsTrue};
 ghost use Rattle.std.specs.Prelude.{OnOk, codes, length};
 ghost use Rattle.city_json.specs.Members.{first_named, member_of};

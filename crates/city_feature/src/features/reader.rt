@@ -1,3 +1,4 @@
+//! A value taken as a feature, or why it is none.
 ghost use Rattle.std.specs.Prelude.{◌≡◌, ◌⊎◌, ◌↔◌, IsTrue, IfOk, IfErr, IfSome, IfNone, Some, codes};
 ghost use Rattle.city_json.specs.Members.{member_of};
 ghost use Rattle.city_json.specs.Tree.{array, items_tree, tree};

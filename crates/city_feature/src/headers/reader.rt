@@ -1,3 +1,4 @@
+//! A value taken as a header, or why it is none.
 ghost use Rattle.std.specs.Prelude.{◌≡◌, ◌↔◌, IsTrue, IfOk, IfErr, IsOkAnd, codes};
 ghost use Rattle.city_json.specs.Members.{member_of};
 ghost use Rattle.city_json.specs.Tree.{tree};

@@ -1,3 +1,4 @@
+//! What digits, a point and an exponent write, as long as it is small.
 ghost use Rattle.std.specs.Prelude.{◌≡◌, ℕ, ◌+◌, ◌-◌, ◌*◌, ◌^◌, ◌<◌, min, true, false};
 ghost use Rattle.std.specs.Prelude.{◌↔◌, ◌++◌, All, IsTrue, IfSome, IfNone};
 ghost use Rattle.std.specs.Option.{SomeIff};

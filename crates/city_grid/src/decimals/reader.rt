@@ -1,3 +1,4 @@
+//! A number read as a decimal.
 ghost use Rattle.std.specs.Prelude.{◌≡◌, ℤ, IfOk, IfErr, IfSome, IfNone};
 ghost use Rattle.city_grid.specs.Decimal.{IsUnits};
 

@@ -1,3 +1,4 @@
+//! A value read as a transform, or why it is none.
 ghost use Rattle.std.specs.Prelude.{◌≡◌, ◌≢◌, Some, IfOk, IfErr, IfSome, IfNone};
 ghost use Rattle.city_json.specs.Members.{member_of};
 ghost use Rattle.city_json.specs.Tree.{tree};

@@ -1,3 +1,4 @@
+//! A number read as an integer, as long as it is not too large.
 ghost use Rattle.std.specs.Prelude.{◌≡◌, ◌≤◌, ◌<◌, ◌+◌, ◌*◌, ℤ, IfSome, IfNone};
 ghost use Rattle.std.specs.Str.Parse.{AllDigits, digits_value};
 ghost use Rattle.byte_streams.specs.Limits.{max_steps};

@@ -1,3 +1,4 @@
+//! A value read as a vertex, or why it is none.
 ghost use Rattle.std.specs.Prelude.{◌≡◌, IfOk, IfErr, IfSome, IfNone};
 ghost use Rattle.city_json.specs.Tree.{tree};
 ghost use Rattle.city_grid.specs.Axes.{Each, IsInRange, Triple, number_texts};

@@ -1,3 +1,4 @@
+//! A vertex written as a value.
 ghost use Rattle.std.specs.Prelude.{◌≡◌, ◌++◌, ◌∷◌, [], IfOk, IfErr, OnOk, map};
 ghost use Rattle.std.specs.Fmt.{signed_decimal};
 ghost use Rattle.city_json.specs.Tree.{array, items_tree, number, tree};

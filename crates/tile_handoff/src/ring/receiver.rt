@@ -1,3 +1,4 @@
+//! The end of a ring that takes notes.
 ghost use Rattle.std.specs.Prelude.{◌≤◌};
 ghost use Rattle.rtrb.specs.Ring.{consumer_capacity};
 ghost use Rattle.byte_streams.specs.declared.limits.TheConstants.{MAX_CAPACITY};

@@ -1,3 +1,4 @@
+//! The end of a ring that puts notes.
 ghost use Rattle.std.specs.Prelude.{◌≡◌, true, false};
 ghost use Rattle.rtrb.specs.Ring.{sent};
 ghost use Rattle.tile_handoff.specs.Notes.{has_end, are_ended};

@@ -1,3 +1,4 @@
+//! How a tile ended, and the end note that says it.
 ghost use Rattle.std.specs.Prelude.{◌≡◌, Option};
 ghost use Rattle.tile_merge.specs.EndNotes.{IsToldBy, end_of, ended_so};
 ghost use Rattle.tile_merge.specs.declared.merging.ends.TileEnd.{TileEnd};

@@ -1,3 +1,4 @@
+//! A tile of a merge in turn, and what was read ahead of it.
 ghost use Rattle.std.specs.Prelude.{◌≡◌, ◌≤◌, ◌<◌, ◌+◌, false, length, IfOk, IfErr, OnOk, OnErr, IsTrue};
 ghost use Rattle.std.specs.Io.KnownBytes.{Keeps};
 ghost use Rattle.byte_streams.specs.Failures.{after_call};

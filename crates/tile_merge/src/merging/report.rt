@@ -1,3 +1,4 @@
+//! What a merge says of its tiles: how many features of each were written, or the fault that is told.
 ghost use Rattle.std.specs.Prelude.{◌≡◌, ◌≤◌, ◌<◌, ◌^◌, ◌++◌, [], ◌∷◌, Some, None, true, length, filter_map, IfOk, IfErr};
 ghost use Rattle.tile_merge.specs.EndNotes.{outcomes_in, totals_in};
 ghost use Rattle.tile_merge.specs.Told.{first_refusal, first_where, is_memory, fault_of_tile};

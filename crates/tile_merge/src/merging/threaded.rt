@@ -1,3 +1,4 @@
+//! The merge with a thread for each tile.
 ghost use Rattle.std.specs.Prelude.{◌≡◌, ◌⊎◌, ◌≤◌, ◌<◌, ◌+◌, List, All, Err, true, length, IfOk, IfErr, OnOk};
 ghost use Rattle.city_feature.specs.Choice.{IsChosen};
 ghost use Rattle.tile_merge.specs.Giving.{merging};

@@ -1,3 +1,4 @@
+//! Tiles whose headers are taken and joined.
 ghost use Rattle.std.specs.Prelude.{◌≡◌, ◌≤◌, ◌<◌, ◌-◌, ◌⊎◌, ℕ, All, Err, [], length, map, slice_get, IsSomeAnd, IfOk, IfErr, OnOk};
 ghost use Rattle.city_feature.specs.Values.{header_value};
 ghost use Rattle.tile_stream.specs.Filtered.{failures_after_refusal};

@@ -1,3 +1,4 @@
+//! An area, read from the text of an option.
 ghost use Rattle.std.specs.Prelude.{◌≡◌, ◌++◌, ◌∷◌, ℕ, ℤ, List, IfSome, IfNone};
 ghost use Rattle.city_json.specs.Bytes.{comma};
 ghost use Rattle.city_feature.specs.Area.{IsAreaText, IsStepsText};

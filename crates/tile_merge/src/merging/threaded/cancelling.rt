@@ -1,3 +1,4 @@
+//! How the caller asks the thread of a tile to stop.
 ghost use Rattle.std.specs.Prelude.{◌≡◌, ◌+◌, [], length, true, false, IfOk};
 ghost use Rattle.rtrb.specs.Ring.{sent, received, IsPair, SameProducer, SameConsumer};
 

@@ -1,3 +1,4 @@
+//! What the thread of a tile does.
 ghost use Rattle.std.specs.Prelude.{◌≡◌, ◌≤◌, ◌+◌, ◌^◌, ◌++◌, [], ◌∷◌};
 ghost use Rattle.rtrb.specs.Ring.{received, SameConsumer};
 ghost use Rattle.tile_handoff.specs.Ends.{notes_put, notes_carried, IsSameSender, EndedIn};

@@ -1,3 +1,4 @@
+//! A tile whose thread runs, and how it is started, stopped and joined.
 ghost use Rattle.std.specs.Prelude.{◌≡◌, ◌⊎◌, ◌≤◌, ◌<◌, ◌+◌, ◌^◌, ◌++◌, [], ◌∷◌, IfOk, IfErr, IfSome, IfNone, flat_map, length, true};
 ghost use Rattle.rtrb.specs.Ring.{sent, received, IsPair};
 ghost use Rattle.tile_handoff.specs.Ends.{ArePair, notes_put, notes_taken};

@@ -1,3 +1,4 @@
+//! Where threads sleep, and how they are woken.
 use crossbeam_utils::Backoff;
 use crossbeam_utils::sync::{EventCount, Key};
 use std::alloc::{AllocError, Global};

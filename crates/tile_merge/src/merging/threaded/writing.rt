@@ -1,3 +1,4 @@
+//! The lines that come from the threads, written as they come.
 ghost use Rattle.std.specs.Prelude.{◌≡◌, ◌≤◌, ◌<◌, ◌++◌, ◌∷◌, ℕ, List, Option, Some, None, true, [], IfOk, IfErr, OnOk, IsOk, IsTrue, filter_map};
 ghost use Rattle.byte_streams.specs.Failures.{after_call};
 ghost use Rattle.tile_stream.specs.Stream.{stream};
