@@ -5,6 +5,7 @@
 mod bin;
 mod device;
 mod fault;
+mod growing;
 mod intake;
 pub mod limits;
 mod line;
@@ -18,6 +19,7 @@ mod tape;
 pub use bin::Bin;
 pub use device::Device;
 pub use fault::Fault;
+pub use growing::push;
 pub use intake::{Intake, Stop, read_all};
 pub use limits::limits_are_as_defined;
 pub use line::Line;

@@ -15,8 +15,9 @@ ghost use Rattle.city_cut.specs.Relabelling.{own_text};
 use crate::boundaries::number_object;
 use crate::numbering::Numbering;
 use crate::relabelling::relabelled_object;
-use crate::values::{name_of, named, value_of};
+use crate::values::{name_of, value_of};
 use byte_streams::Fault;
+use city_feature::new_member;
 use city_grid::{vertex, write_vertex};
 use city_json::{Items, Json, Member, Members};
 use std::alloc::Global;
@@ -61,7 +62,7 @@ fn relabelled_named(alloc: Global, member: &Member, table: &[usize]) -> Result<M
     ensures fault { IfErr result (λ fault. fault ≡ Fault.Memory) }
 {
     let value = relabelled_object(alloc, value_of(member), table)?;
-    named(alloc, name_of(member), value)
+    new_member(alloc, name_of(member), value)
 }
 
 /// Copies of the objects with their boundaries relabelled.

@@ -23,7 +23,7 @@ use crate::keeping::Keep;
 use crate::numbering::Numbering;
 use crate::values::name_of;
 use byte_streams::Fault;
-use city_feature::{Feature, feature, set_member};
+use city_feature::{Feature, feature, set_member, text_json};
 use city_json::{Json, Member, Str};
 use std::alloc::Global;
 
@@ -43,14 +43,6 @@ fn objects_at<'a>(
         chosen.push(&objects[*place])?;
     }
     Ok(chosen)
-}
-
-/// The only fault is [`Fault::Memory`].
-fn text_json(alloc: Global, text: &str) -> Result<Json, Fault>
-    ensures ok { IfOk result (λ json. tree json ≡ string text.now) }
-    ensures fault { IfErr result (λ fault. fault ≡ Fault.Memory) }
-{
-    Ok(Json::Text(Str::read(alloc, text)?))
 }
 
 /// Gives an object a text as the member of this name. The only fault is [`Fault::Memory`].

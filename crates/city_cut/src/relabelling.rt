@@ -10,8 +10,9 @@ ghost use Rattle.city_cut.specs.Leaves.{relabelled, relabelled_items};
 ghost use Rattle.city_cut.specs.Relabelling.{own_text};
 
 use crate::leaves::index;
-use crate::values::{name_of, named, value_of};
+use crate::values::{name_of, value_of};
 use byte_streams::Fault;
+use city_feature::new_member;
 use city_json::{Items, Json, Member, Members, NumText};
 use itoa::Buffer;
 use std::alloc::Global;
@@ -135,10 +136,10 @@ fn changed_member<C: Change>(
     let own = name_of(member);
     if own == name {
         let value = change.changed(alloc, value_of(member))?;
-        return named(alloc, own, value);
+        return new_member(alloc, own, value);
     }
     let value = value_of(member).copy(alloc)?;
-    named(alloc, own, value)
+    new_member(alloc, own, value)
 }
 
 fn changed_members<C: Change>(
@@ -216,14 +217,14 @@ fn with_part(alloc: Global, member: &Member, table: &[usize]) -> Result<Member, 
     let name = name_of(member);
     if name == "geometry" {
         let value = with_geometries(alloc, value_of(member), table)?;
-        return named(alloc, name, value);
+        return new_member(alloc, name, value);
     }
     if name == "address" {
         let value = with_addresses(alloc, value_of(member), table)?;
-        return named(alloc, name, value);
+        return new_member(alloc, name, value);
     }
     let value = value_of(member).copy(alloc)?;
-    named(alloc, name, value)
+    new_member(alloc, name, value)
 }
 
 fn members_with_parts(alloc: Global, members: &[Member], table: &[usize]) -> Result<Members, Fault>

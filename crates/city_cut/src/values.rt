@@ -6,7 +6,7 @@ ghost use Rattle.city_feature.specs.Shapes.{IsObject, IsText};
 ghost use Rattle.city_cut.specs.Items.{items_in, items_of, members_in};
 
 use byte_streams::Fault;
-use city_json::{Json, Member, Str};
+use city_json::{Json, Member};
 use std::alloc::Global;
 
 pub(crate) fn name_of(member: &Member) -> &str
@@ -19,15 +19,6 @@ pub(crate) fn value_of(member: &Member) -> &Json
     ensures { tree result.now ≡ (named_tree member.now).1 }
 {
     &member.value
-}
-
-/// The member of this name and value. The only fault is [`Fault::Memory`].
-pub(crate) fn named(alloc: Global, name: &str, value: Json) -> Result<Member, Fault>
-    ensures ok { IfOk result (λ member. named_tree member ≡ (name.now, tree value)) }
-    ensures fault { IfErr result (λ fault. fault ≡ Fault.Memory) }
-{
-    let name = Str::read(alloc, name)?;
-    Ok(Member { name, value })
 }
 
 pub(crate) fn text_of(value: &Json) -> Option<&str>

@@ -53,12 +53,13 @@ fn push_named(alloc: Global, members: &mut Members, name: &str, value: Json) -> 
         ≡ map named_tree members.old.items ++ (name.now, tree value) ∷ []) }
     ensures fault { IfErr result (λ fault. fault ≡ Fault.Memory) }
 {
-    let member = named(alloc, name, value)?;
+    let member = new_member(alloc, name, value)?;
     members.push(member)?;
     Ok(())
 }
 
-fn named(alloc: Global, name: &str, value: Json) -> Result<Member, Fault>
+/// The member of this name and value. The only fault is [`Fault::Memory`].
+pub fn new_member(alloc: Global, name: &str, value: Json) -> Result<Member, Fault>
     ensures ok { IfOk result (λ member. named_tree member ≡ (name.now, tree value)) }
     ensures fault { IfErr result (λ fault. fault ≡ Fault.Memory) }
 {

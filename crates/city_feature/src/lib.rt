@@ -14,7 +14,7 @@ mod joining;
 mod kinds;
 
 pub use base::Base;
-pub use changes::{drop_member, set_member};
+pub use changes::{drop_member, new_member, set_member};
 pub use choices::Choice;
 pub use choices::area::Area;
 pub use choices::area::reader::area;
@@ -34,4 +34,5 @@ pub use features::writer::line;
 pub use headers::Header;
 pub use headers::reader::{header, is_city_json, is_document, is_version_2, transform_of};
 pub use headers::texts::holds_city;
+pub use joining::members::text_json;
 pub use joining::{HeaderFault, Joined, Shifts, join_headers};

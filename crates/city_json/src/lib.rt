@@ -32,5 +32,6 @@ pub use laws::{
 };
 pub use number_parts::NumberParts;
 pub use printing::print;
+pub use reading::digits::not_digits;
 pub use reading::read;
 pub use text::{NumText, Str};

@@ -4,6 +4,7 @@ ghost use Rattle.std.specs.Prelude.{◌≤◌, ◌<◌, ◌+◌, ◌≡◌, ◌+
 ghost use Rattle.std.specs.Fmt.{decimal};
 
 use super::texts::append_text;
+use city_grid::put_byte;
 use city_json::Line;
 use itoa::write_digits;
 
@@ -15,19 +16,6 @@ const END: usize = 24;
 
 /// As many bytes as are copied stand after each place up to [`END`].
 const ROOM: usize = 56;
-
-/// Puts a byte before `end`: where it stands.
-#[inline(always)]
-fn put_byte(byte: u8, to: &mut [u8], end: usize) -> usize
-    requires some { 0 < end }
-    requires within { end ≤ length to.old }
-    ensures place { result + 1 ≡ end }
-    ensures put { drop result to.new ≡ byte ∷ drop end to.old }
-{
-    let at = end - 1;
-    to[at] = byte;
-    at
-}
 
 /// Appends the bytes from one place to another: [`COPIED`] bytes are copied, and those after `end` left out again.
 #[inline(always)]

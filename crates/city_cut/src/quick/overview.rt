@@ -8,6 +8,7 @@ use super::holders::{HeldParts, Holder, ShortHeld};
 use super::kin::{children_text, has_parents, push_text};
 use super::short_parts::{ShortPart, list_short};
 use super::texts::is_absent;
+use byte_streams::push;
 use city_json::{Part, between, colon_after, members_at, part_named};
 use std::alloc::Global;
 
@@ -88,15 +89,6 @@ fn held_parts(text: &[u8], parts: &[Part]) -> Option<HeldParts>
     Some(HeldParts { geometry, address })
 }
 
-fn list_parents(one: bool, to: &mut Vec<bool>) -> Option<()>
-    ensures { OnSome result (to.new.items ≡ to.old.items ++ one ∷ []) }
-{
-    let Ok(_) = to.push(one) else {
-        return None;
-    };
-    Some(())
-}
-
 fn list_held(one: HeldParts, to: &mut Vec<ShortHeld>) -> Option<()>
     ensures { OnSome result (to.new.items ≡ to.old.items ++ one ∷ []) }
 {
@@ -165,7 +157,7 @@ fn list_object<'a>(seen: SeenObject<'a>, len: usize, to: &mut Overview<'a>) -> O
 {
     make_room(len, seen.part.at, to)?;
     list_short(seen.part, &mut to.places)?;
-    list_parents(seen.parents, &mut to.parents)?;
+    push(seen.parents, &mut to.parents)?;
     push_text(seen.children, &mut to.children)?;
     list_held(seen.held, &mut to.held)
 }

@@ -18,7 +18,7 @@ use super::holders::ShortHeld;
 use super::notes::{NotedLeaves, note_object};
 use super::short_parts::ShortPart;
 use super::texts::append_text;
-use byte_streams::Line;
+use byte_streams::{Line, push};
 use city_json::between;
 use std::alloc::Global;
 use std::marker::Model;
@@ -154,16 +154,6 @@ fn note_named(
     Start::new(begin, name, leaves, split)
 }
 
-/// Puts a place after the places.
-fn list_start(start: Start, to: &mut Vec<Start>) -> Option<()>
-    ensures { OnSome result (to.new.items ≡ to.old.items ++ start ∷ []) }
-{
-    let Ok(_) = to.push(start) else {
-        return None;
-    };
-    Some(())
-}
-
 /// The objects that lie in these parts of a text, with boundaries that name vertices below `count`. `None`: undecided.
 pub(super) fn skeletons_of(
     alloc: Global,
@@ -187,11 +177,11 @@ pub(super) fn skeletons_of(
     let mut places = Vec::with_capacity(alloc, parts.len() + 1).ok()?;
     for at in 0..parts.len() {
         let start = note_named(alloc, text, parts, held, at, &mut notes, &mut draft)?;
-        list_start(start, &mut places)?;
+        push(start, &mut places)?;
     }
     let end = draft.line.items().len();
     let last = notes.leaves.len();
-    list_start(Start::new(end, end, last, last)?, &mut places)?;
+    push(Start::new(end, end, last, last)?, &mut places)?;
     Some(Skeletons {
         text: draft.line,
         leaves: notes.leaves,

@@ -6,7 +6,7 @@ ghost use Rattle.city_grid.specs.Axes.{IsInRange};
 ghost use Rattle.city_feature.specs.Feature.{vertices_tree};
 ghost use Rattle.city_feature.specs.Quick.{IsVerticesText, SpellsVertices};
 
-use byte_streams::Line;
+use byte_streams::{Line, push};
 use city_grid::{Vertex, append_vertex, byte_is, spelled_vertex_at, triple_vertex_at, vertex_end};
 use std::alloc::{AllocError, Global};
 
@@ -21,16 +21,6 @@ pub(super) const MIN_LEN: usize = 4;
 pub struct SpelledVertices {
     pub vertices: Vec<Vertex>,
     pub as_written: bool,
-}
-
-#[inline(always)]
-fn push_vertex(vertex: Vertex, to: &mut Vec<Vertex>) -> Option<()>
-    ensures { OnSome result (to.new.items ≡ to.old.items ++ vertex ∷ []) }
-{
-    if to.push(vertex).is_err() {
-        return None;
-    }
-    Some(())
 }
 
 #[inline(always)]
@@ -62,7 +52,7 @@ pub fn vertices_of(alloc: Global, text: &[u8]) -> Option<SpelledVertices>
     let mut at = 1usize;
     'vertices: loop {
         let found = spelled_vertex_at(text, at)?;
-        push_vertex(found.vertex, &mut vertices)?;
+        push(found.vertex, &mut vertices)?;
         as_written = both(as_written, found.as_written);
         if byte_is(text, found.end, b']') {
             if found.end + 1 < text.len() {
@@ -101,7 +91,7 @@ pub(super) fn vertices_of_triples(
     let mut at = from + 1;
     'vertices: loop {
         let found = triple_vertex_at(text, at)?;
-        push_vertex(found.vertex, &mut vertices)?;
+        push(found.vertex, &mut vertices)?;
         if found.end + 1 >= end {
             return Some(vertices);
         }

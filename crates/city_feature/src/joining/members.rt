@@ -25,7 +25,8 @@ fn append_separator(line: &mut Line, is_first: bool) -> Result<(), Fault>
     Ok(())
 }
 
-fn text_json(alloc: Global, text: &str) -> Result<Json, Fault>
+/// A text as a value. The only fault is [`Fault::Memory`].
+pub fn text_json(alloc: Global, text: &str) -> Result<Json, Fault>
     ensures ok { IfOk result (λ json. tree json ≡ string text.now) }
     ensures fault { IfErr result (λ fault. fault ≡ Fault.Memory) }
 {

@@ -13,6 +13,7 @@ use crate::vertices::Vertex;
 use crate::vertices::digits::digits_value_between;
 use byte_streams::Line;
 use byte_streams::limits::MAX_STEPS;
+use city_json::not_digits;
 use core::dec2flt::read_digits;
 use itoa::write_digits;
 use std::alloc::AllocError;
@@ -98,14 +99,6 @@ pub fn number_at(text: &[u8], at: usize) -> Option<Digits>
         return Some(digits);
     }
     Some(digits)
-}
-
-/// A bit for each byte that is no digit.
-#[inline(always)]
-fn not_digits(bytes: u8x16) -> u64
-    ensures { result ≡ mask_l (map (λ b. not (is_ascii_digit b)) bytes) }
-{
-    (bytes.simd_lt(u8x16::splat(b'0')) | bytes.simd_gt(u8x16::splat(b'9'))).to_bitmask()
 }
 
 /// The end of the digits from `at` on, which are fewer than sixteen, or `at`.
@@ -226,7 +219,7 @@ pub fn vertex_end(text: &[u8], at: usize) -> usize
 
 /// Puts a byte before `end`: where it stands.
 #[inline(always)]
-fn put_byte(byte: u8, to: &mut [u8], end: usize) -> usize
+pub fn put_byte(byte: u8, to: &mut [u8], end: usize) -> usize
     requires some { 0 < end }
     requires within { end ≤ length to.old }
     ensures place { result + 1 ≡ end }

@@ -7,7 +7,8 @@ ghost use Rattle.city_json.specs.CompactMembers.{HasParts, LeavesMember};
 ghost use Rattle.city_json.specs.FrontMembers.{EndsAfter, HasFrontParts, IsValuePlace};
 
 use super::ends::{string_end, value_end};
-use super::places::{Part, is_between, list_part, no_parts};
+use super::places::{Part, is_between, no_parts};
+use byte_streams::push;
 use std::alloc::Global;
 
 /// The members of an object, and where it ends.
@@ -85,7 +86,7 @@ fn front_members(alloc: Global, text: &[u8]) -> Option<PlacedMembers>
     let mut at = 1usize;
     'members: loop {
         let part = member_at(text, at)?;
-        list_part(part, &mut parts)?;
+        push(part, &mut parts)?;
         if text[part.end] == b'}' {
             return Some(PlacedMembers {
                 parts,

@@ -5,10 +5,11 @@ ghost use Rattle.city_json.specs.ListedNames.{names_in};
 ghost use Rattle.city_json.specs.Triples.{HasTriples, IsTriplesText};
 
 use super::draft::{Draft, skip, written_len};
-use super::places::{Part, Span, list_part};
+use super::places::{Part, Span};
 use super::strings::name_and_colon;
 use super::triples::{look_at_triples, may_begin_triples};
 use super::values::{member_value, more_items};
+use byte_streams::push;
 
 /// The members after the first brace, and the closing one: where it ends.
 pub(super) fn members(
@@ -99,7 +100,7 @@ fn member(
         value: valued,
         end: ended,
     };
-    list_part(part, parts)?;
+    push(part, parts)?;
     Some(value.end)
 }
 

@@ -1,5 +1,5 @@
 //! Places in a compact text: where members of an object lie, and which texts stand there.
-ghost use Rattle.std.specs.Prelude.{◌≡◌, ◌++◌, ◌<◌, ◌≤◌, ◌∷◌, [], slice_range, IfSome, IsTrue, OnSome};
+ghost use Rattle.std.specs.Prelude.{◌≡◌, ◌<◌, ◌≤◌, [], slice_range, IfSome, IsTrue};
 ghost use Rattle.city_json.specs.Parts.{IsPartNamed};
 
 use std::alloc::Global;
@@ -68,14 +68,4 @@ pub(super) fn no_parts(alloc: Global) -> Option<Vec<Part>>
     ensures { IfSome result (λ parts. parts.items ≡ []) }
 {
     Vec::with_capacity(alloc, COMMON_PARTS).ok()
-}
-
-/// Puts a part after the parts.
-pub(super) fn list_part(part: Part, parts: &mut Vec<Part>) -> Option<()>
-    ensures { OnSome result (parts.new.items ≡ parts.old.items ++ part ∷ []) }
-{
-    let Ok(_) = parts.push(part) else {
-        return None;
-    };
-    Some(())
 }

@@ -25,7 +25,7 @@ pub(crate) fn digits_end(text: &[u8], at: usize) -> usize
 
 /// A bit for each byte that is no digit.
 #[inline(always)]
-fn not_digits(bytes: u8x16) -> u64
+pub fn not_digits(bytes: u8x16) -> u64
     ensures { result ≡ mask_l (map (λ b. not (is_ascii_digit b)) bytes) }
 {
     (bytes.simd_lt(u8x16::splat(b'0')) | bytes.simd_gt(u8x16::splat(b'9'))).to_bitmask()

@@ -17,14 +17,14 @@ loop-at-preserved c = record {
   count = c.in_ok-start.ensures.count ∙ c.loop-at.invariant.count;
   many = omega (
     arith,
-    ap length c.in_ok-list_start.ensures,
+    ap length c.in_ok-push.ensures,
     length-append c.loop-at.places.items (c.in_ok-start.start ∷ []),
     c.loop-at.invariant.many,
   );
   laid = λ pairs of are.
       laid_more c.args.count c.loop-at.at c.loop-at.notes.leaves.items c.loop-at.draft.line c.in_ok-start.start
       c.note_named.new.notes.leaves.items c.note_named.new.draft.line c.loop-at.places.items
-      c.list_start.new.to.items pairs c.loop-at.invariant.many c.in_ok-list_start.ensures
+      c.push.new.to.items pairs c.loop-at.invariant.many c.in_ok-push.ensures
       (c.loop-at.invariant.laid pairs of are)
       (subst (λ n. IsSketch n c.loop-at.notes.leaves.items c.loop-at.draft.line c.in_ok-start.start
       c.note_named.new.notes.leaves.items c.note_named.new.draft.line (named_at pairs c.loop-at.at))
@@ -40,6 +40,6 @@ returns-clause-made c = λ pairs of are.
     (omega (arith, c.len-last.ensures, c.loop-at.notes.leaves.ok)) in
     laid_all c.args.count line noted c.loop-at.places.items _ c.args.parts.now pairs are
     (omega (arith, c.loop-at.invariant.many, c.loop-at-test.false, c.loop-at.auto.at-end)) refl refl
-    (c.in_ok-list_start-2.ensures ∙ ap (λ p. c.loop-at.places.items ++ p ∷ []) end)
+    (c.in_ok-push-2.ensures ∙ ap (λ p. c.loop-at.places.items ++ p ∷ []) end)
     (subst (λ n. All (λ (leaf : LeafPlace). leaf.vertex < n) noted) c.loop-at.invariant.count c.loop-at.notes.within)
     (c.loop-at.invariant.laid pairs of are)

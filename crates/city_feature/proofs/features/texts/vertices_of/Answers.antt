@@ -28,8 +28,8 @@ returns-then-byte_is-clause-spelled c =
     let found = c.in_ok-found in
     let closed = c.byte_is-in-vertices.ensures.0 c.if-byte_is.true in
     spells_last c.args.text.now c.vertices.at found.found.end found.found.vertex found.ensures.onward closed.0
-    found.ensures.spelled found.ensures.range c.vertices.vertices.items c.push_vertex.new.to.items closed.1
-    (omega arith) c.in_ok-push_vertex.ensures c.vertices.invariant.spells
+    found.ensures.spelled found.ensures.range c.vertices.vertices.items c.push.new.to.items closed.1
+    (omega arith) c.in_ok-push.ensures c.vertices.invariant.spells
 
 pub returns-then-byte_is-clause-written : goal.returns-then-byte_is-clause-written
 returns-then-byte_is-clause-written c = λ yes.
@@ -37,12 +37,12 @@ returns-then-byte_is-clause-written c = λ yes.
     let closed = c.byte_is-in-vertices.ensures.0 c.if-byte_is.true in
     let as_written = c.both-as_written.ensures yes in
     goes_on_last c.args.text.now c.vertices.at found.found.end found.found.vertex found.ensures.onward closed.0
-    (found.ensures.written as_written.1) c.vertices.vertices.items c.push_vertex.new.to.items closed.1
-    (omega arith) c.in_ok-push_vertex.ensures (c.vertices.invariant.written as_written.0)
+    (found.ensures.written as_written.1) c.vertices.vertices.items c.push.new.to.items closed.1
+    (omega arith) c.in_ok-push.ensures (c.vertices.invariant.written as_written.0)
 
 pub returns-then-byte_is-clause-range : goal.returns-then-byte_is-clause-range
 returns-then-byte_is-clause-range c =
-    subst (All IsInRange) (sym c.in_ok-push_vertex.ensures)
+    subst (All IsInRange) (sym c.in_ok-push.ensures)
     (All-push IsInRange c.vertices.vertices.items c.in_ok-found.found.vertex c.vertices.invariant.range
     c.in_ok-found.ensures.range)
 
@@ -53,8 +53,8 @@ vertices-preserved c =
     let found = c.in_ok-found in
     let v = found.found.vertex in
     let before = c.vertices.vertices.items in
-    let after = c.push_vertex.new.to.items in
-    let pushed = c.in_ok-push_vertex.ensures in
+    let after = c.push.new.to.items in
+    let pushed = c.in_ok-push.ensures in
     let separated = c.byte_is-in-vertices-2.ensures.0 c.if-not-byte_is-2.false in
     record {
       within = omega (arith, separated.0);

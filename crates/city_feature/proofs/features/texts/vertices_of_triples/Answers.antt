@@ -20,27 +20,27 @@ vertices-init c =
 pub returns-then-found-end-clause-written : goal.returns-then-found-end-clause-written
 returns-then-found-end-clause-written c =
     found_last c.args.text.now c.args.from c.vertices.at c.args.end c.in_ok-found.found.end c.in_ok-found.found.vertex
-    c.vertices.vertices.items c.push_vertex.new.to.items (omega (arith, c.if-end-text.false))
-    c.in_ok-push_vertex.ensures c.in_ok-found.ensures.is c.vertices.invariant.remain c.vertices.invariant.goes_to
+    c.vertices.vertices.items c.push.new.to.items (omega (arith, c.if-end-text.false))
+    c.in_ok-push.ensures c.in_ok-found.ensures.is c.vertices.invariant.remain c.vertices.invariant.goes_to
     c.if-found-end.true
 
 pub returns-then-found-end-clause-range : goal.returns-then-found-end-clause-range
 returns-then-found-end-clause-range c =
-    subst (All IsInRange) (sym c.in_ok-push_vertex.ensures)
+    subst (All IsInRange) (sym c.in_ok-push.ensures)
     (All-push IsInRange c.vertices.vertices.items c.in_ok-found.found.vertex c.vertices.invariant.range
     c.in_ok-found.ensures.range)
 
 pub vertices-preserved : goal.vertices-preserved
 vertices-preserved c =
     let more = found_next c.args.text.now c.args.from c.vertices.at c.args.end c.in_ok-found.found.end
-    c.in_ok-found.found.vertex c.vertices.vertices.items c.push_vertex.new.to.items (omega (arith, c.if-end-text.false))
-    c.in_ok-push_vertex.ensures c.in_ok-found.ensures.is c.vertices.invariant.remain c.vertices.invariant.goes_to
+    c.in_ok-found.found.vertex c.vertices.vertices.items c.push.new.to.items (omega (arith, c.if-end-text.false))
+    c.in_ok-push.ensures c.in_ok-found.ensures.is c.vertices.invariant.remain c.vertices.invariant.goes_to
     (omega (arith, c.if-found-end.false)) in
     record {
       within = omega (arith, c.if-found-end.false);
       remain = more.0;
       goes_to = more.1;
-      range = subst (All IsInRange) (sym c.in_ok-push_vertex.ensures)
+      range = subst (All IsInRange) (sym c.in_ok-push.ensures)
           (All-push IsInRange c.vertices.vertices.items c.in_ok-found.found.vertex c.vertices.invariant.range
           c.in_ok-found.ensures.range);
     }

@@ -20,12 +20,12 @@ returns-then-text-part-eq125-clause-is c =
     let text = c.args.text.now in
     has_front_parts text _ _ (omega (arith, c.if-text-lt2.false)) (omega (arith, c.if-text-ne123.false))
     (members_stop text c.members.at c.in_ok-part.part c.members.parts.items _ c.members.invariant.goes_on
-    c.in_ok-part.ensures.is c.in_ok-part.ensures.within c.if-text-part-eq125.true c.in_ok-list_part.ensures)
+    c.in_ok-part.ensures.is c.in_ok-part.ensures.within c.if-text-part-eq125.true c.in_ok-push.ensures)
 
 pub members-preserved : goal.members-preserved
 members-preserved c = record {
   within = omega (arith, c.in_ok-part.ensures.within);
   goes_on = members_go_on c.args.text.now c.members.at c.in_ok-part.part c.members.parts.items _
       c.members.invariant.goes_on c.in_ok-part.ensures.is c.in_ok-part.ensures.within c.if-text-part-eq125.false
-      c.in_ok-list_part.ensures;
+      c.in_ok-push.ensures;
 }

@@ -30,7 +30,7 @@ returns-clause-taken c =
       part = record { at = c.in_ok-named.named; value = c.in_ok-valued.valued; end = c.in_ok-ended.ended };
       is_part = part_is before mid after taken.name taken.value _ taken.is_shown c.in_ok-value.ensures.taken.is_shown
           c.in_ok-named.ensures c.in_ok-valued.ensures c.in_ok-ended.ensures;
-      parts_are = c.in_ok-list_part.ensures;
+      parts_are = c.in_ok-push.ensures;
     }
 
 pub returns-clause-triples : goal.returns-clause-triples
