@@ -1,22 +1,20 @@
 -- What one line does to what may be to come of a tile.
-use Rattle.std.proofs.Common.{◌≡◌, ◌≢◌, ◌≤◌, ◌<◌, ◌++◌, ℕ, Bool, true, false, List, [], ◌∷◌, Option, Some, None, is_some, unwrap_or, option_to_list, refl, sym, ap, subst, ◌∙◌, inl, inr, arith, append-nil}
+use Rattle.std.proofs.Common.{◌≢◌, ◌≤◌, ◌<◌, ◌++◌, ℕ, Bool, List, [], ◌∷◌, Option, Some, None, option_to_list, refl, subst, inl, inr, arith}
 use Rattle.byte_streams.specs.declared.fault.Fault.{Fault}
-use Rattle.byte_streams.specs.declared.fault.Fault.TheVariants.{Memory, Read, Write}
+use Rattle.byte_streams.specs.declared.fault.Fault.TheVariants.{Memory, Write}
 use Rattle.byte_streams.specs.declared.places.LineFault.{LineFault}
 use Rattle.city_feature.specs.Feature.{FeatureValue}
 use Rattle.city_feature.specs.FeatureLine.{GivesFeature, RefusesFeatureLine}
 use Rattle.city_grid.specs.Axes.{Triple}
-use Rattle.tile_stream.specs.Coming.{LeftComesTo, LinesMayComeTo, GivesText, SomethingComes}
+use Rattle.tile_stream.specs.Coming.{LeftComesTo, LinesMayComeTo, SomethingComes}
 use Rattle.tile_stream.specs.Texts.{Outcome, EndsAfter, LinesComeTo}
 use Rattle.tile_stream.specs.Tile.{Part, TileLines, part_of, line_before, nothing_left, only_fault}
-use Rattle.tile_stream.specs.Unread.{Unread, Leaves, GivesLine, MayBeOver, IsRefused, IsFaultFrom, BeginsFrom, ComesFrom, is_read}
+use Rattle.tile_stream.specs.Whole.{TakesLine}
+use Rattle.tile_stream.specs.Unread.{Unread, Leaves, MayBeOver, IsRefused, IsFaultFrom, BeginsFrom, ComesFrom}
 use Rattle.tile_stream.proofs.Leaving.{begins_before}
 
 abbrev at_line : ℕ → Fault → LineFault
 at_line number fault = record { line = number; fault = fault }
-
-false_is_true : false ≡ true → ⊥
-false_is_true is = cc is
 
 -- memory may run out at the next line
 memory_in : (Gives : List ℕ → Option (List ℕ) → Type 0) (Refuses : Fault → List ℕ → Type 0) (lines : List Part)
@@ -71,70 +69,38 @@ module _ {R : Type 0} (gives : R → List ℕ → Bool → Type 0) (IsWanted : F
         )
     fault_comes other number from refused = (only_fault number other, (refused, from), (from, (refl, inl refl)))
 
-    module _ (after : Unread R) (number : ℕ) (bytes : List ℕ)
-        (taken : GivesLine (Leaves gives before) (Leaves gives after) number bytes) (from : before.number ≤ number)
-      where
-        abbrev line : Part
-        line = part_of number taken.0 bytes
+    module _ (after : Unread R) (number : ℕ) (bytes : List ℕ) (taken : TakesLine gives before after number bytes) where
+      abbrev line : Part
+      line = part_of number taken.line.0 bytes
 
-        pub line_comes : number < after.number → (given : Option (List ℕ)) → GivesFeature IsWanted k bytes given
-            → (texts : List (List ℕ)) (outcome : Outcome) → Comes after texts outcome
-            → Comes before (option_to_list given ++ texts) outcome
-        line_comes later given feature texts outcome comes =
-            let left = comes.0 in
-            let ends = ends_after number after.number outcome later comes.2.0 in (
-              line_before line left,
-              (taken.1 left comes.1.0, from),
-              (ends_from before.number number outcome from ends, inr (given, texts, feature, ends, comes.2.1, refl)),
-            )
+      pub line_comes : (given : Option (List ℕ)) → GivesFeature IsWanted k bytes given
+          → (texts : List (List ℕ)) (outcome : Outcome) → Comes after texts outcome
+          → Comes before (option_to_list given ++ texts) outcome
+      line_comes given feature texts outcome comes =
+          let left = comes.0 in
+          let ends = ends_after number after.number outcome taken.later comes.2.0 in (
+            line_before line left,
+            (taken.line.1 left comes.1.0, taken.from),
+            (
+              ends_from before.number number outcome taken.from ends,
+              inr (given, texts, feature, ends, comes.2.1, refl),
+            ),
+          )
 
-        pub refusal_comes : (left : TileLines) → Leaves gives after left → (fault : Fault)
-            → RefusesFeatureLine k fault bytes → Comes before [] (Some (at_line number fault))
-        refusal_comes left leaves fault refused =
-            (line_before line left, (taken.1 left leaves, from), (from, inl (refl, inl (refl, refused))))
+      pub refusal_comes : (left : TileLines) → Leaves gives after left → (fault : Fault)
+          → RefusesFeatureLine k fault bytes → Comes before [] (Some (at_line number fault))
+      refusal_comes left leaves fault refused = (
+        line_before line left,
+        (taken.line.1 left leaves, taken.from),
+        (taken.from, inl (refl, inl (refl, refused))),
+      )
 
-        module _ (start : Unread R) (back : (texts : List (List ℕ)) (outcome : Outcome) → Comes before texts outcome
-            → Comes start texts outcome) where
-          pub text_comes : number < after.number → (given : Option (List ℕ)) (is_chosen : Bool)
-              → GivesFeature IsWanted k bytes given → is_some given ≡ is_chosen → is_chosen ≡ true
-              → (old new : List ℕ) → old ≡ [] → new ≡ old ++ unwrap_or given []
-              → GivesText (LinesMayComeTo gives IsWanted k start) (LinesMayComeTo gives IsWanted k after) new
-          text_comes later None is_chosen feature some chosen old new empty appended texts outcome comes =
-              absurd (false_is_true (some ∙ chosen))
-          text_comes later (Some x) is_chosen feature some chosen old new empty appended texts outcome comes =
-              let is : new ≡ x = appended ∙ ap (λ front. front ++ x) empty in
-              back (new ∷ texts) outcome (subst (λ (t : List ℕ). Comes before (t ∷ texts) outcome) (sym is)
-              (line_comes later (Some x) feature texts outcome comes))
-
-          pub none_comes : number < after.number → (given : Option (List ℕ)) (is_chosen : Bool)
-              → GivesFeature IsWanted k bytes given → is_some given ≡ is_chosen → is_chosen ≡ false
-              → (texts : List (List ℕ)) (outcome : Outcome) → Comes after texts outcome → Comes start texts outcome
-          none_comes later None is_chosen feature some chosen texts outcome comes =
-              back texts outcome (line_comes later None feature texts outcome comes)
-          none_comes later (Some x) is_chosen feature some chosen texts outcome comes =
-              absurd (false_is_true (sym (some ∙ chosen)))
-
--- a feature that is not chosen gives no text
-pub no_text : (given : Option (List ℕ)) (is_chosen : Bool) → is_some given ≡ is_chosen → is_chosen ≡ false
-    → (old new : List ℕ) → old ≡ [] → new ≡ old ++ unwrap_or given [] → new ≡ []
-no_text None is_chosen some chosen old new empty appended = appended ∙ append-nil old ∙ empty
-no_text (Some x) is_chosen some chosen old new empty appended = absurd (false_is_true (sym (some ∙ chosen)))
-
--- a line is refused neither because a write failed nor because a read did
+-- a line is not refused because a write failed
 module _ (k : Triple) (line : List ℕ) where
   never_write : RefusesFeatureLine k Write line → ⊥
   never_write (inl text) = text
   never_write (inr (inl value)) = value.3
   never_write (inr (inr range)) = cc range.0
 
-  never_read : RefusesFeatureLine k Read line → ⊥
-  never_read (inl text) = text
-  never_read (inr (inl value)) = value.3
-  never_read (inr (inr range)) = cc range.0
-
   pub no_failed_write : (fault : Fault) → RefusesFeatureLine k fault line → fault ≢ Write
   no_failed_write fault refused is = never_write (subst (λ (f : Fault). RefusesFeatureLine k f line) is refused)
-
-  pub no_failed_read : (fault : Fault) → RefusesFeatureLine k fault line → is_read fault ≡ false
-  no_failed_read Read refused = absurd (never_read refused)
-  no_failed_read other refused = refl

@@ -1,5 +1,5 @@
 -- The texts of the features that a first line holds, made one after another.
-use Rattle.std.proofs.Common.{◌≡◌, ◌≢◌, ◌≤◌, ◌<◌, ◌+◌, ◌++◌, ◌⊎◌, inl, inr, ℕ, List, [], ◌∷◌, Option, Some, None, length, length-append, get_or, take, take_all, option_to_list, option_map, map, refl, sym, ap, subst, ◌∙◌, arith, append_assoc, append-nil}
+use Rattle.std.proofs.Common.{◌≡◌, ◌≢◌, ◌≤◌, ◌<◌, ◌+◌, ◌++◌, ◌⊎◌, inl, inr, ℕ, List, [], ◌∷◌, Option, Some, None, length, length-append, get_or, take, option_to_list, option_map, map, refl, sym, ap, subst, ◌∙◌, arith, append_assoc, append-nil}
 use Rattle.std.proofs.Math.ListN.{get_or-map}
 use Rattle.std.proofs.lemmas.List.{get_or_default, length-map, map-append, take_more}
 use Rattle.byte_streams.specs.declared.fault.Fault.{Fault}
@@ -36,9 +36,6 @@ module _ (IsWanted : FeatureValue → Type 0) (k : Triple) where
             ∙ append_assoc (option_to_list give.0) give.1 (option_to_list given),
       )
 
-  pub made_start : (lines texts : List (List ℕ)) → texts ≡ [] → MadeSoFar IsWanted k (take 0 lines) texts
-  made_start lines texts none = record { give = none; few = omega (arith, ap length none) }
-
   module _ (all : List (List ℕ)) (at : ℕ) (texts : List (List ℕ)) (so_far : MadeSoFar IsWanted k (take at all) texts)
     where
       -- the line at this place gave its text, where it has one
@@ -60,13 +57,6 @@ module _ (IsWanted : FeatureValue → Type 0) (k : Triple) where
               length-append (take at all) (get_or all at [] ∷ []),
             );
           })
-
-      -- they are those of all lines
-      pub all_made : length all ≤ at → LinesGive IsWanted k all texts × (length texts ≤ length all)
-      all_made done =
-          let Made : List (List ℕ) → Type 0 = λ lines. MadeSoFar IsWanted k lines texts in
-          let made = subst Made (take_all at all done) so_far in
-          (made.give, made.few)
 
 -- a line that is refused is among them
 pub refuses_all : (k : Triple) (fault : Fault) (all : List (List ℕ)) (at : ℕ) → at < length all → (fault ≡ Memory)

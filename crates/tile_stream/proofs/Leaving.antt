@@ -11,7 +11,7 @@ use Rattle.tile_stream.specs.Ahead.{Ahead, MayCome}
 use Rattle.tile_stream.specs.Parts.{HasNoNewline, IsEndedPart, IsFineFront, IsFineLine, IsLastPart, IsNextPart, IsPart, IsRefusal}
 use Rattle.tile_stream.specs.Unread.{Unread, GivesPart, Leaves, LeavesIf, StandsAt, part_before, IsRefused, BeginsFrom, ComesFrom, EndsFrom}
 use Rattle.tile_stream.specs.Tile.{Part, TileLines, part_of, number_parts, is_blank, fault_at, lines_of_parts, lines_from, line_before, nothing_left, only_fault}
-use Rattle.tile_stream.specs.Whole.{IsNext}
+use Rattle.tile_stream.specs.Whole.{IsNext, IsNextLine, TakesLine}
 use Rattle.tile_stream.proofs.Coming.{none_before, part_taken}
 use Rattle.tile_stream.proofs.FirstParts.{split-cons, by_fault, after_blank, after_line, by_blank, whole_blank, whole_line, last_blank, last_line}
 
@@ -178,6 +178,21 @@ module _ {R : Type 0} (gives : R → List ℕ → Bool → Type 0) (before now :
         λ left is. subst (Leaves gives before) (ap (λ bytes. part_before (part_of now.number now.start bytes) (nothing_left now.number)) (sym whole)
             ∙ ap (part_before (part_of now.number now.start line)) (sym is)) (next.last part.all),
       )
+
+-- what is left is a line, where it is not blank
+pub taken_line : {R : Type 0} (gives : R → List ℕ → Bool → Type 0) (before now after : Unread R) (count : ℕ)
+    → IsNextLine gives before now count → now.number < after.number
+    → GivesPart (Leaves gives before) (Leaves gives after) now.number (take count now.ahead.held)
+    → TakesLine gives before after now.number (take count now.ahead.held)
+taken_line gives before now after count next later part = record {
+  line = (
+    part.0,
+    λ left leaves. subst (Leaves gives before)
+        (part_full now.number part.0 (take count now.ahead.held) left next.full) (part.1 left leaves),
+  );
+  from = next.from;
+  later = later;
+}
 
 -- the next part was completed
 pub next_of : {R : Type 0} (gives : R → List ℕ → Bool → Type 0) (first : Unread R) (limits : Limits) (number start : ℕ)

@@ -119,9 +119,6 @@ module _ (before : List (List ℕ) → Outcome → Type 0) (old : Option (List �
 
 -- a text and its newline are written, one after the other
 module _ (old mid new : Option (List ℕ)) (text : List ℕ) where
-  pub line_written : Appends old mid text → Appends mid new (newline ∷ []) → Appends old new (with_newline text)
-  line_written wrote more = Appends-trans old mid new text (newline ∷ []) wrote more
-
   pub text_failed : (count : ℕ) → Appends old mid (take count text) → (n : ℕ)
       × Appends old mid (take n (with_newline text))
   text_failed count wrote =

@@ -1,9 +1,9 @@
 -- Lines that stand whole among the bytes that were read.
-use Rattle.std.specs.Prelude.{◌≡◌, ◌<◌, ◌-◌, ◌||◌, ℕ, Bool, false, List, [], ◌∷◌, None, length, slice_index}
+use Rattle.std.specs.Prelude.{◌≡◌, ◌≤◌, ◌<◌, ◌-◌, ◌||◌, ℕ, Bool, false, List, [], ◌∷◌, None, length, slice_index, take}
 use Rattle.city_json.specs.Bytes.{newline}
 use Rattle.tile_stream.specs.Parts.{IsPart}
 use Rattle.tile_stream.specs.Tile.{TileLines, is_blank, is_newline, nothing_left, part_of}
-use Rattle.tile_stream.specs.Unread.{Unread, Leaves, part_before}
+use Rattle.tile_stream.specs.Unread.{GivesLine, Unread, Leaves, part_before}
 
 -- The next line, blank or not, stands whole in front, and has this length.
 pub record IsWhole {R : Type 0} (lines : Unread R) (count : ℕ) : Type 0 where
@@ -16,6 +16,18 @@ pub record IsNext {R : Type 0} (gives : R → List ℕ → Bool → Type 0) (bef
   pub back : (left : TileLines) → Leaves gives now left → Leaves gives before left
   pub last : count ≡ length now.ahead.held
       → Leaves gives before (part_before (part_of now.number now.start now.ahead.held) (nothing_left now.number))
+
+-- It is the next that is not blank, and bears the number of what came next before or a higher one.
+pub record IsNextLine {R : Type 0} (gives : R → List ℕ → Bool → Type 0) (before now : Unread R) (count : ℕ) : Type 0 where
+  pub next : IsNext gives before now count
+  pub full : is_blank (take count now.ahead.held) ≡ false
+  pub from : before.number ≤ now.number
+
+-- The line of this number and these bytes was taken.
+pub record TakesLine {R : Type 0} (gives : R → List ℕ → Bool → Type 0) (before after : Unread R) (number : ℕ) (bytes : List ℕ) : Type 0 where
+  pub line : GivesLine (Leaves gives before) (Leaves gives after) number bytes
+  pub from : before.number ≤ number
+  pub later : number < after.number
 
 -- it may stand in a blank line, or end a line
 abbrev pub is_white : ℕ → Bool

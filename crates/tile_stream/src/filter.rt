@@ -202,7 +202,7 @@ fn write_features<R: Source, W: Sink>(
     alloc: Global,
     tile: &mut TileReader<R>,
     choice: &Choice,
-    text: Line,
+    mut text: Line,
     output: &mut W,
 ) -> Result<u64, MergeFault>
     requires most { most_to_come tile.old ≤ most_texts }
@@ -218,11 +218,10 @@ fn write_features<R: Source, W: Sink>(
     ensures reads { R.failures tile.new.lines.ahead.reader
         ≡ failed_reads_after_filter result (R.failures tile.old.lines.ahead.reader) }
 {
-    let mut spare = text;
     let mut count = write_held(alloc, tile, choice, output)?;
     'features: loop {
-        let step = match write_next(alloc, tile, Shift::zero(), choice, spare, output) {
-            Ok(Some(step)) => step,
+        let texts = match write_next(alloc, tile, Shift::zero(), choice, &mut text, output) {
+            Ok(Some(texts)) => texts,
             Ok(None) => return Ok(count),
             Err(refusal) => return Err(refusal),
         };
@@ -230,8 +229,7 @@ fn write_features<R: Source, W: Sink>(
             Ok(()) => {}
             Err(_) => return Err(MergeFault::of_no_line(Fault::Write)),
         }
-        count += step.count;
-        spare = step.spare;
+        count += texts;
     }
 }
 

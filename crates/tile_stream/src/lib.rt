@@ -7,7 +7,6 @@ mod filter;
 mod laws;
 mod limits;
 mod lines;
-mod spare;
 mod tile_reader;
 mod writing;
 

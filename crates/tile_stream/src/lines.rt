@@ -4,9 +4,9 @@ ghost use Rattle.byte_streams.specs.Limits.{max_tile_bytes};
 ghost use Rattle.city_json.specs.Bytes.{newline};
 ghost use Rattle.tile_stream.specs.Ahead.{MayCome};
 ghost use Rattle.tile_stream.specs.Parts.{HoldsNewline};
-ghost use Rattle.tile_stream.specs.Tile.{TileLines, is_blank, only_fault, limits_of, stream_limits};
+ghost use Rattle.tile_stream.specs.Tile.{TileLines, only_fault, limits_of, stream_limits};
 ghost use Rattle.tile_stream.specs.Unread.{Unread, Leaves, IsOfTile, GivesPart, GivesLine, MayBeOver, StandsAt, IsRefused, IsLineFault, IsAgain, BeginsFrom, EndsFrom, is_refused, most_left, has_failed, failed_reads_between};
-ghost use Rattle.tile_stream.specs.Whole.{HoldsLine, IsNext, IsWhole};
+ghost use Rattle.tile_stream.specs.Whole.{HoldsLine, IsNext, IsNextLine, IsWhole, TakesLine};
 
 mod parts;
 mod read_ahead;
@@ -160,9 +160,7 @@ impl<R: Source> Lines<R> {
     /// Those of [`Lines::next`].
     pub(crate) fn next_len(&mut self) -> Result<Option<usize>, LineFault>
         ensures line { IfOk result (λ next. IfSome next (λ count.
-            IsNext R.gives self.old self.new count)) }
-        ensures full { IfOk result (λ next. IfSome next (λ count.
-            is_blank (take count self.new.ahead.held) ≡ false)) }
+            IsNextLine R.gives self.old self.new count)) }
         ensures over { IfOk result (λ next. IfNone next (MayBeOver (Leaves R.gives self.old))) }
         ensures stays_over { IfOk result (λ next. IfNone next
             (MayBeOver (λ left. self.new.ended ≡ Some left))) }
@@ -170,7 +168,6 @@ impl<R: Source> Lines<R> {
         ensures kind { IfErr result (λ e. IsLineFault e.fault) }
         ensures stays { IfErr result (λ e. self.new.ended ≡ Some (only_fault e.line e.fault)) }
         ensures again { IsAgain self.old.ended result }
-        ensures first { IfOk result (λ next. IfSome next (λ count. self.old.number ≤ self.new.number)) }
         ensures at { IfErr result (λ e. self.old.number ≤ e.line) }
         ensures stands { IfErr result (λ e. e.fault ≡ Fault.Memory → is_refused self.old ≡ false
             → StandsAt e.line self.new.limits (Leaves R.gives self.old)
@@ -219,10 +216,8 @@ impl<R: Source> Lines<R> {
         ensures part { (before : Unread R) → IsNext R.gives before self.old count
             → GivesPart (Leaves R.gives before) (Leaves R.gives self.new) result
             (take count self.old.ahead.held) }
-        ensures line { is_blank (take count self.old.ahead.held) ≡ false → (before : Unread R)
-            → IsNext R.gives before self.old count
-            → GivesLine (Leaves R.gives before) (Leaves R.gives self.new) result
-            (take count self.old.ahead.held) }
+        ensures line { (before : Unread R) → IsNextLine R.gives before self.old count
+            → TakesLine R.gives before self.new result (take count self.old.ahead.held) }
         ensures number { result ≡ self.old.number }
         ensures counted { 0 < result }
         ensures later { result < self.new.number }

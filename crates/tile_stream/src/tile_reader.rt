@@ -1,6 +1,7 @@
 //! A tile that is being read: its head, and what each of its lines comes to.
 ghost use Rattle.std.specs.Prelude.{◌≡◌, ◌≢◌, ◌≤◌, ◌<◌, ◌↔◌, ℕ, List, [], true, false, Some, None, IfOk, IfErr, IfSome, IfNone, IsTrue, OnOk, OnErr, ◌+◌, length};
 ghost use Rattle.city_feature.specs.Choice.{IsChosen};
+ghost use Rattle.city_feature.specs.FeatureLine.{GivesFeature, RefusesFeatureLine};
 ghost use Rattle.city_feature.specs.Values.{header_value};
 ghost use Rattle.tile_stream.specs.Coming.{LinesMayComeTo, MayComeTo, MayLeave, GivesText, GivesTexts, ComesBack, SomethingComes};
 ghost use Rattle.tile_stream.specs.Head.{HasNoHead, SomeTile, GivesHeld, RanOutAt};
@@ -15,14 +16,13 @@ mod ready;
 pub(crate) mod writing;
 
 use crate::lines::Lines;
-use crate::spare::emptied;
 pub use crate::tile_reader::head::Head;
 use crate::tile_reader::head::{FirstLine, read_first_line};
 use crate::tile_reader::held::{Held, texts_of};
 pub use crate::tile_reader::ready::ReadyTexts;
 use byte_streams::{Fault, Line, LineFault, Source};
 use city_cut::FeatureTexts;
-use city_feature::{Choice, feature_line};
+use city_feature::{Choice, feature_text};
 use city_grid::Shift;
 use std::alloc::Global;
 use std::marker::Model;
@@ -34,6 +34,8 @@ use std::mem;
 pub struct TileReader<R> {
     lines: Lines<R>,
     held: Held,
+    // a buffer that goes round
+    compact: Line,
 }
 
 /// What the next line of a tile came to: the text of its feature, or, where that is not chosen,
@@ -77,6 +79,7 @@ impl<R: Source> TileReader<R> {
                 line: 0,
                 texts: FeatureTexts::none(alloc),
             },
+            compact: Line::new(alloc),
         }
     }
 
@@ -220,14 +223,13 @@ impl<R: Source> TileReader<R> {
             Ok(None) => return Ok(None),
             Err(at) => return Err(at),
         };
-        let mut text = emptied(spare);
-        let given = feature_line(alloc, self.lines.front(count), shift, choice, &mut text);
+        let bytes = self.lines.front(count);
+        let passed = passed_line(alloc, bytes, shift, choice, &mut self.compact, spare);
         let line = self.lines.leave_line(count);
-        let is_chosen = match given {
-            Ok(is_chosen) => is_chosen,
+        match passed {
+            Ok(passed) => return Ok(Some(passed)),
             Err(fault) => return Err(LineFault { line, fault }),
-        };
-        Ok(Some(Passed { is_chosen, text }))
+        }
     }
 
     /// Whether the next line that is not blank was read already, so that taking it does not wait for the reader. It
@@ -237,4 +239,33 @@ impl<R: Source> TileReader<R> {
     {
         self.lines.holds_line()
     }
+}
+
+/// What the line of a feature comes to, moved by the shift. `compact` and `text` are buffers; what they held is lost.
+fn passed_line(
+    alloc: Global,
+    line: &[u8],
+    shift: Shift,
+    choice: &Choice,
+    compact: &mut Line,
+    mut text: Line,
+) -> Result<Passed, Fault>
+    ensures chosen { IfOk result (λ passed. passed.is_chosen ≡ true
+        → GivesFeature (IsChosen choice.now) shift line.now (Some passed.text)) }
+    ensures skipped { IfOk result (λ passed. passed.is_chosen ≡ false → (passed.text ≡ [])
+        × GivesFeature (IsChosen choice.now) shift line.now None) }
+    ensures refusal { IfErr result (λ fault. RefusesFeatureLine shift fault line.now) }
+{
+    let Some(place) = feature_text(alloc, line, shift, choice, compact, &mut text)? else {
+        text.truncate(0);
+        return Ok(Passed {
+            is_chosen: false,
+            text,
+        });
+    };
+    place.copy_to_buffer(line, &mut text)?;
+    Ok(Passed {
+        is_chosen: true,
+        text,
+    })
 }

@@ -4,7 +4,6 @@ ghost use Rattle.std.specs.Io.KnownBytes.{Appends};
 ghost use Rattle.byte_streams.specs.Failures.{after_call};
 ghost use Rattle.tile_stream.specs.Stream.{with_newline};
 
-use crate::spare::emptied;
 use byte_streams::{Fault, Line, Sink, write_all};
 
 /// Writes a line and its newline, and gives the line back empty, for its memory.
@@ -12,7 +11,7 @@ use byte_streams::{Fault, Line, Sink, write_all};
 /// # Errors
 ///
 /// [`Fault::Write`] where a write failed; some first bytes of the line were written then.
-pub fn write_line<W: Sink>(output: &mut W, line: Line) -> Result<Line, Fault>
+pub fn write_line<W: Sink>(output: &mut W, mut line: Line) -> Result<Line, Fault>
     ensures all { IfOk result (λ text. (text ≡ [])
         × Appends (W.taken output.old) (W.taken output.new) (with_newline line)) }
     ensures some { OnErr result ((count : ℕ)
@@ -21,9 +20,11 @@ pub fn write_line<W: Sink>(output: &mut W, line: Line) -> Result<Line, Fault>
     ensures fault { IfErr result (λ fault. fault ≡ Fault.Write) }
 {
     match write_text(output, line.items()) {
-        Ok(()) => return Ok(emptied(line)),
+        Ok(()) => {}
         Err(fault) => return Err(fault),
     }
+    line.truncate(0);
+    Ok(line)
 }
 
 /// Writes a text in two parts, and its newline.

@@ -364,3 +364,55 @@ fn a_line_of_a_stream_has_2_to_the_28_bytes_at_most(rt: HostRuntime) {
     assert!(rt; is_given_whole(rt.alloc(), 1 << 28));
     assert!(rt; is_too_long(rt.alloc(), (1 << 28) + 1));
 }
+
+/// Whether a tile of two lines of so many bytes, of which no newline ends the second, gives them by so many bytes a read;
+/// where the reader fails at its end, only the first.
+fn are_two(
+    alloc: Global,
+    (first, second): (usize, usize),
+    step: usize,
+    fails: bool,
+) -> Result<bool, AllocError> {
+    let first = "a".repeat(alloc, first)?;
+    let second = "b".repeat(alloc, second)?;
+    let text = format!(in alloc; "{first}\n{second}")?;
+    let tape = tape_of(alloc, &text, step, fails)?;
+    if fails {
+        let rows = format!(in alloc; "1 {first}")?;
+        return Ok(are_of(alloc, tape, false, &rows, "2: Read"));
+    }
+    let rows = format!(in alloc; "1 {first}\n2 {second}")?;
+    Ok(are_of(alloc, tape, false, &rows, ""))
+}
+
+/// The lengths of two lines, where 65,536 bytes are read at once: the first ends within what is read at first, at its end,
+/// or behind it; the second ends with what is read, or takes several reads, also behind one that was given room.
+const PAIRS: [(usize, usize); 8] = [
+    (10, 65_525),
+    (65_535, 65_536),
+    (65_536, 1),
+    (65_537, 65_534),
+    (131_071, 10),
+    (131_072, 65_535),
+    (200_000, 200_000),
+    (400_000, 70_000),
+];
+
+/// Whether the lines are taken where each read gives all that is asked for, or less, and where the reader fails behind the
+/// front of the second.
+fn are_taken_from_pieces(alloc: Global, lengths: (usize, usize)) -> Result<bool, AllocError> {
+    let mut agree = true;
+    for step in [1_000_000usize, 65_536, 50_000, 30_001].iter() {
+        agree = agree && are_two(alloc, lengths, *step, false)?;
+        agree = agree && are_two(alloc, lengths, *step, true)?;
+    }
+    Ok(agree)
+}
+
+#[test]
+fn lines_end_anywhere_in_what_is_read(rt: HostRuntime) {
+    for lengths in PAIRS.iter() {
+        let (first, second) = *lengths;
+        assert!(rt; are_taken_from_pieces(rt.alloc(), *lengths) == Ok(true), "{first} {second}");
+    }
+}

@@ -1,5 +1,6 @@
 //! A reader, and what was read from it and not taken yet, in a buffer that grows where it must.
 ghost use Rattle.std.specs.Prelude.{◌≡◌, ◌≤◌, ◌<◌, ◌-◌, ◌+◌, ◌^◌, ◌↔◌, ℕ, true, false, [], length, take, drop, slice_index, slice_range, vec_len, IfOk, IfErr, OnOk, OnErr, IsTrue};
+ghost use Rattle.std.specs.Vec.{VecUnchanged};
 ghost use Rattle.byte_streams.specs.Failures.{after_call};
 ghost use Rattle.byte_streams.specs.Source.{GivesFirst};
 ghost use Rattle.tile_stream.specs.Parts.{HasNoNewline, IsFillFault, ReadsMore, failed_reads_after_call};
@@ -88,12 +89,16 @@ impl<R: Source> ReadAhead<R> {
         if self.piece.len() <= MAX_KEPT_BYTES || self.filled - self.at > MAX_PIECE_BYTES {
             return;
         }
-        if let Ok(piece) = piece_of(alloc, &self.piece[self.at..self.filled]) {
-            self.piece = piece;
-            self.texts = self.texts.saturating_sub(self.at);
-            self.filled -= self.at;
-            self.at = 0;
-        }
+        let Ok(mut piece) = Vec::with_capacity(alloc, 2 * MAX_PIECE_BYTES) else {
+            return;
+        };
+        let Ok(()) = piece.extend_from_slice(&self.piece[self.at..self.filled]) else {
+            return;
+        };
+        self.piece = piece;
+        self.texts = self.texts.saturating_sub(self.at);
+        self.filled -= self.at;
+        self.at = 0;
     }
 
     /// One read, behind the bytes that are held, among which no line ends. Returns how many bytes came, which is 0 at
@@ -114,11 +119,11 @@ impl<R: Source> ReadAhead<R> {
         ensures failures { R.failures self.new.reader
             ≡ failed_reads_after_call result (R.failures self.old.reader) }
     {
-        let held = move_to_front(&mut self.piece, self.at, self.filled);
+        make_room(&mut self.piece, self.at, self.filled)?;
+        let held = self.filled - self.at;
         self.at = 0;
         self.filled = held;
         self.texts = 0;
-        make_room(&mut self.piece, held)?;
         let count = read_behind(&mut self.reader, &mut self.piece, held)?;
         self.filled = held + count;
         self.texts = texts_end(&self.piece[..self.filled], held);
@@ -126,37 +131,20 @@ impl<R: Source> ReadAhead<R> {
     }
 }
 
-/// A buffer that begins with these bytes, and with room behind them.
-fn piece_of(alloc: Global, bytes: &[u8]) -> Result<Vec<u8>, AllocError>
-    requires { length bytes.now ≤ 2 ^ 40 }
-    ensures { IfOk result (λ piece. piece.items ≡ bytes.now) }
-{
-    let mut piece = Vec::with_capacity(alloc, bytes.len() + MAX_PIECE_BYTES)?;
-    piece.extend_from_slice(bytes)?;
-    Ok(piece)
-}
-
-/// Moves the bytes from `at` to `filled` to the front, and says how many they are.
-fn move_to_front(piece: &mut [u8], at: usize, filled: usize) -> usize
+/// Makes room behind the bytes from `at` to `filled`: they are moved to the front, or, where they stand there, the buffer
+/// grows if it is full.
+fn make_room(piece: &mut Vec<u8>, at: usize, filled: usize) -> Result<(), AllocError>
     requires order { at ≤ filled }
-    requires filled { filled ≤ length piece.old }
-    ensures count { result ≡ filled - at }
-    ensures length { length piece.new ≡ length piece.old }
-    ensures front { take result piece.new ≡ slice_range piece.old at filled }
+    requires filled { filled ≤ vec_len piece.old }
+    ensures front { OnOk result (take (filled - at) piece.new.items
+        ≡ slice_range piece.old.items at filled) }
+    ensures room { OnOk result (filled - at < vec_len piece.new) }
+    ensures err { OnErr result (VecUnchanged piece.old piece.new) }
 {
     if at > 0 {
         piece.copy_within(at..filled, 0);
+        return Ok(());
     }
-    filled - at
-}
-
-/// Makes room behind the bytes that are filled, where there is none.
-fn make_room(piece: &mut Vec<u8>, filled: usize) -> Result<(), AllocError>
-    requires { filled ≤ vec_len piece.old }
-    ensures front { take filled piece.new.items ≡ take filled piece.old.items }
-    ensures filled { filled ≤ vec_len piece.new }
-    ensures room { OnOk result (filled < vec_len piece.new) }
-{
     if filled < piece.len() {
         return Ok(());
     }

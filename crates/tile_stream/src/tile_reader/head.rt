@@ -14,7 +14,7 @@ ghost use Rattle.tile_stream.specs.Head.{SpellsHeadOf, RefusesHead, HoldsHead, R
 use byte_streams::{Fault, Line};
 use city_cut::{CutTexts, FeatureTexts, cut_compacted_triples, cut_fault, cut_texts};
 use city_feature::{Header, header, holds_city, is_document};
-use city_json::{Json, Part, Span, check, compact_lent, read, spells_no_object};
+use city_json::{Json, Part, Span, check, compact_object, read, spells_no_object};
 use std::alloc::Global;
 
 /// The header of a tile, and the number of the line that spells it, from 1.
@@ -54,14 +54,20 @@ fn quick_first_line(alloc: Global, bytes: &[u8]) -> Result<Option<FirstLine>, Fa
         SpellsHeadOf bytes.now (header_value first.header) (texts_in first.texts))) }
     ensures refused { IfErr result (λ fault. RefusesHead fault bytes.now) }
 {
-    let Some(found) = compact_lent(alloc, bytes, Line::new(alloc)) else {
+    let mut compact = Line::new(alloc);
+    let Some(found) = compact_object(alloc, bytes, &mut compact) else {
         check(alloc, bytes)?;
         if spells_no_object(bytes) {
             return Err(Fault::NotCityJson);
         }
         return Ok(None);
     };
-    document_line(alloc, found.text.bytes(), &found.parts, found.triples)
+    document_line(
+        alloc,
+        found.place.bytes(bytes, &compact),
+        &found.parts,
+        found.triples,
+    )
 }
 
 /// The same of the object whose compact text this is, whose members lie in these parts, and in which these triples stand.

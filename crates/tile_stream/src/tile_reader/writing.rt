@@ -2,7 +2,7 @@
 ghost use Rattle.std.specs.Prelude.{◌≡◌, ◌≤◌, ◌<◌, false, [], None, option_map, IfOk, IfErr, IfSome, IfNone, OnOk, OnErr};
 ghost use Rattle.byte_streams.specs.Failures.{after_call};
 ghost use Rattle.city_feature.specs.Choice.{IsChosen};
-ghost use Rattle.city_json.specs.Lent.{lent_bytes};
+ghost use Rattle.city_json.specs.TextPlace.{text_at};
 ghost use Rattle.tile_stream.specs.Coming.{LinesMayComeTo, SomethingComes};
 ghost use Rattle.tile_stream.specs.Filtered.{failed_reads_after_filter, failures_after_filter};
 ghost use Rattle.tile_stream.specs.Progress.{HasBegun, HasWritten, IsRefusedAfter, SoFar};
@@ -13,50 +13,40 @@ use crate::writing::write_text;
 use byte_streams::{Fault, Line, MergeFault, Sink, Source};
 use city_feature::{Choice, feature_text};
 use city_grid::Shift;
-use city_json::LentText;
+use city_json::TextPlace;
 use std::alloc::Global;
 
-/// How many texts a line came to, none or one, which was written, and a buffer to reuse.
-#[derive(Drop)]
-pub(crate) struct Step {
-    pub(crate) count: u64,
-    pub(crate) spare: Line,
-}
-
-/// Writes the text that a line came to, if it did, with its newline.
+/// Writes the text that a line came to, if it did, with its newline, and says how many texts that are.
 ///
 /// # Errors
 ///
 /// [`Fault::Write`] where a write failed; some first bytes of the line were written then.
 fn write_given<W: Sink>(
-    alloc: Global,
-    given: Option<LentText<'_>>,
+    given: Option<TextPlace>,
+    line: &[u8],
+    buffer: &Line,
     output: &mut W,
-) -> Result<Step, Fault>
-    ensures all { IfOk result (λ step. HasWritten (option_map lent_bytes given.entry) step.count
+) -> Result<u64, Fault>
+    ensures all { IfOk result (λ count. HasWritten
+        (option_map (λ place. text_at place line.now buffer.now) given) count
         (W.taken output.old) (W.taken output.new)) }
-    ensures some { OnErr result (HasBegun (option_map lent_bytes given.entry)
+    ensures some { OnErr result (HasBegun
+        (option_map (λ place. text_at place line.now buffer.now) given)
         (W.taken output.old) (W.taken output.new)) }
     ensures failures { W.failures output.new ≡ after_call result (W.failures output.old) }
 {
-    let Some(text) = given else {
-        return Ok(Step {
-            count: 0,
-            spare: Line::new(alloc),
-        });
+    let Some(place) = given else {
+        return Ok(0);
     };
-    match write_text(output, text.bytes()) {
-        Ok(()) => Ok(Step {
-            count: 1,
-            spare: text.into_spare(),
-        }),
+    match write_text(output, place.bytes(line, buffer)) {
+        Ok(()) => Ok(1),
         Err(fault) => Err(fault),
     }
 }
 
-/// Takes the next line of a tile, which may come to nothing, and writes the text of its feature, moved by the shift, where
-/// it is chosen when it is so moved. Where the text is lent, it is written from where it was read, with no copy of its
-/// own. None after the last. `spare` is a buffer to reuse.
+/// Takes the next line of a tile, and writes the text of its feature, moved by the shift, where it is chosen when it is so
+/// moved, from where it stands. Gives how many texts that are, none or one; none at all after the last line. `text` is a
+/// buffer; what it held is lost.
 ///
 /// # Errors
 ///
@@ -67,13 +57,13 @@ pub(crate) fn write_next<R: Source, W: Sink>(
     tile: &mut TileReader<R>,
     shift: Shift,
     choice: &Choice,
-    spare: Line,
+    text: &mut Line,
     output: &mut W,
-) -> Result<Option<Step>, MergeFault>
+) -> Result<Option<u64>, MergeFault>
     requires not_failed { has_failed tile.old.lines ≡ false }
-    ensures step { IfOk result (λ next. IfSome next (λ step. SoFar
+    ensures step { IfOk result (λ next. IfSome next (λ count. SoFar
         (LinesMayComeTo R.gives (IsChosen choice.now) shift tile.old.lines)
-        (LinesMayComeTo R.gives (IsChosen choice.now) shift tile.new.lines) step.count
+        (LinesMayComeTo R.gives (IsChosen choice.now) shift tile.new.lines) count
         (W.taken output.old) (W.taken output.new))) }
     ensures over { IfOk result (λ next. IfNone next
         (LinesMayComeTo R.gives (IsChosen choice.now) shift tile.old.lines [] None
@@ -83,8 +73,8 @@ pub(crate) fn write_next<R: Source, W: Sink>(
         (W.taken output.old) (W.taken output.new)) }
     ensures some { SomethingComes
         (LinesMayComeTo R.gives (IsChosen choice.now) shift tile.new.lines) }
-    ensures one { IfOk result (λ next. IfSome next (λ step. step.count ≤ 1)) }
-    ensures fewer { IfOk result (λ next. IfSome next (λ step.
+    ensures one { IfOk result (λ next. IfSome next (λ count. count ≤ 1)) }
+    ensures fewer { IfOk result (λ next. IfSome next (λ count.
         most_left tile.new.lines < most_left tile.old.lines)) }
     ensures not_failed { OnOk result (has_failed tile.new.lines ≡ false) }
     ensures failures { W.failures output.new
@@ -97,17 +87,18 @@ pub(crate) fn write_next<R: Source, W: Sink>(
         Ok(None) => return Ok(None),
         Err(at) => return Err(MergeFault::of_line(at.line, at.fault)),
     };
-    let given = match feature_text(alloc, tile.lines.front(count), shift, choice, spare) {
+    let line = tile.lines.front(count);
+    let given = match feature_text(alloc, line, shift, choice, &mut tile.compact, text) {
         Ok(given) => given,
         Err(fault) => {
-            let line = tile.lines.leave_line(count);
-            return Err(MergeFault::of_line(line, fault));
+            let number = tile.lines.leave_line(count);
+            return Err(MergeFault::of_line(number, fault));
         }
     };
-    let written = write_given(alloc, given, output);
+    let written = write_given(given, line, text, output);
     tile.lines.leave_line(count);
     match written {
-        Ok(step) => return Ok(Some(step)),
+        Ok(texts) => return Ok(Some(texts)),
         Err(_) => return Err(MergeFault::of_no_line(Fault::Write)),
     }
 }

@@ -35,9 +35,9 @@ features-preserved g c =
     let fewer = rw c.in-Ok-Some.field-0-is at c.in-Ok-Some.ensures.fewer in
     let wrote = g.W.Sink.taken c.write_next.new.output in
     let more = so_far_more before (comes now) old (g.W.Sink.taken c.features.output) c.features.count
-    c.features.invariant.so_far (comes after) c.in-Ok-Some.step.count wrote step in
+    c.features.invariant.so_far (comes after) c.in-Ok-Some.texts wrote step in
     record {
-      so_far = at_skipped before old (comes after) (c.features.count + c.in-Ok-Some.step.count) wrote more
+      so_far = at_skipped before old (comes after) (c.features.count + c.in-Ok-Some.texts) wrote more
           (comes after) (λ texts outcome comes. comes) (g.W.Sink.taken c.pass_on.new.output) c.pass_on.ensures.bytes;
       bounded = omega (arith, c.features.invariant.bounded, fewer, one);
       not_failed = c.in-Ok-Some.ensures.not_failed;
@@ -56,7 +56,7 @@ returns-in-Err-pass_on-clause-refused g c =
     let some = rw c.zero.ensures at c.write_next.ensures.some in
     let wrote = g.W.Sink.taken c.write_next.new.output in
     let more = so_far_more before (comes now) old (g.W.Sink.taken c.features.output) c.features.count
-    c.features.invariant.so_far (comes after) c.in-Ok-Some.step.count wrote step in
-    let front = at_failed_flush before old (comes after) (c.features.count + c.in-Ok-Some.step.count) wrote more some
+    c.features.invariant.so_far (comes after) c.in-Ok-Some.texts wrote step in
+    let front = at_failed_flush before old (comes after) (c.features.count + c.in-Ok-Some.texts) wrote more some
     (g.W.Sink.taken c.pass_on.new.output) c.pass_on.ensures.bytes in
     rw c.of_no_line.ensures (refl, refl, front)

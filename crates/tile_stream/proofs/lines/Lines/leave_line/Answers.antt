@@ -1,7 +1,7 @@
-use Rattle.std.proofs.Common.{◌<◌, length, take, subst, arith}
+use Rattle.std.proofs.Common.{◌<◌, length, arith}
 use Rattle.std.proofs.lemmas.Grind.{common_steps}
-use Rattle.tile_stream.specs.Unread.{Leaves, Unread, ended_by}
-use Rattle.tile_stream.proofs.Leaving.{left_ended, left_last, part_full}
+use Rattle.tile_stream.specs.Unread.{Unread, ended_by}
+use Rattle.tile_stream.proofs.Leaving.{left_ended, left_last, taken_line}
 use Rattle.tile_stream.proofs.lines.Lines.leave_line.Goals as goal
 
 pub returns-then-count-held-clause-part : goal.returns-then-count-held-clause-part
@@ -14,13 +14,12 @@ returns-then-count-held-clause-part g c before stands =
     c.skip.ensures)
 
 pub returns-then-count-held-clause-line : goal.returns-then-count-held-clause-line
-returns-then-count-held-clause-line g c full before stands =
-    let part = returns-then-count-held-clause-part g c before stands in (
-      part.0,
-      λ left leaves. subst (Leaves g.R.Source.gives before)
-          (part_full c.self.inside.number part.0 (take c.args.count c.args.self.now.ahead.held) left full)
-          (part.1 left leaves),
-    )
+returns-then-count-held-clause-line g c before stands =
+    let s = c.self.inside in
+    let now : Unread _ = record { ahead = s.ahead; limits = s.limits; number = s.number; start = s.start; ended = ended_by s.state } in
+    let next = rw (← c.self.view_is) at stands in
+    let part = rw (← c.self.view_is) at (returns-then-count-held-clause-part g c before stands.next) in
+    rw (← c.self.view_is) (taken_line g.R.Source.gives before now _ c.args.count next (omega arith) part)
 
 pub returns-else-count-held-clause-part : goal.returns-else-count-held-clause-part
 returns-else-count-held-clause-part g c before stands =
@@ -31,10 +30,9 @@ returns-else-count-held-clause-part g c before stands =
     rw (← c.self.view_is) (left_last g.R.Source.gives before now c.args.count next all)
 
 pub returns-else-count-held-clause-line : goal.returns-else-count-held-clause-line
-returns-else-count-held-clause-line g c full before stands =
-    let part = returns-else-count-held-clause-part g c before stands in (
-      part.0,
-      λ left leaves. subst (Leaves g.R.Source.gives before)
-          (part_full c.self.inside.number part.0 (take c.args.count c.args.self.now.ahead.held) left full)
-          (part.1 left leaves),
-    )
+returns-else-count-held-clause-line g c before stands =
+    let s = c.self.inside in
+    let now : Unread _ = record { ahead = s.ahead; limits = s.limits; number = s.number; start = s.start; ended = ended_by s.state } in
+    let next = rw (← c.self.view_is) at stands in
+    let part = rw (← c.self.view_is) at (returns-else-count-held-clause-part g c before stands.next) in
+    rw (← c.self.view_is) (taken_line g.R.Source.gives before now _ c.args.count next (omega arith) part)

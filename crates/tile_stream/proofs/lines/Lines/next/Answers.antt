@@ -13,14 +13,14 @@ returns-in-Err-clause-some g c =
 pub returns-in_default-clause-refused : goal.returns-in_default-clause-refused
 returns-in_default-clause-refused g c =
     let next = rw c.in-Ok-Some.field-0-is at c.in-Ok-Some.ensures.line in
-    rw (c.refuse.ensures.at) (out_of_memory g.R.Source.gives c.args.self.now c.next_len.new.self c.in-Ok-Some.count next
+    rw (c.refuse.ensures.at) (out_of_memory g.R.Source.gives c.args.self.now c.next_len.new.self c.in-Ok-Some.count next.next
     g.met.R.Source.gives_something)
 
 pub returns-in_default-clause-stands : goal.returns-in_default-clause-stands
 returns-in_default-clause-stands g c memory going =
     let next = rw c.in-Ok-Some.field-0-is at c.in-Ok-Some.ensures.line in
     rw (c.refuse.ensures.at, c.refuse.ensures.refused)
-    (stands_there g.R.Source.gives c.args.self.now c.next_len.new.self c.in-Ok-Some.count next)
+    (stands_there g.R.Source.gives c.args.self.now c.next_len.new.self c.in-Ok-Some.count next.next)
 
 pub returns-in_default-clause-some : goal.returns-in_default-clause-some
 returns-in_default-clause-some g c =
@@ -30,10 +30,9 @@ returns-in_default-clause-some g c =
 pub returns-clause-line : goal.returns-clause-line
 returns-clause-line g c =
     let next = rw c.in-Ok-Some.field-0-is at c.in-Ok-Some.ensures.line in
-    let full = rw c.in-Ok-Some.field-0-is at c.in-Ok-Some.ensures.full in
     let is : c.append.new.self ≡ take c.in-Ok-Some.count c.next_len.new.self.ahead.held =
     c.in-Ok.ensures.ok ∙ ap (λ front. front ++ c.front.result.now) c.new-bytes.ensures ∙ c.front.ensures in
-    rw is (c.leave_line-number.ensures.line full c.args.self.now next)
+    rw is (c.leave_line-number.ensures.line c.args.self.now next).line
 
 pub returns-clause-some : goal.returns-clause-some
 returns-clause-some g c =

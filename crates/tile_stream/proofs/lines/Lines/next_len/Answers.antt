@@ -16,8 +16,14 @@ pub returns-then-not-is_blank-clause-line : goal.returns-then-not-is_blank-claus
 returns-then-not-is_blank-clause-line g c =
     let s = c.self.inside in
     let back = rw (← c.self.view_is, c.in-Open.is) at c.parts.invariant.back in
-    rw (c.in-Open.is) (next_of g.R.Source.gives c.args.self.now s.limits s.number s.start s.ahead
-    c.complete_part.new.ahead c.in-Ok.count back c.in-Ok.ensures.part)
+    let later = rw (← c.self.view_is) at c.parts.invariant.later in
+    let full = ap is_blank (sym c.front.ensures) ∙ sym c.is_blank.ensures ∙ c.if-not-is_blank.true in
+    rw (c.in-Open.is) (record {
+      next = next_of g.R.Source.gives c.args.self.now s.limits s.number s.start s.ahead c.complete_part.new.ahead
+          c.in-Ok.count back c.in-Ok.ensures.part;
+      full = full;
+      from = later;
+    })
 
 pub parts-preserved : goal.parts-preserved
 parts-preserved g c =

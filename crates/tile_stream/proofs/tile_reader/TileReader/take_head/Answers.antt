@@ -35,9 +35,8 @@ pub returns-in-Ok-clause-head : goal.returns-in-Ok-clause-head
 returns-in-Ok-clause-head g c =
     let lines = c.self.inside.lines in
     let next = rw c.in-Ok-Some.field-0-is at c.in-Ok-Some.ensures.line in
-    let full = rw c.in-Ok-Some.field-0-is at c.in-Ok-Some.ensures.full in
     let bytes = take c.in-Ok-Some.count c.next_len.new.self.ahead.held in
-    let taken = c.leave_line-line.ensures.line full lines next in
+    let taken = (c.leave_line-line.ensures.line lines next).line in
     let head = rw c.front.ensures at c.in-Ok.ensures.ok in
     rw (← c.self.view_is) (gives_head (Leaves g.R.Source.gives lines) (Leaves g.R.Source.gives c.leave_line-line.new.self)
     c.leave_line-line.result bytes taken (header_value c.in-Ok.field-0.header) (texts_in c.in-Ok.field-0.texts) head)
@@ -52,9 +51,8 @@ pub returns-in-Err-first-clause-refused : goal.returns-in-Err-first-clause-refus
 returns-in-Err-first-clause-refused g c =
     let lines = c.self.inside.lines in
     let next = rw c.in-Ok-Some.field-0-is at c.in-Ok-Some.ensures.line in
-    let full = rw c.in-Ok-Some.field-0-is at c.in-Ok-Some.ensures.full in
     let bytes = take c.in-Ok-Some.count c.next_len.new.self.ahead.held in
-    let taken = c.leave_line-line.ensures.line full lines next in
+    let taken = (c.leave_line-line.ensures.line lines next).line in
     let refused = rw c.front.ensures at c.in-Err-first.ensures.refused in
     let some = something_left g.R.Source.gives g.met.R.Source.gives_something c.leave_line-line.new.self
     c.leave_line-line.ensures.ended in
@@ -65,9 +63,8 @@ pub returns-in-Err-first-clause-memory : goal.returns-in-Err-first-clause-memory
 returns-in-Err-first-clause-memory g c memory going =
     let lines = c.self.inside.lines in
     let next = rw c.in-Ok-Some.field-0-is at c.in-Ok-Some.ensures.line in
-    let full = rw c.in-Ok-Some.field-0-is at c.in-Ok-Some.ensures.full in
     let bytes = take c.in-Ok-Some.count c.next_len.new.self.ahead.held in
-    let taken = c.leave_line-line.ensures.line full lines next in
+    let taken = (c.leave_line-line.ensures.line lines next).line in
     rw (← c.self.view_is) (inr (bytes, taken))
 
 pub returns-in-Err-first-clause-some : goal.returns-in-Err-first-clause-some

@@ -1,6 +1,6 @@
-use Rattle.std.proofs.Common.{◌≤◌, take, arith, option_map}
+use Rattle.std.proofs.Common.{take, option_map}
 use Rattle.city_feature.specs.Choice.{IsChosen}
-use Rattle.city_json.specs.Lent.{lent_bytes}
+use Rattle.city_json.specs.TextPlace.{text_at}
 use Rattle.tile_stream.proofs.Comings.{fault_comes, line_comes, no_failed_write, refusal_comes}
 use Rattle.tile_stream.proofs.HeldFirst.{lines_come}
 use Rattle.tile_stream.proofs.Leaving.{something_left}
@@ -31,43 +31,35 @@ pub returns-in-Err-feature_text-clause-refused : goal.returns-in-Err-feature_tex
 returns-in-Err-feature_text-clause-refused g c =
     let lines = c.tile.inside.lines in
     let next = rw c.in-Ok-Some.field-0-is at c.in-Ok-Some.ensures.line in
-    let full = rw c.in-Ok-Some.field-0-is at c.in-Ok-Some.ensures.full in
-    let first = rw c.in-Ok-Some.field-0-is at c.in-Ok-Some.ensures.first in
-    let left = c.leave_line-line.ensures in
     let bytes = take c.in-Ok-Some.count c.next_len.new.self.ahead.held in
-    let taken = left.line full lines next in
-    let from : lines.number ≤ c.leave_line-line.result = omega (arith, first, left.number) in
-    let refused = rw c.front.ensures at c.in-Err-feature_text.ensures.refusal in
+    let left = c.leave_line-number.ensures in
+    let refused = rw c.front-line.ensures at c.in-Err-feature_text.ensures.refusal in
     let fault = c.in-Err-feature_text.fault in
-    let some = something_left g.R.Source.gives g.met.R.Source.gives_something c.leave_line-line.new.self left.ended in
+    let some = something_left g.R.Source.gives g.met.R.Source.gives_something c.leave_line-number.new.self left.ended in
     rw (← c.tile.view_is, c.of_line-in-Err-feature_text.ensures) (line_refused
-    (LinesMayComeTo g.R.Source.gives (IsChosen c.args.choice.now) c.args.shift lines) c.leave_line-line.result
+    (LinesMayComeTo g.R.Source.gives (IsChosen c.args.choice.now) c.args.shift lines) c.leave_line-number.result
     (g.W.Sink.taken c.args.output.now) fault (no_failed_write c.args.shift bytes fault refused)
-    (refusal_comes g.R.Source.gives (IsChosen c.args.choice.now) c.args.shift lines c.leave_line-line.new.self
-    c.leave_line-line.result bytes taken from some.0 some.1 fault refused))
+    (refusal_comes g.R.Source.gives (IsChosen c.args.choice.now) c.args.shift lines c.leave_line-number.new.self
+    c.leave_line-number.result bytes (left.line lines next) some.0 some.1 fault refused))
 
 pub returns-in-Err-feature_text-clause-some : goal.returns-in-Err-feature_text-clause-some
 returns-in-Err-feature_text-clause-some g c =
     lines_come g.R.Source.gives (IsChosen c.args.choice.now) c.args.shift g.met.R.Source.gives_something
-    c.leave_line-line.new.self c.leave_line-line.ensures.ended
+    c.leave_line-number.new.self c.leave_line-number.ensures.ended
 
 pub returns-in-Ok-written-clause-step : goal.returns-in-Ok-written-clause-step
 returns-in-Ok-written-clause-step g c =
     let lines = c.tile.inside.lines in
     let next = rw c.in-Ok-Some.field-0-is at c.in-Ok-Some.ensures.line in
-    let full = rw c.in-Ok-Some.field-0-is at c.in-Ok-Some.ensures.full in
-    let first = rw c.in-Ok-Some.field-0-is at c.in-Ok-Some.ensures.first in
-    let left = c.leave_line.ensures in
     let bytes = take c.in-Ok-Some.count c.next_len.new.self.ahead.held in
-    let taken = left.line full lines next in
-    let from : lines.number ≤ c.leave_line.result = omega (arith, first, left.number) in
-    let given = option_map lent_bytes c.in-Ok.given in
-    let feature = rw c.front.ensures at c.in-Ok.ensures.ok in
+    let given = option_map (λ place. text_at place bytes c.feature_text.new.text) c.in-Ok.given in
+    let feature = rw c.front-line.ensures at c.in-Ok.ensures.ok in
+    let wrote = rw c.front-line.ensures at c.in-Ok-written.ensures.all in
     let comes = LinesMayComeTo g.R.Source.gives (IsChosen c.args.choice.now) c.args.shift in
     rw (← c.tile.view_is) (line_step (comes lines) (comes c.leave_line.new.self) (g.W.Sink.taken c.args.output.now)
-    (g.W.Sink.taken c.write_given-written.new.output) given c.in-Ok-written.step.count
+    (g.W.Sink.taken c.write_given-written.new.output) given c.in-Ok-written.texts
     (line_comes g.R.Source.gives (IsChosen c.args.choice.now) c.args.shift lines c.leave_line.new.self
-    c.leave_line.result bytes taken from left.later given feature) c.in-Ok-written.ensures.all)
+    c.leave_line.result bytes (c.leave_line.ensures.line lines next) given feature) wrote)
 
 pub returns-in-Ok-written-clause-some : goal.returns-in-Ok-written-clause-some
 returns-in-Ok-written-clause-some g c =
@@ -78,21 +70,18 @@ pub returns-in-Err-written-clause-refused : goal.returns-in-Err-written-clause-r
 returns-in-Err-written-clause-refused g c =
     let lines = c.tile.inside.lines in
     let next = rw c.in-Ok-Some.field-0-is at c.in-Ok-Some.ensures.line in
-    let full = rw c.in-Ok-Some.field-0-is at c.in-Ok-Some.ensures.full in
-    let first = rw c.in-Ok-Some.field-0-is at c.in-Ok-Some.ensures.first in
-    let left = c.leave_line.ensures in
     let bytes = take c.in-Ok-Some.count c.next_len.new.self.ahead.held in
-    let taken = left.line full lines next in
-    let from : lines.number ≤ c.leave_line.result = omega (arith, first, left.number) in
-    let given = option_map lent_bytes c.in-Ok.given in
-    let feature = rw c.front.ensures at c.in-Ok.ensures.ok in
+    let left = c.leave_line.ensures in
+    let given = option_map (λ place. text_at place bytes c.feature_text.new.text) c.in-Ok.given in
+    let feature = rw c.front-line.ensures at c.in-Ok.ensures.ok in
+    let begun = rw c.front-line.ensures at c.in-Err-written.ensures.some in
     let comes = LinesMayComeTo g.R.Source.gives (IsChosen c.args.choice.now) c.args.shift in
     let some = lines_come g.R.Source.gives (IsChosen c.args.choice.now) c.args.shift g.met.R.Source.gives_something
     c.leave_line.new.self left.ended in
     rw (← c.tile.view_is, c.of_no_line.ensures) (line_begun (comes lines) (comes c.leave_line.new.self)
     (g.W.Sink.taken c.args.output.now) (g.W.Sink.taken c.write_given-written.new.output) given
     (line_comes g.R.Source.gives (IsChosen c.args.choice.now) c.args.shift lines c.leave_line.new.self
-    c.leave_line.result bytes taken from left.later given feature) some c.in-Err-written.ensures.some)
+    c.leave_line.result bytes (left.line lines next) given feature) some begun)
 
 pub returns-in-Err-written-clause-some : goal.returns-in-Err-written-clause-some
 returns-in-Err-written-clause-some g c =

@@ -1,4 +1,4 @@
-use Rattle.std.proofs.Common.{◌≡◌, ◌≤◌, ◌+◌, length, take, drop, slice_range, sym, subst, arith}
+use Rattle.std.proofs.Common.{◌≡◌, ◌≤◌, ◌-◌, ◌+◌, length, take, drop, slice_range, sym, subst, arith}
 use Rattle.std.proofs.lemmas.Grind.{common_steps}
 use Rattle.std.proofs.lemmas.List.{length-take-le, length-drop}
 use Rattle.tile_stream.specs.Parts.{HasNoNewline}
@@ -9,7 +9,7 @@ use Rattle.tile_stream.proofs.lines.read_ahead.ReadAhead.fill.Goals as goal
 
 pub invariant_of-self-in_err-count : goal.invariant_of-self-in_err-count
 invariant_of-self-in_err-count g c =
-    let held = c.move_to_front-held.result in
+    let held = c.self.inside.filled - c.self.inside.at in
     let new = c.read_behind.new.piece in
     let kept = slice_range c.self.inside.piece.items c.self.inside.at c.self.inside.filled in
     let same : take held new ≡ kept = grind (arith, common_steps) in
@@ -20,7 +20,7 @@ invariant_of-self-in_err-count g c =
 
 pub texts_end-self-inside-requires-clause-seen : goal.texts_end-self-inside-requires-clause-seen
 texts_end-self-inside-requires-clause-seen g c =
-    let held = c.move_to_front-held.result in
+    let held = c.self.inside.filled - c.self.inside.at in
     let kept = slice_range c.self.inside.piece.items c.self.inside.at c.self.inside.filled in
     let none : HasNoNewline kept = rw (← c.self.view_is) at c.requires in
     let same : take held (take (held + c.in_ok-count.count) c.deref.result.now) ≡ kept = grind (arith, common_steps) in
@@ -28,7 +28,7 @@ texts_end-self-inside-requires-clause-seen g c =
 
 pub invariant_of-self-2 : goal.invariant_of-self-2
 invariant_of-self-2 g c =
-    let held = c.move_to_front-held.result in
+    let held = c.self.inside.filled - c.self.inside.at in
     let new = c.read_behind.new.piece in
     let count = c.in_ok-count.count in
     let whole : length new ≡ c.make_room.new.piece.len = grind (arith, common_steps) in
@@ -39,7 +39,7 @@ invariant_of-self-2 g c =
 
 pub returns-clause-more : goal.returns-clause-more
 returns-clause-more g c =
-    let held = c.move_to_front-held.result in
+    let held = c.self.inside.filled - c.self.inside.at in
     let new = c.read_behind.new.piece in
     let count = c.in_ok-count.count in
     let kept = slice_range c.self.inside.piece.items c.self.inside.at c.self.inside.filled in
