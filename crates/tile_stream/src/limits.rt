@@ -1,3 +1,4 @@
+//! How long a line and a tile may be.
 use byte_streams::limits::{MAX_LINE_BYTES, MAX_TILE_BYTES};
 
 /// The most bytes that a line and a tile may have.

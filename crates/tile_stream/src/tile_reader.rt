@@ -226,6 +226,7 @@ impl<R: Source> TileReader<R> {
         let bytes = self.lines.front(count);
         let passed = passed_line(alloc, bytes, shift, choice, &mut self.compact, spare);
         let line = self.lines.leave_line(count);
+        self.compact.trim();
         match passed {
             Ok(passed) => return Ok(Some(passed)),
             Err(fault) => return Err(LineFault { line, fault }),

@@ -1,3 +1,4 @@
+//! Whether lines of a tile are still to come.
 use byte_streams::LineFault;
 
 /// Whether lines are still to be read.

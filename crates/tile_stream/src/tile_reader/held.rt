@@ -1,3 +1,4 @@
+//! The features that the first line of a tile holds, moved and chosen.
 ghost use Rattle.std.specs.Prelude.{◌≡◌, ◌≤◌, ◌<◌, ◌⊎◌, ◌++◌, [], ℕ, List, IfOk, IfErr, IfSome, IsTrue, OnOk, length, get_or, option_map, option_to_list};
 ghost use Rattle.city_cut.specs.HeldTexts.{texts_in};
 ghost use Rattle.city_feature.specs.Choice.{IsChosen};

@@ -97,6 +97,8 @@ pub(crate) fn write_next<R: Source, W: Sink>(
     };
     let written = write_given(given, line, text, output);
     tile.lines.leave_line(count);
+    tile.compact.trim();
+    text.trim();
     match written {
         Ok(texts) => return Ok(Some(texts)),
         Err(_) => return Err(MergeFault::of_no_line(Fault::Write)),
