@@ -18,7 +18,7 @@ module _ (R : RattleType) (reader : IsSend R) where
   reader_inside_send : IsSend (reader_inside.the_row R)
   reader_inside_send =
       let T = reader_inside.the_type R in
-      let fields = struct_send (shape T) (lines.the_send R reader, (held.the_field_send, (line.the_field_send, tt))) in
+      let fields = struct_send (shape T) (lines.the_send R reader, (held.the_field_send, (line.the_send, tt))) in
       recorded_send (Struct (shape T)) T.D T.to T.to_one fields
 
   reader_send : IsSend (reader_type.the_row R)
