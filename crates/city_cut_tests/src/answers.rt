@@ -19,13 +19,13 @@ fn is_plain(alloc: Global, cut: &mut CutTexts, document: &str) -> bool {
 
 /// A document in its compact text, and the triples that are noted in it.
 #[derive(Drop)]
-pub(crate) struct Given {
+pub(crate) struct CompactDocument {
     pub(crate) found: Compacted,
     pub(crate) triples: Span,
 }
 
 /// The document in its compact text, in which its triples are noted.
-pub(crate) fn given(alloc: Global, document: &str) -> Option<Given>
+pub(crate) fn given(alloc: Global, document: &str) -> Option<CompactDocument>
     ensures { IfSome result (λ feature. (members : MemberTrees) × IsCompactOf feature.found.line (object members)
         × AreParts 1 feature.found.parts.items members × HasTriples feature.found.line feature.triples) }
 {
@@ -37,7 +37,7 @@ pub(crate) fn given(alloc: Global, document: &str) -> Option<Given>
         line,
         parts: object.parts,
     };
-    Some(Given {
+    Some(CompactDocument {
         found,
         triples: object.triples,
     })
@@ -382,7 +382,7 @@ fn vertices_are_told_to_be_triples(rt: HostRuntime) {
     }
 }
 
-fn has_triples(feature: &Given) -> bool {
+fn has_triples(feature: &CompactDocument) -> bool {
     feature.triples.from < feature.triples.end
 }
 
