@@ -2,8 +2,7 @@
 
 use byte_streams::{Bin, Fault, Line, Sequence, Stop, Tape, read_all, write_all};
 use city_json::{
-    Json, NumText, Part, Str, check, compact, compact_object, compact_parts, print,
-    read,
+    Json, NumText, Part, Str, check, compact, compact_object, compact_parts, print, read,
 };
 use growth_support::{Call, expect, is_fault, refused, wanted};
 use std::alloc::{AllocError, Global};

@@ -413,6 +413,9 @@ fn are_taken_from_pieces(alloc: Global, lengths: (usize, usize)) -> Result<bool,
 fn lines_end_anywhere_in_what_is_read(rt: HostRuntime) {
     for lengths in PAIRS.iter() {
         let (first, second) = *lengths;
-        assert!(rt; are_taken_from_pieces(rt.alloc(), *lengths) == Ok(true), "{first} {second}");
+        assert!(rt;
+            are_taken_from_pieces(rt.alloc(), *lengths) == Ok(true),
+            "{first} {second}"
+        );
     }
 }

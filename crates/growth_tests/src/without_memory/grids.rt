@@ -2,8 +2,8 @@
 
 use byte_streams::Fault;
 use city_grid::{
-    PlacedVertex, Shift, SpelledVertex, Transform, Vertex, decimal, least_of, moved, shift_of, spelled_vertex_at,
-    three_numbers, transform, vertex, vertex_at, vertex_end,
+    PlacedVertex, Shift, SpelledVertex, Transform, Vertex, decimal, least_of, moved, shift_of,
+    spelled_vertex_at, three_numbers, transform, vertex, vertex_at, vertex_end,
 };
 use city_json::{NumText, read};
 use growth_support::{give, take};
