@@ -19,25 +19,33 @@ fn is_plain(alloc: Global, cut: &mut CutTexts, document: &str) -> bool {
 
 /// A document in its compact text, and the triples that are noted in it.
 #[derive(Drop)]
-pub(crate) struct CompactDocument {
+pub(crate) struct DocumentText {
     pub(crate) found: Compacted,
     pub(crate) triples: Span,
 }
 
 /// The document in its compact text, in which its triples are noted.
-pub(crate) fn given(alloc: Global, document: &str) -> Option<CompactDocument>
+pub(crate) fn given(alloc: Global, document: &str) -> Option<DocumentText>
     ensures { IfSome result (λ feature. (members : MemberTrees) × IsCompactOf feature.found.line (object members)
         × AreParts 1 feature.found.parts.items members × HasTriples feature.found.line feature.triples) }
 {
-    let text = document.as_bytes();
+    compact_document(alloc, document.as_bytes())
+}
+
+fn compact_document(alloc: Global, text: &[u8]) -> Option<DocumentText>
+    ensures { IfSome result (λ feature. (members : MemberTrees) × IsCompactOf feature.found.line (object members)
+        × AreParts 1 feature.found.parts.items members × HasTriples feature.found.line feature.triples) }
+{
     let mut line = Line::new(alloc);
     let object = compact_object(alloc, text, &mut line)?;
-    object.place.copy_to_buffer(text, &mut line).ok()?;
+    let Ok(_) = object.place.copy_to_buffer(text, &mut line) else {
+        return None;
+    };
     let found = Compacted {
         line,
         parts: object.parts,
     };
-    Some(CompactDocument {
+    Some(DocumentText {
         found,
         triples: object.triples,
     })
@@ -382,7 +390,7 @@ fn vertices_are_told_to_be_triples(rt: HostRuntime) {
     }
 }
 
-fn has_triples(feature: &CompactDocument) -> bool {
+fn has_triples(feature: &DocumentText) -> bool {
     feature.triples.from < feature.triples.end
 }
 

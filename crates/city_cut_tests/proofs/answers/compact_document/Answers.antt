@@ -2,16 +2,16 @@ use Rattle.std.proofs.Common.{◌∙◌, subst, sym}
 use Rattle.city_json.proofs.SpelledWritable.{spelled_writable}
 use Rattle.city_json.specs.Tree.{object}
 use Rattle.city_json.specs.Triples.{HasTriples}
-use Rattle.city_cut_tests.proofs.answers.given.Goals as goal
+use Rattle.city_cut_tests.proofs.answers.compact_document.Goals as goal
 
 pub returns : goal.returns
 returns c =
     let (members, spells, fits, shallow, written, are) = c.in_ok-object.ensures.object in
-    let same = c.in_ok-ok.ensures in (
+    let same = c.in-Ok.ensures in (
       members,
       record {
         is = same ∙ written;
-        writable = spelled_writable c.args.document.now (object members) spells;
+        writable = spelled_writable c.args.text.now (object members) spells;
         distinct = fits.1;
         within = fits.0;
       },
