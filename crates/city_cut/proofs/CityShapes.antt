@@ -4,7 +4,7 @@ use Rattle.std.proofs.lemmas.List.{take_more}
 use Rattle.city_json.specs.Members.{first_named}
 use Rattle.city_json.specs.Parts.{AreParts}
 use Rattle.city_json.specs.Tree.{Tree, MemberTrees, array, no_items, null, object, member_trees}
-use Rattle.city_json.specs.declared.compacting.places.Part.{Part}
+use Rattle.city_json.specs.declared.compacting.places.MemberPlace.{MemberPlace}
 use Rattle.city_feature.specs.Shapes.{IsObject, WhereThere}
 use Rattle.city_feature.specs.Texts.{IsCompactOf}
 use Rattle.city_cut.specs.Chosen.{named_at}
@@ -48,16 +48,16 @@ by_children is answer members test so last = (
 
 -- ---- all of them
 -- whatever value has this text, it is an object of which the members lie in these parts
-abbrev pub IsListed : List ℕ → List Part → Type 0
+abbrev pub IsListed : List ℕ → List MemberPlace → Type 0
 IsListed text parts = (value : Tree) → IsCompactOf text value
     → (members : MemberTrees) × (value ≡ object members) × AreParts 1 parts members
 
 -- those of the first `at` parts are city objects
-abbrev pub AreChecked : List ℕ → List Part → ℕ → Type 0
+abbrev pub AreChecked : List ℕ → List MemberPlace → ℕ → Type 0
 AreChecked text parts at = (pairs : List (List ℕ × Tree)) → IsCompactOf text (object (member_trees pairs))
     → AreParts 1 parts (member_trees pairs) → AreCityObjects (member_trees (take at pairs))
 
-pub checked_none : (text : List ℕ) (parts : List Part) → AreChecked text parts 0
+pub checked_none : (text : List ℕ) (parts : List MemberPlace) → AreChecked text parts 0
 checked_none text parts pairs of are = tt
 
 city_push : (pairs : List (List ℕ × Tree)) (pair : List ℕ × Tree) → AreCityObjects (member_trees pairs)
@@ -66,12 +66,12 @@ city_push [] pair all one = (one, tt)
 city_push (p ∷ ps) pair all one = (all.0, city_push ps pair all.1 one)
 
 -- the value that lies in a part of a text
-pub record IsValueAt (text given : List ℕ) (parts : List Part) (at : ℕ) : Type 0 where
-  pub part : Part
+pub record IsValueAt (text given : List ℕ) (parts : List MemberPlace) (at : ℕ) : Type 0 where
+  pub part : MemberPlace
   pub within : at < length parts
   pub lies : given ≡ slice_range text (get_or parts at part).value (get_or parts at part).end
 
-pub checked_more : (text given : List ℕ) (parts : List Part) (at : ℕ) (is : Bool) → AreChecked text parts at
+pub checked_more : (text given : List ℕ) (parts : List MemberPlace) (at : ℕ) (is : Bool) → AreChecked text parts at
     → IsValueAt text given parts at
     → ((value : Tree) → IsCompactOf given value → IsTrue is ↔ IsCityObject value) → is ≡ true
     → AreChecked text parts (at + 1)
@@ -106,7 +106,7 @@ other_holds text is test none value of = (
   λ holds. absurd (not_both is ((test value of).1 (subst IsObject (sym holds.1) tt)) none),
 )
 
-pub one_is_none : (text given : List ℕ) (parts : List Part) (at : ℕ) (is : Bool)
+pub one_is_none : (text given : List ℕ) (parts : List MemberPlace) (at : ℕ) (is : Bool)
     → IsListed text parts
     → IsValueAt text given parts at
     → ((value : Tree) → IsCompactOf given value → IsTrue is ↔ IsCityObject value) → is ≡ false
@@ -120,7 +120,7 @@ one_is_none text given parts at is listed here test none value of = (
       absurd (not_both is ((test (named_at all.pairs at).1 there.2).1 city) none),
 )
 
-pub all_hold : (text : List ℕ) (parts : List Part) (at : ℕ)
+pub all_hold : (text : List ℕ) (parts : List MemberPlace) (at : ℕ)
     → IsListed text parts
     → AreChecked text parts at → length parts ≤ at → (value : Tree) → IsCompactOf text value
     → IsTrue true ↔ HoldsCityObjects value

@@ -7,7 +7,7 @@ use Rattle.city_json.specs.Compact.{compact, quoted}
 use Rattle.city_json.specs.Members.{first_named}
 use Rattle.city_json.specs.Parts.{AreParts, IsPartNamed}
 use Rattle.city_json.specs.Tree.{Tree, MemberTrees, object}
-use Rattle.city_json.specs.declared.compacting.places.Part.{Part}
+use Rattle.city_json.specs.declared.compacting.places.MemberPlace.{MemberPlace}
 use Rattle.city_feature.specs.Texts.{IsCompactOf}
 use Rattle.city_cut.specs.Boundaries.{IsBounded, boundaries, changed_members, relabelled_addresses, relabelled_geometries, relabelled_object}
 use Rattle.city_cut.specs.Holders.{AreHeld, held_uses, name_of, other_than, relabelled_held}
@@ -57,9 +57,9 @@ TwoNoted holder count noted line split noted' line' members =
 
 -- how many leaves are noted where the first member was copied
 noted_first : (holder : Holder) (count : ℕ) (text given : List ℕ) (n : NotedLeaves) (line : List ℕ) (n₁ : NotedLeaves)
-    (line₁ : List ℕ) (part : Part) → given ≡ slice_range text part.value part.end
+    (line₁ : List ℕ) (part : MemberPlace) → given ≡ slice_range text part.value part.end
     → ((value : Tree) → IsCompactOf given value → HeldMade NoteLabelled holder count n line n₁ line₁ value)
-    → (parts : List Part) (members : MemberTrees) → IsCompactOf text (object members) → AreParts 1 parts members
+    → (parts : List MemberPlace) (members : MemberTrees) → IsCompactOf text (object members) → AreParts 1 parts members
     → IsPartNamed text parts (quoted (name_of holder) ++ colon ∷ []) part → (value : Tree)
     → first_named (name_of holder) members ≡ Some value
     → length n₁.leaves.items ≡ length n.leaves.items + length (held_uses holder value)
@@ -78,7 +78,7 @@ noted_first holder count text given n line n₁ line₁ part lies made parts mem
 
 pub two_noted : (holder : Holder) (count : ℕ) (text given middle given₂ : List ℕ) (n : NotedLeaves)
     (line line₁ : List ℕ) (n₁ : NotedLeaves) (line₂ line₃ : List ℕ) (n₂ : NotedLeaves) (line₄ line₅ : List ℕ)
-    (p q : Part) (split : ℕ)
+    (p q : MemberPlace) (split : ℕ)
     → given ≡ slice_range text p.value p.end → middle ≡ slice_range text p.end q.value
     → given₂ ≡ slice_range text q.value q.end → p.end ≤ q.value
     → line₁ ≡ line ++ take p.value text → ((value : Tree) → IsCompactOf given value
@@ -86,7 +86,7 @@ pub two_noted : (holder : Holder) (count : ℕ) (text given middle given₂ : Li
     → ((value : Tree) → IsCompactOf given₂ value
     → HeldMade NoteLabelled (other_than holder) count n₁ line₃ n₂ line₄ value)
     → line₅ ≡ line₄ ++ drop q.end text → split ≡ length n₁.leaves.items
-    → (parts : List Part) (members : MemberTrees) → IsCompactOf text (object members) → AreParts 1 parts members
+    → (parts : List MemberPlace) (members : MemberTrees) → IsCompactOf text (object members) → AreParts 1 parts members
     → IsPartNamed text parts (quoted (name_of holder) ++ colon ∷ []) p
     → IsPartNamed text parts (quoted (name_of (other_than holder)) ++ colon ∷ []) q
     → TwoNoted holder count n.leaves.items line split n₂.leaves.items line₅ members

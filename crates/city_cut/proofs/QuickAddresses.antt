@@ -7,7 +7,7 @@ use Rattle.city_json.specs.Compact.{compact, quoted}
 use Rattle.city_json.specs.Members.{first_named, member_of}
 use Rattle.city_json.specs.Parts.{AreParts, IsPartNamed}
 use Rattle.city_json.specs.Tree.{Tree, null, boolean, number, string, array, object, MemberTrees}
-use Rattle.city_json.specs.declared.compacting.places.Part.{Part}
+use Rattle.city_json.specs.declared.compacting.places.MemberPlace.{MemberPlace}
 use Rattle.city_feature.proofs.QuickLines.{utf8}
 use Rattle.city_feature.specs.Changes.{with_named}
 use Rattle.city_cut.specs.Boundaries.{IsAddress, IsGeometry, address_boundary, changed_members, in_member, located, own_boundary, relabelled_boundary}
@@ -57,7 +57,7 @@ module _ {S : Type 0} {L : Labelling S} (count : ℕ) (text : List ℕ) (s : S) 
   address_absent members of none = address_stays (object members) of (ap located none)
       (λ change. ap object (changed_absent (codes "location") (relabelled_boundary change) members none))
 
-  pub address_bare : (given : List ℕ) (parts : List Part) (part : Part) (members : MemberTrees)
+  pub address_bare : (given : List ℕ) (parts : List MemberPlace) (part : MemberPlace) (members : MemberTrees)
       → IsCompactOf text (object members) → AreParts 1 parts members
       → IsPartNamed text parts (quoted (codes "location") ++ colon ∷ []) part
       → given ≡ slice_range text part.value part.end → (0 < length given → get_or given 0 0 ≡ open_brace → ⊥)
@@ -73,7 +73,7 @@ module _ {S : Type 0} {L : Labelling S} (count : ℕ) (text : List ℕ) (s : S) 
       ∙ with_same (codes "location") found.value members found.is)))
 
 pub address_made : {S : Type 0} {L : Labelling S} (count : ℕ) (text given : List ℕ) (s : S) (line line₁ : List ℕ)
-    (s' : S) (line₂ line₃ : List ℕ) (parts : List Part) (part : Part)
+    (s' : S) (line₂ line₃ : List ℕ) (parts : List MemberPlace) (part : MemberPlace)
     (members : MemberTrees) → IsCompactOf text (object members) → AreParts 1 parts members
     → IsPartNamed text parts (quoted (codes "location") ++ colon ∷ []) part
     → given ≡ slice_range text part.value part.end

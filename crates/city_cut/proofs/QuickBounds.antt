@@ -4,7 +4,7 @@ use Rattle.std.specs.List.{AllByRecursion}
 use Rattle.city_json.specs.Members.{first_named}
 use Rattle.city_json.specs.Parts.{AreParts}
 use Rattle.city_json.specs.Tree.{Tree, MemberTrees, member_trees, object}
-use Rattle.city_json.specs.declared.compacting.places.Part.{Part}
+use Rattle.city_json.specs.declared.compacting.places.MemberPlace.{MemberPlace}
 use Rattle.city_feature.specs.Shapes.{IsArray, WhereThere}
 use Rattle.city_feature.specs.Texts.{IsCompactOf}
 use Rattle.city_cut.specs.Boundaries.{IsAddress, IsBounded, IsGeometry}
@@ -29,10 +29,10 @@ held_in Address count members value is bounded =
     (tt, subst (λ there. AllByRecursion (IsAddress count) (items_of there)) is bounded.2)
 
 -- a member of an object is at fault, so the object is
-pub part_wrong : (holder : Holder) (count : ℕ) (text given : List ℕ) (part : Part) (found : Option Part)
+pub part_wrong : (holder : Holder) (count : ℕ) (text given : List ℕ) (part : MemberPlace) (found : Option MemberPlace)
     → found ≡ Some part → given ≡ slice_range text part.value part.end
     → ((value : Tree) → IsCompactOf given value → AreHeld holder count value → ⊥)
-    → (parts : List Part) → IsHolderPart holder text parts found → (members : MemberTrees)
+    → (parts : List MemberPlace) → IsHolderPart holder text parts found → (members : MemberTrees)
     → IsCompactOf text (object members) → AreParts 1 parts members → IsBounded count (object members) → ⊥
 part_wrong holder count text given part found there lies wrong parts told members of are bounded =
     let lying = member_there text parts members (name_of holder) part given (name_utf8 holder) of are
@@ -46,12 +46,12 @@ all_at P (p ∷ ps) zero all within = all.0
 all_at P (p ∷ ps) (suc k) all within = all_at P ps k all.1 (omega (arith, within))
 
 -- the object at a place is at fault, so the objects are
-pub object_wrong : (count : ℕ) (text given : List ℕ) (places : List Part) (at : ℕ) (part d : Part)
+pub object_wrong : (count : ℕ) (text given : List ℕ) (places : List MemberPlace) (at : ℕ) (part d : MemberPlace)
     → at < length places → part ≡ get_or places at d → given ≡ slice_range text part.value part.end
     → ((value : Tree) → IsCompactOf given value → IsBounded count value → ⊥) → (pairs : List (List ℕ × Tree))
     → IsCompactOf text (object (member_trees pairs)) → AreParts 1 places (member_trees pairs)
     → AllByRecursion (IsBounded count) (values (member_trees pairs)) → ⊥
 object_wrong count text given places at part d within here lies wrong pairs of are all =
     let there = value_there text given places at d pairs within
-    (lies ∙ ap (λ (p : Part). slice_range text p.value p.end) here) of are in
+    (lies ∙ ap (λ (p : MemberPlace). slice_range text p.value p.end) here) of are in
     wrong (named_at pairs at).1 there.2 (all_at (IsBounded count) pairs at all there.0)

@@ -11,7 +11,7 @@ use Rattle.city_json.specs.Grammar.{Spells}
 use Rattle.city_json.specs.Members.{first_named, member_of}
 use Rattle.city_json.specs.Parts.{AreParts, IsPartNamed}
 use Rattle.city_json.specs.Tree.{Tree, array, object, ItemTrees, no_items, item, MemberTrees, no_members, member, member_trees}
-use Rattle.city_json.specs.declared.compacting.places.Part.{Part}
+use Rattle.city_json.specs.declared.compacting.places.MemberPlace.{MemberPlace}
 use Rattle.city_grid.specs.Axes.{Triple}
 use Rattle.city_grid.specs.Transform.{Grid}
 use Rattle.city_feature.proofs.QuickLines.{utf8}
@@ -53,7 +53,7 @@ members_or (Some value) members is = (subst IsObject (sym is) tt, ap (λ v. memb
 tail_regroup : (a v b : List ℕ) → (comma ∷ ((a ++ colon ∷ v) ++ [])) ++ b ≡ (comma ∷ (a ++ colon ∷ [])) ++ (v ++ b)
 tail_regroup a v b = ap (λ l. (comma ∷ l) ++ b) (append-nil (a ++ colon ∷ v)) ∙ simp append_assoc
 
-pub tail_there : (text given : List ℕ) (parts : List Part) (part : Part) (members : MemberTrees)
+pub tail_there : (text given : List ℕ) (parts : List MemberPlace) (part : MemberPlace) (members : MemberTrees)
     (none line₁ line₂ line₃ : List ℕ) → IsCompactOf text (object members) → AreParts 1 parts members
     → IsPartNamed text parts (quoted (codes "appearance") ++ colon ∷ []) part
     → given ≡ slice_range text part.value part.end
@@ -153,13 +153,13 @@ whole document value grid objects items points appearance features distinct has 
     )
 
 -- ---- the city objects
-pub record ObjectsThere (objects : List ℕ) (places : List Part) (value : Tree) : Type 0 where
+pub record ObjectsThere (objects : List ℕ) (places : List MemberPlace) (value : Tree) : Type 0 where
   pub pairs : List (List ℕ × Tree)
   pub is : value ≡ object (member_trees pairs)
   pub of : IsCompactOf objects (object (member_trees pairs))
   pub are : AreParts 1 places (member_trees pairs)
 
-pub listed_there : (objects : List ℕ) (places : List Part) (value : Tree)
+pub listed_there : (objects : List ℕ) (places : List MemberPlace) (value : Tree)
     → ((v : Tree) → IsCompactOf objects v → (members : MemberTrees) × (v ≡ object members) × AreParts 1 places members)
     → IsCompactOf objects value → ObjectsThere objects places value
 listed_there objects places value listed of =
@@ -172,7 +172,7 @@ listed_there objects places value listed of =
       are = subst (AreParts 1 places) (sym (pairs_are inner)) placed;
     }
 
-pub objects_there : (objects : List ℕ) (places : List Part) (value : Tree) → IsCompactOf objects value
+pub objects_there : (objects : List ℕ) (places : List MemberPlace) (value : Tree) → IsCompactOf objects value
     → HasParts objects places → ObjectsThere objects places value
 objects_there objects places value of listed =
     listed_there objects places value (λ v fits. listed v fits.writable fits.within fits.is) of

@@ -10,7 +10,7 @@ use Rattle.city_json.specs.CompactMembers.{HasParts}
 use Rattle.city_json.specs.Members.{first_named, member_of, names}
 use Rattle.city_json.specs.Parts.{AreParts}
 use Rattle.city_json.specs.Tree.{Tree, ItemTrees, MemberTrees, array, no_items, no_members, member_trees, null, object, string}
-use Rattle.city_json.specs.declared.compacting.places.Part.{Part}
+use Rattle.city_json.specs.declared.compacting.places.MemberPlace.{MemberPlace}
 use Rattle.city_grid.specs.Axes.{Triple}
 use Rattle.city_grid.specs.Transform.{Grid}
 use Rattle.city_feature.specs.Feature.{AreVertices, RefusesFirst, item_count}
@@ -37,7 +37,7 @@ use Rattle.city_cut.proofs.QuickGraphs.{names_utf8, quoted_names, related}
 use Rattle.city_cut.proofs.QuickOverviews.{said_all}
 
 -- ---- the objects that are in a text
-pub related_there : (text : List ℕ) (places listed : List Part) (parents : List Bool)
+pub related_there : (text : List ℕ) (places listed : List MemberPlace) (parents : List Bool)
     (given lent : List (Bor (List ℕ))) (graph : List (List ℕ)) (table sorted : List (Bor (List ℕ) × ℕ))
     (value : Tree) → HasParts text places → AllZip (HasParentsIn text) places parents
     → AllZip (HasChildrenIn text) places given → listed ≡ places → lent ≡ given → sorted ≡ table
@@ -85,7 +85,7 @@ zip_within R (x ∷ xs) (y ∷ ys) zero zip within = omega arith
 zip_within R (x ∷ xs) (y ∷ ys) (suc k) zip within =
     let later = zip_within R xs ys k zip.1 (omega (arith, within)) in omega (arith, later)
 
-pub child_missing : (text : List ℕ) (places : List Part) (given : List (Bor (List ℕ)))
+pub child_missing : (text : List ℕ) (places : List MemberPlace) (given : List (Bor (List ℕ)))
     (table : List (Bor (List ℕ) × ℕ)) (pairs : List (List ℕ × Tree)) → AllZip (HasChildrenIn text) places given
     → IsTable (map (λ (pair : List ℕ × Tree). quoted pair.0) pairs) table
     → ((all : List (List ℕ)) → AllByRecursion IsUtf8 all → IsTable (map quoted all) table → SomeNamesMissing all given)

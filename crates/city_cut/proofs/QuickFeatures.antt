@@ -13,7 +13,7 @@ use Rattle.byte_streams.specs.Limits.{max_depth}
 use Rattle.city_json.specs.Parts.{AreParts, HasMember}
 use Rattle.city_json.specs.Tree.{Tree, member_trees, object}
 use Rattle.city_json.specs.Writable.{AreWritableMembers}
-use Rattle.city_json.specs.declared.compacting.places.Part.{Part}
+use Rattle.city_json.specs.declared.compacting.places.MemberPlace.{MemberPlace}
 use Rattle.city_grid.specs.Axes.{Triple, triple}
 use Rattle.city_feature.specs.Feature.{FeatureValue, vertices_tree}
 use Rattle.city_cut.specs.Boundaries.{IsBounded, boundaries, relabelled_object, relabelled_objects, uses}
@@ -60,8 +60,8 @@ value_fits (p ∷ ps) (suc k) name text value has writable distinct within is =
 named_split : (name value : List ℕ) → (name ++ colon ∷ []) ++ value ≡ name ++ colon ∷ value
 named_split name value = simp append_assoc
 
-pub named_made : (count : ℕ) (text name given t o line line₁ t' o' line₂ : List ℕ) (parts : List Part) (at : ℕ)
-    (part d : Part) (pairs : List (List ℕ × Tree)) → at < length parts → part ≡ get_or parts at d
+pub named_made : (count : ℕ) (text name given t o line line₁ t' o' line₂ : List ℕ) (parts : List MemberPlace) (at : ℕ)
+    (part d : MemberPlace) (pairs : List (List ℕ × Tree)) → at < length parts → part ≡ get_or parts at d
     → name ≡ slice_range text part.at part.value → given ≡ slice_range text part.value part.end
     → line₁ ≡ line ++ name → ((value : Tree) → IsCompactOf given value → ObjectMade count t o line₁ t' o' line₂ value)
     → IsCompactOf text (object (member_trees pairs)) → AreParts 1 parts (member_trees pairs)
@@ -74,10 +74,10 @@ named_made count text name given t o line line₁ t' o' line₂ parts at part d 
     let whole = compact (object (member_trees pairs)) in
     let given_is : given ≡ compact found.value =
     lies ∙ (ap (λ l. slice_range l part.value part.end) of.is
-    ∙ (ap (λ (p : Part). slice_range (compact (object (member_trees pairs))) p.value p.end) here ∙ found.valued)) in
+    ∙ (ap (λ (p : MemberPlace). slice_range (compact (object (member_trees pairs))) p.value p.end) here ∙ found.valued)) in
     let name_is : name ≡ quoted found.name ++ colon ∷ [] =
     named ∙ (ap (λ l. slice_range l part.at part.value) of.is
-    ∙ (ap (λ (p : Part). slice_range (compact (object (member_trees pairs))) p.at p.value) here ∙ found.named)) in
+    ∙ (ap (λ (p : MemberPlace). slice_range (compact (object (member_trees pairs))) p.at p.value) here ∙ found.named)) in
     let fits = value_fits pairs at found.name given found.value found.has of.writable of.distinct.1
     (omega (arith, of.within)) given_is in
     let inner = made (named_at pairs at).1 fits.2 in
@@ -176,7 +176,7 @@ pub first_and_others : (places : List ℕ) → 1 ≤ length places
 first_and_others [] some = absurd (omega (arith, some))
 first_and_others (p ∷ ps) some = ap (λ l. p ∷ l) (take_all (length (p ∷ ps) - 1) ps (omega arith))
 
-pub name_there : (text name : List ℕ) (parts : List Part) (at : ℕ) (d : Part) (pairs : List (List ℕ × Tree))
+pub name_there : (text name : List ℕ) (parts : List MemberPlace) (at : ℕ) (d : MemberPlace) (pairs : List (List ℕ × Tree))
     → at < length parts → name ≡ slice_range text (get_or parts at d).at (get_or parts at d).value
     → IsCompactOf text (object (member_trees pairs)) → AreParts 1 parts (member_trees pairs)
     → name ≡ quoted (named_at pairs at).0 ++ colon ∷ []
@@ -193,7 +193,7 @@ utf8_at [] k within all = absurd (omega (arith, within))
 utf8_at (p ∷ ps) zero within all = all.0
 utf8_at (p ∷ ps) (suc k) within all = utf8_at ps k (omega (arith, within)) all.2
 
-pub value_there : (text given : List ℕ) (parts : List Part) (at : ℕ) (d : Part) (pairs : List (List ℕ × Tree))
+pub value_there : (text given : List ℕ) (parts : List MemberPlace) (at : ℕ) (d : MemberPlace) (pairs : List (List ℕ × Tree))
     → at < length parts → given ≡ slice_range text (get_or parts at d).value (get_or parts at d).end
     → IsCompactOf text (object (member_trees pairs)) → AreParts 1 parts (member_trees pairs) → (at < length pairs)
     × IsUtf8 (named_at pairs at).0 × IsCompactOf given (named_at pairs at).1
@@ -204,7 +204,7 @@ value_there text given parts at d pairs within lies of are =
     of.is ∙ found.valued)) in
     (fits.0, utf8_at pairs at fits.0 of.writable, fits.2)
 
-pub as_many_parts : (front : ℕ) (parts : List Part) (pairs : List (List ℕ × Tree))
+pub as_many_parts : (front : ℕ) (parts : List MemberPlace) (pairs : List (List ℕ × Tree))
     → AreParts front parts (member_trees pairs) → length parts ≡ length pairs
 as_many_parts front [] [] are = refl
 as_many_parts front [] (x ∷ xs) are = absurd are

@@ -12,7 +12,7 @@ use Rattle.city_json.specs.Members.{first_named}
 use Rattle.city_json.specs.Parts.{AreParts, IsPartNamed}
 use Rattle.city_json.specs.Tree.{Tree, null, boolean, number, string, array, object, MemberTrees}
 use Rattle.city_json.specs.Writable.{IsWritable}
-use Rattle.city_json.specs.declared.compacting.places.Part.{Part}
+use Rattle.city_json.specs.declared.compacting.places.MemberPlace.{MemberPlace}
 use Rattle.city_feature.proofs.QuickLines.{utf8}
 use Rattle.city_cut.specs.Boundaries.{IsGeometry, changed_members, own_boundary, relabelled_boundary}
 use Rattle.city_cut.specs.Copied.{CopiesItems, CopiesPart}
@@ -71,7 +71,7 @@ geometry_absent count text s line line' members is none appended =
     )
 
 pub geometry_made : {S : Type 0} {L : Labelling S} (count : ℕ) (text given : List ℕ) (s : S) (line line₁ : List ℕ)
-    (s' : S) (line₂ line₃ : List ℕ) (parts : List Part) (part : Part)
+    (s' : S) (line₂ line₃ : List ℕ) (parts : List MemberPlace) (part : MemberPlace)
     (members : MemberTrees) → IsCompactOf text (object members) → AreParts 1 parts members
     → IsPartNamed text parts (quoted (codes "boundaries") ++ colon ∷ []) part
     → given ≡ slice_range text part.value part.end
@@ -115,10 +115,10 @@ drop_of_front text stop from order =
 
 pub walked : (text name : List ℕ) (value end stop : ℕ) (there : IsValuePlace text name value)
     → LeavesValue 128 (drop value text) (drop end text) → end < length text → EndsAfter text end stop
-    → (parts : List Part) × IsPartNamed text parts name (record { at = there.at; value = value; end = end })
+    → (parts : List MemberPlace) × IsPartNamed text parts name (record { at = there.at; value = value; end = end })
     × HasFrontParts text parts stop
 walked text name value end stop there leaves inside ends =
-    let part : Part = record { at = there.at; value = value; end = end } in
+    let part : MemberPlace = record { at = there.at; value = value; end = end } in
     let found = ends (there.parts ++ part ∷ []) (record {
       at = there.at;
       before = there.parts;
@@ -161,7 +161,7 @@ part_leaves count b after s line s' line' copied = λ value rest w shallow stopp
 
 module _ {S : Type 0} {L : Labelling S} (count : ℕ) (text : List ℕ) (s : S) (line : List ℕ) (s' : S)
     (line' line₃ : List ℕ) (at value end stop from : ℕ)
-    (parts : List Part)
+    (parts : List MemberPlace)
     (named : IsPartNamed text parts (quoted (codes "boundaries") ++ colon ∷ [])
     (record { at = at; value = value; end = end }))
     (front : HasFrontParts text parts stop) (begins : at ≤ value) (inside : value < length text)
@@ -198,7 +198,7 @@ module _ {S : Type 0} {L : Labelling S} (count : ℕ) (text : List ℕ) (s : S) 
 
   pub walked_made : (v : Tree) → IsCompactOf (take stop text) v → GeometryMade L count s line s' line₃ v
   walked_made v of =
-      let part : Part = record { at = at; value = value; end = end } in
+      let part : MemberPlace = record { at = at; value = value; end = end } in
       let (members, is_object, are, left) = front v (drop stop text) of.writable of.within
       (sym (take-append-drop stop text) ∙ ap (λ l. l ++ drop stop text) of.is) in
       let of_object : IsCompactOf (take stop text) (object members) =

@@ -10,7 +10,7 @@ use Rattle.city_json.specs.Members.{member_of, names}
 use Rattle.city_json.specs.Parts.{AreParts}
 use Rattle.city_json.specs.Tree.{Tree, null, boolean, number, string, array, object, no_items, member_trees}
 use Rattle.city_json.specs.Writable.{AreWritableMembers}
-use Rattle.city_json.specs.declared.compacting.places.Part.{Part}
+use Rattle.city_json.specs.declared.compacting.places.MemberPlace.{MemberPlace}
 use Rattle.city_feature.specs.Shapes.{WhereThere}
 use Rattle.city_cut.specs.Chosen.{named_at}
 use Rattle.city_cut.specs.CityObjects.{AreCityObjects, AreTexts, children, has_parents}
@@ -284,7 +284,7 @@ names_utf8 [] w = tt
 names_utf8 (p ∷ ps) w = (w.0, names_utf8 ps w.2)
 
 -- the objects have these children, and of them these have parents
-pub related : (text : List ℕ) (places : List Part) (parents : List Bool) (given : List (Bor (List ℕ)))
+pub related : (text : List ℕ) (places : List MemberPlace) (parents : List Bool) (given : List (Bor (List ℕ)))
     (graph : List (List ℕ)) (pairs : List (List ℕ × Tree)) (table : List (Bor (List ℕ) × ℕ))
     → AllZip (HasParentsIn text) places parents → AllZip (HasChildrenIn text) places given
     → IsTable (map (λ (pair : List ℕ × Tree). quoted pair.0) pairs) table

@@ -11,7 +11,7 @@ use Rattle.city_json.specs.Members.{first_named, member_of}
 use Rattle.city_json.specs.Parts.{AreParts, with_value, IsPartNamed}
 use Rattle.city_json.specs.Tree.{Tree, array, no_items, object, MemberTrees, no_members, member}
 use Rattle.city_json.specs.Writable.{AreWritableMembers, IsWritable}
-use Rattle.city_json.specs.declared.compacting.places.Part.{Part}
+use Rattle.city_json.specs.declared.compacting.places.MemberPlace.{MemberPlace}
 use Rattle.city_feature.proofs.QuickLines.{utf8}
 use Rattle.city_feature.specs.Changes.{changed_member, changed_named, without_named}
 use Rattle.city_cut.specs.Boundaries.{changed_members}
@@ -102,7 +102,7 @@ compact_changed text given name value members of writable distinct low is =
     }
 
 -- ---- exchanged in the text
-pub exchanged_there : (text none line₁ line₂ line₃ given marked name : List ℕ) (parts : List Part) (part : Part)
+pub exchanged_there : (text none line₁ line₂ line₃ given marked name : List ℕ) (parts : List MemberPlace) (part : MemberPlace)
     (members : MemberTrees) (value : Tree) → IsCompactOf text (object members) → AreParts 1 parts members
     → IsUtf8 name → marked ≡ quoted name ++ colon ∷ [] → IsPartNamed text parts marked part → given ≡ compact value
     → none ≡ [] → line₁ ≡ none ++ take part.value text → line₂ ≡ line₁ ++ given → line₃ ≡ line₂ ++ drop part.end text
@@ -124,7 +124,7 @@ exchanged_absent text none line name members value of absent empty is =
     ∙ ap compact (sym (none_is_unchanged name (λ old. value) (object members) (ap is_some absent)))))
 
 -- where it was not known in which parts the members lie
-pub exchanged_anew : (text line name : List ℕ) (parts passed : List Part) (members : MemberTrees) (new : Tree)
+pub exchanged_anew : (text line name : List ℕ) (parts passed : List MemberPlace) (members : MemberTrees) (new : Tree)
     → IsCompactOf text (object members)
     → ((of : Tree) → IsCompactOf text of → (members₂ : MemberTrees) × (of ≡ object members₂)
     × AreParts 1 parts members₂) → passed ≡ parts
@@ -182,10 +182,10 @@ same_changed : (name : List ℕ) (new old : Tree) (members : MemberTrees) → Ha
 same_changed name new old members differ is = changed_with name (λ old. new) old members differ is
     ∙ ap (λ t. members_in (Some t)) (set_is_changed name new (object members) (ap is_some is))
 
-pub both_exchanged : (text line₀ line₁ line₂ line₃ line₄ line₅ value middle other : List ℕ) (p q : Part)
+pub both_exchanged : (text line₀ line₁ line₂ line₃ line₄ line₅ value middle other : List ℕ) (p q : MemberPlace)
     → middle ≡ slice_range text p.end q.value → p.end ≤ q.value → line₀ ≡ [] → line₁ ≡ line₀ ++ take p.value text
     → line₂ ≡ line₁ ++ value → line₃ ≡ line₂ ++ middle → line₄ ≡ line₃ ++ other → line₅ ≡ line₄ ++ drop q.end text
-    → (parts : List Part) (members : MemberTrees) (n m : List ℕ) (new next : Tree) → IsCompactOf text (object members)
+    → (parts : List MemberPlace) (members : MemberTrees) (n m : List ℕ) (new next : Tree) → IsCompactOf text (object members)
     → AreParts 1 parts members → IsUtf8 n → IsUtf8 m → bytes_eq n m ≡ false
     → IsPartNamed text parts (quoted n ++ colon ∷ []) p → IsPartNamed text parts (quoted m ++ colon ∷ []) q
     → value ≡ compact new → other ≡ compact next

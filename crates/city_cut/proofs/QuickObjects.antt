@@ -9,7 +9,7 @@ use Rattle.city_json.specs.Compact.{compact, quoted}
 use Rattle.city_json.specs.Members.{first_named}
 use Rattle.city_json.specs.Parts.{AreParts, IsPartNamed}
 use Rattle.city_json.specs.Tree.{Tree, MemberTrees, object}
-use Rattle.city_json.specs.declared.compacting.places.Part.{Part}
+use Rattle.city_json.specs.declared.compacting.places.MemberPlace.{MemberPlace}
 use Rattle.city_feature.proofs.QuickLines.{utf8}
 use Rattle.city_cut.specs.Boundaries.{IsBounded, address_boundary, boundaries, changed_members, own_boundary, relabelled_addresses, relabelled_geometries, relabelled_object}
 use Rattle.city_cut.specs.Copied.{Copies, Numbers}
@@ -114,11 +114,11 @@ OneMade L holder count s line s' line' members =
     (λ change. compact (object (changed_members (name_of holder) (relabelled_held holder change) members)))
 
 pub one_made : {S : Type 0} {L : Labelling S} (holder : Holder) (count : ℕ) (text given : List ℕ) (s : S)
-    (line line₁ : List ℕ) (s' : S) (line₂ line₃ : List ℕ) (part : Part)
+    (line line₁ : List ℕ) (s' : S) (line₂ line₃ : List ℕ) (part : MemberPlace)
     → given ≡ slice_range text part.value part.end → line₁ ≡ line ++ take part.value text
     → ((value : Tree) → IsCompactOf given value → HeldMade L holder count s line₁ s' line₂ value)
     → line₃ ≡ line₂ ++ drop part.end text
-    → (parts : List Part) (members : MemberTrees) → IsCompactOf text (object members) → AreParts 1 parts members
+    → (parts : List MemberPlace) (members : MemberTrees) → IsCompactOf text (object members) → AreParts 1 parts members
     → IsPartNamed text parts (quoted (name_of holder) ++ colon ∷ []) part
     → OneMade L holder count s line s' line₃ members
 one_made holder count text given s line line₁ s' line₂ line₃ part lies front made back parts members of are named =
@@ -140,10 +140,10 @@ NumberedMade holder t o t' o' members = (value : Tree) → first_named (name_of 
     → Numbers t o t' o' (held_uses holder value)
 
 pub numbered_made : (holder : Holder) (count : ℕ) (text given : List ℕ) (n : Numbering) (line : List ℕ) (n' : Numbering)
-    (line₁ line₂ : List ℕ) (part : Part) → given ≡ slice_range text part.value part.end
+    (line₁ line₂ : List ℕ) (part : MemberPlace) → given ≡ slice_range text part.value part.end
     → ((value : Tree) → IsCompactOf given value → HeldMade NumberLabelled holder count n line n' line₁ value)
     → line₂ ≡ take (length line) line₁
-    → (parts : List Part) (members : MemberTrees) → IsCompactOf text (object members) → AreParts 1 parts members
+    → (parts : List MemberPlace) (members : MemberTrees) → IsCompactOf text (object members) → AreParts 1 parts members
     → IsPartNamed text parts (quoted (name_of holder) ++ colon ∷ []) part → (line₂ ≡ line)
     × NumberedMade holder n.table.items n.order.items n'.table.items n'.order.items members
 numbered_made holder count text given n line n' line₁ line₂ part lies made back parts members of are named =
@@ -178,14 +178,14 @@ five a b c d e = simp append_assoc
 
 pub two_made : {S : Type 0} {L : Labelling S} (holder : Holder) (count : ℕ)
     (text given middle given₂ : List ℕ) (s : S) (line line₁ : List ℕ) (s₁ : S) (line₂ line₃ : List ℕ) (s₂ : S)
-    (line₄ line₅ : List ℕ) (p q : Part)
+    (line₄ line₅ : List ℕ) (p q : MemberPlace)
     → given ≡ slice_range text p.value p.end → middle ≡ slice_range text p.end q.value
     → given₂ ≡ slice_range text q.value q.end → p.end ≤ q.value
     → line₁ ≡ line ++ take p.value text → ((value : Tree) → IsCompactOf given value
     → HeldMade L holder count s line₁ s₁ line₂ value) → line₃ ≡ line₂ ++ middle
     → ((value : Tree) → IsCompactOf given₂ value → HeldMade L (other_than holder) count s₁ line₃ s₂ line₄ value)
     → line₅ ≡ line₄ ++ drop q.end text
-    → (parts : List Part) (members : MemberTrees) → IsCompactOf text (object members) → AreParts 1 parts members
+    → (parts : List MemberPlace) (members : MemberTrees) → IsCompactOf text (object members) → AreParts 1 parts members
     → IsPartNamed text parts (quoted (name_of holder) ++ colon ∷ []) p
     → IsPartNamed text parts (quoted (name_of (other_than holder)) ++ colon ∷ []) q
     → TwoMade L holder count s line s₂ line₅ members
@@ -223,16 +223,16 @@ two_made holder count text given middle given₂ s line line₁ s₁ line₂ lin
     (found.value, found₂.value, found.is, found₂.is, inner.0, inner₂.0, all)
 
 -- ---- an object
-pub not_found : (holder : Holder) (text : List ℕ) (parts : List Part) (found : Option Part) → found ≡ None
+pub not_found : (holder : Holder) (text : List ℕ) (parts : List MemberPlace) (found : Option MemberPlace) → found ≡ None
     → IsHolderPart holder text parts found → IsNowhere holder text parts
 not_found holder text parts found is told = subst (IsHolderPart holder text parts) is told
 
-pub is_found : (holder : Holder) (text : List ℕ) (parts : List Part) (found : Option Part) (part : Part)
+pub is_found : (holder : Holder) (text : List ℕ) (parts : List MemberPlace) (found : Option MemberPlace) (part : MemberPlace)
     → found ≡ Some part → IsHolderPart holder text parts found → IsFoundIn holder text parts part
 is_found holder text parts found part is told = subst (IsHolderPart holder text parts) is told
 
 -- for each object, it is enough to know what is made of its members
-pub of_object : (P : Tree → Type 0) (text : List ℕ) (parts : List Part)
+pub of_object : (P : Tree → Type 0) (text : List ℕ) (parts : List MemberPlace)
     → ((value : Tree) → IsCompactOf text value → (members : MemberTrees) × (value ≡ object members)
     × AreParts 1 parts members)
     → ((members : MemberTrees) → IsCompactOf text (object members) → AreParts 1 parts members → P (object members))

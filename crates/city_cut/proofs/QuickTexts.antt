@@ -7,7 +7,7 @@ use Rattle.city_json.specs.Fits.{HasDistinctNames, IsNewName}
 use Rattle.city_json.specs.Members.{first_named}
 use Rattle.city_json.specs.Parts.{with_value}
 use Rattle.city_json.specs.Tree.{Tree, object, MemberTrees, no_members, member}
-use Rattle.city_json.specs.declared.compacting.places.Part.{Part}
+use Rattle.city_json.specs.declared.compacting.places.MemberPlace.{MemberPlace}
 pub use Rattle.city_feature.proofs.NamedTexts.{if_some_more, member_there, same_place, value_or}
 use Rattle.city_feature.specs.Changes.{with_named}
 use Rattle.city_cut.specs.Boundaries.{changed_members}
@@ -77,7 +77,7 @@ with_same name value (member other v others) is = by (bytes_eq other name) refl 
 
 -- ---- the text around a member, and its value between
 pub walks_exchanged : {S : Type 0} {L : Labelling S} (s : S) (line line₁ : List ℕ) (s' : S)
-    (line₂ line₃ text : List ℕ) (part : Part) (members : MemberTrees)
+    (line₂ line₃ text : List ℕ) (part : MemberPlace) (members : MemberTrees)
     (name : List ℕ) (value : Tree) (uses : List ℕ) (f : (List ℕ → List ℕ) → Tree → Tree)
     → HasDistinctNames members → first_named name members ≡ Some value
     → ((new : Tree) → compact (object (with_named name new members)) ≡ with_value text part (compact new))

@@ -19,7 +19,7 @@ use Rattle.city_json.specs.Fits.{AreDistinctItems, items_depth}
 use Rattle.city_json.specs.Members.{member_of}
 use Rattle.city_json.specs.Parts.{AreParts, IsPartNamed}
 use Rattle.city_json.specs.Writable.{AreWritableItems}
-use Rattle.city_json.specs.declared.compacting.places.Part.{Part}
+use Rattle.city_json.specs.declared.compacting.places.MemberPlace.{MemberPlace}
 use Rattle.city_json.specs.Tree.{Tree, null, boolean, number, string, array, object, ItemTrees, no_items, item, MemberTrees}
 use Rattle.city_feature.specs.Shapes.{IsArray}
 use Rattle.city_feature.specs.Texts.{IsCompactOf}
@@ -204,7 +204,7 @@ held_go_on P text at end onward inside marked leaves on items of =
     (after P text at end onward (omega (arith, inside)) leaves items left) inside marked
 
 -- ---- members, by their names
-pub named_there : (text given marked name : List ℕ) (parts listed : List Part) (part : Part)
+pub named_there : (text given marked name : List ℕ) (parts listed : List MemberPlace) (part : MemberPlace)
     → ((v : Tree) → IsCompactOf text v → (members : MemberTrees) × (v ≡ object members) × AreParts 1 parts members)
     → listed ≡ parts → IsPartNamed text listed marked part → given ≡ slice_range text part.value part.end
     → (value : Tree) → IsCompactOf text value → IsUtf8 name → marked ≡ quoted name ++ colon ∷ []

@@ -9,7 +9,7 @@ use Rattle.city_json.specs.Bytes.{colon}
 use Rattle.city_json.specs.Compact.{compact, quoted}
 use Rattle.city_json.specs.Parts.{AreParts}
 use Rattle.city_json.specs.Tree.{Tree, member_trees, object}
-use Rattle.city_json.specs.declared.compacting.places.Part.{Part}
+use Rattle.city_json.specs.declared.compacting.places.MemberPlace.{MemberPlace}
 use Rattle.city_feature.specs.Texts.{IsCompactOf}
 use Rattle.city_cut.specs.Boundaries.{IsBounded, boundaries, relabelled_object}
 use Rattle.city_cut.specs.Chosen.{named_at}
@@ -24,7 +24,7 @@ use Rattle.city_cut.proofs.Woven.{slice_end, slice_front, slice_middle, woven_fr
 
 -- an object whose name was written after a line, then a colon, and then its text without its leaves
 pub sketched : (count at : ℕ) (text given id : List ℕ) (noted : List LeafPlace) (line line₁ line₂ : List ℕ)
-    (noted' : List LeafPlace) (line' : List ℕ) (start : SkeletonPlace) (split : ℕ) (parts : List Part) (d : Part)
+    (noted' : List LeafPlace) (line' : List ℕ) (start : SkeletonPlace) (split : ℕ) (parts : List MemberPlace) (d : MemberPlace)
     (pairs : List (List ℕ × Tree)) → at < length parts
     → given ≡ slice_range text (get_or parts at d).value (get_or parts at d).end
     → IsCompactOf text (object (member_trees pairs)) → AreParts 1 parts (member_trees pairs)
@@ -295,7 +295,7 @@ laid_more count at noted line start noted' line' places places' pairs long pushe
 
 -- all of them
 pub laid_all : (count : ℕ) (line : List ℕ) (noted : List LeafPlace) (places : List SkeletonPlace)
-    (skeletons : SkeletonTexts) (parts : List Part) (pairs : List (List ℕ × Tree))
+    (skeletons : SkeletonTexts) (parts : List MemberPlace) (pairs : List (List ℕ × Tree))
     → AreParts 1 parts (member_trees pairs) → length places ≡ length parts → skeletons.text ≡ line
     → skeletons.leaves ≡ noted → skeletons.places ≡ places ++ place_after line noted ∷ []
     → All (λ (leaf : LeafPlace). leaf.vertex < count) noted → AreLaid count line noted places pairs

@@ -19,7 +19,7 @@ use Rattle.std.specs.Ordering.{is_eq, is_lt, nat_cmp, ordering_index, ordering_t
 use Rattle.city_json.specs.declared.json.Member.{Member}
 use Rattle.city_json.specs.Members.{names}
 use Rattle.city_json.specs.Tree.{members_tree, named_tree}
-use Rattle.city_json.specs.declared.compacting.places.Part.{Part}
+use Rattle.city_json.specs.declared.compacting.places.MemberPlace.{MemberPlace}
 use Rattle.city_cut.specs.Table.{AreFirst, IsTable, name_in, names_with, with_name, without_last}
 
 abbrev pub by_bytes : List ℕ → List ℕ → Ordering
@@ -130,7 +130,7 @@ listed_more all pairs pairs' name at listed long is here = λ k d within. rw is 
         rw front (listed k d less)
 
 -- ---- a table of which the places alone are held
-pub found_named : (names : List (List ℕ)) (text : List ℕ) (parts : List Part) (order : List ℕ) (name : List ℕ)
+pub found_named : (names : List (List ℕ)) (text : List ℕ) (parts : List MemberPlace) (order : List ℕ) (name : List ℕ)
     (at d : ℕ) → IsTable names (names_with text parts order) → at < length order
     → HoldsAt (λ k. by_bytes (name_in text parts k) name ≡ Equal) order at
     → slice_get names (get_or order at d) ≡ Some name
@@ -149,7 +149,7 @@ less_as x y z w e g =
     ap (λ (p : Bor (List ℕ) × ℕ). is_lt (by_bytes p.0.now z.0.now)) e
     ∙ ap (λ (p : Bor (List ℕ) × ℕ). is_lt (by_bytes y.0.now p.0.now)) g
 
-rises_in : (names : List (List ℕ)) (text : List ℕ) (parts : List Part) (order : List ℕ)
+rises_in : (names : List (List ℕ)) (text : List ℕ) (parts : List MemberPlace) (order : List ℕ)
     → IsTable names (names_with text parts order)
     → IsSortedBy (λ x y. is_lt (by_bytes (name_in text parts x) (name_in text parts y))) order
 rises_in names text parts order table k d low high =
@@ -160,7 +160,7 @@ rises_in names text parts order table k d low high =
     let this = get_or-map f order k d (f d) (omega (arith, high)) in
     less_as (f (get_or order (k + 1) d)) _ (f (get_or order k d)) _ (sym next) (sym this) ∙ up
 
-pub not_named : (names : List (List ℕ)) (text : List ℕ) (parts : List Part) (order : List ℕ) (name : List ℕ)
+pub not_named : (names : List (List ℕ)) (text : List ℕ) (parts : List MemberPlace) (order : List ℕ) (name : List ℕ)
     (at : ℕ) → IsTable names (names_with text parts order)
     → (IsNonDecreasingBy (λ k. ordering_index (by_bytes (name_in text parts k) name)) order
     → IsPartitionPoint (λ k. by_bytes (name_in text parts k) name ≡ Less)
@@ -201,7 +201,7 @@ not_named names text parts order name at table apart k is = by (cases_lt j at)
     by (inl before) = less_apart (sym (point.0 j 0 (omega arith) before) ∙ tie)
     by (inr later) = greater_apart (sym (point.1 j 0 later inside) ∙ tie)
 
-pub ordered_table : (names : List (List ℕ)) (text : List ℕ) (parts : List Part) (first order : List ℕ)
+pub ordered_table : (names : List (List ℕ)) (text : List ℕ) (parts : List MemberPlace) (first order : List ℕ)
     → AreFirst (length parts) first → length names ≡ length parts
     → ((k : ℕ) → k < length parts → slice_get names k ≡ Some (name_in text parts k))
     → IsPermutation first order

@@ -14,7 +14,7 @@ use Rattle.city_json.specs.Members.{first_named}
 use Rattle.city_json.specs.Parts.{AreParts, HasMember, replaced, with_value, IsPartNamed}
 use Rattle.city_json.specs.Tree.{Tree, MemberTrees, no_members, member, object, string}
 use Rattle.city_json.specs.Writable.{AreWritableMembers}
-use Rattle.city_json.specs.declared.compacting.places.Part.{Part}
+use Rattle.city_json.specs.declared.compacting.places.MemberPlace.{MemberPlace}
 use Rattle.city_feature.proofs.QuickLines.{first_at, replaced_at}
 use Rattle.city_cut.specs.Boundaries.{changed_members}
 use Rattle.city_feature.specs.Texts.{IsCompactOf}
@@ -22,14 +22,14 @@ use Rattle.city_cut.proofs.QuickTexts.{changed_with, same_place}
 use Rattle.city_cut.proofs.Renumbering.{distinct_kept}
 
 -- ---- the parts of members of which one has another value
-abbrev placed : ℕ → List ℕ → Tree → Part
+abbrev placed : ℕ → List ℕ → Tree → MemberPlace
 placed front name value = record {
   at = front;
   value = front + length (quoted name ++ colon ∷ []);
   end = (front + length (quoted name ++ colon ∷ [])) + length (compact value);
 }
 
-abbrev places : ℕ → MemberTrees → List Part
+abbrev places : ℕ → MemberTrees → List MemberPlace
 places front no_members = []
 places front (member name value others) = placed front name value ∷ places ((placed front name value).end + 1) others
 
@@ -38,13 +38,13 @@ places_are front no_members = tt
 places_are front (member name value others) =
     ((refl, refl, refl), places_are ((placed front name value).end + 1) others)
 
-record AreMoved (front k j : ℕ) (value : Tree) (d : Part) (parts : List Part) (members : MemberTrees) : Type 0 where
-  pub parts_then : List Part
+record AreMoved (front k j : ℕ) (value : Tree) (d : MemberPlace) (parts : List MemberPlace) (members : MemberTrees) : Type 0 where
+  pub parts_then : List MemberPlace
   pub are : AreParts front parts_then (replaced k value members)
   pub within : j < length parts_then
   pub same : get_or parts_then j d ≡ get_or parts j d
 
-moved : (front k j : ℕ) (value : Tree) (d : Part) (parts : List Part) (members : MemberTrees)
+moved : (front k j : ℕ) (value : Tree) (d : MemberPlace) (parts : List MemberPlace) (members : MemberTrees)
     → AreParts front parts members → j < k → k < length parts → AreMoved front k j value d parts members
 moved front k j value d [] members are below within = absurd (omega (arith, within))
 moved front k j value d (p ∷ ps) no_members are below within = absurd are
@@ -65,7 +65,7 @@ moved front (suc k) (suc j) value d (p ∷ ps) (member n v o) are below within =
     }
 
 -- ---- parts stand one after another
-lies_after : (front k : ℕ) (d : Part) (parts : List Part) (members : MemberTrees) → AreParts front parts members
+lies_after : (front k : ℕ) (d : MemberPlace) (parts : List MemberPlace) (members : MemberTrees) → AreParts front parts members
     → k < length parts
     → (front ≤ (get_or parts k d).at) × ((get_or parts k d).at ≤ (get_or parts k d).value)
     × ((get_or parts k d).value ≤ (get_or parts k d).end)
@@ -77,7 +77,7 @@ lies_after front (suc k) d (p ∷ ps) (member n v o) are within =
     let later = lies_after (p.end + 1) k d ps o are.1 (omega (arith, within)) in
     (omega (arith, later.0, are.0.0, are.0.1, are.0.2), later.1, later.2)
 
-rises : (front j k : ℕ) (d : Part) (parts : List Part) (members : MemberTrees) → AreParts front parts members → j < k
+rises : (front j k : ℕ) (d : MemberPlace) (parts : List MemberPlace) (members : MemberTrees) → AreParts front parts members → j < k
     → k < length parts → (get_or parts j d).end < (get_or parts k d).at
 rises front j k d [] members are below within = absurd (omega (arith, within))
 rises front j k d (p ∷ ps) no_members are below within = absurd are
@@ -90,7 +90,7 @@ rises front (suc j) (suc k) d (p ∷ ps) (member n v o) are below within =
 split_member : (name value : List ℕ) → name ++ colon ∷ value ≡ (name ++ colon ∷ []) ++ value
 split_member name value = simp append_assoc
 
-ends_within : (front k : ℕ) (d : Part) (parts : List Part) (members : MemberTrees) → AreParts front parts members
+ends_within : (front k : ℕ) (d : MemberPlace) (parts : List MemberPlace) (members : MemberTrees) → AreParts front parts members
     → k < length parts → (get_or parts k d).end ≤ front + length (compact_members members)
 ends_within front k d [] members are within = absurd (omega (arith, within))
 ends_within front k d (p ∷ ps) no_members are within = absurd are
@@ -113,7 +113,7 @@ ends_within front (suc k) d (p ∷ ps) (member n v (member n' v' o)) are within 
     omega (arith, later, all, one, are.0.1, are.0.2)
 
 -- ---- the texts around them
-around : (text x y : List ℕ) (p q : Part) → p.value ≤ q.value → p.end ≤ q.value → q.value ≤ length text
+around : (text x y : List ℕ) (p q : MemberPlace) → p.value ≤ q.value → p.end ≤ q.value → q.value ≤ length text
     → with_value (with_value text q y) p x ≡ take p.value text
     ++ (x ++ (slice_range text p.end q.value ++ (y ++ drop q.end text)))
 around text x y p q begins ends within =
@@ -134,14 +134,14 @@ around text x y p q begins ends within =
     ap (λ l. l ++ (x ++ drop p.end (take q.value text ++ (y ++ drop q.end text)))) front
     ∙ ap (λ l. take p.value text ++ (x ++ l)) back
 
-replaced_two : (text : List ℕ) (members : MemberTrees) (parts : List Part) (j k : ℕ) (d : Part) (x y : Tree)
+replaced_two : (text : List ℕ) (members : MemberTrees) (parts : List MemberPlace) (j k : ℕ) (d : MemberPlace) (x y : Tree)
     → text ≡ compact (object members) → AreParts 1 parts members → j < k → k < length parts
     → compact (object (replaced j x (replaced k y members))) ≡ take (get_or parts j d).value text
     ++ (compact x ++ (slice_range text (get_or parts j d).end (get_or parts k d).value
     ++ (compact y ++ drop (get_or parts k d).end text)))
 replaced_two text members parts j k d x y is are below within =
-    let p : Part = get_or parts j d in
-    let q : Part = get_or parts k d in
+    let p : MemberPlace = get_or parts j d in
+    let q : MemberPlace = get_or parts k d in
     let first = lies_after 1 j d parts members are (omega (arith, below, within)) in
     let second = lies_after 1 k d parts members are within in
     let apart = rises 1 j k d parts members are below within in
@@ -224,7 +224,7 @@ same_name other name utf8 also same = ap content
 some_same : (v w : Tree) → Some v ≡ Some w → v ≡ w
 some_same v w e = cc
 
-has_named : (text : List ℕ) (parts : List Part) (members : MemberTrees) (name : List ℕ) (part : Part) (value : Tree)
+has_named : (text : List ℕ) (parts : List MemberPlace) (members : MemberTrees) (name : List ℕ) (part : MemberPlace) (value : Tree)
     → IsUtf8 name → IsCompactOf text (object members) → AreParts 1 parts members
     → (here : IsPartNamed text parts (quoted name ++ colon ∷ []) part) → first_named name members ≡ Some value
     → HasMember here.place name value members
@@ -232,7 +232,7 @@ has_named text parts members name part value utf8 of are here is =
     let k = here.place in
     let lies = member_in_part members (open_brace ∷ []) (close_brace ∷ []) parts k part are here.within in
     let named : quoted lies.name ++ colon ∷ [] ≡ quoted name ++ colon ∷ [] = sym lies.named
-    ∙ (ap (λ (p : Part). slice_range (compact (object members)) p.at p.value) here.is
+    ∙ (ap (λ (p : MemberPlace). slice_range (compact (object members)) p.at p.value) here.is
     ∙ (ap (λ l. slice_range l part.at part.value) (sym of.is) ∙ here.named)) in
     let same = same_name lies.name name (utf8_there k lies.name lies.value members of.writable lies.has) utf8 named in
     let has : HasMember k name lies.value members = subst (λ n. HasMember k n lies.value members) same lies.has in
@@ -240,7 +240,7 @@ has_named text parts members name part value utf8 of are here is =
     (sym (first_at k name lies.value members of.distinct.0 has) ∙ is)) has
 
 -- the place of the one comes first
-comes_first : (j k : ℕ) (p q : Part) (parts : List Part) (members : MemberTrees) → AreParts 1 parts members
+comes_first : (j k : ℕ) (p q : MemberPlace) (parts : List MemberPlace) (members : MemberTrees) → AreParts 1 parts members
     → j < length parts → k < length parts → get_or parts j p ≡ p → get_or parts k q ≡ q → p.end ≤ q.value → (j ≡ k → ⊥)
     → j < k
 comes_first j k p q parts members are within within₂ is is₂ ordered apart = by (ltb k j) refl
@@ -255,12 +255,12 @@ comes_first j k p q parts members are within within₂ is is₂ ordered apart = 
         let first = lies_after 1 j q parts members are within in
         let second = lies_after 1 k q parts members are within₂ in
         let p_is : get_or parts j q ≡ p = sym same ∙ is in
-        let last : p.end ≤ (get_or parts k q).value = subst (λ (r : Part). p.end ≤ r.value) (sym is₂) ordered in
-        let end : (get_or parts j q).end ≡ p.end = ap (λ (r : Part). r.end) p_is in
+        let last : p.end ≤ (get_or parts k q).value = subst (λ (r : MemberPlace). p.end ≤ r.value) (sym is₂) ordered in
+        let end : (get_or parts j q).end ≡ p.end = ap (λ (r : MemberPlace). r.end) p_is in
         absurd (omega (arith, after, first, second, last, end))
     by false e = let not_below = ltb-false k j e in omega (arith, not_below, apart)
 
-pub two_exchanged : (text : List ℕ) (parts : List Part) (members : MemberTrees) (p q : Part) (n m : List ℕ) (v w : Tree)
+pub two_exchanged : (text : List ℕ) (parts : List MemberPlace) (members : MemberTrees) (p q : MemberPlace) (n m : List ℕ) (v w : Tree)
     (f g : Tree → Tree) → IsUtf8 n → IsUtf8 m → bytes_eq n m ≡ false → IsCompactOf text (object members)
     → AreParts 1 parts members
     → IsPartNamed text parts (quoted n ++ colon ∷ []) p → IsPartNamed text parts (quoted m ++ colon ∷ []) q
@@ -277,10 +277,10 @@ two_exchanged text parts members p q n m v w f g utf8 utf8₂ apart of are here 
     let same : get_or parts j q ≡ p = get_or_default parts j q p here.within ∙ here.is in
     ap (λ l. compact (object l)) (changed_two members j k n m f g v w of.distinct.0 apart has has₂)
     ∙ (replaced_two text members parts j k q (f v) (g w) of.is are below there.within
-    ∙ (ap (λ (r : Part). take r.value text ++ (compact (f v)
+    ∙ (ap (λ (r : MemberPlace). take r.value text ++ (compact (f v)
     ++ (slice_range text r.end (get_or parts k q).value ++ (compact (g w) ++ drop (get_or parts k q).end text))))
     same
-    ∙ ap (λ (r : Part). take p.value text ++ (compact (f v)
+    ∙ ap (λ (r : MemberPlace). take p.value text ++ (compact (f v)
     ++ (slice_range text p.end r.value ++ (compact (g w) ++ drop r.end text)))) there.is))
   where
     names_apart : n ≡ m → ⊥

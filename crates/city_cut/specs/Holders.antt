@@ -4,7 +4,7 @@ use Rattle.std.specs.List.{flat_map, AllByRecursion}
 use Rattle.city_json.specs.Bytes.{colon}
 use Rattle.city_json.specs.Compact.{quoted}
 use Rattle.city_json.specs.Tree.{Tree}
-use Rattle.city_json.specs.declared.compacting.places.Part.{Part}
+use Rattle.city_json.specs.declared.compacting.places.MemberPlace.{MemberPlace}
 use Rattle.city_feature.specs.Shapes.{IsArray}
 use Rattle.city_cut.specs.Boundaries.{IsAddress, IsGeometry, address_boundary, in_items, in_member, own_boundary, relabelled_boundary}
 use Rattle.city_cut.specs.Items.{items_of}
@@ -55,6 +55,6 @@ abbrev pub begin_of : Holder → ℕ → ℕ
 begin_of holder value = value - length (quoted (name_of holder) ++ colon ∷ [])
 
 -- the part in which such a member lies; none, where it ends at 0
-abbrev pub part_unless : Holder → ℕ → ℕ → Option Part
+abbrev pub part_unless : Holder → ℕ → ℕ → Option MemberPlace
 part_unless holder value end =
     if end == 0 then None else Some (record { at = begin_of holder value; value = value; end = end })

@@ -56,7 +56,7 @@ use crate::cuts::CutTexts;
 use crate::families::{Kin, check_belonging};
 use crate::held::FeatureTexts;
 use byte_streams::Line;
-use city_json::{Part, Span, between, compact_object, part_named};
+use city_json::{MemberPlace, Span, between, compact_object, part_named};
 use features::{are_short, feature_texts};
 use graph::graph_of;
 use headers::header_of;
@@ -72,7 +72,7 @@ use texts::{append_text, is_absent, member_or};
 use triples::{starts_of_triples, triples_text};
 
 /// What stands after the vertices of each feature.
-fn tail_of(alloc: Global, text: &[u8], parts: &[Part]) -> Option<Line>
+fn tail_of(alloc: Global, text: &[u8], parts: &[MemberPlace]) -> Option<Line>
     ensures { IfSome result (λ tail. (members : MemberTrees) → IsCompactOf text.now (object members)
         → AreParts 1 parts.now members → tail ≡ tail_text (first_named (codes "appearance") members)) }
 {
@@ -92,7 +92,7 @@ fn tail_of(alloc: Global, text: &[u8], parts: &[Part]) -> Option<Line>
 }
 
 /// The text of the document's vertices, of which there may be none.
-fn vertices_text<'a>(text: &'a [u8], parts: &[Part]) -> Option<&'a [u8]>
+fn vertices_text<'a>(text: &'a [u8], parts: &[MemberPlace]) -> Option<&'a [u8]>
     ensures { IfSome result (λ found. (members : MemberTrees) → IsCompactOf text.now (object members)
         → AreParts 1 parts.now members → (points : List Triple) → SpellsVertices found.now points
         → HasPoints members points) }
@@ -218,7 +218,7 @@ fn texts_on(
 fn cut_on(
     alloc: Global,
     line: &[u8],
-    parts: &[Part],
+    parts: &[MemberPlace],
     vertices: &VertexTexts<'_>,
 ) -> Option<CutTexts>
     requires members { (members : MemberTrees) × IsCompactOf line.now (object members) × AreParts 1 parts.now members }
@@ -240,7 +240,7 @@ fn cut_on(
 /// Cuts the document whose compact text this is, and whose members lie in these parts, as
 /// [`city_json::compact_object`] gives them.
 /// `None`: undecided, or out of memory; [`crate::cut_texts`] decides.
-pub fn cut_compacted(alloc: Global, line: &[u8], parts: &[Part]) -> Option<CutTexts>
+pub fn cut_compacted(alloc: Global, line: &[u8], parts: &[MemberPlace]) -> Option<CutTexts>
     requires { (members : MemberTrees) × IsCompactOf line.now (object members) × AreParts 1 parts.now members }
     ensures { IfSome result (λ cut. (members : MemberTrees) → IsCompactOf line.now (object members)
         → AreParts 1 parts.now members
@@ -263,7 +263,7 @@ pub fn cut_compacted(alloc: Global, line: &[u8], parts: &[Part]) -> Option<CutTe
 pub fn cut_compacted_triples(
     alloc: Global,
     line: &[u8],
-    parts: &[Part],
+    parts: &[MemberPlace],
     triples: Span,
 ) -> Option<CutTexts>
     requires members { (members : MemberTrees) × IsCompactOf line.now (object members) × AreParts 1 parts.now members }

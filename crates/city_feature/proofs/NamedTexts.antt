@@ -10,7 +10,7 @@ use Rattle.city_json.specs.Fits.{AreDistinctMembers, IsDistinct, depth, members_
 use Rattle.city_json.specs.Members.{first_named, member_of}
 use Rattle.city_json.specs.Parts.{AreParts, HasMember, with_value, IsPartNamed}
 use Rattle.city_json.specs.Tree.{Tree, null, boolean, number, string, array, object, MemberTrees, no_members, member}
-use Rattle.city_json.specs.declared.compacting.places.Part.{Part}
+use Rattle.city_json.specs.declared.compacting.places.MemberPlace.{MemberPlace}
 use Rattle.city_feature.proofs.QuickLines.{found_at}
 use Rattle.city_feature.specs.Changes.{with_named}
 use Rattle.city_feature.specs.Quick.{IsLine}
@@ -21,7 +21,7 @@ pub if_some_more : {A : Type 0} {P Q : A → Type 0} (answer : Option A) → ((x
 if_some_more (Some x) on holds = on x holds
 if_some_more None on holds = tt
 
-pub line_there : (text : List ℕ) (parts : List Part) (members : MemberTrees) → IsCompactOf text (object members)
+pub line_there : (text : List ℕ) (parts : List MemberPlace) (members : MemberTrees) → IsCompactOf text (object members)
     → AreParts 1 parts members → IsLine text parts members
 line_there text parts members of are = record {
   written = of.is;
@@ -45,7 +45,7 @@ named_place name value (member other v others) is = by (bytes_eq other name) ref
     by true e later = (0, ((bytes_eq-Decides other name).0 e, some_same (rw e at is)))
     by false e later = let there = later (rw e at is) in (suc there.0, there.1)
 
-has_within : (k front : ℕ) (name : List ℕ) (value : Tree) (members : MemberTrees) (parts : List Part)
+has_within : (k front : ℕ) (name : List ℕ) (value : Tree) (members : MemberTrees) (parts : List MemberPlace)
     → HasMember k name value members → AreParts front parts members → k < length parts
 has_within k front name value no_members parts has are = absurd has
 has_within k front name value (member n v o) [] has are = absurd are
@@ -59,29 +59,29 @@ same_place k name other value found no_members has also = absurd has
 same_place zero name other value found (member n v o) has also = sym has.0 ∙ also.0
 same_place (suc k) name other value found (member n v o) has also = same_place k name other value found o has also
 
-some_part : (parts : List Part) (k : ℕ) → k < length parts → Part
+some_part : (parts : List MemberPlace) (k : ℕ) → k < length parts → MemberPlace
 some_part [] k within = absurd (omega (arith, within))
 some_part (p ∷ ps) k within = p
 
 -- no part has this name
-abbrev pub NotNamed : List ℕ → List Part → List ℕ → ℕ → Type 0
-NotNamed text parts given n = (i : ℕ) (d : Part) → i < n → i < length parts
+abbrev pub NotNamed : List ℕ → List MemberPlace → List ℕ → ℕ → Type 0
+NotNamed text parts given n = (i : ℕ) (d : MemberPlace) → i < n → i < length parts
     → slice_range text (get_or parts i d).at (get_or parts i d).value ≢ given
 
-pub not_named_more : (text : List ℕ) (parts : List Part) (given : List ℕ) (n : ℕ) (e : Part)
+pub not_named_more : (text : List ℕ) (parts : List MemberPlace) (given : List ℕ) (n : ℕ) (e : MemberPlace)
     → NotNamed text parts given n → n < length parts
     → (slice_range text (get_or parts n e).at (get_or parts n e).value ≡ given → ⊥) → NotNamed text parts given (n + 1)
 not_named_more text parts given n e before within apart = λ i d below inside. by i d below inside (i == n) refl
   where
-    by : (i : ℕ) (d : Part) → i < n + 1 → i < length parts → (b : Bool) → (i == n) ≡ b
+    by : (i : ℕ) (d : MemberPlace) → i < n + 1 → i < length parts → (b : Bool) → (i == n) ≡ b
         → slice_range text (get_or parts i d).at (get_or parts i d).value ≢ given
     by i d below inside true same = λ there.
         let here : get_or parts i d ≡ get_or parts n e =
         ap (λ m. get_or parts m d) (eqb-true i n same) ∙ get_or_default parts n d e within in
-        apart (subst (λ (p : Part). slice_range text p.at p.value ≡ given) here there)
+        apart (subst (λ (p : MemberPlace). slice_range text p.at p.value ≡ given) here there)
     by i d below inside false apart_from = before i d (omega (arith, below, eqb-false i n apart_from)) inside
 
-pub absent_there : (text : List ℕ) (parts : List Part) (members : MemberTrees) (given other : List ℕ)
+pub absent_there : (text : List ℕ) (parts : List MemberPlace) (members : MemberTrees) (given other : List ℕ)
     → text ≡ compact (object members) → AreParts 1 parts members → given ≡ quoted other ++ colon ∷ []
     → NotNamed text parts given (length parts) → first_named other members ≡ None
 absent_there text parts members given other written are named none = by (first_named other members) refl
@@ -91,7 +91,7 @@ absent_there text parts members given other written are named none = by (first_n
     by (Some value) e =
         let there = named_place other value members e in
         let within : there.0 < length parts = has_within there.0 1 other value members parts there.1 are in
-        let d : Part = some_part parts there.0 within in
+        let d : MemberPlace = some_part parts there.0 within in
         let lies = member_in_part members (open_brace ∷ []) (close_brace ∷ []) parts there.0 d are within in
         let same : lies.name ≡ other = same_place there.0 lies.name other lies.value value members lies.has there.1 in
         absurd (none there.0 d within within (ap
@@ -128,14 +128,14 @@ depth_named name value (member other v others) is = by (bytes_eq other name) ref
     by false e later = let deep = later (rw e at is) in omega (arith, deep)
 
 -- the value of the member of this name, whose text is given
-pub record IsMember (text : List ℕ) (members : MemberTrees) (name : List ℕ) (part : Part) (given : List ℕ) : Type 0
+pub record IsMember (text : List ℕ) (members : MemberTrees) (name : List ℕ) (part : MemberPlace) (given : List ℕ) : Type 0
   where
     pub value : Tree
     pub is : first_named name members ≡ Some value
     pub of : IsCompactOf given value
     pub exchanged : (new : Tree) → compact (object (with_named name new members)) ≡ with_value text part (compact new)
 
-pub member_there : (text : List ℕ) (parts : List Part) (members : MemberTrees) (name : List ℕ) (part : Part)
+pub member_there : (text : List ℕ) (parts : List MemberPlace) (members : MemberTrees) (name : List ℕ) (part : MemberPlace)
     (given : List ℕ) → IsUtf8 name → IsCompactOf text (object members) → AreParts 1 parts members
     → IsPartNamed text parts (quoted name ++ colon ∷ []) part → given ≡ slice_range text part.value part.end
     → IsMember text members name part given
@@ -155,7 +155,7 @@ member_there text parts members name part given utf8 of are here lies =
     }
 
 -- the value of that member, whose text is given, and any other value where there is none
-pub value_or : (text given marked name : List ℕ) (parts : List Part) (part : Part) (members : MemberTrees)
+pub value_or : (text given marked name : List ℕ) (parts : List MemberPlace) (part : MemberPlace) (members : MemberTrees)
     (other : Tree) → IsCompactOf text (object members) → AreParts 1 parts members → IsUtf8 name
     → marked ≡ quoted name ++ colon ∷ [] → IsPartNamed text parts marked part
     → given ≡ slice_range text part.value part.end → IsCompactOf given (unwrap_or (first_named name members) other)

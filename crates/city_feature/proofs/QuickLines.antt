@@ -17,7 +17,7 @@ use Rattle.city_json.specs.Number.{IsMinus, IsNumber, IsWhole}
 use Rattle.city_json.specs.Parts.{HasMember, IsMemberText, replaced, with_value, IsPartNamed}
 use Rattle.city_json.specs.Tree.{Tree, null, boolean, number, string, array, object, item_trees, MemberTrees, no_members, member}
 use Rattle.city_json.specs.Writable.{IsWritable, AreWritableMembers, AreWritableItems}
-use Rattle.city_json.specs.declared.compacting.places.Part.{Part}
+use Rattle.city_json.specs.declared.compacting.places.MemberPlace.{MemberPlace}
 use Rattle.city_grid.proofs.VertexLaws.{vertex_is_read, vertex_is_writable}
 use Rattle.city_grid.specs.Axes.{Triple, IsInRange}
 use Rattle.city_grid.specs.Vertex.{vertex_tree}
@@ -72,7 +72,7 @@ writable_at zero name value (member other v others) writable has =
 writable_at (suc k) name value (member other v others) writable has = writable_at k name value others writable.2 has
 
 -- what a part of a line says of the member of its name
-pub record IsFound (line : List ℕ) (members : MemberTrees) (name : List ℕ) (part : Part) : Type 0 where
+pub record IsFound (line : List ℕ) (members : MemberTrees) (name : List ℕ) (part : MemberPlace) : Type 0 where
   pub value : Tree
   pub is : first_named name members ≡ Some value
   pub writable : IsWritable value
@@ -92,7 +92,7 @@ same_name other name utf8 also same =
     same_text : {a b : List ℕ} → string a ≡ string b → a ≡ b
     same_text same = ap content same
 
-pub found_at : (line : List ℕ) (parts : List Part) (members : MemberTrees) (name : List ℕ) (part : Part) → IsUtf8 name
+pub found_at : (line : List ℕ) (parts : List MemberPlace) (members : MemberTrees) (name : List ℕ) (part : MemberPlace) → IsUtf8 name
     → IsLine line parts members → IsPartNamed line parts (quoted name ++ colon ∷ []) part
     → IsFound line members name part
 found_at line parts members name part utf8 is here =
@@ -118,7 +118,7 @@ found_at line parts members name part utf8 is here =
     }
 
 -- what the value of a member is, by its text
-pub says_at : (line : List ℕ) (all : MemberTrees) (name : List ℕ) (part : Part) (value : Tree) → IsWritable value
+pub says_at : (line : List ℕ) (all : MemberTrees) (name : List ℕ) (part : MemberPlace) (value : Tree) → IsWritable value
     → IsFound line all name part → slice_range line part.value part.end ≡ compact value
     → first_named name all ≡ Some value
 says_at line all name part value writable found written =
@@ -201,7 +201,7 @@ module _ (line : List ℕ) (from to mark : ℕ) (within : from < length line) (m
       absurd (omega (arith, first_byte line from to open_bracket mark _ within marked written, is))
   object_here is (object all) writable written = tt
 
-module _ (line : List ℕ) (members : MemberTrees) (name : List ℕ) (part : Part) (within : part.value < length line)
+module _ (line : List ℕ) (members : MemberTrees) (name : List ℕ) (part : MemberPlace) (within : part.value < length line)
     (found : IsFound line members name part) where
   pub text_at : get_or line part.value 0 ≡ quotation_mark → IsThere IsText (first_named name members)
   text_at marked = subst (IsThere IsText) (sym found.is)
@@ -248,7 +248,7 @@ pub written_vertices : (text : List ℕ) (ps : List Triple) → text ≡ compact
 written_vertices text ps written range =
     (item_trees (map vertex_tree ps), written, are_writable ps range, are_vertices ps range)
 
-pub feature_at : (line : List ℕ) (parts : List Part) (members : MemberTrees) (part : Part) (ps : List Triple)
+pub feature_at : (line : List ℕ) (parts : List MemberPlace) (members : MemberTrees) (part : MemberPlace) (ps : List Triple)
     → IsLine line parts members → HasOtherMembers (object members)
     → IsPartNamed line parts (quoted (codes "vertices") ++ colon ∷ []) part
     → SpellsVertices (slice_range line part.value part.end) ps

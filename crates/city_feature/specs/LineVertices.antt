@@ -3,7 +3,7 @@ use Rattle.std.specs.Prelude.{◌≡◌, ◌↔◌, ℕ, IsTrue, List, All, Opti
 use Rattle.city_json.specs.Compact.{compact}
 use Rattle.city_json.specs.Parts.{with_value}
 use Rattle.city_json.specs.Tree.{MemberTrees, object}
-use Rattle.city_json.specs.declared.compacting.places.Part.{Part}
+use Rattle.city_json.specs.declared.compacting.places.MemberPlace.{MemberPlace}
 use Rattle.city_grid.specs.Axes.{Triple, IsInRange}
 use Rattle.city_feature.specs.Area.{Meets}
 use Rattle.city_feature.specs.Feature.{IsFeature, moved_vertices, vertices_tree}
@@ -23,9 +23,9 @@ AreKnown area ps (Stay meets) = IsTrue meets ↔ IfSome area (λ one. Meets one 
 AreKnown area ps (Move part vertices) = vertices.items ≡ ps
 
 -- the line is a feature, and when it is moved by k this becomes of its vertices, which stay in range
-pub record BecomeOf (area : Option Area) (k : Triple) (line : List ℕ) (parts : List Part) (vertices : Vertices) : Type 0
+pub record BecomeOf (area : Option Area) (k : Triple) (line : List ℕ) (parts : List MemberPlace) (vertices : Vertices) : Type 0
   where
-    pub part : Part
+    pub part : MemberPlace
     pub ps : List Triple
     pub placed : (members : MemberTrees) → IsLine line parts members → IsFeature (object members) ps
         × IsPlaceOf (codes "vertices") members line part

@@ -9,14 +9,14 @@ use Rattle.city_json.specs.Members.{member_of}
 use Rattle.city_json.specs.Parts.{AreParts, with_value}
 use Rattle.city_json.specs.Tree.{Tree, array, ItemTrees, MemberTrees, object}
 use Rattle.city_json.specs.Writable.{AreWritableItems, IsWritable}
-use Rattle.city_json.specs.declared.compacting.places.Part.{Part}
+use Rattle.city_json.specs.declared.compacting.places.MemberPlace.{MemberPlace}
 use Rattle.city_grid.specs.Axes.{Triple, triple, IsInRange}
 use Rattle.city_feature.specs.Changes.{with_member}
 use Rattle.city_feature.specs.Feature.{AreVertices, vertices_tree}
 use Rattle.city_feature.specs.Shapes.{IsObject, IsText, IsThere, Says}
 
 -- the compact text of an object of these members, which lie in these parts
-pub record IsLine (line : List ℕ) (parts : List Part) (members : MemberTrees) : Type 0 where
+pub record IsLine (line : List ℕ) (parts : List MemberPlace) (members : MemberTrees) : Type 0 where
   pub written : line ≡ compact (object members)
   pub are_parts : AreParts 1 parts members
   pub names_differ : HasDistinctNames members
@@ -24,7 +24,7 @@ pub record IsLine (line : List ℕ) (parts : List Part) (members : MemberTrees) 
 
 -- the value of the member of this name stands in this part of the line: with another text there, the line is the
 -- text of an object with another value
-abbrev pub IsPlaceOf : List ℕ → MemberTrees → List ℕ → Part → Type 0
+abbrev pub IsPlaceOf : List ℕ → MemberTrees → List ℕ → MemberPlace → Type 0
 IsPlaceOf name members line part =
     (new : Tree) → compact (with_member name new (object members)) ≡ with_value line part (compact new)
 
@@ -60,7 +60,7 @@ SpellsVertices text ps =
     (items : ItemTrees) × (text ≡ compact (array items)) × AreWritableItems items × AreVertices items ps
 
 -- the line is the compact text of the object that the bytes spell, and its members lie in these parts
-abbrev pub IsCompacted : List ℕ → List ℕ → List Part → Type 0
+abbrev pub IsCompacted : List ℕ → List ℕ → List MemberPlace → Type 0
 IsCompacted bytes line parts =
     (members : MemberTrees)
     × Spells bytes (object members)

@@ -9,7 +9,7 @@ use Rattle.city_json.specs.Fits.{depth, members_depth}
 use Rattle.city_json.specs.Parts.{IsPart, AreParts}
 use Rattle.city_json.specs.Tree.{Tree, null, boolean, number, string, array, object, MemberTrees, no_members, member}
 use Rattle.city_json.specs.Writable.{IsWritable, AreWritableMembers}
-use Rattle.city_json.specs.declared.compacting.places.Part.{Part}
+use Rattle.city_json.specs.declared.compacting.places.MemberPlace.{MemberPlace}
 use Rattle.city_json.proofs.CompactEnds.{number_other, other_head}
 use Rattle.city_json.proofs.MemberEnds.{more_members_stopped}
 use Rattle.city_json.proofs.StringEnds.{first_same, others_same}

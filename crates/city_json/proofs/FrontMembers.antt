@@ -15,14 +15,14 @@ use Rattle.city_json.specs.Fits.{depth, members_depth}
 use Rattle.city_json.specs.Parts.{IsPart, AreParts}
 use Rattle.city_json.specs.Tree.{Tree, null, boolean, number, string, array, object, MemberTrees, no_members, member}
 use Rattle.city_json.specs.Writable.{IsWritable, AreWritableMembers}
-use Rattle.city_json.specs.declared.compacting.places.Part.{Part}
+use Rattle.city_json.specs.declared.compacting.places.MemberPlace.{MemberPlace}
 use Rattle.city_json.specs.FrontMembers.{EndsAfter, GoesOn, GoneTo, HasFrontParts, IsThere, MembersLeft}
 
 after_brace : (text rest : List ℕ) (all : MemberTrees) → text ≡ compact (object all) ++ rest
     → drop 1 text ≡ compact_members all ++ close_brace ∷ rest
 after_brace text rest all is = ap (drop 1) is ∙ append_assoc (compact_members all) (close_brace ∷ []) rest
 
-pub members_begin : (text : List ℕ) (parts : List Part) → parts ≡ [] → 1 < length text
+pub members_begin : (text : List ℕ) (parts : List MemberPlace) → parts ≡ [] → 1 < length text
     → get_or text 1 0 ≢ close_brace → GoesOn 1 text parts
 members_begin text parts none inside other no_members rest w within is =
     absurd (other (first_same _ _ _ _ (sym (drop_one text 1 (get_or text 1 0) inside refl)
@@ -37,7 +37,7 @@ members_begin text parts none inside other (member name first others) rest w wit
   whole = λ more are. subst (λ l. AreParts 1 (l ++ more) (member name first others)) (sym none) are;
 }
 
-pub members_none : (text : List ℕ) (parts : List Part) → parts ≡ [] → 1 < length text
+pub members_none : (text : List ℕ) (parts : List MemberPlace) → parts ≡ [] → 1 < length text
     → get_or text 1 0 ≡ close_brace → IsThere text parts 2
 members_none text parts none inside here no_members rest w within is =
     (subst (λ l. AreParts 1 l no_members) (sym none) tt, ap (drop 2) is)
@@ -45,12 +45,12 @@ members_none text parts none inside here (member name first others) rest w withi
     absurd (other_head quotation_mark close_brace _ _ (omega arith)
     (sym (ap (drop 1) is) ∙ drop_one text 1 close_brace inside here))
 
-record MemberTaken (text rest : List ℕ) (at : ℕ) (part : Part) (name : List ℕ) (first : Tree) (others : MemberTrees) :
+record MemberTaken (text rest : List ℕ) (at : ℕ) (part : MemberPlace) (name : List ℕ) (first : Tree) (others : MemberTrees) :
     Type 0 where
   pub is_part : IsPart at part name first
   pub after : drop part.end text ≡ compact_more_members others ++ close_brace ∷ rest
 
-member_taken : (text rest : List ℕ) (at : ℕ) (part : Part) (parts : List Part) (all : MemberTrees)
+member_taken : (text rest : List ℕ) (at : ℕ) (part : MemberPlace) (parts : List MemberPlace) (all : MemberTrees)
     (left : MembersLeft at (drop at text) rest parts all)
     → LeavesMember at part (drop at text) (drop part.end text)
     → MemberTaken text rest at part left.name left.first left.others
@@ -69,7 +69,7 @@ none_left text rest end no_members inside here is =
 none_left text rest end (member name first others) inside here is =
     absurd (other_head comma close_brace _ _ (omega arith) (sym is ∙ drop_one text end close_brace inside here))
 
-pub members_stop : (text : List ℕ) (at : ℕ) (part : Part) (parts new : List Part) → GoesOn at text parts
+pub members_stop : (text : List ℕ) (at : ℕ) (part : MemberPlace) (parts new : List MemberPlace) → GoesOn at text parts
     → LeavesMember at part (drop at text) (drop part.end text) → part.end < length text
     → get_or text part.end 0 ≡ close_brace → new ≡ parts ++ part ∷ [] → IsThere text new (part.end + 1)
 members_stop text at part parts new on leaves inside here pushed all rest w within is =
@@ -81,10 +81,10 @@ members_stop text at part parts new on leaves inside here pushed all rest w with
       none.1,
     )
 
-more_left : (text rest : List ℕ) (at : ℕ) (part : Part) (parts new : List Part) (all : MemberTrees) (name : List ℕ)
+more_left : (text rest : List ℕ) (at : ℕ) (part : MemberPlace) (parts new : List MemberPlace) (all : MemberTrees) (name : List ℕ)
     (first : Tree) (others : MemberTrees)
     → AreWritableMembers (member name first others) → members_depth (member name first others) ≤ max_depth
-    → ((more : List Part) → AreParts at more (member name first others) → AreParts 1 (parts ++ more) all)
+    → ((more : List MemberPlace) → AreParts at more (member name first others) → AreParts 1 (parts ++ more) all)
     → MemberTaken text rest at part name first others → part.end < length text → get_or text part.end 0 ≢ close_brace
     → new ≡ parts ++ part ∷ [] → MembersLeft (part.end + 1) (drop (part.end + 1) text) rest new all
 more_left text rest at part parts new all name first no_members w within whole taken inside other pushed =
@@ -102,7 +102,7 @@ more_left text rest at part parts new all name first (member name₂ next others
           (whole (part ∷ more) (taken.is_part, are));
     }
 
-pub members_go_on : (text : List ℕ) (at : ℕ) (part : Part) (parts new : List Part) → GoesOn at text parts
+pub members_go_on : (text : List ℕ) (at : ℕ) (part : MemberPlace) (parts new : List MemberPlace) → GoesOn at text parts
     → LeavesMember at part (drop at text) (drop part.end text) → part.end < length text
     → get_or text part.end 0 ≢ close_brace → new ≡ parts ++ part ∷ [] → GoesOn (part.end + 1) text new
 members_go_on text at part parts new on leaves inside other pushed all rest w within is =
@@ -121,7 +121,7 @@ object_of (string text) rest tail w is = absurd (other_head quotation_mark open_
 object_of (array items) rest tail w is = absurd (other_head 91 open_brace _ tail (omega arith) is)
 object_of (object members) rest tail w is = (members, refl)
 
-of_members : (text : List ℕ) (parts : List Part) (end : ℕ) (value : Tree) (rest : List ℕ) (members : MemberTrees)
+of_members : (text : List ℕ) (parts : List MemberPlace) (end : ℕ) (value : Tree) (rest : List ℕ) (members : MemberTrees)
     → value ≡ object members → IsWritable value → depth value ≤ max_depth → text ≡ compact value ++ rest
     → IsThere text parts end
     → (all : MemberTrees) × (value ≡ object all) × AreParts 1 parts all × (drop end text ≡ rest)
@@ -131,20 +131,20 @@ of_members text parts end value rest members is_object w within is on =
     (is ∙ ap (λ v. compact v ++ rest) is_object) in
     (members, is_object, there.0, there.1)
 
-pub has_front_parts : (text : List ℕ) (parts : List Part) (end : ℕ) → 0 < length text → get_or text 0 0 ≡ open_brace
+pub has_front_parts : (text : List ℕ) (parts : List MemberPlace) (end : ℕ) → 0 < length text → get_or text 0 0 ≡ open_brace
     → IsThere text parts end → HasFrontParts text parts end
 has_front_parts text parts end inside opens on = λ value rest w within is.
     let found = object_of value rest (drop 1 text) w (sym is ∙ drop_one text 0 open_brace inside opens) in
     of_members text parts end value rest found.0 found.1 w within is on
 
 -- ---- an object that begins at a place
-pub object_leaves : (text given : List ℕ) (parts : List Part) (at end : ℕ) → given ≡ drop at text
+pub object_leaves : (text given : List ℕ) (parts : List MemberPlace) (at end : ℕ) → given ≡ drop at text
     → HasFrontParts given parts end → LeavesValue 128 (drop at text) (drop (at + end) text)
 object_leaves text given parts at end here has = λ value rest w within stopped is.
     let (members, is_object, are, left) = has value rest w within (here ∙ is) in
     sym (drop-drop end at text) ∙ (ap (drop end) (sym here) ∙ left)
 
-pub object_has_parts : (text given : List ℕ) (parts : List Part) (at end : ℕ) → given ≡ drop at text
+pub object_has_parts : (text given : List ℕ) (parts : List MemberPlace) (at end : ℕ) → given ≡ drop at text
     → HasFrontParts given parts end → HasParts (slice_range text at (at + end)) parts
 object_has_parts text given parts at end here has = λ value w within is.
     let front : slice_range text at (at + end) ≡ take end given =
@@ -157,13 +157,13 @@ object_has_parts text given parts at end here has = λ value w within is.
     minus at end = omega arith
 
 -- ---- an object with nothing after it
-pub whole_parts : (text : List ℕ) (parts : List Part) (end : ℕ) → HasFrontParts text parts end → HasParts text parts
+pub whole_parts : (text : List ℕ) (parts : List MemberPlace) (end : ℕ) → HasFrontParts text parts end → HasParts text parts
 whole_parts text parts end has = λ value w within is.
     let (members, is_object, are, left) = has value [] w within (is ∙ sym (append-nil (compact value))) in
     (members, is_object, are)
 
 -- ---- from one member to the next
-pub gone_stop : (text : List ℕ) (parts : List Part) (end : ℕ) → GoneTo text parts end → end < length text
+pub gone_stop : (text : List ℕ) (parts : List MemberPlace) (end : ℕ) → GoneTo text parts end → end < length text
     → get_or text end 0 ≡ close_brace → IsThere text parts (end + 1)
 gone_stop text parts end gone inside here =
     let inside₂ : gone.part.end < length text = subst (λ n. n < length text) (sym gone.ends) inside in
@@ -172,7 +172,7 @@ gone_stop text parts end gone inside here =
     subst (λ n. IsThere text parts (n + 1)) gone.ends
     (members_stop text gone.at gone.part gone.before parts gone.goes_on gone.leaves inside₂ here₂ gone.listed)
 
-pub gone_on : (text : List ℕ) (parts : List Part) (end : ℕ) (next : Part) → GoneTo text parts end
+pub gone_on : (text : List ℕ) (parts : List MemberPlace) (end : ℕ) (next : MemberPlace) → GoneTo text parts end
     → end < length text → get_or text end 0 ≢ close_brace
     → LeavesMember (end + 1) next (drop (end + 1) text) (drop next.end text) → GoneTo text (parts ++ next ∷ []) next.end
 gone_on text parts end next gone inside other leaves =
@@ -192,13 +192,13 @@ gone_on text parts end next gone inside other leaves =
 
 -- members up to one place that lie in some parts lie up to another in these and others
 abbrev pub GoesFrom : List ℕ → ℕ → ℕ → Type 0
-GoesFrom text from to = (parts : List Part) → GoneTo text parts from
-    → (more : List Part) × GoneTo text (parts ++ more) to
+GoesFrom text from to = (parts : List MemberPlace) → GoneTo text parts from
+    → (more : List MemberPlace) × GoneTo text (parts ++ more) to
 
 pub goes_nowhere : (text : List ℕ) (end : ℕ) → GoesFrom text end end
 goes_nowhere text end = λ parts gone. ([], subst (λ l. GoneTo text l end) (sym (append-nil parts)) gone)
 
-pub goes_on_from : (text : List ℕ) (from to : ℕ) (next : Part) → GoesFrom text from to → to < length text
+pub goes_on_from : (text : List ℕ) (from to : ℕ) (next : MemberPlace) → GoesFrom text from to → to < length text
     → get_or text to 0 ≢ close_brace → LeavesMember (to + 1) next (drop (to + 1) text) (drop next.end text)
     → GoesFrom text from next.end
 goes_on_from text from to next so_far inside other leaves = λ parts gone.

@@ -5,7 +5,7 @@ use Rattle.city_json.specs.Bytes.{comma, colon}
 use Rattle.city_json.specs.Compact.{quoted, compact, compact_members, compact_more_members}
 use Rattle.city_json.specs.Parts.{AreParts, IsMemberText}
 use Rattle.city_json.specs.Tree.{MemberTrees, no_members, member}
-use Rattle.city_json.specs.declared.compacting.places.Part.{Part}
+use Rattle.city_json.specs.declared.compacting.places.MemberPlace.{MemberPlace}
 
 slice_here : (front middle back text : List ℕ) (from to : ℕ) → text ≡ front ++ (middle ++ back) → from ≡ length front
     → to ≡ from + length middle → slice_range text from to ≡ middle
@@ -31,7 +31,7 @@ split_value front name value others back = simp append_assoc
 split_member : (name value : List ℕ) → name ++ colon ∷ value ≡ (name ++ colon ∷ []) ++ value
 split_member name value = simp append_assoc
 
-pub member_in_part : (members : MemberTrees) (front back : List ℕ) (parts : List Part) (k : ℕ) (d : Part)
+pub member_in_part : (members : MemberTrees) (front back : List ℕ) (parts : List MemberPlace) (k : ℕ) (d : MemberPlace)
     → AreParts (length front) parts members → k < length parts
     → IsMemberText (front ++ (compact_members members ++ back)) (get_or parts k d) k members
 member_in_part no_members front back [] k d are within = absurd (omega arith)

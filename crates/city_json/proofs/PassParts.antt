@@ -10,24 +10,24 @@ use Rattle.byte_streams.specs.Limits.{max_depth}
 use Rattle.city_json.specs.Members.{names}
 use Rattle.city_json.specs.Reading.{after_white}
 use Rattle.city_json.specs.Tree.{Tree, object, MemberTrees, no_members, member}
-use Rattle.city_json.specs.declared.compacting.places.Part.{Part}
+use Rattle.city_json.specs.declared.compacting.places.MemberPlace.{MemberPlace}
 use Rattle.city_json.specs.Depth.{IsDeep}
 use Rattle.city_json.specs.Grammar.{Spells}
 use Rattle.city_json.proofs.PassMembers.{MembersFrom, members_none, members_start, members_step, members_stop, object_taken, text_taken}
 use Rattle.city_json.proofs.Places.{at_mark}
 
 pub record PartsFrom (levels : ℕ) (b rest before after : List ℕ) (listed : List (List ℕ))
-    (parts : List Part) : Type 0 where
+    (parts : List MemberPlace) : Type 0 where
   pub from : MembersFrom levels b rest before after listed
   pub are_parts : AreParts (length before) parts (member from.name from.value from.others)
 
 pub record PartsWhole (levels : ℕ) (b rest before after : List ℕ) (listed : List (List ℕ))
-    (parts : List Part) : Type 0 where
+    (parts : List MemberPlace) : Type 0 where
   pub members : MemberTrees
   pub names_are : names members ≡ listed
   pub whole : HasDistinctNames members → TakenParts levels b rest before after parts
 
-pub part_is : (before start after name : List ℕ) (value : Tree) (part : Part)
+pub part_is : (before start after name : List ℕ) (value : Tree) (part : MemberPlace)
     → after ≡ before ++ (quoted name ++ colon ∷ compact value) → after ≡ start ++ compact value
     → part.at ≡ length before → part.value ≡ length start → part.end ≡ length after
     → IsPart (length before) part name value
@@ -43,7 +43,7 @@ part_is before start after name value part is goes at_is value_is end_is =
     (at_is, value_is ∙ middle, end_is ∙ (whole ∙ ap (λ n. n + length (compact value)) (sym value_is)))
 
 pub parts_start : (levels : ℕ) (b b' rest before before' after : List ℕ) (done listed : List (List ℕ))
-    (parts_done parts : List Part) → b' ≡ after_white b → before' ≡ before → done ≡ [] → parts_done ≡ []
+    (parts_done parts : List MemberPlace) → b' ≡ after_white b → before' ≡ before → done ≡ [] → parts_done ≡ []
     → PartsFrom levels b' rest before' after listed parts
     → PartsWhole levels b rest before after (done ++ listed) (parts_done ++ parts)
 unfolding members_start
@@ -62,7 +62,7 @@ parts_start levels b b' rest before before' after done listed parts_done parts s
       };
     }
 
-pub parts_none : (levels : ℕ) (b rest before after : List ℕ) (parts : List Part) → parts ≡ []
+pub parts_none : (levels : ℕ) (b rest before after : List ℕ) (parts : List MemberPlace) → parts ≡ []
     → after_white b ≡ close_brace ∷ rest → after ≡ before ++ close_brace ∷ []
     → TakenParts levels b rest before after parts
 unfolding members_none
@@ -74,7 +74,7 @@ parts_none levels b rest before after parts none closes is =
     }
 
 pub parts_stop : (levels : ℕ) (b behind rest before mid at_mark behind_mark : List ℕ) (one two : List (List ℕ))
-    (p_one p_two : List Part) (t : TakenPart levels b behind before mid one two p_one p_two)
+    (p_one p_two : List MemberPlace) (t : TakenPart levels b behind before mid one two p_one p_two)
     → after_white behind ≡ close_brace ∷ rest → at_mark ≡ mid → behind_mark ≡ at_mark ++ close_brace ∷ []
     → PartsFrom levels b rest before behind_mark (t.taken.name ∷ []) (t.part ∷ [])
 unfolding members_stop
@@ -84,7 +84,7 @@ parts_stop levels b behind rest before mid at_mark behind_mark one two p_one p_t
 }
 
 pub parts_step : (levels : ℕ) (b behind next b' rest before mid at_mark behind_mark before' after : List ℕ)
-    (one two : List (List ℕ)) (p_one p_two : List Part) (listed : List (List ℕ)) (parts : List Part)
+    (one two : List (List ℕ)) (p_one p_two : List MemberPlace) (listed : List (List ℕ)) (parts : List MemberPlace)
     (t : TakenPart levels b behind before mid one two p_one p_two)
     → after_white behind ≡ comma ∷ next → at_mark ≡ mid → behind_mark ≡ at_mark ++ comma ∷ [] → b' ≡ after_white next
     → before' ≡ behind_mark → PartsFrom levels b' rest before' after listed parts
@@ -116,11 +116,11 @@ parts_step levels b behind next b' rest before mid at_mark behind_mark before' a
     }
 
 -- one member's part more after those before it
-pub parts_more : (one two : List Part) (part : Part) (parts : List Part) → two ≡ one ++ part ∷ []
+pub parts_more : (one two : List MemberPlace) (part : MemberPlace) (parts : List MemberPlace) → two ≡ one ++ part ∷ []
     → one ++ (part ∷ parts) ≡ two ++ parts
 parts_more one two part parts is = sym (ap (λ l. l ++ parts) is ∙ append_assoc one (part ∷ []) parts)
 
-pub whole_parts : (text line : List ℕ) (at end last : ℕ) (shown_at shown_top shown_end : List ℕ) (parts : List Part)
+pub whole_parts : (text line : List ℕ) (at end last : ℕ) (shown_at shown_top shown_end : List ℕ) (parts : List MemberPlace)
     → IsUtf8 text → shown_at ≡ [] → drop at text ≡ after_white text → drop at text ≡ open_brace ∷ drop (at + 1) text
     → shown_top ≡ shown_at ++ open_brace ∷ []
     → TakenParts 127 (drop (at + 1) text) (drop end text) shown_top shown_end parts

@@ -5,9 +5,9 @@ use Rattle.city_json.specs.Bytes.{comma, colon}
 use Rattle.city_json.specs.Compact.{quoted, compact, compact_members, compact_more_members}
 use Rattle.city_json.specs.Parts.{AreParts, with_value, replaced}
 use Rattle.city_json.specs.Tree.{Tree, MemberTrees, no_members, member}
-use Rattle.city_json.specs.declared.compacting.places.Part.{Part}
+use Rattle.city_json.specs.declared.compacting.places.MemberPlace.{MemberPlace}
 
-replace_here : (front middle back new : List ℕ) (part : Part) (text : List ℕ) → text ≡ front ++ (middle ++ back)
+replace_here : (front middle back new : List ℕ) (part : MemberPlace) (text : List ℕ) → text ≡ front ++ (middle ++ back)
     → part.value ≡ length front → part.end ≡ part.value + length middle
     → with_value text part new ≡ front ++ (new ++ back)
 replace_here front middle back new part text is begins ends =
@@ -35,7 +35,7 @@ split_here front name value others back = simp append_assoc
 split_member : (name value : List ℕ) → name ++ colon ∷ value ≡ (name ++ colon ∷ []) ++ value
 split_member name value = simp append_assoc
 
-pub replaced_text : (members : MemberTrees) (front back : List ℕ) (parts : List Part) (k : ℕ) (d : Part) (w : Tree)
+pub replaced_text : (members : MemberTrees) (front back : List ℕ) (parts : List MemberPlace) (k : ℕ) (d : MemberPlace) (w : Tree)
     → AreParts (length front) parts members → k < length parts
     → with_value (front ++ (compact_members members ++ back)) (get_or parts k d) (compact w) ≡ front
     ++ (compact_members (replaced k w members) ++ back)

@@ -8,15 +8,15 @@ use Rattle.city_json.specs.Fits.{depth}
 use Rattle.city_json.specs.Parts.{IsPart, AreParts}
 use Rattle.city_json.specs.Tree.{Tree, MemberTrees, object}
 use Rattle.city_json.specs.Writable.{IsWritable}
-use Rattle.city_json.specs.declared.compacting.places.Part.{Part}
+use Rattle.city_json.specs.declared.compacting.places.MemberPlace.{MemberPlace}
 
 -- whatever member stands there, it lies in this part, and this is left after it
-abbrev pub LeavesMember : ℕ → Part → List ℕ → List ℕ → Type 0
+abbrev pub LeavesMember : ℕ → MemberPlace → List ℕ → List ℕ → Type 0
 LeavesMember front part b after = (name : List ℕ) (value : Tree) (rest : List ℕ) → IsWritable value
     → depth value ≤ max_depth → IsStopped rest → b ≡ (quoted name ++ colon ∷ compact value) ++ rest
     → IsPart front part name value × (after ≡ rest)
 
 -- whatever value this is the compact text of, it is an object, and its members lie in these parts
-abbrev pub HasParts : List ℕ → List Part → Type 0
+abbrev pub HasParts : List ℕ → List MemberPlace → Type 0
 HasParts text parts = (value : Tree) → IsWritable value → depth value ≤ max_depth → text ≡ compact value
     → (members : MemberTrees) × (value ≡ object members) × AreParts 1 parts members

@@ -10,7 +10,7 @@ use Rattle.city_json.specs.ReadString.{escape_at, decoded, string_at}
 use Rattle.city_json.specs.Strings.{SpellsString}
 use Rattle.city_json.specs.Tree.{Tree, ItemTrees, item, MemberTrees}
 use Rattle.city_json.specs.Parts.{IsPart, AreParts}
-use Rattle.city_json.specs.declared.compacting.places.Part.{Part}
+use Rattle.city_json.specs.declared.compacting.places.MemberPlace.{MemberPlace}
 
 -- what is written where the text up to `at` is taken: the line, and what is still to be copied to it
 abbrev pub shown : List ℕ → List ℕ → ℕ → ℕ → List ℕ
@@ -133,13 +133,13 @@ pub record ItemsFrom (levels : ℕ) (b rest before after : List ℕ) : Type 0 wh
 
 -- a member and its part, which was put after the parts
 pub record TakenPart (levels : ℕ) (b rest before after : List ℕ) (names_before names_after : List (List ℕ))
-    (parts_before parts_after : List Part) : Type 0 where
+    (parts_before parts_after : List MemberPlace) : Type 0 where
   pub taken : TakenMember levels b rest before after names_before names_after
-  pub part : Part
+  pub part : MemberPlace
   pub is_part : IsPart (length before) part taken.name taken.value
   pub parts_are : parts_after ≡ parts_before ++ part ∷ []
 
 -- the members after the opening brace of the whole object, and their parts
-pub record TakenParts (levels : ℕ) (b rest before after : List ℕ) (parts : List Part) : Type 0 where
+pub record TakenParts (levels : ℕ) (b rest before after : List ℕ) (parts : List MemberPlace) : Type 0 where
   pub taken : TakenMembers levels b rest before after
   pub are_parts : AreParts (length before) parts taken.members

@@ -3,15 +3,15 @@ use Rattle.std.specs.Prelude.{◌≡◌, ◌++◌, ◌+◌, ◌<◌, ℕ, zero, 
 use Rattle.city_json.specs.Bytes.{colon}
 use Rattle.city_json.specs.Compact.{quoted, compact}
 use Rattle.city_json.specs.Tree.{Tree, MemberTrees, no_members, member}
-use Rattle.city_json.specs.declared.compacting.places.Part.{Part}
+use Rattle.city_json.specs.declared.compacting.places.MemberPlace.{MemberPlace}
 
 -- in a text in which `front` bytes stand before the member, it lies there
-abbrev pub IsPart : ℕ → Part → List ℕ → Tree → Type 0
+abbrev pub IsPart : ℕ → MemberPlace → List ℕ → Tree → Type 0
 IsPart front part name value = (part.at ≡ front) × (part.value ≡ front + length (quoted name ++ colon ∷ []))
     × (part.end ≡ part.value + length (compact value))
 
 -- the same of members with a comma between them
-abbrev pub AreParts : ℕ → List Part → MemberTrees → Type 0
+abbrev pub AreParts : ℕ → List MemberPlace → MemberTrees → Type 0
 AreParts front [] no_members = Unit {0}
 AreParts front [] (member name value others) = ⊥
 AreParts front (part ∷ parts) no_members = ⊥
@@ -19,7 +19,7 @@ AreParts front (part ∷ parts) (member name value others) = IsPart front part n
     × AreParts (part.end + 1) parts others
 
 -- a text in which the value's part of it is another
-abbrev pub with_value : List ℕ → Part → List ℕ → List ℕ
+abbrev pub with_value : List ℕ → MemberPlace → List ℕ → List ℕ
 with_value text part value = take part.value text ++ (value ++ drop part.end text)
 
 -- the members with another value at place k, from 0; the same members where there is no such place
@@ -35,7 +35,7 @@ HasMember zero name value (member other found others) = (other ≡ name) × (fou
 HasMember (suc k) name value (member other found others) = HasMember k name value others
 
 -- the compact texts of the name and the value of the member at place k stand in this part of a text
-pub record IsMemberText (text : List ℕ) (part : Part) (k : ℕ) (members : MemberTrees) : Type 0 where
+pub record IsMemberText (text : List ℕ) (part : MemberPlace) (k : ℕ) (members : MemberTrees) : Type 0 where
   pub name : List ℕ
   pub value : Tree
   pub has : HasMember k name value members
@@ -43,7 +43,7 @@ pub record IsMemberText (text : List ℕ) (part : Part) (k : ℕ) (members : Mem
   pub valued : slice_range text part.value part.end ≡ compact value
 
 -- one of the parts, where this text stands up to the value
-pub record IsPartNamed (line : List ℕ) (parts : List Part) (name : List ℕ) (part : Part) : Type 0 where
+pub record IsPartNamed (line : List ℕ) (parts : List MemberPlace) (name : List ℕ) (part : MemberPlace) : Type 0 where
   pub place : ℕ
   pub within : place < length parts
   pub is : get_or parts place part ≡ part

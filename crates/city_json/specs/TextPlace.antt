@@ -3,6 +3,6 @@ use Rattle.std.specs.Prelude.{ℕ, List, take}
 use Rattle.city_json.specs.declared.compacting.object.TextPlace.{TextPlace}
 use Rattle.city_json.specs.declared.compacting.object.TextPlace.TheVariants.{Read, Written}
 
-abbrev pub text_at : TextPlace → List ℕ → List ℕ → List ℕ
-text_at (Read end) read buffer = take end read
-text_at Written read buffer = buffer
+abbrev pub placed_text : TextPlace → List ℕ → List ℕ → List ℕ
+placed_text (Read end) read buffer = take end read
+placed_text Written read buffer = buffer

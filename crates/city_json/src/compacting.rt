@@ -29,13 +29,13 @@ mod whole_arrays;
 
 use byte_streams::Line;
 use byte_streams::limits::MAX_DEPTH;
-use draft::{begun, copy_to, skip_white};
+use draft::{copy_to, new_draft, skip_white};
 pub use ends::{string_end, value_end};
 pub use members::{
     PlacedMembers, colon_after, end_after, members_at, members_of_compact, value_place,
 };
 pub use object::{CompactObject, Compacted, TextPlace, compact_object, compact_parts};
-pub use places::{Part, Span, between, is_between, part_named};
+pub use places::{MemberPlace, Span, between, is_between, part_named};
 use std::alloc::Global;
 use values::value;
 
@@ -49,7 +49,7 @@ pub fn compact(alloc: Global, text: &[u8], line: Line) -> Option<Line>
     if !simdutf8::is_utf8(text) {
         return None;
     }
-    let mut draft = begun(alloc, text.len(), line);
+    let mut draft = new_draft(alloc, text.len(), line);
     let at = skip_white(text, 0, &mut draft)?;
     let end = value(text, at, MAX_DEPTH, &mut draft)?;
     let last = skip_white(text, end, &mut draft)?;

@@ -9,7 +9,7 @@ ghost use Rattle.city_json.specs.Grammar.{Spells};
 ghost use Rattle.city_json.specs.Parts.{AreParts, IsMemberText, with_value, replaced};
 ghost use Rattle.city_json.specs.Tree.{Tree, MemberTrees, object};
 ghost use Rattle.city_json.specs.Writable.{IsWritable};
-ghost use Rattle.city_json.specs.declared.compacting.places.Part.{Part};
+ghost use Rattle.city_json.specs.declared.compacting.places.MemberPlace.{MemberPlace};
 
 /// A text spells at most one value.
 pub fn a_text_has_one_meaning()
@@ -51,7 +51,7 @@ pub fn compact_text_is_read_as_its_value()
 /// To exchange the text of one member's value, where it lies in the compact text of an object, is to exchange the
 /// value.
 pub fn exchanged_text_is_exchanged_value()
-    ensures { (members : MemberTrees) (parts : List Part) (k : ℕ) (part : Part) (value : Tree)
+    ensures { (members : MemberTrees) (parts : List MemberPlace) (k : ℕ) (part : MemberPlace) (value : Tree)
         → AreParts 1 parts members → k < length parts
         → with_value (compact (object members)) (slice_index_or parts k part) (compact value)
         ≡ compact (object (replaced k value members)) }
@@ -59,7 +59,7 @@ pub fn exchanged_text_is_exchanged_value()
 
 /// In each part of the compact text of an object lie the name and the value of the member at its place.
 pub fn members_lie_in_their_parts()
-    ensures { (members : MemberTrees) (parts : List Part) (k : ℕ) (part : Part)
+    ensures { (members : MemberTrees) (parts : List MemberPlace) (k : ℕ) (part : MemberPlace)
         → AreParts 1 parts members → k < length parts
         → IsMemberText (compact (object members)) (slice_index_or parts k part) k members }
 {}

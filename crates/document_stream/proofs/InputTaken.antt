@@ -9,7 +9,7 @@ use Rattle.city_json.specs.Fits.{Fits}
 use Rattle.city_json.specs.Grammar.{IsBlank, Spells}
 use Rattle.city_json.specs.Parts.{AreParts}
 use Rattle.city_json.specs.Writable.{IsWritable}
-use Rattle.city_json.specs.declared.compacting.places.Part.{Part}
+use Rattle.city_json.specs.declared.compacting.places.MemberPlace.{MemberPlace}
 use Rattle.city_json.specs.Reading.{is_white}
 use Rattle.city_json.specs.Refusals.{RefusesText}
 use Rattle.byte_streams.specs.Source.{GivesFirst}
@@ -132,7 +132,7 @@ module _ (text : List ℕ) where
   plain_refused (Err fault) document some spelled refused = document_refused document some spelled fault refused
 
   -- its compact text was cut, or refused
-  module _ (line : List ℕ) (parts : List Part)
+  module _ (line : List ℕ) (parts : List MemberPlace)
       (found : (members : MemberTrees) × Spells text (object members) × Fits (object members) × (¬ IsDeep text)
       × (line ≡ compact (object members)) × AreParts 1 parts members) where
     pub compact_of : IsCompactOf line (object found.0)
@@ -159,7 +159,7 @@ module _ (text : List ℕ) where
         read_refused (object found.0) some (found.1, found.2, found.3) fault (refused found.0 compact_of found.5)
 
 -- a document that is read again from its compact text
-module _ (line : List ℕ) (parts : List Part) where
+module _ (line : List ℕ) (parts : List MemberPlace) where
   pub again_given : {X : Type 0} (answer : Result X Fault) (found : Tree) (header : X → HeaderValue)
       (texts : X → List (List ℕ)) → ((members : MemberTrees) → IsCompactOf line (object members)
       → found ≡ object members) → IfOk answer (λ cut. (features : List FeatureValue) × IsCut found (header cut) features

@@ -2,7 +2,7 @@
 
 use byte_streams::{Bin, Fault, Line, Sequence, Stop, Tape, read_all, write_all};
 use city_json::{
-    Json, NumText, Part, Str, check, compact, compact_object, compact_parts, print, read,
+    Json, MemberPlace, NumText, Str, check, compact, compact_object, compact_parts, print, read,
 };
 use growth_support::{Call, expect, is_fault, refused, wanted};
 use std::alloc::{AllocError, Global};
@@ -338,7 +338,7 @@ fn texts_are_compact(rt: &(impl AllocGlobal + Eprint)) -> Result<bool, Fault> {
 }
 
 /// Whether these parts stand beside one another between the braces of a text of this length.
-fn are_parts(parts: &[Part], length: usize) -> bool {
+fn are_parts(parts: &[MemberPlace], length: usize) -> bool {
     let mut at = 1;
     for part in parts.iter() {
         if part.at != at {

@@ -204,11 +204,11 @@ const PARTED: [Parted; 10] = [
     },
 ];
 
-fn is_part(line: &[u8], part: city_json::Part, name: &[u8], value: &[u8]) -> bool {
+fn is_part(line: &[u8], part: city_json::MemberPlace, name: &[u8], value: &[u8]) -> bool {
     line.get(part.at..part.value) == Some(name) && line.get(part.value..part.end) == Some(value)
 }
 
-fn are_parts(line: &[u8], found: &[city_json::Part], parts: &[Part]) -> bool {
+fn are_parts(line: &[u8], found: &[city_json::MemberPlace], parts: &[Part]) -> bool {
     let mut agree = found.len() == parts.len();
     for (part, (name, value)) in found.iter().zip(parts.iter()) {
         agree = agree && is_part(line, *part, name, value);

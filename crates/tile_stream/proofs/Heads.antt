@@ -5,7 +5,7 @@ use Rattle.city_json.specs.Fits.{Fits}
 use Rattle.city_json.specs.Grammar.{Spells}
 use Rattle.city_json.specs.Parts.{AreParts}
 use Rattle.city_json.specs.Tree.{MemberTrees, Tree, object, tree}
-use Rattle.city_json.specs.declared.compacting.places.Part as member_part
+use Rattle.city_json.specs.declared.compacting.places.MemberPlace as member_part
 use Rattle.city_json.specs.declared.json.Json.{Json}
 use Rattle.byte_streams.specs.declared.fault.Fault.{Fault}
 use Rattle.byte_streams.specs.declared.fault.Fault.TheVariants.{NoHeader, Memory, Write}
@@ -75,7 +75,7 @@ module _ (line : List ℕ) (value : Tree) (spells : Spells line value) (fits : F
   head_refused (Err fault) is = inr (value, spells, fits, is)
 
 -- an object that the line spells was taken as a head on its text, or refused
-module _ (line text : List ℕ) (parts : List member_part.Part) (members : MemberTrees) (spells : Spells line (object members))
+module _ (line text : List ℕ) (parts : List member_part.MemberPlace) (members : MemberTrees) (spells : Spells line (object members))
     (fits : Fits (object members)) (of : IsCompactOf text (object members)) (are : AreParts 1 parts members)
     {X : Type 0} where
   pub head_found : length line < 2 ^ 64 → (header : X → HeaderValue) (texts : X → List (List ℕ))

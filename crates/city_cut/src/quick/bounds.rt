@@ -6,7 +6,7 @@ ghost use Rattle.city_json.specs.Compact.{quoted};
 ghost use Rattle.city_json.specs.Members.{member_of};
 ghost use Rattle.city_json.specs.Parts.{AreParts};
 ghost use Rattle.city_json.specs.Tree.{ItemTrees, MemberTrees, Tree, array, member_trees, object};
-ghost use Rattle.city_json.specs.declared.compacting.places.Part.{Part};
+ghost use Rattle.city_json.specs.declared.compacting.places.MemberPlace.{MemberPlace};
 ghost use Rattle.city_feature.specs.Texts.{IsCompactOf};
 ghost use Rattle.city_cut.specs.Boundaries.{IsBounded, own_boundary};
 ghost use Rattle.city_cut.specs.Bounds.{AreBounds};
@@ -20,7 +20,7 @@ use super::short_parts::ShortPart;
 use super::texts::parts_of;
 use city_feature::{is_array, is_object};
 use city_grid::byte_is;
-use city_json::{Part, between, part_named, value_end};
+use city_json::{MemberPlace, between, part_named, value_end};
 use std::alloc::Global;
 
 /// The number that the digits write up to this one, where those before it write `value`; 0 behind a bracket or a comma.
@@ -156,11 +156,11 @@ fn is_wrong_text(alloc: Global, text: &[u8], holder: Holder, count: usize) -> bo
 fn is_wrong_part(
     alloc: Global,
     text: &[u8],
-    part: Option<Part>,
+    part: Option<MemberPlace>,
     holder: Holder,
     count: usize,
 ) -> bool
-    ensures { IsTrue result → (parts : List Part) → IsHolderPart holder text.now parts part
+    ensures { IsTrue result → (parts : List MemberPlace) → IsHolderPart holder text.now parts part
         → (members : MemberTrees) → IsCompactOf text.now (object members) → AreParts 1 parts members
         → ¬ IsBounded count (object members) }
 {

@@ -20,7 +20,7 @@ use super::texts::{member_or, parts_of};
 use crate::families::check_belonging;
 use byte_streams::Fault;
 use city_feature::{is_array, is_object, vertices_fault, vertices_of};
-use city_json::{Part, between};
+use city_json::{MemberPlace, between};
 use std::alloc::Global;
 
 /// How many vertices a text spells. `None`: undecided.
@@ -100,7 +100,7 @@ fn objects_fault(alloc: Global, text: &[u8], vertices: usize) -> Option<Fault>
 
 /// Why the document whose compact text this is, and whose members lie in these parts, is not cut.
 /// `None`: undecided, or it is cut; [`crate::cut_texts`] decides.
-pub fn cut_fault(alloc: Global, line: &[u8], parts: &[Part]) -> Option<Fault>
+pub fn cut_fault(alloc: Global, line: &[u8], parts: &[MemberPlace]) -> Option<Fault>
     requires { (members : MemberTrees) × IsCompactOf line.now (object members) × AreParts 1 parts.now members }
     ensures refused { IfSome result (λ fault. (members : MemberTrees) → IsCompactOf line.now (object members)
         → AreParts 1 parts.now members → RefusesCut fault (object members)) }

@@ -5,7 +5,7 @@ ghost use Rattle.city_json.specs.Compact.{compact, quoted};
 ghost use Rattle.city_json.specs.Members.{first_named};
 ghost use Rattle.city_json.specs.Parts.{AreParts, IsPartNamed};
 ghost use Rattle.city_json.specs.Tree.{MemberTrees, Tree, object, tree};
-ghost use Rattle.city_json.specs.declared.compacting.places.Part.{Part};
+ghost use Rattle.city_json.specs.declared.compacting.places.MemberPlace.{MemberPlace};
 ghost use Rattle.city_feature.specs.Changes.{changed_named};
 ghost use Rattle.city_grid.specs.Transform.{Grid};
 ghost use Rattle.city_feature.specs.Header.{IsHeader, RefusesHeader};
@@ -17,7 +17,7 @@ use super::texts::{append_back, append_front, append_text, is_absent, parts_of};
 use crate::headers::drop_appearance;
 use byte_streams::{Fault, Line};
 use city_feature::{Header, header, is_city_json, is_version_2, transform_of};
-use city_json::{Json, Part, between, part_named, read};
+use city_json::{Json, MemberPlace, between, part_named, read};
 use std::alloc::Global;
 
 /// The text with another value of the member of this name, where there is one. The name is given with its marks and its
@@ -25,7 +25,7 @@ use std::alloc::Global;
 fn exchange_value(
     alloc: Global,
     text: &[u8],
-    parts: &[Part],
+    parts: &[MemberPlace],
     name: &[u8],
     value: &[u8],
 ) -> Option<Line>
@@ -52,12 +52,12 @@ fn exchange_value(
 fn exchange_two(
     alloc: Global,
     text: &[u8],
-    first: &Part,
+    first: &MemberPlace,
     value: &[u8],
-    second: &Part,
+    second: &MemberPlace,
     other: &[u8],
 ) -> Option<Line>
-    ensures { IfSome result (λ line. (parts : List Part) (members : MemberTrees) (n m : List ℕ) (new next : Tree)
+    ensures { IfSome result (λ line. (parts : List MemberPlace) (members : MemberTrees) (n m : List ℕ) (new next : Tree)
         → IsCompactOf text.now (object members) → AreParts 1 parts members → IsUtf8 n → IsUtf8 m
         → bytes_eq n m ≡ false → IsPartNamed text.now parts (quoted n ++ colon ∷ []) first.now
         → IsPartNamed text.now parts (quoted m ++ colon ∷ []) second.now → value.now ≡ compact new
@@ -86,7 +86,7 @@ fn exchange_anew(alloc: Global, text: &[u8], name: &[u8], value: &[u8]) -> Optio
 }
 
 /// The text of the document with no city objects and no vertices, where it has both. `None`: undecided.
-fn emptied_at_once(alloc: Global, text: &[u8], parts: &[Part]) -> Option<Line>
+fn emptied_at_once(alloc: Global, text: &[u8], parts: &[MemberPlace]) -> Option<Line>
     ensures { IfSome result (λ line. (members : MemberTrees) → IsCompactOf text.now (object members)
         → AreParts 1 parts.now members → line ≡ compact (object (emptied members))) }
 {
@@ -99,7 +99,7 @@ fn emptied_at_once(alloc: Global, text: &[u8], parts: &[Part]) -> Option<Line>
 }
 
 /// The same, where it need not have them.
-fn emptied_in_turn(alloc: Global, text: &[u8], parts: &[Part]) -> Option<Line>
+fn emptied_in_turn(alloc: Global, text: &[u8], parts: &[MemberPlace]) -> Option<Line>
     ensures { IfSome result (λ line. (members : MemberTrees) → IsCompactOf text.now (object members)
         → AreParts 1 parts.now members → line ≡ compact (object (emptied members))) }
 {
@@ -108,7 +108,7 @@ fn emptied_in_turn(alloc: Global, text: &[u8], parts: &[Part]) -> Option<Line>
 }
 
 /// The text of the document with no city objects and no vertices.
-fn emptied_text(alloc: Global, text: &[u8], parts: &[Part]) -> Option<Line>
+fn emptied_text(alloc: Global, text: &[u8], parts: &[MemberPlace]) -> Option<Line>
     ensures { IfSome result (λ line. (members : MemberTrees) → IsCompactOf text.now (object members)
         → AreParts 1 parts.now members → line ≡ compact (object (emptied members))) }
 {
@@ -119,7 +119,7 @@ fn emptied_text(alloc: Global, text: &[u8], parts: &[Part]) -> Option<Line>
 }
 
 /// Whether the document has an appearance that no geometry templates may refer to.
-fn has_idle_appearance(text: &[u8], parts: &[Part]) -> bool
+fn has_idle_appearance(text: &[u8], parts: &[MemberPlace]) -> bool
     ensures { IsTrue result → (members : MemberTrees) → IsCompactOf text.now (object members)
         → AreParts 1 parts.now members → first_named (codes "geometry-templates") members ≡ None }
 {
@@ -131,7 +131,7 @@ fn has_idle_appearance(text: &[u8], parts: &[Part]) -> bool
 
 /// The text of the document with no city objects and no vertices, and with an empty appearance, if its header has
 /// none: so no tree of an appearance is made only to be dropped.
-fn bare_text(alloc: Global, text: &[u8], parts: &[Part]) -> Option<Line>
+fn bare_text(alloc: Global, text: &[u8], parts: &[MemberPlace]) -> Option<Line>
     ensures { IfSome result (λ line. (members : MemberTrees) → IsCompactOf text.now (object members)
         → AreParts 1 parts.now members → IsBareText members line) }
 {
@@ -143,7 +143,7 @@ fn bare_text(alloc: Global, text: &[u8], parts: &[Part]) -> Option<Line>
 }
 
 /// Reads what [`bare_text`] leaves of the document.
-fn read_bare(alloc: Global, text: &[u8], parts: &[Part]) -> Option<Json>
+fn read_bare(alloc: Global, text: &[u8], parts: &[MemberPlace]) -> Option<Json>
     ensures { IfSome result (λ json. (members : MemberTrees) → IsCompactOf text.now (object members)
         → AreParts 1 parts.now members → IsBare members (tree json)) }
 {
@@ -165,7 +165,7 @@ fn checked(json: Json) -> Option<Header>
 }
 
 /// What the header of the document is to be. `None`: undecided.
-fn bare_header(alloc: Global, text: &[u8], parts: &[Part]) -> Option<Json>
+fn bare_header(alloc: Global, text: &[u8], parts: &[MemberPlace]) -> Option<Json>
     ensures { IfSome result (λ json. (members : MemberTrees) → IsCompactOf text.now (object members)
         → AreParts 1 parts.now members → tree json ≡ header_tree (object members)) }
 {
@@ -175,7 +175,7 @@ fn bare_header(alloc: Global, text: &[u8], parts: &[Part]) -> Option<Json>
 }
 
 /// The header of the document.
-pub(super) fn header_of(alloc: Global, text: &[u8], parts: &[Part]) -> Option<Header>
+pub(super) fn header_of(alloc: Global, text: &[u8], parts: &[MemberPlace]) -> Option<Header>
     ensures { IfSome result (λ header. (members : MemberTrees)
         → IsCompactOf text.now (object members) → AreParts 1 parts.now members
         → HasHeader (object members) (tree header.json) header.grid) }
@@ -200,7 +200,11 @@ fn check(value: &Json) -> Result<(), Fault>
 }
 
 /// Refuses a document of which what is to be its header is none. `None`: undecided.
-pub(super) fn check_header(alloc: Global, text: &[u8], parts: &[Part]) -> Option<Result<(), Fault>>
+pub(super) fn check_header(
+    alloc: Global,
+    text: &[u8],
+    parts: &[MemberPlace],
+) -> Option<Result<(), Fault>>
     ensures { IfSome result (λ found. (members : MemberTrees) → IsCompactOf text.now (object members)
         → AreParts 1 parts.now members
         → OnOk found ((grid : Grid) × IsHeader (header_tree (object members)) grid)

@@ -4,7 +4,7 @@ ghost use Rattle.city_json.specs.Bytes.{colon};
 ghost use Rattle.city_json.specs.Compact.{quoted};
 ghost use Rattle.city_cut.specs.Holders.{begin_of, name_of, other_than, part_unless};
 
-use city_json::Part;
+use city_json::MemberPlace;
 use std::marker::Model;
 
 /// A member of a city object in whose items boundaries stand.
@@ -40,8 +40,8 @@ impl Holder {
 /// Where the geometries and the addresses lie in the text of a city object, if they are there.
 #[derive(Clone, Copy, Drop)]
 pub(super) struct HeldParts {
-    pub geometry: Option<Part>,
-    pub address: Option<Part>,
+    pub geometry: Option<MemberPlace>,
+    pub address: Option<MemberPlace>,
 }
 
 /// Where the value of a member lies that follows its name at once, in a text of less than 2^32 bytes. It ends at 0 where
@@ -60,7 +60,7 @@ fn begin_of(holder: Holder, value: usize) -> usize
 }
 
 /// Where the value of this part lies, where the name of the holder is all that stands before it in the part.
-fn short_value(holder: Holder, part: Option<Part>) -> Option<ShortValue>
+fn short_value(holder: Holder, part: Option<MemberPlace>) -> Option<ShortValue>
     ensures { IfSome result (λ short. part_unless holder short.value short.end ≡ part) }
 {
     let Some(part) = part else {
@@ -81,14 +81,14 @@ fn short_value(holder: Holder, part: Option<Part>) -> Option<ShortValue>
     Some(ShortValue { value, end })
 }
 
-fn part_at(holder: Holder, short: &ShortValue) -> Option<Part>
+fn part_at(holder: Holder, short: &ShortValue) -> Option<MemberPlace>
     ensures { result ≡ part_unless holder short.now.value short.now.end }
 {
     if short.end == 0 {
         return None;
     }
     let value = short.value as usize;
-    Some(Part {
+    Some(MemberPlace {
         at: begin_of(holder, value),
         value,
         end: short.end as usize,

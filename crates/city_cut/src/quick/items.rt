@@ -7,7 +7,7 @@ ghost use Rattle.city_json.specs.CompactEnds.{LeavesValue};
 ghost use Rattle.city_json.specs.CompactMembers.{HasParts};
 ghost use Rattle.city_json.specs.Tree.{Tree};
 ghost use Rattle.city_json.specs.Writable.{IsWritable};
-ghost use Rattle.city_json.specs.declared.compacting.places.Part.{Part};
+ghost use Rattle.city_json.specs.declared.compacting.places.MemberPlace.{MemberPlace};
 ghost use Rattle.city_cut.specs.Boundaries.{IsAddress, IsGeometry, address_boundary, in_member, own_boundary};
 ghost use Rattle.city_cut.specs.Boundaries.{relabelled_boundary};
 ghost use Rattle.city_json.specs.FrontMembers.{HasFrontParts, IsValuePlace};
@@ -21,7 +21,8 @@ use super::holders::Holder;
 use super::texts::{append_back, append_front, append_text, is_absent, parts_of};
 use city_grid::byte_is;
 use city_json::{
-    Part, between, end_after, members_at, members_of_compact, part_named, value_end, value_place,
+    MemberPlace, between, end_after, members_at, members_of_compact, part_named, value_end,
+    value_place,
 };
 use std::alloc::Global;
 
@@ -63,7 +64,7 @@ fn append_boundary<L: Labels>(text: &[u8], labels: &mut L, draft: &mut Draft) ->
 /// Copies a geometry, whose members lie in these parts.
 fn append_listed<L: Labels>(
     text: &[u8],
-    parts: &[Part],
+    parts: &[MemberPlace],
     labels: &mut L,
     draft: &mut Draft,
 ) -> Option<()>
@@ -145,7 +146,7 @@ fn append_walked<L: Labels>(
 ) -> Option<usize>
     requires { IsValuePlace text.now (quoted (codes "boundaries") ++ colon ∷ []) value }
     ensures within { IfSome result (λ end. end ≤ length text.now) }
-    ensures is { IfSome result (λ end. (parts : List Part) × HasFrontParts text.now parts end) }
+    ensures is { IfSome result (λ end. (parts : List MemberPlace) × HasFrontParts text.now parts end) }
     ensures count { OnSome result (L.count labels.new ≡ L.count labels.old) }
     ensures made { IfSome result (λ end. (value : Tree) → IsCompactOf (take end text.now) value
         → IsGeometry (L.count labels.old) value

@@ -11,7 +11,7 @@ ghost use Rattle.city_feature.specs.Texts.{IsCompactOf};
 use super::texts::member_or;
 use city_feature::is_array;
 use city_grid::byte_is;
-use city_json::{Part, between, string_end};
+use city_json::{MemberPlace, between, string_end};
 use std::alloc::Global;
 
 pub(super) fn push_text<'a>(text: &'a [u8], to: &mut Vec<&'a [u8]>) -> Option<()>
@@ -77,7 +77,7 @@ pub(super) fn is_array_of_texts(text: &[u8]) -> bool
 }
 
 /// Whether a city object, whose members lie in these parts, names parents.
-pub(super) fn has_parents(alloc: Global, text: &[u8], parts: &[Part]) -> Option<bool>
+pub(super) fn has_parents(alloc: Global, text: &[u8], parts: &[MemberPlace]) -> Option<bool>
     ensures { IfSome result (λ has. HasParts text.now parts.now → (value : Tree) → IsCompactOf text.now value
         → HasParents value has) }
 {
@@ -88,7 +88,7 @@ pub(super) fn has_parents(alloc: Global, text: &[u8], parts: &[Part]) -> Option<
 
 /// The text of the children of a city object, whose members lie in these parts; of an empty array, where there are
 /// none.
-pub(super) fn children_text<'a>(text: &'a [u8], parts: &[Part]) -> Option<&'a [u8]>
+pub(super) fn children_text<'a>(text: &'a [u8], parts: &[MemberPlace]) -> Option<&'a [u8]>
     ensures { IfSome result (λ children. HasParts text.now parts.now → (value : Tree) → IsCompactOf text.now value
         → HasChildrenText value children) }
 {

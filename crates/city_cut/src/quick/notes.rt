@@ -6,7 +6,7 @@ ghost use Rattle.city_json.specs.Compact.{compact, quoted};
 ghost use Rattle.city_json.specs.Members.{first_named};
 ghost use Rattle.city_json.specs.Parts.{AreParts, IsPartNamed};
 ghost use Rattle.city_json.specs.Tree.{MemberTrees, Tree, object};
-ghost use Rattle.city_json.specs.declared.compacting.places.Part.{Part};
+ghost use Rattle.city_json.specs.declared.compacting.places.MemberPlace.{MemberPlace};
 ghost use Rattle.city_feature.specs.Texts.{IsCompactOf};
 ghost use Rattle.city_cut.specs.Boundaries.{IsBounded, boundaries, changed_members, relabelled_object};
 ghost use Rattle.city_cut.specs.Holders.{AreHeld, held_uses, name_of, other_than, relabelled_held};
@@ -21,7 +21,7 @@ use super::numbers::append_between;
 use super::objects::{append_one, append_two};
 use super::skeletons::Leaf;
 use super::texts::{append_back, append_front, append_text};
-use city_json::{Part, between};
+use city_json::{MemberPlace, between};
 use std::alloc::Global;
 
 /// The leaves that were come upon, of boundaries that name vertices below a count.
@@ -96,14 +96,14 @@ impl Labels for NotedLeaves {
 fn note_two(
     alloc: Global,
     text: &[u8],
-    first: &Part,
-    second: &Part,
+    first: &MemberPlace,
+    second: &MemberPlace,
     holder: Holder,
     notes: &mut NotedLeaves,
     draft: &mut Draft,
 ) -> Option<usize>
     ensures count { OnSome result (notes.new.count ≡ notes.old.count) }
-    ensures made { IfSome result (λ split. (parts : List Part) (members : MemberTrees)
+    ensures made { IfSome result (λ split. (parts : List MemberPlace) (members : MemberTrees)
         → IsCompactOf text.now (object members) → AreParts 1 parts members
         → IsPartNamed text.now parts (quoted (name_of holder) ++ colon ∷ []) first.now
         → IsPartNamed text.now parts (quoted (name_of (other_than holder)) ++ colon ∷ []) second.now
@@ -133,13 +133,13 @@ fn note_two(
 fn note_both(
     alloc: Global,
     text: &[u8],
-    geometry: &Part,
-    address: &Part,
+    geometry: &MemberPlace,
+    address: &MemberPlace,
     notes: &mut NotedLeaves,
     draft: &mut Draft,
 ) -> Option<usize>
     ensures count { OnSome result (notes.new.count ≡ notes.old.count) }
-    ensures made { IfSome result (λ split. (parts : List Part) (members : MemberTrees)
+    ensures made { IfSome result (λ split. (parts : List MemberPlace) (members : MemberTrees)
         → IsCompactOf text.now (object members) → AreParts 1 parts members
         → IsPartNamed text.now parts (quoted (name_of Holder.Geometry) ++ colon ∷ []) geometry.now
         → IsPartNamed text.now parts (quoted (name_of Holder.Address) ++ colon ∷ []) address.now

@@ -6,7 +6,7 @@ ghost use Rattle.city_json.specs.Compact.{compact, quoted};
 ghost use Rattle.city_json.specs.Members.{first_named};
 ghost use Rattle.city_json.specs.Parts.{AreParts, IsPartNamed};
 ghost use Rattle.city_json.specs.Tree.{MemberTrees, Tree, object};
-ghost use Rattle.city_json.specs.declared.compacting.places.Part.{Part};
+ghost use Rattle.city_json.specs.declared.compacting.places.MemberPlace.{MemberPlace};
 ghost use Rattle.city_cut.specs.Boundaries.{IsBounded, boundaries, changed_members, relabelled_object};
 ghost use Rattle.city_cut.specs.Copied.{Copies, Numbers};
 ghost use Rattle.city_cut.specs.Holders.{AreHeld, held_uses, name_of, other_than, relabelled_held};
@@ -20,20 +20,20 @@ use super::holders::{HeldParts, Holder};
 use super::items::append_held;
 use super::texts::{append_back, append_front, append_text};
 use crate::numbering::Numbering;
-use city_json::{Part, between};
+use city_json::{MemberPlace, between};
 use std::alloc::Global;
 
 /// Copies an object in which boundaries stand in one member.
 pub(super) fn append_one<L: Labels>(
     alloc: Global,
     text: &[u8],
-    part: &Part,
+    part: &MemberPlace,
     holder: Holder,
     labels: &mut L,
     draft: &mut Draft,
 ) -> Option<()>
     ensures count { OnSome result (L.count labels.new ≡ L.count labels.old) }
-    ensures made { OnSome result ((parts : List Part) (members : MemberTrees)
+    ensures made { OnSome result ((parts : List MemberPlace) (members : MemberTrees)
         → IsCompactOf text.now (object members) → AreParts 1 parts members
         → IsPartNamed text.now parts (quoted (name_of holder) ++ colon ∷ []) part.now
         → (value : Tree) × (first_named (name_of holder) members ≡ Some value)
@@ -52,14 +52,14 @@ pub(super) fn append_one<L: Labels>(
 pub(super) fn append_two<L: Labels>(
     alloc: Global,
     text: &[u8],
-    first: &Part,
-    second: &Part,
+    first: &MemberPlace,
+    second: &MemberPlace,
     holder: Holder,
     labels: &mut L,
     draft: &mut Draft,
 ) -> Option<()>
     ensures count { OnSome result (L.count labels.new ≡ L.count labels.old) }
-    ensures made { OnSome result ((parts : List Part) (members : MemberTrees)
+    ensures made { OnSome result ((parts : List MemberPlace) (members : MemberTrees)
         → IsCompactOf text.now (object members) → AreParts 1 parts members
         → IsPartNamed text.now parts (quoted (name_of holder) ++ colon ∷ []) first.now
         → IsPartNamed text.now parts (quoted (name_of (other_than holder)) ++ colon ∷ []) second.now
@@ -86,13 +86,13 @@ pub(super) fn append_two<L: Labels>(
 fn number_held(
     alloc: Global,
     text: &[u8],
-    part: &Part,
+    part: &MemberPlace,
     holder: Holder,
     numbering: &mut Numbering,
     draft: &mut Draft,
 ) -> Option<()>
     ensures long { OnSome result (length numbering.new.table.items ≡ length numbering.old.table.items) }
-    ensures made { OnSome result ((parts : List Part) (members : MemberTrees)
+    ensures made { OnSome result ((parts : List MemberPlace) (members : MemberTrees)
         → IsCompactOf text.now (object members) → AreParts 1 parts members
         → IsPartNamed text.now parts (quoted (name_of holder) ++ colon ∷ []) part.now
         → (draft.new.line ≡ draft.old.line)
@@ -112,13 +112,13 @@ fn number_held(
 fn append_both(
     alloc: Global,
     text: &[u8],
-    geometry: &Part,
-    address: &Part,
+    geometry: &MemberPlace,
+    address: &MemberPlace,
     numbering: &mut Numbering,
     draft: &mut Draft,
 ) -> Option<()>
     ensures long { OnSome result (length numbering.new.table.items ≡ length numbering.old.table.items) }
-    ensures made { OnSome result ((parts : List Part) (members : MemberTrees)
+    ensures made { OnSome result ((parts : List MemberPlace) (members : MemberTrees)
         → IsCompactOf text.now (object members) → AreParts 1 parts members
         → IsPartNamed text.now parts (quoted (name_of Holder.Geometry) ++ colon ∷ []) geometry.now
         → IsPartNamed text.now parts (quoted (name_of Holder.Address) ++ colon ∷ []) address.now

@@ -9,7 +9,7 @@ use super::kin::{children_text, has_parents, push_text};
 use super::short_parts::{ShortPart, list_short};
 use super::texts::is_absent;
 use byte_streams::push;
-use city_json::{Part, between, colon_after, members_at, part_named};
+use city_json::{MemberPlace, between, colon_after, members_at, part_named};
 use std::alloc::Global;
 
 /// How many bytes the text of a city object has mostly at least.
@@ -31,14 +31,14 @@ pub(super) struct Overview<'a> {
 /// A city object with its name, and its members.
 #[derive(Drop)]
 struct PlacedObject {
-    part: Part,
-    members: Vec<Part>,
+    part: MemberPlace,
+    members: Vec<MemberPlace>,
 }
 
 /// What is looked at of a city object, as [`Overview`] lists it.
 #[derive(Drop)]
 struct SeenObject<'a> {
-    part: Part,
+    part: MemberPlace,
     parents: bool,
     children: &'a [u8],
     held: HeldParts,
@@ -58,7 +58,7 @@ fn object_at(alloc: Global, text: &[u8], at: usize) -> Option<PlacedObject>
         return None;
     }
     Some(PlacedObject {
-        part: Part {
+        part: MemberPlace {
             at,
             value: colon + 1,
             end: found.end,
@@ -68,7 +68,7 @@ fn object_at(alloc: Global, text: &[u8], at: usize) -> Option<PlacedObject>
 }
 
 /// The part of the member in which these boundaries stand, if it is there.
-fn part_of(text: &[u8], parts: &[Part], holder: Holder) -> Option<Option<Part>>
+fn part_of(text: &[u8], parts: &[MemberPlace], holder: Holder) -> Option<Option<MemberPlace>>
     ensures { IfSome result (λ found. IsHolderPart holder text.now parts.now found) }
 {
     let Some(part) = part_named(text, parts, holder.mark()) else {
@@ -81,7 +81,7 @@ fn part_of(text: &[u8], parts: &[Part], holder: Holder) -> Option<Option<Part>>
 }
 
 /// Where boundaries may stand in an object.
-fn held_parts(text: &[u8], parts: &[Part]) -> Option<HeldParts>
+fn held_parts(text: &[u8], parts: &[MemberPlace]) -> Option<HeldParts>
     ensures { IfSome result (λ held. HasParts text.now parts.now → HasHolders text.now held) }
 {
     let geometry = part_of(text, parts, Holder::Geometry)?;
@@ -163,7 +163,12 @@ fn list_object<'a>(seen: SeenObject<'a>, len: usize, to: &mut Overview<'a>) -> O
 }
 
 /// Looks at the object that begins at `at`, and lists it: where it lies.
-fn add_object<'a>(alloc: Global, text: &'a [u8], at: usize, to: &mut Overview<'a>) -> Option<Part>
+fn add_object<'a>(
+    alloc: Global,
+    text: &'a [u8],
+    at: usize,
+    to: &mut Overview<'a>,
+) -> Option<MemberPlace>
     ensures onward { IfSome result (λ part. at < part.end) }
     ensures within { IfSome result (λ part. part.end < length text.now) }
     ensures is { IfSome result (λ part. LeavesMember at part (drop at text.now) (drop part.end text.now)) }

@@ -1,7 +1,7 @@
 //! Where members lie, in half the room: as many are held as a document has objects.
 ghost use Rattle.std.specs.Prelude.{◌≡◌, ◌++◌, ◌∷◌, [], IfSome, OnSome};
 
-use city_json::Part;
+use city_json::MemberPlace;
 use std::marker::Model;
 
 /// The places of a part of a text of less than 2^32 bytes.
@@ -14,7 +14,7 @@ pub(super) struct ShortPlaces {
 
 impl ShortPlaces {
     /// Those of a part, where they are below 2^32.
-    pub(super) fn new(part: Part) -> Option<ShortPlaces>
+    pub(super) fn new(part: MemberPlace) -> Option<ShortPlaces>
         ensures at { IfSome result (λ short. short.at ≡ part.at) }
         ensures value { IfSome result (λ short. short.value ≡ part.value) }
         ensures end { IfSome result (λ short. short.end ≡ part.end) }
@@ -31,10 +31,10 @@ impl ShortPlaces {
         Some(ShortPlaces { at, value, end })
     }
 
-    pub(super) fn part(&self) -> Part
+    pub(super) fn part(&self) -> MemberPlace
         ensures { result ≡ record { at = self.now.at; value = self.now.value; end = self.now.end } }
     {
-        Part {
+        MemberPlace {
             at: self.at as usize,
             value: self.value as usize,
             end: self.end as usize,
@@ -49,9 +49,9 @@ pub(super) struct ShortPart {
 }
 
 impl Model for ShortPart {
-    ghost use Rattle.city_json.specs.declared.compacting.places.Part.{Part};
+    ghost use Rattle.city_json.specs.declared.compacting.places.MemberPlace.{MemberPlace};
 
-    ghost Value = { Part };
+    ghost Value = { MemberPlace };
 
     ghost view = { λ short. record { at = short.places.at; value = short.places.value; end = short.places.end } };
 
@@ -59,14 +59,14 @@ impl Model for ShortPart {
 }
 
 impl ShortPart {
-    pub(super) fn new(part: Part) -> Option<ShortPart>
+    pub(super) fn new(part: MemberPlace) -> Option<ShortPart>
         ensures { IfSome result (λ short. short ≡ part) }
     {
         let places = ShortPlaces::new(part)?;
         Some(ShortPart { places })
     }
 
-    pub(super) fn part(&self) -> Part
+    pub(super) fn part(&self) -> MemberPlace
         ensures { result ≡ self.now }
     {
         self.places.part()
@@ -74,7 +74,7 @@ impl ShortPart {
 }
 
 /// Puts a part after the parts.
-pub(super) fn list_short(part: Part, to: &mut Vec<ShortPart>) -> Option<()>
+pub(super) fn list_short(part: MemberPlace, to: &mut Vec<ShortPart>) -> Option<()>
     ensures { OnSome result (to.new.items ≡ to.old.items ++ part ∷ []) }
 {
     let short = ShortPart::new(part)?;

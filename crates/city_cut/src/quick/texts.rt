@@ -6,11 +6,11 @@ ghost use Rattle.city_feature.specs.Texts.{IsCompactOf};
 
 use byte_streams::Line;
 pub(super) use city_feature::{is_absent, member_or};
-use city_json::{Part, between, members_of_compact};
+use city_json::{MemberPlace, between, members_of_compact};
 use std::alloc::Global;
 
 /// Where the members lie of the object whose compact text this is.
-pub(super) fn parts_of(alloc: Global, text: &[u8]) -> Option<Vec<Part>>
+pub(super) fn parts_of(alloc: Global, text: &[u8]) -> Option<Vec<MemberPlace>>
     ensures { IfSome result (λ parts. (value : Tree) → IsCompactOf text.now value
         → (members : MemberTrees) × (value ≡ object members) × AreParts 1 parts.items members) }
 {
@@ -29,7 +29,7 @@ pub(super) fn append_text(text: &[u8], line: &mut Line) -> Option<()>
 }
 
 /// Appends what stands before the value of a member.
-pub(super) fn append_front(text: &[u8], part: &Part, line: &mut Line) -> Option<()>
+pub(super) fn append_front(text: &[u8], part: &MemberPlace, line: &mut Line) -> Option<()>
     ensures { OnSome result (line.new ≡ line.old ++ take part.now.value text.now) }
 {
     let front = between(text, 0, part.value)?;
@@ -37,7 +37,7 @@ pub(super) fn append_front(text: &[u8], part: &Part, line: &mut Line) -> Option<
 }
 
 /// Appends what stands after the value of a member.
-pub(super) fn append_back(text: &[u8], part: &Part, line: &mut Line) -> Option<()>
+pub(super) fn append_back(text: &[u8], part: &MemberPlace, line: &mut Line) -> Option<()>
     ensures { OnSome result (line.new ≡ line.old ++ drop part.now.end text.now) }
 {
     let back = between(text, part.end, text.len())?;

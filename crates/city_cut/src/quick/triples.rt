@@ -15,7 +15,7 @@ ghost use Rattle.city_cut.specs.VertexTexts.{HasPoints, StandAt};
 
 use super::points::COMMON_LEN;
 use crate::placing::push_place;
-use city_json::{Part, Span, between, part_named};
+use city_json::{MemberPlace, Span, between, part_named};
 use std::alloc::Global;
 use std::simd::prelude::*;
 
@@ -23,7 +23,7 @@ use std::simd::prelude::*;
 const BLOCK: usize = 64;
 
 /// The text of the document's vertices, where it is these triples. `None`: it is not, or that is undecided.
-pub fn triples_text<'a>(text: &'a [u8], parts: &[Part], triples: Span) -> Option<&'a [u8]>
+pub fn triples_text<'a>(text: &'a [u8], parts: &[MemberPlace], triples: Span) -> Option<&'a [u8]>
     requires { HasTriples text.now triples }
     ensures vertices { IfSome result (λ found. (members : MemberTrees) → IsCompactOf text.now (object members)
         → AreParts 1 parts.now members → (points : List Triple) → SpellsVertices found.now points

@@ -13,7 +13,7 @@ use Rattle.city_json.specs.Members.{first_named, member_of}
 use Rattle.city_json.specs.Parts.{AreParts, IsPartNamed}
 use Rattle.city_json.specs.Tree.{Tree, object, string, MemberTrees, no_members, member}
 use Rattle.city_json.specs.Writable.{AreWritableMembers, IsWritable}
-use Rattle.city_json.specs.declared.compacting.places.Part.{Part}
+use Rattle.city_json.specs.declared.compacting.places.MemberPlace.{MemberPlace}
 use Rattle.city_grid.specs.Axes.{Triple}
 use Rattle.city_feature.proofs.QuickLines.{found_at, utf8}
 use Rattle.city_feature.proofs.features.LineVertices.{line_of}
@@ -328,7 +328,7 @@ ended_some choice k members own closed end text front ends none same written spe
     gives_some members own closed end ends none same written spells k there gives choice text front wanted is split
 
 -- ---- an appearance alone
-pub alone : (members : MemberTrees) (parts : List Part) (at : ℕ) (value : Tree) → AreParts at parts members
+pub alone : (members : MemberTrees) (parts : List MemberPlace) (at : ℕ) (value : Tree) → AreParts at parts members
     → length parts ≡ 1 → first_named (codes "appearance") members ≡ Some value
     → (appearance : Tree) × (members ≡ appearance_alone appearance)
 alone no_members parts at value are one is = cc is
@@ -355,7 +355,7 @@ end_there end rest text a begins opened is writable fits = record {
   fits = fits;
 }
 
-pub alone_there : (text line : List ℕ) (parts : List Part) (part : Part) → IsCompacted text line parts
+pub alone_there : (text line : List ℕ) (parts : List MemberPlace) (part : MemberPlace) → IsCompacted text line parts
     → length parts ≡ 1 → IsPartNamed line parts (quoted (codes "appearance") ++ colon ∷ []) part → text ≡ line
     → (a : Tree) × (text ≡ compact (object (appearance_alone a))) × IsWritable a × Fits (object (appearance_alone a))
 alone_there text line parts part given one named same =

@@ -15,7 +15,7 @@ use Rattle.city_json.specs.Members.{first_named, member_of}
 use Rattle.city_json.specs.ReadString.{is_plain, prepend, string_at}
 use Rattle.city_json.specs.Tree.{Tree, null, boolean, number, string, array, object, MemberTrees, no_members, member}
 use Rattle.city_json.specs.Writable.{IsWritable, AreWritableMembers}
-use Rattle.city_json.specs.declared.compacting.places.Part.{Part}
+use Rattle.city_json.specs.declared.compacting.places.MemberPlace.{MemberPlace}
 use Rattle.city_feature.proofs.QuickLines.{equal_names, found_at, number_begins, utf8}
 use Rattle.city_feature.specs.Quick.{AreLetters, IsLetter, IsLine}
 use Rattle.city_json.specs.Parts.{IsPartNamed}
@@ -156,7 +156,7 @@ type_in_text value id name more writable is letters begins =
     ∙ first_is (codes "type") type_tree further
     ∙ ap Some (type_tree_is ∙ ap string same)
 
-pub type_at : (line : List ℕ) (parts : List Part) (all : MemberTrees) (part : Part)
+pub type_at : (line : List ℕ) (parts : List MemberPlace) (all : MemberTrees) (part : MemberPlace)
     (id name objects first object_text value more : List ℕ) → IsLine line parts all
     → IsPartNamed line parts (quoted (codes "CityObjects") ++ colon ∷ []) part → IsUtf8 id → AreLetters name
     → objects ≡ slice_range line part.value part.end → objects ≡ open_brace ∷ first → first ≡ quoted id ++ object_text

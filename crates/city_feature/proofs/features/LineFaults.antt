@@ -7,7 +7,7 @@ use Rattle.city_json.specs.Compact.{compact, quoted}
 use Rattle.city_json.specs.Members.{first_named}
 use Rattle.city_json.specs.Parts.{AreParts}
 use Rattle.city_json.specs.Tree.{Tree, null, string, array, object, ItemTrees, no_items, item, MemberTrees}
-use Rattle.city_json.specs.declared.compacting.places.Part.{Part}
+use Rattle.city_json.specs.declared.compacting.places.MemberPlace.{MemberPlace}
 use Rattle.city_grid.specs.Axes.{IsInRange, Triple}
 use Rattle.city_grid.specs.Vertex.{RefusesVertex}
 use Rattle.city_feature.specs.Faults.{RefusesMoved, SpellsLeaving}
@@ -120,7 +120,7 @@ module _ (members : MemberTrees) (text : List ℕ) (shape : HasFeatureShape (obj
       )
 
 -- ---- the line
-module _ (k : Triple) (fault : Fault) (bytes line : List ℕ) (parts : List Part) (given : IsCompacted bytes line parts)
+module _ (k : Triple) (fault : Fault) (bytes line : List ℕ) (parts : List MemberPlace) (given : IsCompacted bytes line parts)
     (refused : (members : MemberTrees) → IsCompactOf line (object members) → AreParts 1 parts members
     → RefusesMoved k fault (object members)) where
   refused_here : RefusesMoved k fault (object given.0)

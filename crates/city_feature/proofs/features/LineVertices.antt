@@ -9,7 +9,7 @@ use Rattle.city_json.specs.Members.{first_named}
 use Rattle.city_json.specs.Parts.{AreParts, with_value}
 use Rattle.city_json.specs.Tree.{Tree, MemberTrees, object}
 use Rattle.city_json.specs.Writable.{IsWritable}
-use Rattle.city_json.specs.declared.compacting.places.Part.{Part}
+use Rattle.city_json.specs.declared.compacting.places.MemberPlace.{MemberPlace}
 use Rattle.city_grid.specs.Axes.{Triple, triple, IsInRange, sum}
 use Rattle.city_feature.proofs.features.QuickTypes.{moved_types}
 use Rattle.city_feature.specs.Area.{Meets}
@@ -29,12 +29,12 @@ pub not_both : (b : Bool) → b ≡ false → ¬ IsTrue b
 not_both b is_not = λ is. cc
 
 -- what a text that is compact says of the object that the bytes spell
-pub compacted_here : (bytes line given : List ℕ) (parts passed : List Part) → given ≡ line → passed ≡ parts
+pub compacted_here : (bytes line given : List ℕ) (parts passed : List MemberPlace) → given ≡ line → passed ≡ parts
     → IsCompacted bytes line parts → IsCompacted bytes given passed
 compacted_here bytes line given parts passed same_line same_parts (members, spells, fits, shallow, written, are) =
     (members, spells, fits, shallow, same_line ∙ written, subst (λ l. AreParts 1 l members) (sym same_parts) are)
 
-module _ (bytes line : List ℕ) (parts : List Part) (is : IsCompacted bytes line parts) where
+module _ (bytes line : List ℕ) (parts : List MemberPlace) (is : IsCompacted bytes line parts) where
   writable_here : IsWritable (object is.0)
   writable_here = spelled_writable bytes (object is.0) is.1
 
@@ -45,7 +45,7 @@ module _ (bytes line : List ℕ) (parts : List Part) (is : IsCompacted bytes lin
   compact_of = record { is = is.4; writable = writable_here; distinct = is.2.1; within = is.2.0 }
 
 -- what lies in a part, put there again
-pub kept : (line value : List ℕ) (part : Part) → part.value ≤ part.end → slice_range line part.value part.end ≡ value
+pub kept : (line value : List ℕ) (part : MemberPlace) → part.value ≤ part.end → slice_range line part.value part.end ≡ value
     → with_value line part value ≡ line
 kept line value part ordered lies =
     let size = part.end - part.value in
@@ -67,7 +67,7 @@ unmoved [] = refl
 unmoved (p ∷ ps) = ap (λ q. q ∷ moved_vertices ps no_steps) (unmoved_one p) ∙ ap (λ qs. p ∷ qs) (unmoved ps)
 
 -- vertices that stay as they stand
-pub stay_there : (area : Option Area) (k : Triple) (line : List ℕ) (parts : List Part) (part : Part) (ps : List Triple)
+pub stay_there : (area : Option Area) (k : Triple) (line : List ℕ) (parts : List MemberPlace) (part : MemberPlace) (ps : List Triple)
     (meets : Bool) → k ≡ no_steps
     → ((members : MemberTrees) → IsLine line parts members
     → IsFeature (object members) ps × IsPlaceOf (codes "vertices") members line part)
@@ -86,7 +86,7 @@ stay_there area k line parts part ps meets still placed range ordered lies met =
     }
 
 -- what becomes of the vertices, and whether the feature is chosen
-module _ (choice : Choice) (k : Triple) (bytes line : List ℕ) (parts : List Part) (vertices : Vertices)
+module _ (choice : Choice) (k : Triple) (bytes line : List ℕ) (parts : List MemberPlace) (vertices : Vertices)
     (has chosen : Bool) (found : BecomeOf choice.area k line parts vertices)
     (typed : (members : MemberTrees) → Fits (object members) → IsLine line parts members
     → IsThere IsText (first_named (codes "id") members)

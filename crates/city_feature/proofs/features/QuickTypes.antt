@@ -5,7 +5,7 @@ use Rattle.city_json.specs.Compact.{quoted, compact}
 use Rattle.city_json.specs.Members.{first_named, member_of}
 use Rattle.city_json.specs.Tree.{Tree, null, string, object, MemberTrees}
 use Rattle.city_json.specs.Writable.{IsWritable}
-use Rattle.city_json.specs.declared.compacting.places.Part.{Part}
+use Rattle.city_json.specs.declared.compacting.places.MemberPlace.{MemberPlace}
 use Rattle.city_feature.proofs.QuickLines.{found_at}
 use Rattle.city_feature.proofs.features.StillFeature.{other_member}
 use Rattle.city_feature.specs.Changes.{with_member}
@@ -16,7 +16,7 @@ use Rattle.city_feature.specs.Shapes.{IsText, IsThere, member_in}
 use Rattle.city_feature.specs.Texts.{IsCompactOf}
 
 -- the text of a member that is a text
-pub text_there : (line : List ℕ) (parts : List Part) (all : MemberTrees) (name text : List ℕ) (part : Part)
+pub text_there : (line : List ℕ) (parts : List MemberPlace) (all : MemberTrees) (name text : List ℕ) (part : MemberPlace)
     → IsUtf8 name → IsLine line parts all → IsPartNamed line parts (quoted name ++ colon ∷ []) part
     → first_named name all ≡ Some (string text) → IsUtf8 text × (slice_range line part.value part.end ≡ quoted text)
 text_there line parts all name text part utf8 is here says =

@@ -5,7 +5,7 @@ ghost use Rattle.city_json.specs.Compact.{compact};
 ghost use Rattle.city_json.specs.Fits.{Fits};
 ghost use Rattle.city_json.specs.Grammar.{Spells};
 ghost use Rattle.city_json.specs.Members.{first_named};
-ghost use Rattle.city_json.specs.TextPlace.{text_at};
+ghost use Rattle.city_json.specs.TextPlace.{placed_text};
 ghost use Rattle.city_json.specs.Tree.{MemberTrees, Tree, object};
 ghost use Rattle.city_json.specs.Writable.{IsWritable};
 ghost use Rattle.city_feature.specs.Choice.{IsChosen};
@@ -84,7 +84,7 @@ fn closed_text(
         × (line.now ≡ compact (object members))
         × (first_named (codes "appearance") members ≡ None)
         × GivesFeature (IsChosen choice.now) shift line.now
-        (option_map (λ place. text_at place line.now text.new) given)) }
+        (option_map (λ place. placed_text place line.now text.new) given)) }
 {
     let mut compact = Line::new(alloc);
     let object = compact_object(alloc, line, &mut compact)?;

@@ -17,7 +17,7 @@ use crate::features::moving::moved_all;
 use crate::features::texts::vertices_of;
 use byte_streams::{Fault, Line};
 use city_grid::{Shift, byte_is};
-use city_json::{Part, check, compact_object, spells_no_object};
+use city_json::{MemberPlace, check, compact_object, spells_no_object};
 use std::alloc::Global;
 
 /// Whether the value whose compact text this is is the type of a feature.
@@ -51,7 +51,11 @@ pub fn is_array(text: &[u8]) -> bool
 
 /// The compact text of the value of a member, of `null` where there is none; its name is given as in
 /// [`part_named`](city_json::part_named).
-pub(crate) fn value_named<'a>(line: &'a [u8], parts: &[Part], name: &[u8]) -> Option<&'a [u8]>
+pub(crate) fn value_named<'a>(
+    line: &'a [u8],
+    parts: &[MemberPlace],
+    name: &[u8],
+) -> Option<&'a [u8]>
     ensures { IfSome result (λ found. (members : MemberTrees) → IsCompactOf line.now (object members)
         → AreParts 1 parts.now members → (named : List ℕ) → IsUtf8 named → name.now ≡ quoted named ++ colon ∷ []
         → IsCompactOf found.now (unwrap_or (first_named named members) null)) }
@@ -60,7 +64,7 @@ pub(crate) fn value_named<'a>(line: &'a [u8], parts: &[Part], name: &[u8]) -> Op
 }
 
 /// Whether an object has what a feature has, whatever its vertices are.
-fn has_feature_shape(line: &[u8], parts: &[Part]) -> Option<bool>
+fn has_feature_shape(line: &[u8], parts: &[MemberPlace]) -> Option<bool>
     ensures { IfSome result (λ has. (members : MemberTrees) → IsCompactOf line.now (object members)
         → AreParts 1 parts.now members → (IsTrue has ↔ HasFeatureShape (object members))) }
 {
@@ -92,7 +96,7 @@ fn leaving_fault(alloc: Global, text: &[u8], shift: Shift) -> Option<Fault>
 }
 
 /// The fault of the object whose compact text this is. `None`: it has none, or undecided.
-fn object_fault(alloc: Global, line: &[u8], parts: &[Part], shift: Shift) -> Option<Fault>
+fn object_fault(alloc: Global, line: &[u8], parts: &[MemberPlace], shift: Shift) -> Option<Fault>
     ensures { IfSome result (λ fault. (members : MemberTrees) → IsCompactOf line.now (object members)
         → AreParts 1 parts.now members → RefusesMoved shift fault (object members)) }
 {

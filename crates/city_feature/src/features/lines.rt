@@ -1,6 +1,6 @@
 //! The line of a feature, from its bytes to its text.
 ghost use Rattle.std.specs.Prelude.{◌≡◌, ◌++◌, ℕ, List, [], Option, is_some, option_map, unwrap_or, OnErr, IfOk, IfErr};
-ghost use Rattle.city_json.specs.TextPlace.{text_at};
+ghost use Rattle.city_json.specs.TextPlace.{placed_text};
 ghost use Rattle.city_feature.specs.Choice.{IsChosen};
 ghost use Rattle.city_feature.specs.FeatureLine.{GivesFeature, RefusesFeatureLine, SpellsMoved};
 ghost use Rattle.city_feature.specs.Values.{feature_value};
@@ -38,7 +38,7 @@ fn plain_line(
     text: &mut Line,
 ) -> Result<Option<TextPlace>, Fault>
     ensures ok { IfOk result (λ given. GivesFeature (IsChosen choice.now) shift bytes.now
-        (option_map (λ place. text_at place bytes.now text.new) given)) }
+        (option_map (λ place. placed_text place bytes.now text.new) given)) }
     ensures refusal { IfErr result (λ fault. RefusesFeatureLine shift fault bytes.now) }
 {
     check_line(alloc, bytes, shift)?;
@@ -66,7 +66,7 @@ pub fn feature_text(
     text: &mut Line,
 ) -> Result<Option<TextPlace>, Fault>
     ensures ok { IfOk result (λ given. GivesFeature (IsChosen choice.now) shift bytes.now
-        (option_map (λ place. text_at place bytes.now text.new) given)) }
+        (option_map (λ place. placed_text place bytes.now text.new) given)) }
     ensures refusal { IfErr result (λ fault. RefusesFeatureLine shift fault bytes.now) }
 {
     if let Some(object) = compact_object(alloc, bytes, compact) {

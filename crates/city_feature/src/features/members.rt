@@ -7,7 +7,7 @@ ghost use Rattle.city_json.specs.Parts.{AreParts};
 ghost use Rattle.city_json.specs.Tree.{Tree, MemberTrees, object};
 ghost use Rattle.city_feature.specs.Texts.{IsCompactOf};
 
-use city_json::{Part, between, part_named};
+use city_json::{MemberPlace, between, part_named};
 
 /// Whether this text may stand between two places: no means that it does not.
 fn may_stand(text: &[u8], from: usize, to: usize, other: &[u8]) -> bool
@@ -20,7 +20,7 @@ fn may_stand(text: &[u8], from: usize, to: usize, other: &[u8]) -> bool
 }
 
 /// Whether no member of the object whose compact text this is has this name, which is given as in [`part_named`].
-pub fn is_absent(text: &[u8], parts: &[Part], name: &[u8]) -> bool
+pub fn is_absent(text: &[u8], parts: &[MemberPlace], name: &[u8]) -> bool
     ensures { IsTrue result → (members : MemberTrees) → IsCompactOf text.now (object members)
         → AreParts 1 parts.now members → (other : List ℕ) → name.now ≡ quoted other ++ colon ∷ []
         → first_named other members ≡ None }
@@ -37,7 +37,7 @@ pub fn is_absent(text: &[u8], parts: &[Part], name: &[u8]) -> bool
 /// same way.
 pub fn member_or<'a>(
     text: &'a [u8],
-    parts: &[Part],
+    parts: &[MemberPlace],
     name: &[u8],
     other: &'a [u8],
 ) -> Option<&'a [u8]>

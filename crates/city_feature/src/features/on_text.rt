@@ -5,7 +5,7 @@
 ghost use Rattle.std.specs.Prelude.{◌≡◌, ◌≤◌, ◌↔◌, ℕ, List, All, slice_range, option_map, IfSome, IsTrue, OnSome};
 ghost use Rattle.city_json.specs.Compact.{compact};
 ghost use Rattle.city_json.specs.Parts.{with_value};
-ghost use Rattle.city_json.specs.TextPlace.{text_at};
+ghost use Rattle.city_json.specs.TextPlace.{placed_text};
 ghost use Rattle.city_json.specs.Tree.{Tree, MemberTrees, object};
 ghost use Rattle.city_json.specs.Triples.{HasTriples};
 ghost use Rattle.city_grid.specs.Axes.{IsInRange, Triple};
@@ -26,7 +26,7 @@ use crate::features::moving::moved_all;
 use crate::features::texts::{SpelledVertices, append_vertices, vertices_of, vertices_of_triples};
 use byte_streams::Line;
 use city_grid::{Shift, Vertex, byte_is};
-use city_json::{CompactObject, Part, Span, TextPlace, between, is_between, part_named};
+use city_json::{CompactObject, MemberPlace, Span, TextPlace, between, is_between, part_named};
 use std::alloc::Global;
 use std::mem::swap;
 use types::has_given_type;
@@ -38,11 +38,11 @@ enum Vertices {
     /// They stay as they stand. Whether their extent meets the area, where one is asked for.
     Stay(bool),
     /// What stands in this part is exchanged for the text of these.
-    Move(Part, Vec<Vertex>),
+    Move(MemberPlace, Vec<Vertex>),
 }
 
 /// Whether the line has the type of a feature, an identifier and city objects.
-fn has_other_members(line: &[u8], parts: &[Part]) -> bool
+fn has_other_members(line: &[u8], parts: &[MemberPlace]) -> bool
     ensures { IsTrue result → (members : MemberTrees) → IsLine line.now parts.now members
         → HasOtherMembers (object members) }
 {
@@ -69,7 +69,7 @@ fn spelled_vertices(
     alloc: Global,
     line: &[u8],
     triples: Span,
-    part: Part,
+    part: MemberPlace,
 ) -> Option<SpelledVertices>
     requires triples { HasTriples line.now triples }
     ensures ordered { IfSome result (λ found. part.value ≤ part.end) }
@@ -114,7 +114,7 @@ fn shifted_vertices(vertices: Vec<Vertex>, shift: Shift) -> Option<Vec<Vertex>>
 fn line_vertices(
     alloc: Global,
     line: &[u8],
-    parts: &[Part],
+    parts: &[MemberPlace],
     triples: Span,
     shift: Shift,
     area: &Option<Area>,
@@ -168,7 +168,7 @@ fn selects_vertices(choice: &Choice, has_type: bool, vertices: &Vertices) -> boo
 fn chosen_vertices(
     alloc: Global,
     line: &[u8],
-    parts: &[Part],
+    parts: &[MemberPlace],
     triples: Span,
     shift: Shift,
     choice: &Choice,
@@ -187,7 +187,7 @@ fn chosen_vertices(
 }
 
 /// Writes a line with these vertices in a part of it. What `text` held is lost.
-fn write_moved(line: &[u8], part: Part, vertices: &[Vertex], text: &mut Line) -> Option<()>
+fn write_moved(line: &[u8], part: MemberPlace, vertices: &[Vertex], text: &mut Line) -> Option<()>
     ensures { OnSome result (text.new ≡ with_value line.now part (compact (vertices_tree vertices.now))) }
 {
     let front = between(line, 0, part.value)?;
@@ -203,7 +203,7 @@ fn write_moved(line: &[u8], part: Part, vertices: &[Vertex], text: &mut Line) ->
 
 /// Puts a compact text that was written into the other buffer.
 fn hand_over(place: TextPlace, compact: &mut Line, text: &mut Line)
-    ensures { (read : List ℕ) → text_at place read text.new ≡ text_at place read compact.old }
+    ensures { (read : List ℕ) → placed_text place read text.new ≡ placed_text place read compact.old }
 {
     if place == TextPlace::Written {
         swap(compact, text);
@@ -222,11 +222,11 @@ pub(super) fn object_text(
     compact: &mut Line,
     text: &mut Line,
 ) -> Option<Option<TextPlace>>
-    requires triples { HasTriples (text_at object.now.place bytes.now compact.old) object.now.triples }
+    requires triples { HasTriples (placed_text object.now.place bytes.now compact.old) object.now.triples }
     ensures { IfSome result (λ given. (spelled : List ℕ)
-        → IsCompacted spelled (text_at object.now.place bytes.now compact.old) object.now.parts.items
+        → IsCompacted spelled (placed_text object.now.place bytes.now compact.old) object.now.parts.items
         → GivesFeature (IsChosen choice.now) shift spelled
-        (option_map (λ place. text_at place bytes.now text.new) given)) }
+        (option_map (λ place. placed_text place bytes.now text.new) given)) }
 {
     let line = object.place.bytes(bytes, compact);
     let triples = object.triples;

@@ -7,7 +7,7 @@ ghost use Rattle.city_feature.specs.Shapes.{IsFilledArray, IsFilledObject};
 ghost use Rattle.city_feature.specs.Texts.{IsCompactOf};
 
 use crate::features::line_faults::{is_array, is_object, value_named};
-use city_json::Part;
+use city_json::MemberPlace;
 
 /// Whether the value whose compact text this is is an object with a member.
 fn is_filled_object(text: &[u8]) -> bool
@@ -25,7 +25,7 @@ fn is_filled_array(text: &[u8]) -> bool
 
 /// Whether the object whose compact text this is, and whose members lie in these parts, holds city objects or vertices,
 /// as [`is_document`](super::reader::is_document) tells of a value. `None`: undecided.
-pub fn holds_city(line: &[u8], parts: &[Part]) -> Option<bool>
+pub fn holds_city(line: &[u8], parts: &[MemberPlace]) -> Option<bool>
     ensures { IfSome result (λ holds. (members : MemberTrees) → IsCompactOf line.now (object members)
         → AreParts 1 parts.now members → (IsTrue holds ↔ HoldsCity (object members))) }
 {

@@ -22,7 +22,7 @@ pub(super) struct Draft {
 }
 
 /// A draft of a text of this length, with nothing written.
-pub(super) fn begun(alloc: Global, text_len: usize, line: Line) -> Draft
+pub(super) fn new_draft(alloc: Global, text_len: usize, line: Line) -> Draft
     ensures line { result.line ≡ [] }
     ensures from { result.from ≡ 0 }
     ensures names { result.names ≡ [] }

@@ -7,7 +7,7 @@ ghost use Rattle.city_json.specs.CompactMembers.{HasParts, LeavesMember};
 ghost use Rattle.city_json.specs.FrontMembers.{EndsAfter, HasFrontParts, IsValuePlace};
 
 use super::ends::{string_end, value_end};
-use super::places::{Part, is_between, no_parts};
+use super::places::{MemberPlace, is_between, no_parts};
 use byte_streams::push;
 use std::alloc::Global;
 
@@ -15,7 +15,7 @@ use std::alloc::Global;
 #[derive(Drop)]
 pub struct PlacedMembers {
     /// Where they lie, in bytes from the beginning of the object.
-    pub parts: Vec<Part>,
+    pub parts: Vec<MemberPlace>,
     pub end: usize,
 }
 
@@ -38,7 +38,7 @@ pub fn colon_after(text: &[u8], at: usize) -> Option<usize>
 
 /// Where the member lies that begins at `at`, and whose name ends at `colon`.
 #[inline(always)]
-fn member_from(text: &[u8], at: usize, colon: usize) -> Option<Part>
+fn member_from(text: &[u8], at: usize, colon: usize) -> Option<MemberPlace>
     requires order { at < colon }
     requires within { colon < length text.now }
     requires is { LeavesString (drop (at + 1) text.now) (drop colon text.now) }
@@ -50,7 +50,7 @@ fn member_from(text: &[u8], at: usize, colon: usize) -> Option<Part>
     if end == text.len() {
         return None;
     }
-    Some(Part {
+    Some(MemberPlace {
         at,
         value: colon + 1,
         end,
@@ -59,7 +59,7 @@ fn member_from(text: &[u8], at: usize, colon: usize) -> Option<Part>
 
 /// Where the member lies that begins at `at`.
 #[inline(always)]
-fn member_at(text: &[u8], at: usize) -> Option<Part>
+fn member_at(text: &[u8], at: usize) -> Option<MemberPlace>
     ensures onward { IfSome result (λ part. at < part.end) }
     ensures within { IfSome result (λ part. part.end < length text.now) }
     ensures is { IfSome result (λ part. LeavesMember at part (drop at text.now) (drop part.end text.now)) }
@@ -100,7 +100,7 @@ fn front_members(alloc: Global, text: &[u8]) -> Option<PlacedMembers>
 /// Where the members lie of the object whose compact text this is, in their order.
 ///
 /// `None`: undecided, or out of memory.
-pub fn members_of_compact(alloc: Global, text: &[u8]) -> Option<Vec<Part>>
+pub fn members_of_compact(alloc: Global, text: &[u8]) -> Option<Vec<MemberPlace>>
     ensures { IfSome result (λ parts. HasParts text.now parts.items) }
 {
     let found = front_members(alloc, text)?;

@@ -7,13 +7,13 @@ ghost use Rattle.city_json.specs.Fits.{Fits};
 ghost use Rattle.city_json.specs.Grammar.{Spells};
 ghost use Rattle.city_json.specs.ListedNames.{names_in};
 ghost use Rattle.city_json.specs.Parts.{AreParts};
-ghost use Rattle.city_json.specs.TextPlace.{text_at};
+ghost use Rattle.city_json.specs.TextPlace.{placed_text};
 ghost use Rattle.city_json.specs.Tree.{MemberTrees, object};
 ghost use Rattle.city_json.specs.Triples.{HasTriples};
 
-use super::draft::{Draft, begun, copy_to, skip_white, white_end};
+use super::draft::{Draft, copy_to, new_draft, skip_white, white_end};
 use super::parts::members;
-use super::places::{Part, Span, no_parts};
+use super::places::{MemberPlace, Span, no_parts};
 use byte_streams::Line;
 use byte_streams::limits::MAX_DEPTH;
 use std::alloc::{AllocError, Global};
@@ -31,7 +31,7 @@ pub enum TextPlace {
 impl TextPlace {
     /// The text that stands there, of what was read and the buffer that was given for it.
     pub fn bytes<'a>(&self, read: &'a [u8], buffer: &'a Line) -> &'a [u8]
-        ensures { result.now ≡ text_at self.now read.now buffer.now }
+        ensures { result.now ≡ placed_text self.now read.now buffer.now }
     {
         match *self {
             TextPlace::Read(end) => &read[..end.min(read.len())],
@@ -41,7 +41,7 @@ impl TextPlace {
 
     /// Puts the text into the buffer, where it does not stand there already. Out of memory, the buffer is lost.
     pub fn copy_to_buffer(self, read: &[u8], buffer: &mut Line) -> Result<(), AllocError>
-        ensures { OnOk result (buffer.new ≡ text_at self read.now buffer.old) }
+        ensures { OnOk result (buffer.new ≡ placed_text self read.now buffer.old) }
     {
         match self {
             TextPlace::Read(end) => {
@@ -55,7 +55,7 @@ impl TextPlace {
     /// The text in the memory in which it stands; the other memory is dropped. Room behind a text that stands where it
     /// was read is given back.
     pub fn into_line(self, read: Vec<u8>, buffer: Line) -> Line
-        ensures { result ≡ text_at self read.items buffer }
+        ensures { result ≡ placed_text self read.items buffer }
     {
         let TextPlace::Read(end) = self else {
             return buffer;
@@ -74,7 +74,7 @@ impl TextPlace {
 #[derive(Debug, Drop)]
 pub struct CompactObject {
     pub place: TextPlace,
-    pub parts: Vec<Part>,
+    pub parts: Vec<MemberPlace>,
     pub triples: Span,
 }
 
@@ -82,7 +82,7 @@ pub struct CompactObject {
 #[derive(Debug, Drop)]
 pub struct Compacted {
     pub line: Line,
-    pub parts: Vec<Part>,
+    pub parts: Vec<MemberPlace>,
 }
 
 /// The compact text of the object that the text spells. It stays where it was read where white space stands at its end
@@ -93,13 +93,13 @@ pub struct Compacted {
 pub fn compact_object(alloc: Global, text: &[u8], buffer: &mut Line) -> Option<CompactObject>
     ensures object { IfSome result (λ found. (members : MemberTrees)
         × Spells text.now (object members) × Fits (object members) × (¬ IsDeep text.now)
-        × (text_at found.place text.now buffer.new ≡ compact (object members))
+        × (placed_text found.place text.now buffer.new ≡ compact (object members))
         × AreParts 1 found.parts.items members) }
     ensures triples { IfSome result (λ found.
-        HasTriples (text_at found.place text.now buffer.new) found.triples) }
+        HasTriples (placed_text found.place text.now buffer.new) found.triples) }
 {
     let line = mem::replace(buffer, Line::new(alloc));
-    let mut draft = begun(alloc, text.len(), line);
+    let mut draft = new_draft(alloc, text.len(), line);
     let WholeObject {
         end,
         parts,
@@ -133,7 +133,7 @@ pub fn compact_parts(alloc: Global, text: &[u8], line: Line) -> Option<Compacted
 #[derive(Drop)]
 struct WholeObject {
     end: usize,
-    parts: Vec<Part>,
+    parts: Vec<MemberPlace>,
     triples: Span,
 }
 
@@ -176,7 +176,7 @@ fn pass(text: &[u8], draft: &mut Draft) -> Option<WholeObject>
 fn place_of(text: &[u8], end: usize, draft: &mut Draft) -> Option<TextPlace>
     requires copied { draft.old.from ≤ end }
     requires within { end ≤ length text.now }
-    ensures { IfSome result (λ place. text_at place text.now draft.new.line
+    ensures { IfSome result (λ place. placed_text place text.now draft.new.line
         ≡ shown draft.old.line text.now draft.old.from end) }
 {
     if draft.from == 0 && draft.line.items().is_empty() {

@@ -5,7 +5,7 @@ ghost use Rattle.city_json.specs.ListedNames.{names_in};
 ghost use Rattle.city_json.specs.Triples.{HasTriples, IsTriplesText};
 
 use super::draft::{Draft, skip, written_len};
-use super::places::{Part, Span};
+use super::places::{MemberPlace, Span};
 use super::strings::name_and_colon;
 use super::triples::{look_at_triples, may_begin_triples};
 use super::values::{member_value, more_items};
@@ -17,7 +17,7 @@ pub(super) fn members(
     at: usize,
     levels: usize,
     draft: &mut Draft,
-    parts: &mut Vec<Part>,
+    parts: &mut Vec<MemberPlace>,
     triples: &mut Span,
 ) -> Option<usize>
     requires utf8 { IsUtf8 text.now }
@@ -72,7 +72,7 @@ fn member(
     at: usize,
     levels: usize,
     draft: &mut Draft,
-    parts: &mut Vec<Part>,
+    parts: &mut Vec<MemberPlace>,
     triples: &mut Span,
 ) -> Option<usize>
     requires utf8 { IsUtf8 text.now }
@@ -94,8 +94,8 @@ fn member(
     let valued = written_len(text, start, draft)?;
     let value = top_value(text, start, levels, draft)?;
     let ended = written_len(text, value.end, draft)?;
-    *triples = noted(*triples, value.are_triples, valued, ended);
-    let part = Part {
+    *triples = triples_or(*triples, value.are_triples, valued, ended);
+    let part = MemberPlace {
         at: named,
         value: valued,
         end: ended,
@@ -113,7 +113,7 @@ struct TopValue {
 
 /// Where triples stand in what is written: these, where they are some, or those before.
 #[inline(always)]
-fn noted(before: Span, are_triples: bool, from: usize, end: usize) -> Span
+fn triples_or(before: Span, are_triples: bool, from: usize, end: usize) -> Span
     ensures some { IsTrue are_triples → (result.from ≡ from) × (result.end ≡ end) }
     ensures none { are_triples ≡ false → result ≡ before }
 {

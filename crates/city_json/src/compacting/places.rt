@@ -10,7 +10,7 @@ const COMMON_PARTS: usize = 8;
 /// Where a member lies in the compact text of an object, in bytes from its beginning: its name from `at` on, a colon
 /// before `value`, its value from there up to `end`.
 #[derive(Clone, Copy, Debug, PartialEq, Eq)]
-pub struct Part {
+pub struct MemberPlace {
     pub at: usize,
     pub value: usize,
     pub end: usize,
@@ -26,7 +26,7 @@ pub struct Span {
 
 impl Span {
     /// Whether the value in a part is what stands there.
-    pub fn is_value_of(self, part: Part) -> bool
+    pub fn is_value_of(self, part: MemberPlace) -> bool
         ensures { IsTrue result → (self.from < self.end) × (self.from ≡ part.value) × (self.end ≡ part.end) }
     {
         self.from < self.end && self.from == part.value && self.end == part.end
@@ -52,7 +52,7 @@ pub fn is_between(text: &[u8], from: usize, to: usize, other: &[u8]) -> bool
 }
 
 /// The first part of a name, which is given as it stands in the text, with its marks and its colon.
-pub fn part_named(text: &[u8], parts: &[Part], name: &[u8]) -> Option<Part>
+pub fn part_named(text: &[u8], parts: &[MemberPlace], name: &[u8]) -> Option<MemberPlace>
     ensures { IfSome result (λ part. IsPartNamed text.now parts.now name.now part) }
 {
     for part in parts {
@@ -64,7 +64,7 @@ pub fn part_named(text: &[u8], parts: &[Part], name: &[u8]) -> Option<Part>
 }
 
 /// No parts, with room for some.
-pub(super) fn no_parts(alloc: Global) -> Option<Vec<Part>>
+pub(super) fn no_parts(alloc: Global) -> Option<Vec<MemberPlace>>
     ensures { IfSome result (λ parts. parts.items ≡ []) }
 {
     Vec::with_capacity(alloc, COMMON_PARTS).ok()

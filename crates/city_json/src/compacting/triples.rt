@@ -91,7 +91,7 @@ fn one_on(marks: u64) -> u64
 
 /// The marks that are not among the others.
 #[inline(always)]
-fn without(marks: u64, others: u64) -> u64
+fn difference(marks: u64, others: u64) -> u64
     ensures { AreWithout marks others result }
 {
     marks & !others
@@ -144,13 +144,13 @@ fn wrong_ends(kinds: Kinds, ends: EndMarks) -> u64
     ensures { (i : ℕ) → i < 64 → HasNoBit result i
         → DoEndsFit kinds.commas kinds.opens kinds.closes ends.first ends.second ends.third i }
 {
-    let no_comma = without(ends.first | ends.second, kinds.commas);
-    let no_close = without(ends.third, kinds.closes);
-    let no_more = without(
+    let no_comma = difference(ends.first | ends.second, kinds.commas);
+    let no_close = difference(ends.third, kinds.closes);
+    let no_more = difference(
         one_on(one_on(ends.third)),
         one_on(kinds.commas) & kinds.opens,
     );
-    no_comma | no_close | no_more | without(1, kinds.opens)
+    no_comma | no_close | no_more | difference(1, kinds.opens)
 }
 
 /// A bit for the last of any sixteen digits.
@@ -170,8 +170,8 @@ fn wrong_numbers(kinds: Kinds, numbers: Numbers) -> u64
     ensures { (i : ℕ) → i < 64 → HasNoBit result i
         → DoNumbersFit kinds.digits kinds.zeros kinds.minuses kinds.opens numbers.inner numbers.starts i }
 {
-    let empty = without(numbers.starts, numbers.inner | kinds.opens);
-    let bare = without(one_on(kinds.minuses), without(kinds.digits, kinds.zeros));
+    let empty = difference(numbers.starts, numbers.inner | kinds.opens);
+    let bare = difference(one_on(kinds.minuses), difference(kinds.digits, kinds.zeros));
     let led_by_zero = one_on(kinds.zeros & numbers.starts) & kinds.digits;
     empty | bare | led_by_zero | long_runs(kinds.digits)
 }
@@ -263,7 +263,7 @@ fn front_at(text: &[u8], at: usize) -> Front
 
 /// What stands from `at` on, and zeros up to 64 bytes.
 #[inline(always)]
-fn padded(text: &[u8], at: usize) -> [u8; BLOCK]
+fn block_at(text: &[u8], at: usize) -> [u8; BLOCK]
     requires within { at ≤ length text.now }
     requires few { length text.now < at + 64 }
     ensures { take (length text.now - at) result ≡ drop at text.now }
@@ -283,7 +283,7 @@ fn short_front(text: &[u8], at: usize) -> Front
     ensures closed { result.closed ≡ true
         → ClosesTriples (slice_range text.now at (at + result.len)) }
 {
-    let block = padded(text, at);
+    let block = block_at(text, at);
     let front = front_of(&block);
     if front.len > text.len() - at {
         return Front {

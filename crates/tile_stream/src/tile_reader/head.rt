@@ -15,7 +15,7 @@ ghost use Rattle.tile_stream.specs.Head.{SpellsHeadOf, RefusesHead, HoldsHead, R
 use byte_streams::{Fault, Line};
 use city_cut::{CutTexts, FeatureTexts, cut_compacted_triples, cut_fault, cut_texts};
 use city_feature::{Header, header, holds_city, is_document};
-use city_json::{Json, Part, Span, check, compact_object, read, spells_no_object};
+use city_json::{Json, MemberPlace, Span, check, compact_object, read, spells_no_object};
 use std::alloc::Global;
 
 /// The header of a tile, and the number of the line that spells it, from 1.
@@ -75,7 +75,7 @@ fn quick_first_line(alloc: Global, bytes: &[u8]) -> Result<Option<FirstLine>, Fa
 fn document_line(
     alloc: Global,
     text: &[u8],
-    parts: &[Part],
+    parts: &[MemberPlace],
     triples: Span,
 ) -> Result<Option<FirstLine>, Fault>
     requires members { (members : MemberTrees) × IsCompactOf text.now (object members) × AreParts 1 parts.now members }
@@ -103,7 +103,7 @@ fn document_line(
 }
 
 /// Whether the object whose compact text this is holds city objects or vertices. No: it does not, or undecided.
-fn is_document_text(text: &[u8], parts: &[Part]) -> bool
+fn is_document_text(text: &[u8], parts: &[MemberPlace]) -> bool
     ensures { IsTrue result → (members : MemberTrees) → IsCompactOf text.now (object members)
         → AreParts 1 parts.now members → HoldsCity (object members) }
 {

@@ -2,7 +2,7 @@
 ghost use Rattle.std.specs.Prelude.{◌≡◌, ◌≤◌, ◌<◌, false, [], None, option_map, IfOk, IfErr, IfSome, IfNone, OnOk, OnErr};
 ghost use Rattle.byte_streams.specs.Failures.{after_call};
 ghost use Rattle.city_feature.specs.Choice.{IsChosen};
-ghost use Rattle.city_json.specs.TextPlace.{text_at};
+ghost use Rattle.city_json.specs.TextPlace.{placed_text};
 ghost use Rattle.tile_stream.specs.Coming.{LinesMayComeTo, SomethingComes};
 ghost use Rattle.tile_stream.specs.Filtered.{failed_reads_after_filter, failures_after_filter};
 ghost use Rattle.tile_stream.specs.Progress.{HasBegun, HasWritten, IsRefusedAfter, SoFar};
@@ -28,10 +28,10 @@ fn write_given<W: Sink>(
     output: &mut W,
 ) -> Result<u64, Fault>
     ensures all { IfOk result (λ count. HasWritten
-        (option_map (λ place. text_at place line.now buffer.now) given) count
+        (option_map (λ place. placed_text place line.now buffer.now) given) count
         (W.taken output.old) (W.taken output.new)) }
     ensures some { OnErr result (HasBegun
-        (option_map (λ place. text_at place line.now buffer.now) given)
+        (option_map (λ place. placed_text place line.now buffer.now) given)
         (W.taken output.old) (W.taken output.new)) }
     ensures failures { W.failures output.new ≡ after_call result (W.failures output.old) }
 {

@@ -1,5 +1,5 @@
 use Rattle.std.proofs.Common.{subst, sym}
-use Rattle.city_json.specs.TextPlace.{text_at}
+use Rattle.city_json.specs.TextPlace.{placed_text}
 use Rattle.city_json.specs.Parts.{AreParts}
 use Rattle.city_json.specs.Tree.{object}
 use Rattle.city_json.specs.Triples.{HasTriples}
@@ -11,7 +11,7 @@ pub cut_compacted_triples-requires-clause-members : goal.cut_compacted_triples-r
 cut_compacted_triples-requires-clause-members c =
     let (members, spells, fits, shallow, written, are) = c.in_ok-found.ensures.object in (
       members,
-      compact_of c.args.text.now (text_at c.in_ok-found.found.place c.args.text.now c.compact_object.new.buffer) c.bytes-line.result.now members spells fits written
+      compact_of c.args.text.now (placed_text c.in_ok-found.found.place c.args.text.now c.compact_object.new.buffer) c.bytes-line.result.now members spells fits written
           c.bytes-line.ensures,
       subst (λ p. AreParts 1 p members) (sym c.deref.ensures.value) are,
     )
@@ -24,6 +24,6 @@ pub returns : goal.returns
 returns c = if_some_more c.cut_compacted_triples.result (λ cut holds.
     let (members, spells, fits, shallow, written, are) = c.in_ok-found.ensures.object in
     let (cuttable, features, is_cut, texts) =
-    holds members (compact_of c.args.text.now (text_at c.in_ok-found.found.place c.args.text.now c.compact_object.new.buffer) c.bytes-line.result.now members spells fits
+    holds members (compact_of c.args.text.now (placed_text c.in_ok-found.found.place c.args.text.now c.compact_object.new.buffer) c.bytes-line.result.now members spells fits
     written c.bytes-line.ensures) (subst (λ p. AreParts 1 p members) (sym c.deref.ensures.value) are) in
     (object members, spells, fits, shallow, cuttable, features, is_cut, texts)) c.cut_compacted_triples.ensures

@@ -14,7 +14,7 @@ use crate::choices::types::Types;
 use crate::features::members::member_or;
 use byte_streams::Line;
 use city_grid::byte_is;
-use city_json::{Json, Part, between, members_of_compact, part_named, read};
+use city_json::{Json, MemberPlace, between, members_of_compact, part_named, read};
 use std::alloc::Global;
 
 /// The compact text of a member of the value whose compact text this is; that of `null`, where there is none. The name is
@@ -32,7 +32,7 @@ fn member_text<'a>(alloc: Global, text: &'a [u8], name: &[u8]) -> Option<&'a [u8
 }
 
 /// The text that is the line's `id`, with its marks, and a colon after it.
-fn id_and_colon(alloc: Global, line: &[u8], parts: &[Part]) -> Option<Line>
+fn id_and_colon(alloc: Global, line: &[u8], parts: &[MemberPlace]) -> Option<Line>
     ensures { IfSome result (λ name. (all : MemberTrees) → IsLine line.now parts.now all
         → (id : List ℕ) → first_named (codes "id") all ≡ Some (string id)
         → IsUtf8 id × (name ≡ quoted id ++ colon ∷ [])) }
@@ -52,7 +52,7 @@ fn id_and_colon(alloc: Global, line: &[u8], parts: &[Part]) -> Option<Line>
 /// The compact text of the member `type` of the city object that the line's `id` names; that of `null`, where there is
 /// none.
 #[inline(never)]
-fn type_text<'a>(alloc: Global, line: &'a [u8], parts: &[Part]) -> Option<&'a [u8]>
+fn type_text<'a>(alloc: Global, line: &'a [u8], parts: &[MemberPlace]) -> Option<&'a [u8]>
     ensures { IfSome result (λ found. (all : MemberTrees) → Fits (object all) → IsLine line.now parts.now all
         → (id : List ℕ) → first_named (codes "id") all ≡ Some (string id)
         → IsCompactOf found.now (unwrap_or
@@ -108,7 +108,7 @@ fn letters_of(text: &[u8]) -> Option<&[u8]>
 }
 
 /// The text of that type, where the city object stands first among the objects and its type first in it.
-fn first_type<'a>(line: &'a [u8], parts: &[Part]) -> Option<&'a [u8]>
+fn first_type<'a>(line: &'a [u8], parts: &[MemberPlace]) -> Option<&'a [u8]>
     ensures { IfSome result (λ name. (all : MemberTrees) → IsLine line.now parts.now all
         → (id : List ℕ) → first_named (codes "id") all ≡ Some (string id)
         → member_in (codes "type") (member_in id (first_named (codes "CityObjects") all))
@@ -161,7 +161,7 @@ pub fn has_given_type(
     alloc: Global,
     types: &Option<Types>,
     line: &[u8],
-    parts: &[Part],
+    parts: &[MemberPlace],
 ) -> Option<bool>
     ensures { IfSome result (λ has. (all : MemberTrees) → Fits (object all) → IsLine line.now parts.now all
         → IsThere IsText (first_named (codes "id") all)

@@ -13,7 +13,7 @@ use crate::choices::area::Area;
 use crate::choices::extents::{Extent, extended, reaches};
 use crate::features::texts::{MIN_LEN, is_vertices_text};
 use city_grid::triple_plan_at;
-use city_json::{Part, Span, between};
+use city_json::{MemberPlace, Span, between};
 
 /// The extent of the vertices that stand between two places of a text as triples of short whole numbers, so that they need
 /// no check; `None`: undecided.
@@ -57,7 +57,7 @@ pub fn triples_meet(area: &Area, text: &[u8], triples: Span) -> Option<bool>
 /// Whether what stands in a part of a line is what would be written for its vertices, which most often are the triples
 /// that were found there; `false`: undecided.
 #[inline(always)]
-fn are_as_written(line: &[u8], triples: Span, part: Part) -> bool
+fn are_as_written(line: &[u8], triples: Span, part: MemberPlace) -> bool
     requires triples { HasTriples line.now triples }
     ensures { IsTrue result → (part.value ≤ part.end)
         × IsVerticesText (slice_range line.now part.value part.end) }
@@ -78,7 +78,7 @@ pub(super) fn unread_vertices_meet(
     area: &Option<Area>,
     line: &[u8],
     triples: Span,
-    part: Part,
+    part: MemberPlace,
 ) -> Option<bool>
     requires triples { HasTriples line.now triples }
     ensures { IfSome result (λ meets. (part.value ≤ part.end) × (ps : List Triple)

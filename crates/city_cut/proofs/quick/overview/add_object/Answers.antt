@@ -1,5 +1,5 @@
 use Rattle.std.proofs.Common.{slice_range}
-use Rattle.city_json.specs.declared.compacting.places.Part.{Part}
+use Rattle.city_json.specs.declared.compacting.places.MemberPlace.{MemberPlace}
 use Rattle.city_cut.specs.Overviews.{HasChildrenIn, HasHolders, HasParentsIn}
 use Rattle.city_cut.specs.declared.quick.holders.HeldParts.{HeldParts}
 use Rattle.city_cut.proofs.QuickOverviews.{zip_more}
@@ -15,5 +15,5 @@ returns-clause-children c = zip_more (HasChildrenIn c.args.text.now) _ _ _ _ _ _
 
 pub returns-clause-held : goal.returns-clause-held
 returns-clause-held c = zip_more
-    (λ (part : Part) (there : HeldParts). HasHolders (slice_range c.args.text.now part.value part.end) there)
+    (λ (part : MemberPlace) (there : HeldParts). HasHolders (slice_range c.args.text.now part.value part.end) there)
     _ _ _ _ _ _ c.in_ok-list_object.ensures.places c.in_ok-list_object.ensures.held c.in_ok-seen.ensures.held

@@ -1,5 +1,5 @@
 use Rattle.std.proofs.Common.{◌∙◌, ap, arith, length, slice_range}
-use Rattle.city_json.specs.declared.compacting.places.Part.{Part}
+use Rattle.city_json.specs.declared.compacting.places.MemberPlace.{MemberPlace}
 use Rattle.city_cut.specs.Skeletons.{SkeletonPlace}
 use Rattle.city_cut.proofs.QuickOverviews.{holders_at}
 use Rattle.city_cut.proofs.QuickTexts.{if_some_more}
@@ -17,7 +17,7 @@ returns-clause-made c = if_some_more c.new.result (λ start is pairs of are.
     c.args.draft.now.line c.append_text.new.line c.append_text-2.new.line c.note_object.new.notes.leaves.items
     c.note_object.new.draft.line start c.in_ok-split.split c.args.parts.now _ pairs
     (omega (arith, c.if-at-parts.false)) (c.in_ok-value.ensures.some
-    ∙ ap (λ (p : Part). slice_range c.args.text.now p.value p.end) (c.part-part.ensures ∙ c.index-parts-at.is)) of are
+    ∙ ap (λ (p : MemberPlace). slice_range c.args.text.now p.value p.end) (c.part-part.ensures ∙ c.index-parts-at.is)) of are
     (c.in_ok-id.ensures pairs of are) c.in_ok-append_text.ensures c.in_ok-append_text-2.ensures
     c.in_ok-split.ensures.made (ap (λ (p : SkeletonPlace). p.text) is ∙ ap length c.items-begin.ensures)
     (ap (λ (p : SkeletonPlace). p.name) is ∙ ap length c.items-name.ensures)

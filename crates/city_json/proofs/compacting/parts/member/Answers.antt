@@ -50,14 +50,14 @@ returns-clause-triples c =
     (names c.args.draft.now.names) (names was.names) (names draft.names) c.in_ok-start.ensures.taken
     c.in_ok-value.ensures.taken
     c.in_ok-value.ensures.names in
-    let some : found.are_triples ≡ true → HasTriples after c.noted.result = λ are.
+    let some : found.are_triples ≡ true → HasTriples after c.triples_or.result = λ are.
     let (t, line_is, from_is) = c.in_ok-value.ensures.triples are in
     let same : shown was.line text was.from found.end ≡ after =
     sym (λ i. shown (line_is i) text (from_is i) found.end) in
-    let places = c.noted.ensures.some are in
-    subst (λ written. HasTriples written c.noted.result) same
-    (triples_noted was.line text was.from start found.end c.noted.result c.in_ok-start.ensures.copied
+    let places = c.triples_or.ensures.some are in
+    subst (λ written. HasTriples written c.triples_or.result) same
+    (triples_noted was.line text was.from start found.end c.triples_or.result c.in_ok-start.ensures.copied
     (omega (arith, c.in_ok-value.ensures.onward)) (places.0 ∙ c.in_ok-valued.ensures)
     (places.1 ∙ (c.in_ok-ended.ensures ∙ ap length (sym same))) t) in
-    triples_after found.are_triples before after c.args.triples.now c.noted.result some c.noted.ensures.none
+    triples_after found.are_triples before after c.args.triples.now c.triples_or.result some c.triples_or.ensures.none
     (quoted taken.name ++ colon ∷ compact taken.value) taken.is_shown c.requires.triples

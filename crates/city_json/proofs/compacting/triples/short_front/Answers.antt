@@ -16,8 +16,8 @@ returns-clause-goes_on c = λ on.
     let count = length text - at in
     let all : take count (drop at text) ≡ drop at text = take_all count (drop at text) (omega (arith, length-drop at text)) in
     subst PassesTriples
-    (front_of_text text c.padded-block.result at c.front_of-front.result.len count c.if-front-text.false
-    (c.padded-block.ensures ∙ sym all)) (c.front_of-front.ensures.goes_on on)
+    (front_of_text text c.block_at-block.result at c.front_of-front.result.len count c.if-front-text.false
+    (c.block_at-block.ensures ∙ sym all)) (c.front_of-front.ensures.goes_on on)
 
 pub returns-clause-closed : goal.returns-clause-closed
 returns-clause-closed c = λ closed.
@@ -26,5 +26,5 @@ returns-clause-closed c = λ closed.
     let count = length text - at in
     let all : take count (drop at text) ≡ drop at text = take_all count (drop at text) (omega (arith, length-drop at text)) in
     subst ClosesTriples
-    (front_of_text text c.padded-block.result at c.front_of-front.result.len count c.if-front-text.false
-    (c.padded-block.ensures ∙ sym all)) (c.front_of-front.ensures.closed closed)
+    (front_of_text text c.block_at-block.result at c.front_of-front.result.len count c.if-front-text.false
+    (c.block_at-block.ensures ∙ sym all)) (c.front_of-front.ensures.closed closed)

@@ -6,6 +6,6 @@ returns c =
     let kinds = c.args.kinds in
     let ends = c.args.ends in
     ends_fit kinds.commas kinds.opens kinds.closes ends.first ends.second ends.third c.one_on.result c.one_on-2.result
-    c.one_on-3.result c.without-no_comma.result c.without-no_close.result c.without-no_more.result c.without.result
-    c.one_on.ensures c.one_on-2.ensures c.one_on-3.ensures c.without-no_comma.ensures c.without-no_close.ensures
-    c.without-no_more.ensures c.without.ensures
+    c.one_on-3.result c.difference-no_comma.result c.difference-no_close.result c.difference-no_more.result c.difference.result
+    c.one_on.ensures c.one_on-2.ensures c.one_on-3.ensures c.difference-no_comma.ensures c.difference-no_close.ensures
+    c.difference-no_more.ensures c.difference.ensures

@@ -1,6 +1,6 @@
 use Rattle.std.proofs.Common.{take, option_map}
 use Rattle.city_feature.specs.Choice.{IsChosen}
-use Rattle.city_json.specs.TextPlace.{text_at}
+use Rattle.city_json.specs.TextPlace.{placed_text}
 use Rattle.tile_stream.proofs.Comings.{fault_comes, line_comes, no_failed_write, refusal_comes}
 use Rattle.tile_stream.proofs.HeldFirst.{lines_come}
 use Rattle.tile_stream.proofs.Leaving.{something_left}
@@ -52,7 +52,7 @@ returns-in-Ok-written-clause-step g c =
     let lines = c.tile.inside.lines in
     let next = rw c.in-Ok-Some.field-0-is at c.in-Ok-Some.ensures.line in
     let bytes = take c.in-Ok-Some.count c.next_len.new.self.ahead.held in
-    let given = option_map (λ place. text_at place bytes c.feature_text.new.text) c.in-Ok.given in
+    let given = option_map (λ place. placed_text place bytes c.feature_text.new.text) c.in-Ok.given in
     let feature = rw c.front-line.ensures at c.in-Ok.ensures.ok in
     let wrote = rw c.front-line.ensures at c.in-Ok-written.ensures.all in
     let comes = LinesMayComeTo g.R.Source.gives (IsChosen c.args.choice.now) c.args.shift in
@@ -72,7 +72,7 @@ returns-in-Err-written-clause-refused g c =
     let next = rw c.in-Ok-Some.field-0-is at c.in-Ok-Some.ensures.line in
     let bytes = take c.in-Ok-Some.count c.next_len.new.self.ahead.held in
     let left = c.leave_line.ensures in
-    let given = option_map (λ place. text_at place bytes c.feature_text.new.text) c.in-Ok.given in
+    let given = option_map (λ place. placed_text place bytes c.feature_text.new.text) c.in-Ok.given in
     let feature = rw c.front-line.ensures at c.in-Ok.ensures.ok in
     let begun = rw c.front-line.ensures at c.in-Err-written.ensures.some in
     let comes = LinesMayComeTo g.R.Source.gives (IsChosen c.args.choice.now) c.args.shift in
