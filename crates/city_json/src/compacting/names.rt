@@ -5,7 +5,7 @@ ghost use Rattle.city_json.specs.Fits.{IsNewName, HasDistinctNames};
 ghost use Rattle.city_json.specs.ListedNames.{as_written, as_decoded, names_in};
 ghost use Rattle.city_json.specs.MemberName.{IsWithin, first_held, name_bytes};
 ghost use Rattle.city_json.specs.Members.{names};
-ghost use Rattle.city_json.specs.NamePrint.{print_of, short_print_of};
+ghost use Rattle.city_json.specs.NamePrint.{mixed_print, print_of, short_print_of, words_print};
 ghost use Rattle.city_json.specs.Tree.{MemberTrees};
 
 use super::name::Name;
@@ -33,6 +33,9 @@ const FEW_SIEVED: usize = 64;
 /// Up to so many go through one of two sets of 16,384 bits: of 300 three in a hundred are not told so, of 512 seventeen.
 /// Of more it is likelier that the prints have to be sorted, whatever the sieve did.
 const MAX_SIEVED: usize = 512;
+
+/// The odd number by which FxHash multiplies: 2^64 divided by pi.
+const MIXING: u64 = 0x517c_c1b7_2722_0a95;
 
 /// The names of the members of the open objects of a text, in their order. Each is listed by its place in the text, in
 /// eight bytes; those with escapes are held decoded, one after another, and their places go on from the text's end.
@@ -343,18 +346,40 @@ fn rise_when_sorted(prints: Vec<u64>) -> bool
     prints.is_sorted_by(|first, second| first < second)
 }
 
-/// A number that equal names share, and different ones seldom.
+/// A number that equal names share, and different ones seldom: all bytes of the name, eight at a time, the last eight
+/// once more as they may begin anywhere, hashed as Firefox does (FxHash).
 #[tactic(auto, unfolding(crate::specs::NamePrint::print_of))]
 #[inline(always)]
 fn print_of(name: &[u8]) -> u64
     ensures { result ≡ print_of name.now }
 {
-    match (name.first_chunk::<8>(), name.last_chunk::<8>()) {
-        (Some(first), Some(last)) => {
-            u64::from_le_bytes(*first).rotate_left(24) ^ u64::from_le_bytes(*last)
-        }
-        _ => short_print_of(name),
+    let Some(last) = name.last_chunk::<8>() else {
+        return short_print_of(name);
+    };
+    let (words, _) = name.as_chunks::<8>();
+    let print = words_print(name.len() as u64, words);
+    mixed_print(print, u64::from_le_bytes(*last))
+}
+
+/// A print of what came before, and words after it.
+#[inline(always)]
+fn words_print(before: u64, words: &[[u8; 8]]) -> u64
+    ensures { result ≡ words_print before words.now }
+{
+    let mut print = before;
+    for word in words {
+        print = mixed_print(print, u64::from_le_bytes(*word));
     }
+    print
+}
+
+/// A print of what came before, and a word after it.
+#[tactic(auto, unfolding(crate::specs::NamePrint::mixed_print))]
+#[inline(always)]
+fn mixed_print(print: u64, word: u64) -> u64
+    ensures { result ≡ mixed_print print word }
+{
+    (print.rotate_left(5) ^ word).wrapping_mul(MIXING)
 }
 
 /// The same for a name of fewer than eight bytes.
