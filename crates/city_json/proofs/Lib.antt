@@ -57,3 +57,4 @@ pub mod TriplesTaken
 pub mod WholeArrays
 pub mod WholeBytes
 pub mod WholeMasks
+pub mod WrittenLetters

@@ -33,3 +33,4 @@ pub mod Triples
 pub mod TriplesFound
 pub mod Whole
 pub mod Writable
+pub mod WrittenLetters

@@ -1,11 +1,12 @@
 //! Strings and names: as they stand where no escape is in them, else written anew.
 ghost use Rattle.std.specs.Prelude.{◌≡◌, ◌+◌, ◌++◌, ◌∷◌, ◌<◌, ◌≤◌, [], Some, List, ℕ, length, drop, slice_index, IfSome, OnSome, IsUtf8};
 ghost use Rattle.std.specs.List.{flat_map};
-ghost use Rattle.city_json.specs.Bytes.{quotation_mark};
+ghost use Rattle.city_json.specs.Bytes.{backslash, quotation_mark};
 ghost use Rattle.city_json.specs.Compact.{written};
 ghost use Rattle.city_json.specs.Compacting.{shown, Taken, TakenAnew, TakenEscape, TakenName, TakenStart};
 ghost use Rattle.city_json.specs.ListedNames.{as_decoded, names_in};
 ghost use Rattle.city_json.specs.ReadString.{decoded};
+ghost use Rattle.city_json.specs.WrittenLetters.{is_letter_written};
 
 use super::draft::{Draft, copy_to, skip};
 use super::names::Names;
@@ -67,9 +68,38 @@ fn respelled(text: &[u8], at: usize, draft: &mut Draft) -> Option<usize>
     }
 }
 
-/// An escape whose backslash is at `at`, as its character is written: where it ends.
+/// Whether a character is written by a backslash and this letter, which stands for it.
+#[inline(always)]
+fn is_letter_written(letter: u8) -> bool
+    ensures { result ≡ is_letter_written letter }
+{
+    matches!(letter, b'"' | b'\\' | b'b' | b'f' | b'n' | b'r' | b't')
+}
+
+/// An escape whose backslash is at `at`, as its character is written: where it ends. Most are written so already.
 #[inline(always)]
 fn respelled_escape(text: &[u8], at: usize, draft: &mut Draft) -> Option<usize>
+    requires copied { draft.old.from ≤ at }
+    requires within { at < length text.now }
+    requires escapes { slice_index text.now at ≡ backslash }
+    ensures onward { IfSome result (λ end. at < end) }
+    ensures within { IfSome result (λ end. end ≤ length text.now) }
+    ensures copied { IfSome result (λ end. draft.new.from ≤ end) }
+    ensures names { OnSome result (names_in text.now draft.new.names ≡ names_in text.now draft.old.names) }
+    ensures taken { IfSome result (λ end. TakenEscape (drop (at + 1) text.now) (drop end text.now)
+        (shown draft.old.line text.now draft.old.from at)
+        (shown draft.new.line text.now draft.new.from end)) }
+{
+    if at + 1 < text.len() {
+        if is_letter_written(text[at + 1]) {
+            return Some(at + 2);
+        }
+    }
+    rewritten_escape(text, at, draft)
+}
+
+/// The same, written anew.
+fn rewritten_escape(text: &[u8], at: usize, draft: &mut Draft) -> Option<usize>
     requires copied { draft.old.from ≤ at }
     requires within { at < length text.now }
     ensures onward { IfSome result (λ end. at < end) }
