@@ -133,6 +133,31 @@ def of_one_hash(at):
     return ZERO_AFTER + "%08d" % at + "_is_of_one_hash_"
 
 
+# Parts of names that have one print, as they are told apart here, whichever of each two is taken.
+EITHER_OF_ONE_PRINT = (
+    ('8dGhjk1RDeOYch b', 'XAuVnL5NW10RF1IZ'),
+    ('FnuzBP8xAx0QU4u8', 'CfPfwwQuhpytK0wq'),
+    ('jSNSDLfTBkNqA0Hk', 'UzEy7hB34RVsdxRH'),
+    ('ah5pbu4 3Tn9wGc2', 'QBILZ1xB8BqjjCkR'),
+    ('e9da1J2HfGtE63ct', 'XhOikaejWBN2OYyN'),
+    ('pGtVAoVZ_opV4op3', '5gkwTaFNs4WE HmE'),
+    ('Kfdbb kX 09HWs24', 'IY4pclrdk5Ts1kr_'),
+    ('_cdL6Kx0ABJ 8wKl', 'JcSefRYxwdSPxwEU'),
+    ('_K6fperfVgMM8 qx', 'zlSqSftItVJbAKaE'),
+    ('VjPgQAdXipkA_JRa', 'f814u6bJw2l6jbtV'),
+    ('jL9PtAAMAGYjV8nV', 'MI47ms1_066eFW9c'),
+    ('xer5cRSTzbV_oIET', 'BRd3b6Wx6T68oq80'),
+    ('LNjb5k3LCL4bbzUX', 'tah056Q3ZEe5i z7'),
+    ('W3usLXak7Js91vWS', '5xW4A6IZc3wSU598'),
+    ('N0GfVvsdQbLxxeJy', 'izyLl5XX5Vr_k8ne'),
+    ('b2WY9C8wFVo8Rbcw', 'UD6FDRqg ysSEu8W'),
+)
+
+
+def of_one_print(at):
+    return "".join([two[(at >> place) & 1] for place, two in enumerate(EITHER_OF_ONE_PRINT)]) + "oneprint"
+
+
 def object_of(count):
     """An object of so many members."""
     return ("{" + ",".join(['"name_%d":%d' % (at, at) for at in range(count)]) + "}").encode("ascii")
@@ -156,6 +181,7 @@ HOSTILE = (
     Shape("members whose names begin alike for long", 20_000, lambda n: members(n, alike_for_long)),
     Shape("members whose names are of two letters", 200_000, lambda n: members(n, letters_apart)),
     Shape("members whose names have one hash", 64_000, lambda n: members(n, colliding)),
+    Shape("members whose names have one print", 64_000, lambda n: members(n, of_one_print)),
     Shape("members whose names have escapes", 100_000, lambda n: members(n, written_with_escapes)),
     Shape("members, the last name as the first", 200_000, lambda n: members(n, lambda at: "n%d" % (at % (n - 1))), REPEATED),
     Shape("members, each with an object", 200_000, lambda n: members(n, lambda at: "n%d" % at, lambda at: '{"a":1}')),

@@ -111,7 +111,7 @@ def typed(object_text, piece, count):
 
 
 # two names of one print, of which one has an escape
-OF_ONE_PRINT = b'"\\u0061bcdefgh1ijklmnop":1,"abcdefgh2ijklmnop":1'
+OF_ONE_PRINT = b'"\\u0062BoIXfIOr4wAR7 ":1,"ruVVmC0Y8nJQfyy":1'
 LETTERS = string.ascii_letters + string.digits
 
 

@@ -57,7 +57,9 @@ enum Names {
     Fronts,
     /// They have letters beyond ASCII.
     Streets,
-    /// They begin and end alike, so that they have one print and are told apart by themselves.
+    /// They begin and end alike.
+    EndAlike,
+    /// They have one print, so that they are told apart by themselves.
     OnePrint,
     /// They have one hash in a table whose seed is known.
     OneHash,
@@ -65,14 +67,43 @@ enum Names {
     Lines,
 }
 
-/// What stands before the number in a name, how many digits that has at least, and what stands after it; of the fronts,
-/// which have no number, nothing.
+/// Parts of names of one print, whichever of each two is taken, where all have as many: found by a search for two words
+/// each after which FxHash has the same number.
+const EITHER: [(&str, &str); 12] = [
+    ("Z BH uRJNCQtw5Jc", "jxa4L3ASW97rdD1l"),
+    ("867p10ijATlF_ gy", "Unrck9Escg4dr3Bj"),
+    ("k_jl7HvDrKbr_eyz", "NosZFcNMSXi3Ju4K"),
+    ("llm157LuB7h3e95r", "t4vg3XrrXpQHvvzs"),
+    ("t0nQX4iVoC4yBZEa", "dG8p87GJjuCldQ73"),
+    ("eVhS3riDd8WH65P0", "EqII2gRzpLcxOXMm"),
+    ("OzAXxv0A06y1S84u", "eYlZJmeCkr_v1gl8"),
+    ("UGcakOmf6ZlqFT 1", "jPb4C3mrFp8YZ7xx"),
+    ("wyq4e5IutJ2Teyc3", "wv3L0fKSejg G5LF"),
+    ("nA8ARngaYEPLvN02", "CSA4aiHNtdDv64bt"),
+    ("4wbXZaxZ78THktPK", "VObai_NQxWE1VI2W"),
+    ("D9kIwCv ZLq7kv6f", "SPwvcc1M2iD0Q1se"),
+];
+
+/// All but the last character of the name of this number among those of one print.
+fn of_one_print(alloc: Global, number: usize) -> Result<String, AllocError> {
+    let mut name = String::new(alloc);
+    let mut left = number;
+    for either in EITHER.iter() {
+        name.push_str(if left % 2 == 0 { either.0 } else { either.1 })?;
+        left /= 2;
+    }
+    name.push_str("oneprin")?;
+    Ok(name)
+}
+
+/// What stands before the number in a name, how many digits that has at least, and what stands after it; of the fronts
+/// and the names of one print, which have no number, nothing.
 fn parts_of(names: Names) -> (&'static str, usize, &'static str) {
     match names {
         Names::Alike => ("a name that begins like each other ", 6, ""),
-        Names::Fronts => ("", 0, ""),
+        Names::Fronts | Names::OnePrint => ("", 0, ""),
         Names::Streets => ("stra\u{df}e ", 5, " of many"),
-        Names::OnePrint => ("attribute ", 4, " attribute"),
+        Names::EndAlike => ("attribute ", 4, " attribute"),
         Names::OneHash => ("hi4iSqofOI1SdKlRPfC,#S Z", 8, "0123456789abcdef"),
         Names::Lines => ("line\\n", 6, "\\n"),
     }
@@ -83,6 +114,10 @@ fn member(alloc: Global, names: Names, number: usize) -> Result<String, AllocErr
     if matches!(names, Names::Fronts) {
         return format!(in alloc; "\"{:n<number$}\":null", "");
     }
+    if matches!(names, Names::OnePrint) {
+        let front = of_one_print(alloc, number)?;
+        return format!(in alloc; "\"{front}t\":null");
+    }
     let (front, width, back) = parts_of(names);
     format!(in alloc; "\"{front}{number:0width$}{back}\":null")
 }
@@ -91,9 +126,13 @@ fn member(alloc: Global, names: Names, number: usize) -> Result<String, AllocErr
 fn respelled(alloc: Global, names: Names, number: usize) -> Result<String, AllocError> {
     match names {
         Names::Streets => format!(in alloc; "\"\\u0073tra\\u00dfe {number:05} of many\":null"),
-        Names::OnePrint => format!(in alloc;
+        Names::EndAlike => format!(in alloc;
             "\"\\u0061ttribute {number:04} attribut\\u0065\":null"
         ),
+        Names::OnePrint => {
+            let front = of_one_print(alloc, number)?;
+            format!(in alloc; "\"{front}\\u0074\":null")
+        }
         Names::Lines => format!(in alloc; "\"l\\u0069ne\\u000A{number:06}\\u000a\":null"),
         Names::Alike | Names::Fronts | Names::OneHash => member(alloc, names, number),
     }
@@ -138,7 +177,7 @@ struct Objects {
     repeated: &'static str,
 }
 
-const OBJECTS: [Objects; 8] = [
+const OBJECTS: [Objects; 9] = [
     Objects {
         names: Names::Alike,
         counts: &[
@@ -172,18 +211,25 @@ const OBJECTS: [Objects; 8] = [
         repeated: ",\"\\u0073tra\\u00dfe 99999 of many\":null,\"stra\\u00DFe 00000 of many\":null",
     },
     Objects {
-        names: Names::OnePrint,
+        names: Names::EndAlike,
         counts: &[1, 2, 6, 7, 16, 17, 40, 64, 65, 300, 512, 513, 1000],
         distinct: "",
         compact: "",
         repeated: ",\"attribute 0000 attribute\":null",
     },
     Objects {
-        names: Names::OnePrint,
+        names: Names::EndAlike,
         counts: &[1000],
         distinct: "",
         compact: "",
         repeated: ",\"attribute 0999 attribute\":null",
+    },
+    Objects {
+        names: Names::OnePrint,
+        counts: &[1, 2, 6, 7, 16, 17, 40, 64, 65, 300, 512, 513, 1000],
+        distinct: "",
+        compact: "",
+        repeated: FIRST_OF_ONE_PRINT,
     },
     Objects {
         names: Names::OneHash,
@@ -197,13 +243,17 @@ const OBJECTS: [Objects; 8] = [
         counts: &[1, 2, 3, 12, 13, 40, 60, 61, 300, 508, 509],
         distinct: SAME_PLACES,
         compact: SAME_PLACES,
-        repeated: ",\"a name that begins like each other 224283\":null,\"a name that begins like each other 224283\":null",
+        repeated: ",\"a name that begins like each other 002848\":null,\"a name that begins like each other 002848\":null",
     },
 ];
 
+/// The first member of those of one print.
+const FIRST_OF_ONE_PRINT: &str =
+    ",\"Z BH uRJNCQtw5Jc867p10ijATlF_ gyk_jl7HvDrKbr_eyzllm157LuB7h3e95rt0nQX4iVoC4yBZEaeVhS3riDd8WH65P0OzAXxv0A06y1S84uUGcakOmf6ZlqFT 1wyq4e5IutJ2Teyc3nA8ARngaYEPLvN024wbXZaxZ78THktPKD9kIwCv ZLq7kv6foneprint\":null";
+
 /// Members whose names have prints of their own, and pairwise the same places in both sets of the sieve.
 const SAME_PLACES: &str =
-    ",\"a name that begins like each other 224283\":null,\"a name that begins like each other 408020\":null,\"a name that begins like each other 264286\":null,\"a name that begins like each other 408027\":null";
+    ",\"a name that begins like each other 002848\":null,\"a name that begins like each other 008407\":null,\"a name that begins like each other 022695\":null,\"a name that begins like each other 033663\":null";
 
 fn are_told_apart(alloc: Global, row: &Objects, count: usize) -> bool {
     is_taken(alloc, row.names, count, row.distinct, row.compact)
@@ -262,7 +312,7 @@ fn is_decoded_at(
     )
 }
 
-const ESCAPED: [Names; 3] = [Names::Streets, Names::OnePrint, Names::Lines];
+const ESCAPED: [Names; 3] = [Names::Streets, Names::EndAlike, Names::Lines];
 
 const COUNTS: [usize; 14] = [2, 6, 7, 16, 17, 40, 63, 64, 65, 300, 511, 512, 513, 2000];
 
@@ -279,6 +329,13 @@ fn a_name_with_escapes_is_told_by_what_it_spells(rt: HostRuntime) {
         for count in COUNTS {
             expect_decoded(&rt, names, count);
         }
+    }
+}
+
+#[test]
+fn a_name_with_escapes_of_one_print_with_others_is_told(rt: HostRuntime) {
+    for count in [2usize, 6, 7, 16, 17, 64, 65, 512, 513] {
+        expect_decoded(&rt, Names::OnePrint, count);
     }
 }
 
