@@ -86,8 +86,8 @@ pub struct Compacted {
 }
 
 /// The compact text of the object that the text spells. It stays where it was read where white space stands at its end
-/// alone and no string in it has an escape; else it stands in `buffer`. What the buffer held is dropped; it is taken for
-/// its memory.
+/// alone, no name in it has an escape, and each escape in another string is a letter's, in the one spelling; else it
+/// stands in `buffer`. What the buffer held is dropped; it is taken for its memory.
 ///
 /// `None`: undecided; [`crate::read`] decides.
 pub fn compact_object(alloc: Global, text: &[u8], buffer: &mut Line) -> Option<CompactObject>
