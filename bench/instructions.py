@@ -5,6 +5,7 @@ import shutil
 
 from measured import (
     BUILDINGS, BY_BOX, BY_TYPES, CHOSEN, ESCAPED, HOUSES, MEASURED, MINUS_ZERO, MOVED, ONE_LINE, REGISTER, SPACED, TINY, WIDE,
+    YEARLY,
 )
 from running import counted, dominant
 from streams import HEADER, elsewhere
@@ -22,6 +23,7 @@ MOST = {
     (TINY, BY_BOX): 28,
     (WIDE, ()): 16,
     (REGISTER, ()): 16,
+    (YEARLY, ()): 16,
     (SPACED, ()): 22,
     (ESCAPED, ()): 30,
     (MINUS_ZERO, ()): 22,

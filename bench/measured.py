@@ -1,10 +1,11 @@
 """The streams whose speed and instructions are measured, and what is chosen of them."""
 
-from streams import buildings, escaped, minus_zero, one_line, spaced, tiny, wide
+from streams import buildings, escaped, minus_zero, one_line, spaced, tiny, wide, yearly
 from town import houses, register
 
 BUILDINGS, TINY, HOUSES = "building tiles", "tiny features, 200 bytes a line", "town houses, mixed attributes"
 WIDE, REGISTER = "features with 300 attributes", "features with 60 mixed attributes"
+YEARLY = "features with 100 attributes, a year in each name"
 SPACED, ESCAPED = "a blank after each comma and colon", "names and texts with escapes"
 MINUS_ZERO, ONE_LINE = "building tiles, a -0 in each", "one long line"
 MEASURED = {
@@ -13,6 +14,7 @@ MEASURED = {
     TINY: tiny,
     WIDE: wide,
     REGISTER: register,
+    YEARLY: yearly,
     SPACED: spaced,
     ESCAPED: escaped,
     MINUS_ZERO: minus_zero,

@@ -165,6 +165,19 @@ def wide(seed, size):
     return stream(size, lambda number: small_building(rng, number, names, WORDS, lambda text: '"%s"' % text))
 
 
+TOPICS = (
+    ("energy_consumption_", "_kwh_per_m2"), ("gas_consumption_", "_m3_per_year"), ("heat_demand_", "_gj_per_year"),
+    ("co2_emission_of_heating_", "_kg_per_m2"), ("assessed_value_", "_euro_per_m2"),
+)
+
+
+def yearly(seed, size):
+    """Features with 100 attributes each whose names have more than sixteen bytes and differ between their ends."""
+    rng = random.Random(seed)
+    names = ["%s%d%s" % (front, year, back) for front, back in TOPICS for year in range(2005, 2025)]
+    return stream(size, lambda number: small_building(rng, number, names, WORDS, lambda text: '"%s"' % text))
+
+
 def escaped(seed, size):
     """Features with 60 attributes each, in whose names and texts all but ASCII is escaped, and so is the slash."""
     rng = random.Random(seed)
