@@ -1,19 +1,13 @@
 -- Where the members of an object lie in its compact text.
-use Rattle.std.proofs.Common.{◌≡◌, ◌≢◌, ◌++◌, ◌∙◌, ◌≤◌, ◌<◌, ◌+◌, ℕ, List, [], ◌∷◌, length, drop, get_or, refl, ap, sym, subst, arith, append_assoc, append-nil, true, false, length-append, length-drop}
+use Rattle.std.proofs.Common.{◌≡◌, ◌++◌, ◌∙◌, ◌≤◌, ◌<◌, ◌+◌, ℕ, List, [], ◌∷◌, length, drop, get_or, refl, ap, sym, arith, append_assoc, length-append, length-drop}
 use Rattle.byte_streams.specs.Limits.{max_depth}
-use Rattle.city_json.specs.Bytes.{colon, comma, open_brace, close_brace, quotation_mark}
-use Rattle.city_json.specs.Compact.{quoted, compact, compact_members, compact_more_members, written}
+use Rattle.city_json.specs.Bytes.{colon, quotation_mark}
+use Rattle.city_json.specs.Compact.{quoted, compact, written}
 use Rattle.city_json.specs.CompactEnds.{IsStopped, LeavesString, LeavesValue}
-use Rattle.city_json.specs.CompactMembers.{HasParts, LeavesMember}
-use Rattle.city_json.specs.Fits.{depth, members_depth}
-use Rattle.city_json.specs.Parts.{IsPart, AreParts}
-use Rattle.city_json.specs.Tree.{Tree, null, boolean, number, string, array, object, MemberTrees, no_members, member}
-use Rattle.city_json.specs.Writable.{IsWritable, AreWritableMembers}
-use Rattle.city_json.specs.declared.compacting.places.MemberPlace.{MemberPlace}
-use Rattle.city_json.proofs.CompactEnds.{number_other, other_head}
-use Rattle.city_json.proofs.MemberEnds.{more_members_stopped}
-use Rattle.city_json.proofs.StringEnds.{first_same, others_same}
-use Rattle.city_json.proofs.PassParts as pass
+use Rattle.city_json.specs.Fits.{depth}
+use Rattle.city_json.specs.Tree.{Tree}
+use Rattle.city_json.specs.Writable.{IsWritable}
+use Rattle.city_json.proofs.StringEnds.{others_same}
 use Rattle.city_json.proofs.Places.{drop_one}
 use Rattle.std.specs.List.{flat_map}
 

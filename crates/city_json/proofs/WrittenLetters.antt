@@ -1,5 +1,5 @@
 -- An escape by a letter that is written so for its character stays as it stands.
-use Rattle.std.proofs.Common.{◌≡◌, ◌∙◌, ◌<◌, ◌≤◌, ◌+◌, ◌++◌, ℕ, true, List, [], ◌∷◌, Some, length, drop, get_or, refl, ap, sym, subst, inl, inr, arith, slice_range, encode_utf8, option_map}
+use Rattle.std.proofs.Common.{◌≡◌, ◌∙◌, ◌<◌, ◌≤◌, ◌+◌, ◌++◌, ℕ, true, List, [], ◌∷◌, Some, length, drop, get_or, refl, ap, sym, subst, inl, inr, arith, slice_range, encode_utf8}
 use Rattle.std.proofs.lemmas.Bool.{cases_eq}
 use Rattle.std.proofs.lemmas.Bool.Decides.{nat_tests}
 use Rattle.std.proofs.lemmas.Str.{encode_ascii}
@@ -8,7 +8,6 @@ use Rattle.city_json.specs.Bytes.{quotation_mark, backslash, small_b, small_f, s
 use Rattle.city_json.specs.Compact.{written}
 use Rattle.city_json.specs.Compacting.{shown, TakenEscape}
 use Rattle.city_json.specs.ReadString.{escape_at}
-use Rattle.city_json.specs.Strings.{letter_meaning}
 use Rattle.city_json.specs.WrittenLetters.{is_letter_written}
 use Rattle.city_json.proofs.Places.{drop_one, shown_more, slice_more, slice_one}
 
