@@ -1,11 +1,20 @@
 -- A print of a member's name: names with different prints differ, whatever the print is.
-use Rattle.std.specs.Prelude.{◌-◌, ◌*◌, ◌/◌, ◌%◌, ◌^◌, ℕ, List, length, drop, fold, bit_xor, nat_le, if◌then◌else◌}
+use Rattle.std.specs.Prelude.{◌-◌, ◌*◌, ◌/◌, ◌%◌, ◌^◌, ℕ, List, length, take, drop, fold, bit_xor, nat_le, if◌then◌else◌}
 use Rattle.std.specs.Int.{from_le_bytes, rotate_left, w64}
 use Rattle.std.specs.Simd.{first_chunks}
+use Rattle.city_json.specs.declared.compacting.names.Print.{Print}
+use Rattle.city_json.specs.declared.compacting.names.Print.TheVariants.{Ends, All}
 
 -- the bytes one after another, each eight bits on
 unfoldable pub short_print_of : List ℕ → ℕ
 short_print_of name = fold (λ print byte. bit_xor (rotate_left w64 print 8) byte) 0 name
+
+-- of longer names the first eight bytes and the last eight
+unfoldable pub ends_print : List ℕ → ℕ
+ends_print name =
+    if nat_le 8 (length name) then bit_xor (rotate_left w64 (from_le_bytes w64 (take 8 name)) 24)
+    (from_le_bytes w64 (drop (length name - 8) name))
+    else short_print_of name
 
 -- a print of what came before, and a word after it, as FxHash mixes them
 unfoldable pub mixed_print : ℕ → ℕ → ℕ
@@ -21,3 +30,7 @@ print_of name =
     (words_print (length name) (first_chunks 8 (length name / 8) name))
     (from_le_bytes w64 (drop (length name - 8) name))
     else short_print_of name
+
+abbrev pub print_by : Print → List ℕ → ℕ
+print_by Ends name = ends_print name
+print_by All name = print_of name

@@ -5,7 +5,7 @@ ghost use Rattle.city_json.specs.Fits.{IsNewName, HasDistinctNames};
 ghost use Rattle.city_json.specs.ListedNames.{as_written, as_decoded, names_in};
 ghost use Rattle.city_json.specs.MemberName.{IsWithin, first_held, name_bytes};
 ghost use Rattle.city_json.specs.Members.{names};
-ghost use Rattle.city_json.specs.NamePrint.{mixed_print, print_of, short_print_of, words_print};
+ghost use Rattle.city_json.specs.NamePrint.{ends_print, mixed_print, print_by, print_of, short_print_of, words_print};
 ghost use Rattle.city_json.specs.Tree.{MemberTrees};
 
 use super::name::Name;
@@ -36,6 +36,15 @@ const MAX_SIEVED: usize = 512;
 
 /// The odd number by which FxHash multiplies: 2^64 divided by pi.
 const MIXING: u64 = 0x517c_c1b7_2722_0a95;
+
+/// Which bytes of a name its print takes in. That of its ends is made in a few steps, and tells most names apart.
+#[derive(Clone, Copy)]
+enum Print {
+    /// The first eight and the last eight.
+    Ends,
+    /// All.
+    All,
+}
 
 /// The names of the members of the open objects of a text, in their order. Each is listed by its place in the text, in
 /// eight bytes; those with escapes are held decoded, one after another, and their places go on from the text's end.
@@ -248,46 +257,63 @@ fn is_any_held(listed: &[Name], text: &[u8], held: &[u8]) -> bool {
     !held.is_empty() && listed.iter().any(|name| name.end as usize >= text.len())
 }
 
-/// Whether a sieve tells each name from all before it. Where names are too many for that, none is looked at.
+/// Whether a sieve tells each name from all before it, by the ends of the names or by all their bytes. Where names are too
+/// many for that, none is looked at.
 fn are_sieved_apart(listed: &[Name], text: &[u8], held: &[u8]) -> bool
     requires within { All (IsWithin (length text.now) (length held.now)) listed.now }
     ensures { IsTrue result → (members : MemberTrees) → names members ≡ map (name_bytes text.now held.now) listed.now
         → HasDistinctNames members }
 {
+    are_sieved_by(Print::Ends, listed, text, held) || are_sieved_by(Print::All, listed, text, held)
+}
+
+/// The same by one print of each.
+fn are_sieved_by(print: Print, listed: &[Name], text: &[u8], held: &[u8]) -> bool
+    requires within { All (IsWithin (length text.now) (length held.now)) listed.now }
+    ensures { IsTrue result → (members : MemberTrees) → names members ≡ map (name_bytes text.now held.now) listed.now
+        → HasDistinctNames members }
+{
     if listed.len() <= FEW_SIEVED {
-        return pass_small(listed, text, held);
+        return pass_small(print, listed, text, held);
     }
     if listed.len() <= MAX_SIEVED {
-        return pass_large(listed, text, held);
+        return pass_large(print, listed, text, held);
     }
     false
 }
 
 /// Whether each name is told from all before it by two sets of 2,048 bits.
 #[inline(never)]
-fn pass_small(listed: &[Name], text: &[u8], held: &[u8]) -> bool
+fn pass_small(print: Print, listed: &[Name], text: &[u8], held: &[u8]) -> bool
     requires within { All (IsWithin (length text.now) (length held.now)) listed.now }
     ensures { IsTrue result → (members : MemberTrees) → names members ≡ map (name_bytes text.now held.now) listed.now
         → HasDistinctNames members }
 {
     let (mut first, mut second) = ([0; 32], [0; 32]);
-    pass(listed, text, held, &mut first, &mut second)
+    pass(print, listed, text, held, &mut first, &mut second)
 }
 
 /// The same by two sets of 16,384 bits.
 #[inline(never)]
-fn pass_large(listed: &[Name], text: &[u8], held: &[u8]) -> bool
+fn pass_large(print: Print, listed: &[Name], text: &[u8], held: &[u8]) -> bool
     requires within { All (IsWithin (length text.now) (length held.now)) listed.now }
     ensures { IsTrue result → (members : MemberTrees) → names members ≡ map (name_bytes text.now held.now) listed.now
         → HasDistinctNames members }
 {
     let (mut first, mut second) = ([0; 256], [0; 256]);
-    pass(listed, text, held, &mut first, &mut second)
+    pass(print, listed, text, held, &mut first, &mut second)
 }
 
 /// Whether each name is told from all before it by these two sets.
 #[inline(always)]
-fn pass(listed: &[Name], text: &[u8], held: &[u8], first: &mut [u64], second: &mut [u64]) -> bool
+fn pass(
+    print: Print,
+    listed: &[Name],
+    text: &[u8],
+    held: &[u8],
+    first: &mut [u64],
+    second: &mut [u64],
+) -> bool
     requires within { All (IsWithin (length text.now) (length held.now)) listed.now }
     requires first { 0 < length first.old }
     requires second { 0 < length second.old }
@@ -295,8 +321,8 @@ fn pass(listed: &[Name], text: &[u8], held: &[u8], first: &mut [u64], second: &m
         → HasDistinctNames members }
 {
     for name in listed {
-        let print = print_of(name.bytes(text, held));
-        if !mark(first, second, print) {
+        let print_of_name = print.of(name.bytes(text, held));
+        if !mark(first, second, print_of_name) {
             return false;
         }
     }
@@ -346,8 +372,35 @@ fn rise_when_sorted(prints: Vec<u64>) -> bool
     prints.is_sorted_by(|first, second| first < second)
 }
 
-/// A number that equal names share, and different ones seldom: all bytes of the name, eight at a time, the last eight
-/// once more as they may begin anywhere, hashed as Firefox does (FxHash).
+impl Print {
+    /// A number that equal names share, and different ones seldom.
+    #[inline(always)]
+    fn of(self, name: &[u8]) -> u64
+        ensures { result ≡ print_by self name.now }
+    {
+        match self {
+            Print::Ends => ends_print(name),
+            Print::All => print_of(name),
+        }
+    }
+}
+
+/// That of the first eight bytes and the last eight.
+#[tactic(auto, unfolding(crate::specs::NamePrint::ends_print))]
+#[inline(always)]
+fn ends_print(name: &[u8]) -> u64
+    ensures { result ≡ ends_print name.now }
+{
+    match (name.first_chunk::<8>(), name.last_chunk::<8>()) {
+        (Some(first), Some(last)) => {
+            u64::from_le_bytes(*first).rotate_left(24) ^ u64::from_le_bytes(*last)
+        }
+        _ => short_print_of(name),
+    }
+}
+
+/// That of all bytes: eight at a time, the last eight once more as they may begin anywhere, hashed as Firefox does
+/// (FxHash).
 #[tactic(auto, unfolding(crate::specs::NamePrint::print_of))]
 #[inline(always)]
 fn print_of(name: &[u8]) -> u64

@@ -1,6 +1,6 @@
 use Rattle.std.proofs.Common.{◌<◌, ◌∙◌, length, ap, arith}
 use Rattle.city_json.specs.MemberName.{name_bytes}
-use Rattle.city_json.specs.NamePrint.{print_of}
+use Rattle.city_json.specs.NamePrint.{print_by}
 use Rattle.city_json.proofs.Sieving.{apart_when_told, none_told, one_more_at}
 use Rattle.city_json.proofs.compacting.names.pass.Goals as goal
 
@@ -18,15 +18,15 @@ loop-name-preserved c =
     record {
       first = omega (arith, some_first);
       second = omega (arith, some_second);
-      told = one_more_at (λ name. print_of (name_bytes c.args.text.now c.args.held.now name)) c.loop-name.first
+      told = one_more_at (λ name. print_by c.args.print (name_bytes c.args.text.now c.args.held.now name)) c.loop-name.first
           c.loop-name.second _ _
-          c.args.listed.now c.loop-name.name-index _ c.print_of-print.result c.loop-name-test.true
-          (c.print_of-print.ensures ∙ ap print_of c.bytes.ensures) c.loop-name.invariant.told
+          c.args.listed.now c.loop-name.name-index _ c.of-print_of_name.result c.loop-name-test.true
+          (c.of-print_of_name.ensures ∙ ap (print_by c.args.print) c.bytes.ensures) c.loop-name.invariant.told
           (c.mark.ensures.new c.if-not-mark.false) c.mark.ensures.marked c.mark.ensures.kept;
     }
 
 pub returns : goal.returns
 returns c = λ ok members is.
-    apart_when_told (name_bytes c.args.text.now c.args.held.now) print_of c.loop-name.first c.loop-name.second
+    apart_when_told (name_bytes c.args.text.now c.args.held.now) (print_by c.args.print) c.loop-name.first c.loop-name.second
     c.args.listed.now
     c.loop-name.name-index members c.loop-name-test.false c.loop-name.invariant.told is
