@@ -1,7 +1,8 @@
 //! Scalars that stand in their compact spelling: words, numbers, and strings without escapes.
 ghost use Rattle.std.specs.Prelude.{◌≡◌, ◌<◌, ◌≤◌, ◌-◌, length, drop, slice_range, slice_index, IfSome, IsUtf8};
-ghost use Rattle.city_json.specs.Bytes.{quotation_mark};
+ghost use Rattle.city_json.specs.Bytes.{minus, quotation_mark};
 ghost use Rattle.city_json.specs.Compacting.{IsScalarText, IsPlainString};
+ghost use Rattle.city_json.specs.Number.{IsFraction, IsWhole};
 ghost use Rattle.city_json.specs.Reading.{after_white};
 
 use crate::reading::digits::digits_end;
@@ -75,6 +76,7 @@ pub(super) fn integer_end(text: &[u8], at: usize) -> usize
     ensures onward { at ≤ result }
     ensures within { result ≤ length text.now }
     ensures is { at < result → IsScalarText text.now at result }
+    ensures whole { at < result → IsWhole (slice_range text.now at result) }
     ensures clear { at < result → after_white (drop at text.now) ≡ drop at text.now }
 {
     if at == text.len() {
@@ -84,4 +86,72 @@ pub(super) fn integer_end(text: &[u8], at: usize) -> usize
         return at + 1;
     }
     digits_end(text, at)
+}
+
+/// The end of a point that stands at `at` and the digits after it, or `at` where these do not stand there.
+#[inline(never)]
+fn fraction_end(text: &[u8], at: usize) -> usize
+    requires { at ≤ length text.now }
+    ensures onward { at ≤ result }
+    ensures within { result ≤ length text.now }
+    ensures is { IsFraction (slice_range text.now at result) }
+{
+    if at == text.len() {
+        return at;
+    }
+    if text[at] != b'.' {
+        return at;
+    }
+    let end = digits_end(text, at + 1);
+    if end == at + 1 {
+        return at;
+    }
+    end
+}
+
+/// The end of a number without an exponent whose minus sign stands at `at`, or `at` where there is none.
+#[inline(never)]
+fn negative_end(text: &[u8], at: usize) -> usize
+    requires within { at < length text.now }
+    requires signed { slice_index text.now at ≡ minus }
+    ensures onward { at ≤ result }
+    ensures within { result ≤ length text.now }
+    ensures is { at < result → IsScalarText text.now at result }
+{
+    let whole = integer_end(text, at + 1);
+    if whole == at + 1 {
+        return at;
+    }
+    fraction_end(text, whole)
+}
+
+/// Whether an item or a member may end at `at`.
+#[inline(always)]
+pub(super) fn may_end(text: &[u8], at: usize) -> bool {
+    at < text.len() && matches!(text[at], b',' | b']' | b'}')
+}
+
+/// The end of a number without an exponent that begins at `at`, or `at` where there is none. Most have neither a sign nor
+/// a fraction.
+#[inline(always)]
+pub(super) fn decimal_end(text: &[u8], at: usize) -> usize
+    requires { at ≤ length text.now }
+    ensures onward { at ≤ result }
+    ensures within { result ≤ length text.now }
+    ensures is { at < result → IsScalarText text.now at result }
+{
+    let whole = integer_end(text, at);
+    if at < whole {
+        if may_end(text, whole) {
+            return whole;
+        }
+        return fraction_end(text, whole);
+    }
+    if at == text.len() {
+        return at;
+    }
+    if text[at] == b'-' {
+        return negative_end(text, at);
+    }
+    at
 }

@@ -7,17 +7,11 @@ ghost use Rattle.city_json.specs.Reading.{after_white};
 
 use super::draft::{Draft, skip};
 use super::flat::{ItemPlace, after_item, few_numbers_end, numbers, opens_array};
-use super::scalars::{integer_end, scalar_end};
+use super::scalars::{decimal_end, may_end, scalar_end};
 use super::strings::{name_and_colon, text_value};
 use super::whole_arrays::{whole_after_comma, whole_from};
 
-/// Whether an item or a member may end at `at`.
-#[inline(always)]
-fn may_end(text: &[u8], at: usize) -> bool {
-    at < text.len() && matches!(text[at], b',' | b']' | b'}')
-}
-
-/// A member's value that begins at `at`, most often a string or a whole number: where it ends.
+/// A member's value that begins at `at`, most often a string or a number: where it ends.
 #[cycle(value)]
 #[inline(always)]
 pub(super) fn member_value(
@@ -40,7 +34,7 @@ pub(super) fn member_value(
     if at < text.len() && text[at] == b'"' {
         return text_value(text, at, levels, draft);
     }
-    let end = integer_end(text, at);
+    let end = decimal_end(text, at);
     if at < end && may_end(text, end) {
         return Some(end);
     }

@@ -205,7 +205,7 @@ object-returns-then-text-place-eq125-clause-taken t c =
 pub member_value-returns-then-may_end-clause-taken : goal.member_value-returns-then-may_end-clause-taken
 member_value-returns-then-may_end-clause-taken t c =
     scalar_taken c.args.levels c.args.draft.now.line c.args.text.now c.args.draft.now.from c.args.at
-    c.integer_end-end.result c.requires.copied c.if-at-end.true (c.integer_end-end.ensures.is c.if-at-end.true)
+    c.decimal_end-end.result c.requires.copied c.if-at-end.true (c.decimal_end-end.ensures.is c.if-at-end.true)
 
 pub items-items-init : goal.items-items-init
 items-items-init t c = record {
