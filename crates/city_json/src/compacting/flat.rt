@@ -68,41 +68,6 @@ pub(super) fn numbers(text: &[u8], at: usize, draft: &mut Draft) -> Option<Numbe
     }
 }
 
-/// Where the array of one whole number or two ends whose opening bracket stands before `at`, or `at` where it is not one
-/// in its compact text. It is tried only after a colon, so that no array within others is looked at twice.
-#[inline(always)]
-pub(super) fn few_numbers_end(text: &[u8], at: usize) -> usize
-    requires { at ≤ length text.now }
-    ensures onward { at ≤ result }
-    ensures within { result ≤ length text.now }
-    ensures clear { at < result → after_white (drop at text.now) ≡ drop at text.now }
-    ensures closes { at < result → (levels from : ℕ) (line : List ℕ) → from ≤ at
-        → ItemsFrom levels (after_white (drop at text.now)) (drop result text.now)
-        (shown line text.now from at) (shown line text.now from result) }
-{
-    if at < 2 || text[at - 2] != b':' {
-        return at;
-    }
-    let first = integer_end(text, at);
-    if at == first || first == text.len() {
-        return at;
-    }
-    if text[first] == b']' {
-        return first + 1;
-    }
-    if text[first] != b',' {
-        return at;
-    }
-    let second = integer_end(text, first + 1);
-    if first + 1 == second || second == text.len() {
-        return at;
-    }
-    if text[second] == b']' {
-        return second + 1;
-    }
-    at
-}
-
 /// Leaves out a blank that stands before an item: where to go on.
 #[inline(always)]
 fn past_blank(text: &[u8], at: usize, draft: &mut Draft) -> Option<usize>

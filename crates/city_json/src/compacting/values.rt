@@ -6,7 +6,7 @@ ghost use Rattle.city_json.specs.ListedNames.{names_in};
 ghost use Rattle.city_json.specs.Reading.{after_white};
 
 use super::draft::{Draft, skip};
-use super::flat::{ItemPlace, after_item, few_numbers_end, numbers, opens_array};
+use super::flat::{ItemPlace, after_item, numbers, opens_array};
 use super::scalars::{decimal_end, may_end, scalar_end};
 use super::strings::{name_and_colon, text_value};
 use super::whole_arrays::{whole_after_comma, whole_from};
@@ -90,10 +90,6 @@ fn array(text: &[u8], at: usize, levels: usize, draft: &mut Draft) -> Option<usi
         (shown draft.old.line text.now draft.old.from at)
         (shown draft.new.line text.now draft.new.from end)) }
 {
-    let few = few_numbers_end(text, at);
-    if at < few {
-        return Some(few);
-    }
     let whole = whole_from(text, at, levels);
     if at < whole {
         return Some(whole);

@@ -11,15 +11,6 @@ use Rattle.city_json.proofs.PassScalars.{if_some, if_some_both, scalar_taken}
 use Rattle.city_json.proofs.Places.{at_mark, drop_one, mark_shown, shown_one}
 use Rattle.city_json.proofs.compacting.values.+value.Goals as goal
 
-pub array-returns-then-at-few-clause-taken : goal.array-returns-then-at-few-clause-taken
-array-returns-then-at-few-clause-taken t c =
-    let text = c.args.text.now in
-    let some = c.if-at-few.true in
-    items_start c.args.levels (drop c.args.at text) (drop c.args.at text) (drop c.few_numbers_end-few.result text) _ _ _
-    (sym (c.few_numbers_end-few.ensures.clear some)) refl
-    (c.few_numbers_end-few.ensures.closes some c.args.levels c.args.draft.now.from c.args.draft.now.line
-    c.requires.copied)
-
 pub array-returns-then-at-whole-clause-taken : goal.array-returns-then-at-whole-clause-taken
 array-returns-then-at-whole-clause-taken t c =
     whole_taken c.args.levels c.args.draft.now.line c.args.text.now c.args.draft.now.from c.args.at
