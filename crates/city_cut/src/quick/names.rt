@@ -51,9 +51,7 @@ fn first_places(alloc: Global, count: u32) -> Option<Vec<u32>>
 {
     let mut places = Vec::with_capacity(alloc, count as usize).ok()?;
     for at in 0..count {
-        let Ok(_) = places.push(at) else {
-            return None;
-        };
+        places.push(at).ok()?;
     }
     Some(places)
 }
