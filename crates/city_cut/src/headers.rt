@@ -1,7 +1,7 @@
 //! The header of a document that is cut.
-ghost use Rattle.std.specs.Prelude.{◌≡◌, ◌↔◌, IsTrue, is_some, IfOk, IfErr, OnOk, codes};
+ghost use Rattle.std.specs.Prelude.{◌≡◌, is_some, IfOk, IfErr, OnOk, codes};
 ghost use Rattle.city_json.specs.Members.{member_of};
-ghost use Rattle.city_json.specs.Tree.{tree, array, no_items, object, no_members};
+ghost use Rattle.city_json.specs.Tree.{tree};
 ghost use Rattle.city_feature.specs.Changes.{changed_member};
 ghost use Rattle.city_feature.specs.Header.{HasGrid};
 ghost use Rattle.city_cut.specs.Cut.{HasFrame, header_tree, without_appearance};

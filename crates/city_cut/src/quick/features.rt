@@ -24,6 +24,7 @@ ghost use Rattle.city_cut.specs.VertexTexts.{StandAt};
 
 use super::drafts::Draft;
 use super::holders::ShortHeld;
+use super::names::name_at;
 use super::objects::append_object;
 use super::points::{VertexTexts, append_points};
 use super::short_parts::ShortPart;
@@ -123,16 +124,6 @@ fn append_objects(
     append_others(alloc, text, parts, held, others, numbering, draft)
 }
 
-/// The text of the name that stands in a member's name and its colon.
-fn without_colon(name: &[u8]) -> Option<&[u8]>
-    ensures { IfSome result (λ found. (text : List ℕ) → name.now ≡ text ++ colon ∷ [] → found.now ≡ text) }
-{
-    if name.is_empty() {
-        return None;
-    }
-    between(name, 0, name.len() - 1)
-}
-
 /// The name of the object at a place, with its marks.
 pub(super) fn id_of<'a>(text: &'a [u8], parts: &[ShortPart], at: usize) -> Option<&'a [u8]>
     ensures { IfSome result (λ found. (pairs : List (List ℕ × Tree))
@@ -142,9 +133,7 @@ pub(super) fn id_of<'a>(text: &'a [u8], parts: &[ShortPart], at: usize) -> Optio
     if at >= parts.len() {
         return None;
     }
-    let part = parts[at].part();
-    let name = between(text, part.at, part.value)?;
-    without_colon(name)
+    Some(name_at(text, parts, at))
 }
 
 /// Appends what stands before the objects of a feature. The name is given with its marks.

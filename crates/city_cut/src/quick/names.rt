@@ -34,7 +34,7 @@ impl<'a> Model for Names<'a> {
 }
 
 /// The name of the object at a place, with its marks.
-fn name_at<'a>(text: &'a [u8], parts: &[ShortPart], at: usize) -> &'a [u8]
+pub(super) fn name_at<'a>(text: &'a [u8], parts: &[ShortPart], at: usize) -> &'a [u8]
     ensures { result.now ≡ name_in text.now parts.now at }
 {
     if at >= parts.len() {
