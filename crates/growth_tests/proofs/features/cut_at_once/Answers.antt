@@ -1,17 +1,20 @@
-use Rattle.std.proofs.Common.{subst, sym}
+use Rattle.std.proofs.Common.{◌∙◌, subst, sym}
+use Rattle.city_json.proofs.SpelledWritable.{spelled_writable}
 use Rattle.city_json.specs.Parts.{AreParts}
-use Rattle.city_json.specs.TextPlace.{placed_text}
+use Rattle.city_json.specs.Tree.{object}
 use Rattle.city_json.specs.Triples.{HasTriples}
-use Rattle.city_cut.proofs.QuickDocuments.{compact_of}
 use Rattle.growth_tests.proofs.features.cut_at_once.Goals as goal
 
 pub cut_compacted_triples-requires-clause-members : goal.cut_compacted_triples-requires-clause-members
 cut_compacted_triples-requires-clause-members c =
     let (members, spells, fits, shallow, written, are) = c.in-Some.ensures.object in (
       members,
-      compact_of c.args.text.now
-          (placed_text c.in-Some.found.place c.args.text.now c.compact_object.new.buffer) c.bytes-line.result.now
-          members spells fits written c.bytes-line.ensures,
+      record {
+        is = c.bytes-line.ensures ∙ written;
+        writable = spelled_writable c.args.text.now (object members) spells;
+        distinct = fits.1;
+        within = fits.0;
+      },
       subst (λ p. AreParts 1 p members) (sym c.deref.ensures.value) are,
     )
 
