@@ -1,5 +1,5 @@
 -- The members of an object of which one was changed.
-use Rattle.std.proofs.Common.{◌≡◌, ℕ, Bool, true, false, List, Some, bytes_eq, if◌then◌else◌, is_some, option_map, refl, ap, ◌∙◌, Result, Ok, Err, OnOk}
+use Rattle.std.proofs.Common.{◌≡◌, ℕ, Bool, true, false, List, Some, bytes_eq, if◌then◌else◌, is_some, option_map, refl, ap, ◌∙◌}
 use Rattle.std.proofs.lemmas.Slice.Eq.{bytes_eq-Decides}
 use Rattle.city_json.specs.Members.{first_named, member_of}
 use Rattle.city_json.specs.Tree.{Tree, null, boolean, number, string, array, object, MemberTrees, no_members, member}
@@ -107,11 +107,3 @@ none_is_unchanged m f (boolean b) none = refl
 none_is_unchanged m f (number text) none = refl
 none_is_unchanged m f (string text) none = refl
 none_is_unchanged m f (array items) none = refl
-
--- what setting a member that is there leaves
-pub set_answer : {A B : Type 0} (answer : Result A B) (m : List ℕ) (new given after before : Tree)
-    → is_some (member_of m before) ≡ true → given ≡ new → OnOk answer (after ≡ with_member m given before)
-    → OnOk answer (after ≡ changed_member m (λ old. new) before)
-set_answer (Ok done) m new given after before there same set =
-    set ∙ (ap (λ t. with_member m t before) same ∙ set_is_changed m new before there)
-set_answer (Err fault) m new given after before there same set = tt

@@ -4,7 +4,6 @@ use Rattle.std.proofs.lemmas.Bool.{cases_Bool, cond-true, cond-false}
 use Rattle.std.proofs.lemmas.Bool.Decides.{nat_tests}
 use Rattle.std.proofs.lemmas.List.{drop-drop, drop-take, length-take-le}
 use Rattle.std.proofs.lemmas.List.Edits.{between_none}
-use Rattle.std.proofs.lemmas.List.Elements.{All-cons, All-nil}
 use Rattle.std.proofs.lemmas.Simd.{trailing_mask_l}
 use Rattle.std.proofs.lemmas.Str.Parse.{digit_from_value}
 use Rattle.std.proofs.Math.Seq.{drop-append-add, take-append_seam}
@@ -18,9 +17,9 @@ use Rattle.city_json.proofs.WholeArrays.{marks_behind}
 use Rattle.city_json.specs.Bytes.{comma, open_bracket, close_bracket, digit_zero, minus}
 use Rattle.city_json.specs.Compact.{compact, compact_items, compact_more_items}
 use Rattle.city_json.specs.Tree.{Tree, ItemTrees, array, item, no_items}
-use Rattle.city_json.specs.Triples.{AreTriples, IsShortNumeral, IsTriple, three_numbers}
+use Rattle.city_json.specs.Triples.{AreTriples, IsShortNumeral, IsTriple}
 use Rattle.city_feature.proofs.TriplesAreVertices as triples
-use Rattle.city_grid.specs.Axes.{IsInRange, Triple, triple}
+use Rattle.city_grid.specs.Axes.{IsInRange, Triple}
 use Rattle.city_grid.specs.Vertex.{vertex_tree}
 use Rattle.city_feature.specs.Feature.{vertices_tree}
 use Rattle.city_cut.specs.Chosen.{point_at}

@@ -25,21 +25,13 @@ fn all_texts(items: &[Json]) -> bool
     true
 }
 
-fn are_texts(value: &Json) -> bool
-    ensures { IsTrue result ↔ AreTexts (tree value.now) }
-{
-    match value {
-        Json::List(items) => all_texts(items),
-        _ => false,
-    }
-}
-
 /// Whether the member of this name is an array of texts, where it is there.
 fn are_texts_where_there(value: &Json, name: &str) -> bool
     ensures { IsTrue result ↔ WhereThere AreTexts (member_of name.now (tree value.now)) }
 {
     match value.get(name) {
-        Some(found) => are_texts(found),
+        Some(Json::List(items)) => all_texts(items),
+        Some(_) => false,
         None => true,
     }
 }

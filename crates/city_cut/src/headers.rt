@@ -1,7 +1,7 @@
 //! The header of a document that is cut.
-ghost use Rattle.std.specs.Prelude.{◌≡◌, ◌↔◌, IsTrue, is_some, IfOk, IfErr, OnOk, codes};
+ghost use Rattle.std.specs.Prelude.{◌≡◌, is_some, IfOk, IfErr, OnOk, codes};
 ghost use Rattle.city_json.specs.Members.{member_of};
-ghost use Rattle.city_json.specs.Tree.{tree, array, no_items, object, no_members};
+ghost use Rattle.city_json.specs.Tree.{tree};
 ghost use Rattle.city_feature.specs.Changes.{changed_member};
 ghost use Rattle.city_feature.specs.Header.{HasGrid};
 ghost use Rattle.city_cut.specs.Cut.{HasFrame, header_tree, without_appearance};
@@ -27,30 +27,17 @@ pub(crate) fn drop_appearance(document: &mut Json)
     }
 }
 
-/// Drops the vertices, where there is an array of them. The only fault is [`Fault::Memory`].
+/// Puts a value in place of the member of this name, where there is one. The only fault is [`Fault::Memory`].
 #[tactic(auto, using(crate::proofs::MemberChanges::set_is_changed, crate::proofs::MemberChanges::none_is_unchanged))]
-fn empty_vertices(alloc: Global, document: &mut Json) -> Result<(), Fault>
+fn exchange_member(alloc: Global, document: &mut Json, name: &str, value: Json) -> Result<(), Fault>
     ensures ok { OnOk result (tree document.new
-        ≡ changed_member (codes "vertices") (λ vertices. array no_items) (tree document.old)) }
+        ≡ changed_member name.now (λ old. tree value) (tree document.old)) }
     ensures fault { IfErr result (λ fault. fault ≡ Fault.Memory) }
 {
-    if !has_member(document, "vertices") {
+    if !has_member(document, name) {
         return Ok(());
     }
-    set_member(alloc, document, "vertices", Json::List(Vec::new(alloc)))
-}
-
-/// Drops the city objects, where there is an object of them. The only fault is [`Fault::Memory`].
-#[tactic(auto, using(crate::proofs::MemberChanges::set_is_changed, crate::proofs::MemberChanges::none_is_unchanged))]
-fn empty_objects(alloc: Global, document: &mut Json) -> Result<(), Fault>
-    ensures ok { OnOk result (tree document.new
-        ≡ changed_member (codes "CityObjects") (λ objects. object no_members) (tree document.old)) }
-    ensures fault { IfErr result (λ fault. fault ≡ Fault.Memory) }
-{
-    if !has_member(document, "CityObjects") {
-        return Ok(());
-    }
-    set_member(alloc, document, "CityObjects", Json::Map(Vec::new(alloc)))
+    set_member(alloc, document, name, value)
 }
 
 fn empty(alloc: Global, document: &mut Json) -> Result<(), Fault>
@@ -58,8 +45,8 @@ fn empty(alloc: Global, document: &mut Json) -> Result<(), Fault>
     ensures fault { IfErr result (λ fault. fault ≡ Fault.Memory) }
 {
     drop_appearance(document);
-    empty_vertices(alloc, document)?;
-    empty_objects(alloc, document)
+    exchange_member(alloc, document, "vertices", Json::List(Vec::new(alloc)))?;
+    exchange_member(alloc, document, "CityObjects", Json::Map(Vec::new(alloc)))
 }
 
 /// The document without its city objects and vertices, and without its appearance unless it has geometry

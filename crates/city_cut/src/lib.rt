@@ -30,6 +30,6 @@ pub use cuts::{Cut, CutTexts, Features};
 pub use cutting::{cut, cut_texts};
 pub use held::FeatureTexts;
 pub use laws::features_are_spelled_by_their_texts;
+pub use quick::cut_compacted_triples;
 pub use quick::faults::cut_fault;
 pub use quick::triples::triples_text;
-pub use quick::{cut_compacted, cut_compacted_triples, quick_cut};

@@ -1,12 +1,11 @@
 //! City objects by their identifiers, and their children.
 ghost use Rattle.std.specs.Prelude.{◌≡◌, ◌≢◌, ◌⊎◌, ℕ, List, map, Some, Contains, IfOk, IfErr};
 ghost use Rattle.std.specs.Prelude.{MatchOption, slice_get};
-ghost use Rattle.city_json.specs.Members.{member_of, names};
+ghost use Rattle.city_json.specs.Members.{names};
 ghost use Rattle.city_json.specs.Tree.{Tree, tree, named_tree, members_tree, string};
 ghost use Rattle.city_cut.specs.CityObjects.{children, has_parents, is_filled};
 ghost use Rattle.city_cut.specs.Places.{ArePlaced, IsGraph};
-ghost use Rattle.city_cut.specs.Items.{items_of, values};
-ghost use Rattle.city_cut.specs.Search.{InRange};
+ghost use Rattle.city_cut.specs.Items.{values};
 ghost use Rattle.city_cut.specs.Table.{IsTable};
 
 use crate::graphs::Graph;

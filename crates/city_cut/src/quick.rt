@@ -25,16 +25,12 @@ mod skeletons;
 mod texts;
 pub(crate) mod triples;
 
-ghost use Rattle.std.specs.Prelude.{◌≡◌, ◌++◌, ◌∷◌, [], ℕ, List, Option, IfSome, OnSome, All, Some, Contains, codes, length, map};
+ghost use Rattle.std.specs.Prelude.{◌≡◌, ℕ, List, Option, IfSome, Some, Contains, codes, length};
 ghost use Rattle.std.specs.List.{AllZip};
-ghost use Rattle.city_json.specs.Compact.{compact};
-ghost use Rattle.city_json.specs.Depth.{IsDeep};
-ghost use Rattle.city_json.specs.Fits.{Fits, IsDistinct};
-ghost use Rattle.city_json.specs.Grammar.{Spells};
 ghost use Rattle.city_json.specs.Members.{first_named};
 ghost use Rattle.city_json.specs.Parts.{AreParts};
 ghost use Rattle.city_json.specs.Triples.{HasTriples};
-ghost use Rattle.city_json.specs.Tree.{MemberTrees, Tree, items_tree, member_trees, named_tree, object, tree};
+ghost use Rattle.city_json.specs.Tree.{MemberTrees, Tree, member_trees, object};
 ghost use Rattle.city_grid.specs.Axes.{Triple};
 ghost use Rattle.city_feature.specs.Feature.{FeatureValue};
 ghost use Rattle.city_feature.specs.Quick.{SpellsVertices};
@@ -56,7 +52,7 @@ use crate::cuts::CutTexts;
 use crate::families::{Kin, check_belonging};
 use crate::held::FeatureTexts;
 use byte_streams::Line;
-use city_json::{MemberPlace, Span, between, compact_object, part_named};
+use city_json::{MemberPlace, Span, between, part_named};
 use features::{are_short, feature_texts};
 use graph::graph_of;
 use headers::header_of;
@@ -237,28 +233,8 @@ fn cut_on(
     Some(CutTexts { header, texts })
 }
 
-/// Cuts the document whose compact text this is, and whose members lie in these parts, as
-/// [`city_json::compact_object`] gives them.
-/// `None`: undecided, or out of memory; [`crate::cut_texts`] decides.
-pub fn cut_compacted(alloc: Global, line: &[u8], parts: &[MemberPlace]) -> Option<CutTexts>
-    requires { (members : MemberTrees) × IsCompactOf line.now (object members) × AreParts 1 parts.now members }
-    ensures { IfSome result (λ cut. (members : MemberTrees) → IsCompactOf line.now (object members)
-        → AreParts 1 parts.now members
-        → IsCuttable (object members)
-        × (features : List FeatureValue) × IsCut (object members) (header_value cut.header) features
-        × (texts_in cut.texts ≡ texts_of features)) }
-{
-    let text = vertices_text(line, parts)?;
-    if let Some(starts) = starts_of(alloc, text) {
-        return cut_on(alloc, line, parts, &VertexTexts { text, starts });
-    }
-    let written = write_anew(alloc, text)?;
-    let text = written.items();
-    let starts = starts_of(alloc, text)?;
-    cut_on(alloc, line, parts, &VertexTexts { text, starts })
-}
-
-/// The same, where it is known that triples of whole numbers stand in the line, as [`city_json::compact_object`] tells.
+/// Cuts the document whose compact text this is, whose members lie in these parts, and in which triples of whole numbers
+/// may be known to stand, all as [`city_json::compact_object`] gives them.
 /// `None`: undecided, or out of memory; [`crate::cut_texts`] decides.
 pub fn cut_compacted_triples(
     alloc: Global,
@@ -274,23 +250,16 @@ pub fn cut_compacted_triples(
         × (features : List FeatureValue) × IsCut (object members) (header_value cut.header) features
         × (texts_in cut.texts ≡ texts_of features)) }
 {
-    let Some(text) = triples_text(line, parts, triples) else {
-        return cut_compacted(alloc, line, parts);
-    };
-    let starts = starts_of_triples(alloc, text)?;
+    if let Some(text) = triples_text(line, parts, triples) {
+        let starts = starts_of_triples(alloc, text)?;
+        return cut_on(alloc, line, parts, &VertexTexts { text, starts });
+    }
+    let text = vertices_text(line, parts)?;
+    if let Some(starts) = starts_of(alloc, text) {
+        return cut_on(alloc, line, parts, &VertexTexts { text, starts });
+    }
+    let written = write_anew(alloc, text)?;
+    let text = written.items();
+    let starts = starts_of(alloc, text)?;
     cut_on(alloc, line, parts, &VertexTexts { text, starts })
-}
-
-/// Cuts the document that a text spells into a header and the texts of its features. `None`: undecided, or out of
-/// memory; [`crate::cut_texts`] decides.
-pub fn quick_cut(alloc: Global, text: &[u8]) -> Option<CutTexts>
-    ensures { IfSome result (λ cut. (document : Tree) × Spells text.now document × Fits document
-        × (¬ IsDeep text.now) × IsCuttable document
-        × (features : List FeatureValue) × IsCut document (header_value cut.header) features
-        × (texts_in cut.texts ≡ texts_of features)) }
-{
-    let mut buffer = Line::new(alloc);
-    let found = compact_object(alloc, text, &mut buffer)?;
-    let line = found.place.bytes(text, &buffer);
-    cut_compacted_triples(alloc, line, &found.parts, found.triples)
 }

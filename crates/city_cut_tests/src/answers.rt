@@ -7,7 +7,7 @@ ghost use Rattle.city_feature.specs.Texts.{IsCompactOf};
 
 use crate::texts::{expect, filled, put_texts, repeated, texts_are, with_repeated};
 use byte_streams::Line;
-use city_cut::{CutTexts, cut_compacted, cut_compacted_triples, quick_cut, triples_text};
+use city_cut::{CutTexts, cut_compacted_triples, triples_text};
 use city_json::{Compacted, Span, compact_object};
 use std::alloc::{AllocError, AllocGlobal, Global};
 use std::process::Abort;
@@ -51,10 +51,23 @@ fn compact_document(alloc: Global, text: &[u8]) -> Option<DocumentText>
     })
 }
 
-/// The document, cut where its compact text is known.
+/// The document, cut on its compact text where that stands. `None`: undecided.
+pub(crate) fn quick_cut(alloc: Global, text: &[u8]) -> Option<CutTexts> {
+    let mut buffer = Line::new(alloc);
+    let found = compact_object(alloc, text, &mut buffer)?;
+    let line = found.place.bytes(text, &buffer);
+    cut_compacted_triples(alloc, line, &found.parts, found.triples)
+}
+
+/// The document, cut where its compact text is known, and nothing of its triples.
 fn compacted_cut(alloc: Global, document: &str) -> Option<CutTexts> {
     let feature = given(alloc, document)?;
-    cut_compacted(alloc, feature.found.line.items(), &feature.found.parts)
+    cut_compacted_triples(
+        alloc,
+        feature.found.line.items(),
+        &feature.found.parts,
+        Span { from: 0, end: 0 },
+    )
 }
 
 /// The document, cut where its triples are known.

@@ -1,8 +1,7 @@
 //! Objects that are in more than one family, or in none.
-use crate::answers::{expect_answers, is_answered, is_left};
+use crate::answers::{expect_answers, is_answered, is_left, quick_cut};
 use crate::texts::{cut_text, expect, filled, texts_are, with_repeated};
 use byte_streams::Fault;
-use city_cut::quick_cut;
 use std::alloc::{AllocError, Global};
 
 /// City objects of a document with four vertices.

@@ -1,7 +1,6 @@
 //! Geometries by where their boundaries stand among their members, cut by the quick cut.
-use crate::answers::expect_answers;
+use crate::answers::{expect_answers, quick_cut};
 use crate::texts::{cut_text, filled, with_repeated};
-use city_cut::quick_cut;
 use std::alloc::{AllocError, AllocGlobal, Global};
 use std::process::Abort;
 

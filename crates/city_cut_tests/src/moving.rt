@@ -1,7 +1,8 @@
 //! Texts that are made when they are asked for: moved by a shift, and kept.
+use crate::answers::quick_cut;
 use crate::texts::filled;
 use byte_streams::{Fault, Line};
-use city_cut::{FeatureTexts, quick_cut};
+use city_cut::FeatureTexts;
 use city_grid::Shift;
 use std::alloc::{AllocError, AllocGlobal, Global};
 use std::process::Abort;

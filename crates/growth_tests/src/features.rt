@@ -2,14 +2,14 @@
 
 use crate::values::{is_after, is_printed};
 use byte_streams::{Fault, Line};
-use city_cut::{CutTexts, FeatureTexts, cut, cut_texts, quick_cut};
+use city_cut::{CutTexts, FeatureTexts, cut, cut_compacted_triples, cut_texts};
 use city_feature::{
     Base, Choice, Feature, Header, HeaderFault, Joined, area, feature, feature_line, feature_text,
     header, is_appearance_end, join_headers, line, line_fault, own_text, selects, set_member,
     shifted, types, vertices_fault,
 };
 use city_grid::{Shift, Vertex, append_vertex, vertex_json, write_vertex};
-use city_json::{Json, read};
+use city_json::{Json, compact_object, read};
 use growth_support::texts::{
     A, BUILDING, CHILDLESS, CLASHING, DOCUMENT, DUTCH, EXTENDED, EXTENDED_BOTH, EXTENDED_TWICE,
     FAR_HEADER, HEADER, OFF_GRID, ORPHANED, OTHER_DUTCH, SCALED, UNBOUNDED,
@@ -566,11 +566,24 @@ fn document_is_cut_into_texts(rt: &(impl AllocGlobal + Eprint)) -> Result<bool, 
     }
 }
 
+/// The document, cut on its compact text.
+fn cut_at_once(rt: &(impl AllocGlobal + Eprint), text: &[u8]) -> Result<CutTexts, Fault> {
+    let mut buffer = Line::new(rt.alloc());
+    let Some(found) = compact_object(rt.alloc(), text, &mut buffer) else {
+        wanted(rt, Call("compact_object"));
+        return Err(Fault::Memory);
+    };
+    let line = found.place.bytes(text, &buffer);
+    let Some(cut) = cut_compacted_triples(rt.alloc(), line, &found.parts, found.triples) else {
+        wanted(rt, Call("cut_compacted_triples"));
+        return Err(Fault::Memory);
+    };
+    Ok(cut)
+}
+
 fn document_is_cut_at_once(rt: &(impl AllocGlobal + Eprint)) -> Result<bool, Fault> {
-    match quick_cut(rt.alloc(), DOCUMENT.as_bytes()) {
-        Some(mut found) => are_cut_texts(rt.alloc(), &mut found),
-        None => refused(rt, Call("quick_cut"), Fault::Memory),
-    }
+    let mut found = cut_at_once(rt, DOCUMENT.as_bytes())?;
+    are_cut_texts(rt.alloc(), &mut found)
 }
 
 /// A document in which two objects name each other, and each of its texts.
@@ -608,10 +621,8 @@ fn shared_objects_are_cut_into_texts(rt: &(impl AllocGlobal + Eprint)) -> Result
 }
 
 fn shared_objects_are_cut_at_once(rt: &(impl AllocGlobal + Eprint)) -> Result<bool, Fault> {
-    match quick_cut(rt.alloc(), SHARED.as_bytes()) {
-        Some(mut found) => are_shared(rt.alloc(), &mut found.texts),
-        None => refused(rt, Call("quick_cut"), Fault::Memory),
-    }
+    let mut found = cut_at_once(rt, SHARED.as_bytes())?;
+    are_shared(rt.alloc(), &mut found.texts)
 }
 
 #[test]

@@ -1,23 +1,20 @@
 //! The texts of features, written from the compact texts of a document's parts.
-ghost use Rattle.std.specs.Prelude.{◌≡◌, ◌++◌, ◌∷◌, [], ◌<◌, ◌≤◌, ◌+◌, ℕ, List, Option, Some, Contains, length, map, IfSome, OnSome, IsUtf8};
+ghost use Rattle.std.specs.Prelude.{◌≡◌, ◌++◌, ◌∷◌, [], ◌<◌, ◌≤◌, ◌+◌, ℕ, List, Option, Some, Contains, length, map, IfSome, OnSome};
 ghost use Rattle.std.specs.List.{flat_map, AllByRecursion};
 ghost use Rattle.city_json.specs.Bytes.{colon};
 ghost use Rattle.city_json.specs.Compact.{compact, compact_members, compact_more_members, quoted};
-ghost use Rattle.city_json.specs.Members.{first_named};
 ghost use Rattle.city_json.specs.Parts.{AreParts};
 ghost use Rattle.city_json.specs.Tree.{Tree, member_trees, object};
 ghost use Rattle.city_grid.specs.Axes.{Triple};
 ghost use Rattle.city_feature.specs.Feature.{FeatureValue, vertices_tree};
 ghost use Rattle.city_cut.specs.Boundaries.{IsBounded, boundaries, relabelled_object, relabelled_objects, uses};
 ghost use Rattle.city_cut.specs.Chosen.{named_at, point_at};
-ghost use Rattle.city_cut.specs.CityObjects.{IsReached, roots};
 ghost use Rattle.city_cut.specs.Copied.{Copies};
-ghost use Rattle.city_cut.specs.Cut.{AreFeatures, IsFeatureOf};
+ghost use Rattle.city_cut.specs.Cut.{IsFeatureOf};
 ghost use Rattle.city_cut.specs.Families.{AreRelated};
 ghost use Rattle.city_cut.specs.FeatureText.{head_text, middle_text, tail_text};
 ghost use Rattle.city_cut.specs.Leaves.{leaves};
-ghost use Rattle.city_cut.specs.HeldTexts.{HasGrown, texts_in};
-ghost use Rattle.city_cut.specs.Lines.{texts_of};
+ghost use Rattle.city_cut.specs.HeldTexts.{HasGrown};
 ghost use Rattle.city_cut.specs.OwnFeatures.{AreOwnTexts};
 ghost use Rattle.city_cut.specs.Overviews.{AreHolders};
 ghost use Rattle.city_cut.specs.Places.{IsFamily, name_at};
@@ -27,6 +24,7 @@ ghost use Rattle.city_cut.specs.VertexTexts.{StandAt};
 
 use super::drafts::Draft;
 use super::holders::ShortHeld;
+use super::names::name_at;
 use super::objects::append_object;
 use super::points::{VertexTexts, append_points};
 use super::short_parts::ShortPart;
@@ -126,16 +124,6 @@ fn append_objects(
     append_others(alloc, text, parts, held, others, numbering, draft)
 }
 
-/// The text of the name that stands in a member's name and its colon.
-fn without_colon(name: &[u8]) -> Option<&[u8]>
-    ensures { IfSome result (λ found. (text : List ℕ) → name.now ≡ text ++ colon ∷ [] → found.now ≡ text) }
-{
-    if name.is_empty() {
-        return None;
-    }
-    between(name, 0, name.len() - 1)
-}
-
 /// The name of the object at a place, with its marks.
 pub(super) fn id_of<'a>(text: &'a [u8], parts: &[ShortPart], at: usize) -> Option<&'a [u8]>
     ensures { IfSome result (λ found. (pairs : List (List ℕ × Tree))
@@ -145,9 +133,7 @@ pub(super) fn id_of<'a>(text: &'a [u8], parts: &[ShortPart], at: usize) -> Optio
     if at >= parts.len() {
         return None;
     }
-    let part = parts[at].part();
-    let name = between(text, part.at, part.value)?;
-    without_colon(name)
+    Some(name_at(text, parts, at))
 }
 
 /// Appends what stands before the objects of a feature. The name is given with its marks.
@@ -207,10 +193,7 @@ fn note_end(before: usize, line: &Line, ends: &mut Vec<usize>) -> Option<()>
     if end < before {
         return None;
     }
-    let Ok(_) = ends.push(end) else {
-        return None;
-    };
-    Some(())
+    ends.push(end).ok()
 }
 
 /// Numbers for so many vertices as there are starts of their texts, of which one stands after the last. `None`: there is

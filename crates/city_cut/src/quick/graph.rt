@@ -21,9 +21,7 @@ fn places_of(alloc: Global, named: &[&[u8]], table: &Names<'_>) -> Option<Vec<us
     let mut places = Vec::new(alloc);
     for name in named {
         let place = table.place(name)?;
-        let Ok(_) = places.push(place) else {
-            return None;
-        };
+        places.push(place).ok()?;
     }
     Some(places)
 }

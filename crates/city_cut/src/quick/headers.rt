@@ -10,7 +10,7 @@ ghost use Rattle.city_feature.specs.Changes.{changed_named};
 ghost use Rattle.city_grid.specs.Transform.{Grid};
 ghost use Rattle.city_feature.specs.Header.{IsHeader, RefusesHeader};
 ghost use Rattle.city_cut.specs.Cut.{header_tree};
-ghost use Rattle.city_cut.specs.HeaderText.{HasHeader, IsBare, IsBareText, emptied};
+ghost use Rattle.city_cut.specs.HeaderText.{HasHeader, IsBareText, emptied};
 ghost use Rattle.city_feature.specs.Texts.{IsCompactOf};
 
 use super::texts::{append_back, append_front, append_text, is_absent, parts_of};
@@ -142,34 +142,15 @@ fn bare_text(alloc: Global, text: &[u8], parts: &[MemberPlace]) -> Option<Line>
     Some(line)
 }
 
-/// Reads what [`bare_text`] leaves of the document.
-fn read_bare(alloc: Global, text: &[u8], parts: &[MemberPlace]) -> Option<Json>
-    ensures { IfSome result (λ json. (members : MemberTrees) → IsCompactOf text.now (object members)
-        → AreParts 1 parts.now members → IsBare members (tree json)) }
-{
-    let line = bare_text(alloc, text, parts)?;
-    let Ok(json) = read(alloc, line.items()) else {
-        return None;
-    };
-    Some(json)
-}
-
-/// The value as a header, if it is one.
-fn checked(json: Json) -> Option<Header>
-    ensures { IfSome result (λ header. (tree header.json ≡ tree json) × IsHeader (tree json) header.grid) }
-{
-    match header(json) {
-        Ok(found) => Some(found),
-        Err(_) => None,
-    }
-}
-
 /// What the header of the document is to be. `None`: undecided.
 fn bare_header(alloc: Global, text: &[u8], parts: &[MemberPlace]) -> Option<Json>
     ensures { IfSome result (λ json. (members : MemberTrees) → IsCompactOf text.now (object members)
         → AreParts 1 parts.now members → tree json ≡ header_tree (object members)) }
 {
-    let mut json = read_bare(alloc, text, parts)?;
+    let line = bare_text(alloc, text, parts)?;
+    let Ok(mut json) = read(alloc, line.items()) else {
+        return None;
+    };
     drop_appearance(&mut json);
     Some(json)
 }
@@ -181,7 +162,10 @@ pub(super) fn header_of(alloc: Global, text: &[u8], parts: &[MemberPlace]) -> Op
         → HasHeader (object members) (tree header.json) header.grid) }
 {
     let json = bare_header(alloc, text, parts)?;
-    checked(json)
+    let Ok(found) = header(json) else {
+        return None;
+    };
+    Some(found)
 }
 
 /// Refuses a value that is no header.

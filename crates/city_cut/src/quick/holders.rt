@@ -72,12 +72,8 @@ fn short_value(holder: Holder, part: Option<MemberPlace>) -> Option<ShortValue>
     if part.at != begin_of(holder, part.value) {
         return None;
     }
-    let Ok(value) = u32::try_from(part.value) else {
-        return None;
-    };
-    let Ok(end) = u32::try_from(part.end) else {
-        return None;
-    };
+    let value = u32::try_from(part.value).ok()?;
+    let end = u32::try_from(part.end).ok()?;
     Some(ShortValue { value, end })
 }
 

@@ -87,23 +87,6 @@ fn append_listed<L: Labels>(
     append_back(text, &part, &mut draft.line)
 }
 
-/// Copies a geometry.
-fn append_geometry<L: Labels>(
-    alloc: Global,
-    text: &[u8],
-    labels: &mut L,
-    draft: &mut Draft,
-) -> Option<()>
-    ensures count { OnSome result (L.count labels.new ≡ L.count labels.old) }
-    ensures made { OnSome result ((value : Tree) → IsCompactOf text.now value
-        → IsGeometry (L.count labels.old) value
-        × Walks L.labelled labels.old draft.old.line labels.new draft.new.line
-        (flat_map leaves (own_boundary value)) (λ change. compact (relabelled_boundary change value))) }
-{
-    let parts = members_of_compact(alloc, text)?;
-    append_listed(text, &parts, labels, draft)
-}
-
 /// Copies an address. It may be no object, or its location none: it has no boundary.
 fn append_address<L: Labels>(
     alloc: Global,
@@ -133,7 +116,8 @@ fn append_address<L: Labels>(
         return append_text(text, &mut draft.line);
     }
     append_front(text, &part, &mut draft.line)?;
-    append_geometry(alloc, location, labels, draft)?;
+    let members = members_of_compact(alloc, location)?;
+    append_listed(location, &members, labels, draft)?;
     append_back(text, &part, &mut draft.line)
 }
 
@@ -167,29 +151,6 @@ fn append_walked<L: Labels>(
     Some(end)
 }
 
-/// Copies the geometry that begins at `at`, whatever its members: where it ends.
-fn append_any_at<L: Labels>(
-    alloc: Global,
-    text: &[u8],
-    at: usize,
-    labels: &mut L,
-    draft: &mut Draft,
-) -> Option<usize>
-    requires { at ≤ length text.now }
-    ensures onward { IfSome result (λ end. at ≤ end) }
-    ensures within { IfSome result (λ end. end ≤ length text.now) }
-    ensures leaves { IfSome result (λ end. LeavesValue 128 (drop at text.now) (drop end text.now)) }
-    ensures count { OnSome result (L.count labels.new ≡ L.count labels.old) }
-    ensures made { IfSome result (λ end. (value : Tree) → IsCompactOf (slice_range text.now at end) value
-        → IsGeometry (L.count labels.old) value
-        × Walks L.labelled labels.old draft.old.line labels.new draft.new.line
-        (flat_map leaves (own_boundary value)) (λ change. compact (relabelled_boundary change value))) }
-{
-    let found = members_at(alloc, text, at)?;
-    append_listed(&text[at..found.end], &found.parts, labels, draft)?;
-    Some(found.end)
-}
-
 /// Copies the geometry that begins at `at`: where it ends.
 fn append_geometry_at<L: Labels>(
     alloc: Global,
@@ -210,34 +171,12 @@ fn append_geometry_at<L: Labels>(
 {
     let geometry = &text[at..];
     let Some(value) = value_place(geometry, b"\"boundaries\":") else {
-        return append_any_at(alloc, text, at, labels, draft);
+        let found = members_at(alloc, text, at)?;
+        append_listed(&text[at..found.end], &found.parts, labels, draft)?;
+        return Some(found.end);
     };
     let end = append_walked(geometry, value, labels, draft)?;
     Some(at + end)
-}
-
-/// Copies the address that begins at `at`: where it ends.
-fn append_address_at<L: Labels>(
-    alloc: Global,
-    text: &[u8],
-    at: usize,
-    labels: &mut L,
-    draft: &mut Draft,
-) -> Option<usize>
-    requires { at ≤ length text.now }
-    ensures onward { IfSome result (λ end. at ≤ end) }
-    ensures within { IfSome result (λ end. end ≤ length text.now) }
-    ensures leaves { IfSome result (λ end. LeavesValue 128 (drop at text.now) (drop end text.now)) }
-    ensures count { OnSome result (L.count labels.new ≡ L.count labels.old) }
-    ensures made { IfSome result (λ end. (value : Tree) → IsCompactOf (slice_range text.now at end) value
-        → IsAddress (L.count labels.old) value
-        × Walks L.labelled labels.old draft.old.line labels.new draft.new.line
-        (flat_map leaves (address_boundary value))
-        (λ change. compact (in_member (codes "location") (relabelled_boundary change) value))) }
-{
-    let end = value_end(text, at);
-    append_address(alloc, &text[at..end], labels, draft)?;
-    Some(end)
 }
 
 /// Copies the geometry or the address that begins at `at`: where it ends.
@@ -261,7 +200,11 @@ fn append_item<L: Labels>(
 {
     match holder {
         Holder::Geometry => append_geometry_at(alloc, text, at, labels, draft),
-        Holder::Address => append_address_at(alloc, text, at, labels, draft),
+        Holder::Address => {
+            let end = value_end(text, at);
+            append_address(alloc, &text[at..end], labels, draft)?;
+            Some(end)
+        }
     }
 }
 

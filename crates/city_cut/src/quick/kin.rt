@@ -1,7 +1,7 @@
 //! What the texts of city objects say of their parents and their children.
 //!
 //! Names are compared by their compact texts, which are the same where the names are.
-ghost use Rattle.std.specs.Prelude.{◌≡◌, ◌++◌, ◌∷◌, [], ◌↔◌, IfSome, IsTrue, OnSome};
+ghost use Rattle.std.specs.Prelude.{◌↔◌, IfSome, IsTrue};
 ghost use Rattle.city_json.specs.CompactMembers.{HasParts};
 ghost use Rattle.city_json.specs.Tree.{Tree};
 ghost use Rattle.city_cut.specs.CityObjects.{AreTexts};
@@ -9,19 +9,11 @@ ghost use Rattle.city_cut.specs.Kin.{AreQuoted, HasChildrenText, HasParents};
 ghost use Rattle.city_feature.specs.Texts.{IsCompactOf};
 
 use super::texts::member_or;
+use byte_streams::push;
 use city_feature::is_array;
 use city_grid::byte_is;
 use city_json::{MemberPlace, between, string_end};
 use std::alloc::Global;
-
-pub(super) fn push_text<'a>(text: &'a [u8], to: &mut Vec<&'a [u8]>) -> Option<()>
-    ensures { OnSome result (to.new.items ≡ to.old.items ++ text.entry ∷ []) }
-{
-    let Ok(_) = to.push(text) else {
-        return None;
-    };
-    Some(())
-}
 
 /// The texts in the array whose compact text this is, each with its marks. `None`: some item is no text, or out of
 /// memory.
@@ -42,7 +34,7 @@ pub(super) fn texts_of(alloc: Global, text: &[u8]) -> Option<Vec<&[u8]>>
         }
         let end = string_end(text, at + 1);
         let one = between(text, at, end)?;
-        push_text(one, &mut found)?;
+        push(one, &mut found)?;
         if byte_is(text, end, b']') {
             return Some(found);
         }

@@ -34,7 +34,7 @@ impl<'a> Model for Names<'a> {
 }
 
 /// The name of the object at a place, with its marks.
-fn name_at<'a>(text: &'a [u8], parts: &[ShortPart], at: usize) -> &'a [u8]
+pub(super) fn name_at<'a>(text: &'a [u8], parts: &[ShortPart], at: usize) -> &'a [u8]
     ensures { result.now ≡ name_in text.now parts.now at }
 {
     if at >= parts.len() {
@@ -51,9 +51,7 @@ fn first_places(alloc: Global, count: u32) -> Option<Vec<u32>>
 {
     let mut places = Vec::with_capacity(alloc, count as usize).ok()?;
     for at in 0..count {
-        let Ok(_) = places.push(at) else {
-            return None;
-        };
+        places.push(at).ok()?;
     }
     Some(places)
 }

@@ -5,8 +5,8 @@ ghost use Rattle.city_json.specs.CompactMembers.{HasParts, LeavesMember};
 ghost use Rattle.city_cut.specs.Overviews.{AreHolders, HasChildrenIn, HasHolders, HasParentsIn, IsHolderPart};
 
 use super::holders::{HeldParts, Holder, ShortHeld};
-use super::kin::{children_text, has_parents, push_text};
-use super::short_parts::{ShortPart, list_short};
+use super::kin::{children_text, has_parents};
+use super::short_parts::ShortPart;
 use super::texts::is_absent;
 use byte_streams::push;
 use city_json::{MemberPlace, between, colon_after, members_at, part_named};
@@ -93,10 +93,7 @@ fn list_held(one: HeldParts, to: &mut Vec<ShortHeld>) -> Option<()>
     ensures { OnSome result (to.new.items ≡ to.old.items ++ one ∷ []) }
 {
     let short = ShortHeld::new(one)?;
-    let Ok(_) = to.push(short) else {
-        return None;
-    };
-    Some(())
+    to.push(short).ok()
 }
 
 /// Looks at the object that begins at `at`.
@@ -156,9 +153,9 @@ fn list_object<'a>(seen: SeenObject<'a>, len: usize, to: &mut Overview<'a>) -> O
     ensures held { OnSome result (to.new.held.items ≡ to.old.held.items ++ seen.entry.held ∷ []) }
 {
     make_room(len, seen.part.at, to)?;
-    list_short(seen.part, &mut to.places)?;
+    push(ShortPart::new(seen.part)?, &mut to.places)?;
     push(seen.parents, &mut to.parents)?;
-    push_text(seen.children, &mut to.children)?;
+    push(seen.children, &mut to.children)?;
     list_held(seen.held, &mut to.held)
 }
 

@@ -69,9 +69,7 @@ pub(super) fn write_anew(alloc: Global, text: &[u8]) -> Option<Line>
 {
     let found = vertices_of(alloc, text)?;
     let mut line = Line::from_vec(Vec::with_capacity(alloc, text.len()).ok()?);
-    let Ok(_) = append_vertices(&found.vertices, &mut line) else {
-        return None;
-    };
+    append_vertices(&found.vertices, &mut line).ok()?;
     Some(line)
 }
 

@@ -1,5 +1,5 @@
 //! Where members lie, in half the room: as many are held as a document has objects.
-ghost use Rattle.std.specs.Prelude.{◌≡◌, ◌++◌, ◌∷◌, [], IfSome, OnSome};
+ghost use Rattle.std.specs.Prelude.{◌≡◌, IfSome};
 
 use city_json::MemberPlace;
 use std::marker::Model;
@@ -19,15 +19,9 @@ impl ShortPlaces {
         ensures value { IfSome result (λ short. short.value ≡ part.value) }
         ensures end { IfSome result (λ short. short.end ≡ part.end) }
     {
-        let Ok(at) = u32::try_from(part.at) else {
-            return None;
-        };
-        let Ok(value) = u32::try_from(part.value) else {
-            return None;
-        };
-        let Ok(end) = u32::try_from(part.end) else {
-            return None;
-        };
+        let at = u32::try_from(part.at).ok()?;
+        let value = u32::try_from(part.value).ok()?;
+        let end = u32::try_from(part.end).ok()?;
         Some(ShortPlaces { at, value, end })
     }
 
@@ -71,15 +65,4 @@ impl ShortPart {
     {
         self.places.part()
     }
-}
-
-/// Puts a part after the parts.
-pub(super) fn list_short(part: MemberPlace, to: &mut Vec<ShortPart>) -> Option<()>
-    ensures { OnSome result (to.new.items ≡ to.old.items ++ part ∷ []) }
-{
-    let short = ShortPart::new(part)?;
-    let Ok(_) = to.push(short) else {
-        return None;
-    };
-    Some(())
 }

@@ -81,18 +81,10 @@ impl Start {
     fn new(text: usize, name: usize, leaves: usize, split: usize) -> Option<Start>
         ensures { IfSome result (λ start. start ≡ record { text = text; name = name; leaves = leaves; split = split }) }
     {
-        let Ok(text) = u32::try_from(text) else {
-            return None;
-        };
-        let Ok(name) = u32::try_from(name) else {
-            return None;
-        };
-        let Ok(leaves) = u32::try_from(leaves) else {
-            return None;
-        };
-        let Ok(split) = u32::try_from(split) else {
-            return None;
-        };
+        let text = u32::try_from(text).ok()?;
+        let name = u32::try_from(name).ok()?;
+        let leaves = u32::try_from(leaves).ok()?;
+        let split = u32::try_from(split).ok()?;
         Some(Start {
             text,
             name,

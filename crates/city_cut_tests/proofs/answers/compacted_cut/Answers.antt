@@ -4,8 +4,8 @@ use Rattle.city_json.specs.Tree.{object}
 use Rattle.city_feature.specs.Texts.{IsCompactOf}
 use Rattle.city_cut_tests.proofs.answers.compacted_cut.Goals as goal
 
-pub cut_compacted-requires : goal.cut_compacted-requires
-cut_compacted-requires c =
+pub cut_compacted_triples-requires-clause-members : goal.cut_compacted_triples-requires-clause-members
+cut_compacted_triples-requires-clause-members c =
     let (members, of, are, triples) = c.in_ok-feature.ensures in (
       members,
       subst (λ l. IsCompactOf l (object members)) (sym c.items.ensures) of,

@@ -46,4 +46,4 @@ returns-clause-made g c = on_some_more c.append_back.result (λ appended value o
     subst (AddressMade _ _ _ _ _ _) (sym is_object)
     (address_made _ text _ _ _ _ _ _ _ c.deref.result.now c.in-Some.part members of_object listed
     c.in-Some.ensures c.in_ok-location.ensures.some c.in_ok-append_front.ensures
-    c.in_ok-append_geometry.ensures.made appended)) c.append_back.ensures
+    c.in_ok-append_listed.ensures.made appended)) c.append_back.ensures

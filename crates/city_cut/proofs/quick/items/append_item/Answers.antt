@@ -1,4 +1,4 @@
-use Rattle.city_cut.specs.declared.quick.holders.Holder.TheVariants.{Geometry, Address}
+use Rattle.city_cut.specs.declared.quick.holders.Holder.TheVariants.{Geometry}
 use Rattle.city_cut.proofs.QuickCopies.{item_as}
 use Rattle.city_cut.proofs.QuickTexts.{if_some_more}
 use Rattle.city_cut.proofs.quick.items.append_item.Goals as goal
@@ -7,8 +7,3 @@ pub returns-in-Geometry-clause-made : goal.returns-in-Geometry-clause-made
 returns-in-Geometry-clause-made g c = if_some_more c.append_geometry_at.result
     (λ end made value of. item_as c.args.holder Geometry _ _ _ _ _ value c.in-Geometry.is (made value of))
     c.append_geometry_at.ensures.made
-
-pub returns-in-Address-clause-made : goal.returns-in-Address-clause-made
-returns-in-Address-clause-made g c = if_some_more c.append_address_at.result
-    (λ end made value of. item_as c.args.holder Address _ _ _ _ _ value c.in-Address.is (made value of))
-    c.append_address_at.ensures.made

@@ -35,9 +35,9 @@ returns-then-byte_is-2 c =
       leaves = c.string_end-end.ensures.is;
       lies = c.in_ok-one.ensures.some;
     } in
-    of_array (AreQuoted c.push_text.new.to.items) text opens.0 opens.1 (λ items of.
-    texts_stop text c.texts.at end c.texts.found.items c.push_text.new.to.items c.in_ok-one.one c.texts.invariant there
-    closes.0 closes.1 c.in_ok-push_text.ensures items of.writable of.is)
+    of_array (AreQuoted c.push.new.to.items) text opens.0 opens.1 (λ items of.
+    texts_stop text c.texts.at end c.texts.found.items c.push.new.to.items c.in_ok-one.one c.texts.invariant there
+    closes.0 closes.1 c.in_ok-push.ensures items of.writable of.is)
 
 pub texts-preserved : goal.texts-preserved
 texts-preserved c =
@@ -55,5 +55,5 @@ texts-preserved c =
       leaves = c.string_end-end.ensures.is;
       lies = c.in_ok-one.ensures.some;
     } in
-    texts_go_on text c.texts.at end c.texts.found.items c.push_text.new.to.items c.in_ok-one.one c.texts.invariant there
-    next.0 next.1 c.in_ok-push_text.ensures
+    texts_go_on text c.texts.at end c.texts.found.items c.push.new.to.items c.in_ok-one.one c.texts.invariant there
+    next.0 next.1 c.in_ok-push.ensures
