@@ -45,14 +45,6 @@ fn set_named(alloc: Global, members: &mut Members, name: &str, value: Json) -> R
         set_value(&mut members[place], value);
         return Ok(());
     }
-    push_named(alloc, members, name, value)
-}
-
-fn push_named(alloc: Global, members: &mut Members, name: &str, value: Json) -> Result<(), Fault>
-    ensures ok { OnOk result (map named_tree members.new.items
-        ≡ map named_tree members.old.items ++ (name.now, tree value) ∷ []) }
-    ensures fault { IfErr result (λ fault. fault ≡ Fault.Memory) }
-{
     let member = new_member(alloc, name, value)?;
     members.push(member)?;
     Ok(())

@@ -139,24 +139,6 @@ fn around<'a>(members: &'a [Member], name: &str) -> (&'a [Member], &'a [Member])
     (members, &[])
 }
 
-fn append_object_without(
-    alloc: Global,
-    line: &mut Line,
-    members: &[Member],
-    name: &str,
-) -> Result<(), Fault>
-    ensures ok { OnOk result (line.new
-        ≡ line.old ++ compact (object (without_named name.now (members_tree members.now)))) }
-    ensures fault { IfErr result (λ fault. fault ≡ Fault.Memory) }
-{
-    let (before, after) = around(members, name);
-    line.append(b"{")?;
-    append_members(alloc, line, before, true)?;
-    append_members(alloc, line, after, before.is_empty())?;
-    line.append(b"}")?;
-    Ok(())
-}
-
 /// Appends a value without its first member of this name; one that is no object as it is.
 pub(crate) fn append_without(
     alloc: Global,
@@ -168,10 +150,15 @@ pub(crate) fn append_without(
         ≡ line.old ++ compact (without_member name.now (tree value.now))) }
     ensures fault { IfErr result (λ fault. fault ≡ Fault.Memory) }
 {
-    match value {
-        Json::Map(members) => append_object_without(alloc, line, members, name),
-        _ => print(value, line),
-    }
+    let Json::Map(members) = value else {
+        return print(value, line);
+    };
+    let (before, after) = around(members, name);
+    line.append(b"{")?;
+    append_members(alloc, line, before, true)?;
+    append_members(alloc, line, after, before.is_empty())?;
+    line.append(b"}")?;
+    Ok(())
 }
 
 /// Appends the array of three numbers, as they are written.
@@ -189,27 +176,6 @@ fn append_three(line: &mut Line, numbers: &Axes<&NumText>) -> Result<(), Fault>
     Ok(())
 }
 
-fn append_object_with(
-    alloc: Global,
-    line: &mut Line,
-    members: &[Member],
-    name: &str,
-    numbers: &Axes<&NumText>,
-) -> Result<(), Fault>
-    ensures ok { OnOk result (line.new ≡ line.old ++ compact (object
-        (with_named name.now (three (number_texts numbers.now)) (members_tree members.now)))) }
-    ensures fault { IfErr result (λ fault. fault ≡ Fault.Memory) }
-{
-    let (before, after) = around(members, name);
-    line.append(b"{")?;
-    append_members(alloc, line, before, true)?;
-    begin_member(alloc, line, name, before.is_empty())?;
-    append_three(line, numbers)?;
-    append_members(alloc, line, after, false)?;
-    line.append(b"}")?;
-    Ok(())
-}
-
 /// Appends a value with three numbers, as they are written, for its first member of this name, or as the last where
 /// there is none; one that is no object as it is.
 pub(crate) fn append_with(
@@ -223,8 +189,15 @@ pub(crate) fn append_with(
         (with_member name.now (three (number_texts numbers.now)) (tree value.now))) }
     ensures fault { IfErr result (λ fault. fault ≡ Fault.Memory) }
 {
-    match value {
-        Json::Map(members) => append_object_with(alloc, line, members, name, numbers),
-        _ => print(value, line),
-    }
+    let Json::Map(members) = value else {
+        return print(value, line);
+    };
+    let (before, after) = around(members, name);
+    line.append(b"{")?;
+    append_members(alloc, line, before, true)?;
+    begin_member(alloc, line, name, before.is_empty())?;
+    append_three(line, numbers)?;
+    append_members(alloc, line, after, false)?;
+    line.append(b"}")?;
+    Ok(())
 }

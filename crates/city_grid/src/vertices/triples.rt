@@ -101,28 +101,6 @@ fn ends_by(text: &[u8], at: usize, stops: u64) -> Option<NumberEnds>
     })
 }
 
-/// Where the three numbers end of the array whose opening bracket is at `at`, where that is not far.
-#[inline(always)]
-fn near_ends(text: &[u8], at: usize) -> Option<NumberEnds>
-    requires { at + 32 ≤ length text.now }
-    ensures are { IfSome result (λ ends. AreEnds text.now at ends.first ends.second ends.third) }
-    ensures within { IfSome result (λ ends. ends.third < length text.now) }
-{
-    let ends = ends_by(text, at, stops_in(u8x32::from_slice(&text[at..])))?;
-    Some(ends)
-}
-
-/// The same, where it is farther.
-#[inline(always)]
-fn wide_ends(text: &[u8], at: usize) -> Option<NumberEnds>
-    requires { at + 64 ≤ length text.now }
-    ensures are { IfSome result (λ ends. AreEnds text.now at ends.first ends.second ends.third) }
-    ensures within { IfSome result (λ ends. ends.third < length text.now) }
-{
-    let ends = ends_by(text, at, stops_in_more(u8x64::from_slice(&text[at..])))?;
-    Some(ends)
-}
-
 /// Where the number that begins at `at` ends, with a byte that ends it; `None`: there is none.
 fn number_end(text: &[u8], at: usize) -> Option<usize>
     ensures is { IfSome result (λ end. end ≡ at + number_len (drop at text.now)) }
@@ -138,7 +116,7 @@ fn number_end(text: &[u8], at: usize) -> Option<usize>
     Some(end)
 }
 
-/// The same as of [`near_ends`], wherever they are, number by number.
+/// Where the three numbers end of the array whose opening bracket is at `at`, wherever that is, number by number.
 fn ends_by_numbers(text: &[u8], at: usize) -> Option<NumberEnds>
     requires { at < length text.now }
     ensures are { IfSome result (λ ends. AreEnds text.now at ends.first ends.second ends.third) }
@@ -162,7 +140,8 @@ fn far_ends(text: &[u8], at: usize) -> Option<NumberEnds>
     ensures within { IfSome result (λ ends. ends.third < length text.now) }
 {
     if text.len() - at >= WIDE_WINDOW {
-        if let Some(ends) = wide_ends(text, at) {
+        let stops = stops_in_more(u8x64::from_slice(&text[at..]));
+        if let Some(ends) = ends_by(text, at, stops) {
             return Some(ends);
         }
     }
@@ -177,7 +156,8 @@ fn ends_at(text: &[u8], at: usize) -> Option<NumberEnds>
     ensures within { IfSome result (λ ends. ends.third < length text.now) }
 {
     if text.len() - at >= WINDOW {
-        if let Some(ends) = near_ends(text, at) {
+        let stops = stops_in(u8x32::from_slice(&text[at..]));
+        if let Some(ends) = ends_by(text, at, stops) {
             return Some(ends);
         }
     }

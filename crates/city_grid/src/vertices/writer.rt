@@ -11,23 +11,15 @@ use city_json::{Items, Json, NumText};
 use itoa::Buffer;
 use std::alloc::Global;
 
-/// A component as an integer in decimal. The only fault is [`Fault::Memory`].
-fn integer_json(alloc: Global, component: i64) -> Result<Json, Fault>
-    ensures ok { IfOk result (λ json. tree json ≡ number (signed_decimal component)) }
-    ensures fault { IfErr result (λ fault. fault ≡ Fault.Memory) }
-{
-    let mut digits = Buffer::new();
-    Ok(Json::Num(NumText::read(alloc, digits.format(component).as_bytes())?))
-}
-
 /// Adds a component as an integer in decimal.
 fn push_integer(alloc: Global, numbers: &mut Items, component: i64) -> Result<(), Fault>
     ensures ok { OnOk result (map tree numbers.new.items
         ≡ map tree numbers.old.items ++ number (signed_decimal component) ∷ []) }
     ensures fault { IfErr result (λ fault. fault ≡ Fault.Memory) }
 {
-    let number = integer_json(alloc, component)?;
-    numbers.push(number)?;
+    let mut digits = Buffer::new();
+    let number = NumText::read(alloc, digits.format(component).as_bytes())?;
+    numbers.push(Json::Num(number))?;
     Ok(())
 }
 

@@ -1,5 +1,5 @@
 //! What the first line of a tile stands for.
-ghost use Rattle.std.specs.Prelude.{◌≡◌, List, IfOk, IfErr, IfSome, IsTrue};
+ghost use Rattle.std.specs.Prelude.{◌≡◌, List, IfOk, IfErr, IfSome};
 ghost use Rattle.city_json.specs.Fits.{IsDistinct};
 ghost use Rattle.city_json.specs.Parts.{AreParts};
 ghost use Rattle.city_json.specs.Tree.{MemberTrees, object, tree};
@@ -7,7 +7,6 @@ ghost use Rattle.city_json.specs.Triples.{HasTriples};
 ghost use Rattle.city_cut.specs.HeldTexts.{texts_in};
 ghost use Rattle.city_cut.specs.Lines.{texts_of};
 ghost use Rattle.city_feature.specs.Feature.{FeatureValue};
-ghost use Rattle.city_feature.specs.Header.{HoldsCity};
 ghost use Rattle.city_feature.specs.Texts.{IsCompactOf};
 ghost use Rattle.city_feature.specs.Values.{header_value};
 ghost use Rattle.tile_stream.specs.Head.{SpellsHeadOf, RefusesHead, HoldsHead, RefusesHeadValue};
@@ -87,9 +86,9 @@ fn document_line(
     ensures refused { IfErr result (λ fault. (members : MemberTrees) → IsCompactOf text.now (object members)
         → AreParts 1 parts.now members → RefusesHeadValue fault (object members)) }
 {
-    if !is_document_text(text, parts) {
+    let Some(true) = holds_city(text, parts) else {
         return Ok(None);
-    }
+    };
     if let Some(cut) = cut_compacted_triples(alloc, text, parts, triples) {
         return Ok(Some(FirstLine {
             header: cut.header,
@@ -99,17 +98,6 @@ fn document_line(
     match cut_fault(alloc, text, parts) {
         Some(fault) => Err(fault),
         None => Ok(None),
-    }
-}
-
-/// Whether the object whose compact text this is holds city objects or vertices. No: it does not, or undecided.
-fn is_document_text(text: &[u8], parts: &[MemberPlace]) -> bool
-    ensures { IsTrue result → (members : MemberTrees) → IsCompactOf text.now (object members)
-        → AreParts 1 parts.now members → HoldsCity (object members) }
-{
-    match holds_city(text, parts) {
-        Some(holds) => holds,
-        None => false,
     }
 }
 

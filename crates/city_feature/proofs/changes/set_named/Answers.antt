@@ -1,6 +1,6 @@
 use Rattle.std.proofs.Common.{◌∙◌, ap, sym, position}
 use Rattle.city_json.specs.Tree.{tree, named_tree, member_trees}
-use Rattle.city_feature.proofs.NamedMembers.{has_name, with_found, with_absent, on_ok}
+use Rattle.city_feature.proofs.NamedMembers.{has_name, pushed_member, with_found, with_absent}
 use Rattle.city_feature.proofs.changes.set_named.Goals as goal
 
 pub returns-in-Some-clause-ok : goal.returns-in-Some-clause-ok
@@ -15,5 +15,8 @@ pub returns-clause-ok : goal.returns-clause-ok
 returns-clause-ok c =
     let absent = sym (ap (position (has_name c.args.name.now)) c.deref.ensures.value)
     ∙ (sym c.place_of.ensures ∙ c.in_default.is) in
-    on_ok c.push_named.result (λ pushed. ap member_trees pushed
-    ∙ with_absent c.args.name.now (tree c.args.value) c.args.members.now.items absent) c.push_named.ensures.ok
+    let pushed = pushed_member c.args.members.now.items c.push.new.self.items c.in_ok-member.member (
+      c.args.name.now,
+      tree c.args.value,
+    ) c.in_ok-push.ensures.items c.in_ok-member.ensures.ok in
+    ap member_trees pushed ∙ with_absent c.args.name.now (tree c.args.value) c.args.members.now.items absent

@@ -146,9 +146,7 @@ fn spells_one_of(alloc: Global, types: &Types, text: &[u8]) -> Option<bool>
     if let Some(name) = letters_of(&text[1..]) {
         return Some(is_one_of(types, name));
     }
-    let Ok(value) = read(alloc, text) else {
-        return None;
-    };
+    let value = read(alloc, text).ok()?;
     let Json::Text(name) = &value else {
         return None;
     };
