@@ -20,7 +20,7 @@ use std::snapshot::Snapshot;
 use std::sync::Wait;
 use std::thread;
 use std::thread::{PromisedHandle, Threads};
-use tile_handoff::{MAX_CAPACITY, Note, Receiver, ends};
+use tile_handoff::{MAX_CAPACITY, Note, Receiver, Sender, ends};
 use tile_stream::ReadyTexts;
 
 /// A tile whose thread runs: the texts of its first line, the thread, how it ended once the end note was taken, and what
@@ -30,6 +30,16 @@ pub(super) struct RunningTile<R: Source> {
     first: ReadyTexts,
     thread: PromisedHandle<Finished, Feeds<R>>,
     last: Option<TileEnd>,
+    receiver: Receiver,
+    canceller: Canceller,
+    emptied: SpacedBell,
+}
+
+/// What the caller keeps of a tile and its thread: the texts of the first line, the end of its ring that takes notes, that
+/// by which it is asked to stop, and the bell at which it sleeps while the ring is full.
+#[derive(Drop)]
+struct CallerSide {
+    first: ReadyTexts,
     receiver: Receiver,
     canceller: Canceller,
     emptied: SpacedBell,
@@ -95,6 +105,41 @@ where
         cancellation,
     };
     let (sender, receiver) = ends(alloc, capacity)?;
+    let caller = CallerSide {
+        first,
+        receiver,
+        canceller,
+        emptied: SpacedBell::new(emptied, capacity),
+    };
+    start_with(rt, alloc, tile, sender, links, caller)
+}
+
+/// Starts a thread that puts the texts of the tile through this sender, whose ring is new.
+///
+/// # Errors
+///
+/// [`Fault::NoThread`] where no thread can be started.
+fn start_with<H, R>(
+    rt: &H,
+    alloc: Global,
+    tile: FedTile<R>,
+    sender: Sender,
+    links: Links,
+    caller: CallerSide,
+) -> Result<RunningTile<R>, Fault>
+where
+    H: Threads + Wait + Copy + Send + 'static,
+    R: Source + Send + Drop + 'static,
+    requires begun { tile.begun.count ≡ length caller.first }
+    requires most { tile.begun.count + most_left tile.unread ≤ most_texts }
+    requires pair { ArePair sender caller.receiver }
+    requires unused { (notes_put sender ≡ []) × (notes_taken caller.receiver ≡ []) }
+    requires word { IsPair caller.canceller.producer links.cancellation.consumer }
+    requires unasked { (sent caller.canceller.producer ≡ [])
+        × (received links.cancellation.consumer ≡ []) }
+    ensures ok { IfOk result (λ running. running ≡ fresh_run (record { fed = tile; first = caller.first })) }
+    ensures refused { IfErr result (λ fault. fault ≡ Fault.NoThread) }
+{
     let feeds = Feeds {
         tile: Snapshot::of(&tile),
         sender: Snapshot::of(&sender),
@@ -106,13 +151,19 @@ where
     }) else {
         return Err(Fault::NoThread);
     };
+    let CallerSide {
+        first,
+        receiver,
+        canceller,
+        emptied,
+    } = caller;
     Ok(RunningTile {
         first,
         thread,
         last: None,
         receiver,
         canceller,
-        emptied: SpacedBell::new(emptied, capacity),
+        emptied,
     })
 }
 

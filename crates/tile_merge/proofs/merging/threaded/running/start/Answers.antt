@@ -15,11 +15,11 @@ use Rattle.tile_merge.specs.contracts.merging.threaded.feeder.FedTile as fed_til
 use Rattle.tile_merge.specs.contracts.merging.threaded.feeder.Links as links_type
 use Rattle.tile_merge.proofs.Sending.{fed_tile_send}
 use Rattle.tile_merge.proofs.merging.threaded.feeder.Links.TheSendSync as links
-use Rattle.tile_merge.proofs.merging.threaded.running.start.Goals as goal
+use Rattle.tile_merge.proofs.merging.threaded.running.start_with.Goals as goal
 
 -- the closure of the thread, and what it takes with it
 abbrev closure : List ℕ
-closure = codes "tile_merge::merging::threaded::running::fn::start::spawn_with+Self"
+closure = codes "tile_merge::merging::threaded::running::fn::start_with::spawn_with+Self"
 
 abbrev taken : RattleType → RattleType → List RattleType
 taken H R = fed_tile.the_row (param 1 R) ∷ copied 0 H ∷ heap.the_row ∷ sender_type.the_row ∷ links_type.the_row ∷ []
