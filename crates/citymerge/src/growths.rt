@@ -14,8 +14,7 @@ use crate::tiles::{SystemFiles, open_tiles};
 use crate::words::parse_args;
 use byte_streams::{Bin, Fault, Line, MergeFault, write_all};
 use city_feature::Choice;
-use city_json::Str;
-use command_line::{Parsed, Paths};
+use command_line::{Parsed, Paths, paths_of};
 use std::alloc::{AllocError, Global};
 use std::io::{self, Eprint, ErrorKind};
 use std::process::Abort;
@@ -223,14 +222,6 @@ fn output_has_its_room(rt: &(impl AllocGlobal + Eprint)) -> Result<bool, Fault> 
         Err(fault) if fault == Fault::Memory => wanted(rt, Call("buffered")),
         Err(_) => Ok(false),
     }
-}
-
-pub(crate) fn paths_of(alloc: Global, names: &[&str]) -> Result<Paths, Fault> {
-    let mut paths = Paths::new(alloc);
-    for name in names {
-        paths.push(Str::read(alloc, name)?)?;
-    }
-    Ok(paths)
 }
 
 fn are_opened(

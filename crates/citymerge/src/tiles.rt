@@ -101,7 +101,7 @@ fn not_opened(before: usize) -> MergeFault
 #[cfg(test)]
 mod tests {
     use super::*;
-    use crate::growths::paths_of;
+    use command_line::paths_of;
 
     /// Whether a reader gives so many of four bytes.
     fn gives(reader: Option<Device<File>>, count: usize) -> bool {

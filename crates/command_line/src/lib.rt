@@ -11,5 +11,5 @@ mod refusal;
 
 pub use commands::citymerge_command;
 pub use known::known_words;
-pub use merge_args::MergeArgs;
+pub use merge_args::{MergeArgs, paths_of};
 pub use parsing::{Parsed, Paths, parse_words};

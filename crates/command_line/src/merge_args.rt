@@ -56,8 +56,10 @@ fn paths_given(alloc: Global, matches: &ArgMatches<'_>) -> Result<Paths, Fault>
     }
 }
 
-fn paths_of(alloc: Global, texts: &[&str]) -> Result<Paths, Fault>
-    ensures { IfOk result (λ paths. paths ≡ map (λ text. text.now) texts.now) }
+/// The words or paths that these texts are, in order. The only fault is [`Fault::Memory`].
+pub fn paths_of(alloc: Global, texts: &[&str]) -> Result<Paths, Fault>
+    ensures ok { IfOk result (λ paths. paths ≡ map (λ text. text.now) texts.now) }
+    ensures fault { IfErr result (λ fault. fault ≡ Fault.Memory) }
 {
     let mut paths = Paths::new(alloc);
     for text in texts {

@@ -2,8 +2,7 @@
 use crate::filling::{NOTHING, Section};
 use crate::output::Output;
 use byte_streams::Fault;
-use city_json::Str;
-use command_line::{Parsed, Paths, parse_words};
+use command_line::{Parsed, parse_words, paths_of};
 use std::alloc::Global;
 
 /// The manual page, in roff. It bears the day of the release, as the change log has it: a page does
@@ -125,19 +124,11 @@ fn is_answered(fault: Fault) -> bool {
 
 /// What the program says to these words: help, or what is wrong with them.
 fn said_to(alloc: Global, words: &[&str]) -> Option<String> {
-    let words = words_of(alloc, words).ok()?;
+    let words = paths_of(alloc, words).ok()?;
     match parse_words(alloc, &words) {
         Parsed::Help(text) | Parsed::Usage(text) => String::from_utf8(text.into_vec()).ok(),
         _ => None,
     }
-}
-
-fn words_of(alloc: Global, texts: &[&str]) -> Result<Paths, Fault> {
-    let mut words = Paths::new(alloc);
-    for text in texts {
-        words.push(Str::read(alloc, text)?)?;
-    }
-    Ok(words)
 }
 
 fn part_of(said: &str, part: Part) -> &str {
