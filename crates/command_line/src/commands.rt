@@ -146,17 +146,25 @@ fn merge_command<'a>(alloc: Global) -> Result<Command<'a>, AllocError>
     ensures app { IfOk result (λ command. app_of command ≡ merge_app) }
     ensures local { IfOk result (λ command. (fields_of command).has_globals ≡ false) }
 {
-    let in_turn = flag_option(alloc, "in-turn").help(IN_TURN_HELP);
-    let least = flag_option(alloc, "least").help(LEAST_HELP);
-    let command = choosing_command(alloc, "merge")?
-        .arg(in_turn)?
-        .arg(least)?
-        .arg(tile_paths(alloc))?;
+    let command = merging_command(alloc)?;
     Ok(
         command
             .about("Join the streams of several files into one.")
             .after_help(MERGE_END),
     )
+}
+
+/// The command `merge` with its options and paths.
+fn merging_command<'a>(alloc: Global) -> Result<Command<'a>, AllocError>
+    ensures app { IfOk result (λ command. app_of command ≡ merge_app) }
+    ensures local { IfOk result (λ command. (fields_of command).has_globals ≡ false) }
+{
+    let in_turn = flag_option(alloc, "in-turn").help(IN_TURN_HELP);
+    let least = flag_option(alloc, "least").help(LEAST_HELP);
+    choosing_command(alloc, "merge")?
+        .arg(in_turn)?
+        .arg(least)?
+        .arg(tile_paths(alloc))
 }
 
 fn filter_command<'a>(alloc: Global) -> Result<Command<'a>, AllocError>
