@@ -6,7 +6,7 @@ use Rattle.city_json.specs.Triples.{HasTriples}
 use Rattle.growth_tests.proofs.features.cut_at_once.Goals as goal
 
 pub cut_compacted_triples-requires-clause-members : goal.cut_compacted_triples-requires-clause-members
-cut_compacted_triples-requires-clause-members c =
+cut_compacted_triples-requires-clause-members g c =
     let (members, spells, fits, shallow, written, are) = c.in-Some.ensures.object in (
       members,
       record {
@@ -19,5 +19,5 @@ cut_compacted_triples-requires-clause-members c =
     )
 
 pub cut_compacted_triples-requires-clause-triples : goal.cut_compacted_triples-requires-clause-triples
-cut_compacted_triples-requires-clause-triples c =
+cut_compacted_triples-requires-clause-triples g c =
     subst (λ line. HasTriples line c.in-Some.found.triples) (sym c.bytes-line.ensures) c.in-Some.ensures.triples
