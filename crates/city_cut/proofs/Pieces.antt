@@ -3,17 +3,15 @@ use Rattle.std.proofs.Common.{◌≡◌, ◌∙◌, ◌++◌, ◌<◌, ◌≤◌
 use Rattle.std.proofs.lemmas.List.{drop-append-le, length-append, length-drop, map-append, take-append-le}
 use Rattle.std.proofs.Math.Seq.{drop-append_seam}
 use Rattle.city_json.specs.Compact.{compact}
+use Rattle.city_json.specs.OpenNames.{AreEnds}
+use Rattle.city_json.proofs.EndedNames.{ends_more, ends_onward}
 use Rattle.city_feature.specs.Feature.{FeatureValue}
-use Rattle.city_cut.specs.HeldTexts.{AreEnds, HasGrown, pieces}
+use Rattle.city_cut.specs.HeldTexts.{HasGrown, pieces}
 use Rattle.city_cut.specs.Lines.{texts_of}
 
 pub long_pieces : (bytes : List ℕ) (from : ℕ) (ends : List ℕ) → length (pieces bytes from ends) ≡ length ends
 long_pieces bytes from [] = refl
 long_pieces bytes from (end ∷ ends) = let more = long_pieces bytes end ends in omega (arith, more)
-
-pub ends_onward : (from : ℕ) (ends : List ℕ) (last : ℕ) → AreEnds from ends last → from ≤ last
-ends_onward from [] last are = omega (arith, are)
-ends_onward from (end ∷ ends) last are = let more = ends_onward end ends last are.1 in omega (arith, are.0, more)
 
 -- where the piece at a place begins, and where it ends
 pub inside : (from : ℕ) (ends : List ℕ) (last at : ℕ) → AreEnds from ends last → at < length ends
@@ -39,11 +37,6 @@ slice_new : (bytes more : List ℕ) → slice_range (bytes ++ more) (length byte
 slice_new bytes more =
     ap (take (length (bytes ++ more) - length bytes)) (drop-append_seam bytes more)
     ∙ take_all (length (bytes ++ more) - length bytes) more (omega (arith, length-append bytes more))
-
-pub ends_more : (from : ℕ) (ends : List ℕ) (last next : ℕ) → AreEnds from ends last → last ≤ next
-    → AreEnds from (ends ++ next ∷ []) next
-ends_more from [] last next are onward = (omega (arith, are, onward), refl)
-ends_more from (end ∷ ends) last next are onward = (are.0, ends_more end ends last next are.1 onward)
 
 pieces_push : (bytes more : List ℕ) (from : ℕ) (ends : List ℕ) → AreEnds from ends (length bytes)
     → pieces (bytes ++ more) from (ends ++ length (bytes ++ more) ∷ []) ≡ pieces bytes from ends ++ more ∷ []

@@ -9,7 +9,9 @@ use Rattle.city_cut.specs.Cut.{last_members}
 -- what stands before the objects of the feature that the object `id` begins
 abbrev pub head_text : List ℕ → List ℕ
 head_text id =
-    open_brace ∷ (quoted (codes "type") ++ (colon ∷ (quoted (codes "CityJSONFeature") ++ (comma ∷ (quoted (codes "id") ++ (colon ∷ (quoted id ++ (comma ∷ (quoted (codes "CityObjects") ++ (colon ∷ open_brace ∷ []))))))))))
+    open_brace ∷ (quoted (codes "type") ++ (colon ∷ (quoted (codes "CityJSONFeature")
+    ++ (comma ∷ (quoted (codes "id") ++ (colon ∷ (quoted id
+    ++ (comma ∷ (quoted (codes "CityObjects") ++ (colon ∷ open_brace ∷ []))))))))))
 
 -- what stands between them and the vertices
 abbrev pub middle_text : List ℕ

@@ -1,5 +1,5 @@
 -- Texts that are held with what all of them end in once.
-use Rattle.std.specs.Prelude.{◌≡◌, ◌++◌, ◌≤◌, ℕ, List, [], ◌∷◌, map, slice_range}
+use Rattle.std.specs.Prelude.{◌≡◌, ◌++◌, ℕ, List, [], ◌∷◌, map, slice_range}
 
 -- texts: what each begins with, and what all of them end in
 pub record HeldTexts : Type 0 where
@@ -14,11 +14,6 @@ texts_in held = map (λ own. own ++ held.common) held.own
 abbrev pub pieces : List ℕ → ℕ → List ℕ → List (List ℕ)
 pieces bytes from [] = []
 pieces bytes from (end ∷ ends) = slice_range bytes from end ∷ pieces bytes end ends
-
--- no piece ends before it begins, and the last one ends here
-abbrev pub AreEnds : ℕ → List ℕ → ℕ → Type 0
-AreEnds from [] last = from ≡ last
-AreEnds from (end ∷ ends) last = (from ≤ end) × AreEnds end ends last
 
 -- What was appended makes with this tail the whole text.
 abbrev pub HasGrown : List ℕ → List ℕ → List ℕ → List ℕ → Type 0

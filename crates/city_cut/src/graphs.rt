@@ -1,6 +1,7 @@
 //! Which of some numbered things come after each of them.
 ghost use Rattle.std.specs.Prelude.{◌≡◌, ◌<◌, ◌≤◌, ◌++◌, ◌∷◌, [], IfSome, OnSome, Some, get_or, length, slice_get, slice_range};
-ghost use Rattle.city_cut.specs.HeldTexts.{AreEnds, pieces};
+ghost use Rattle.city_json.specs.OpenNames.{AreEnds};
+ghost use Rattle.city_cut.specs.HeldTexts.{pieces};
 
 use crate::placing::push_place;
 use std::alloc::Global;
@@ -16,7 +17,8 @@ pub(crate) struct Graph {
 
 impl Model for Graph {
     ghost use Rattle.std.specs.Prelude.{List, ℕ, length};
-    ghost use Rattle.city_cut.specs.HeldTexts.{AreEnds, pieces};
+    ghost use Rattle.city_json.specs.OpenNames.{AreEnds};
+    ghost use Rattle.city_cut.specs.HeldTexts.{pieces};
 
     ghost Value = { List (List ℕ) };
 

@@ -7,7 +7,8 @@ ghost use Rattle.byte_streams.specs.Failures.{after_call};
 ghost use Rattle.city_feature.specs.Feature.{FeatureValue, IsMovable, moved};
 ghost use Rattle.city_feature.specs.FeatureLine.{SpellsFeature};
 ghost use Rattle.city_cut.specs.FeatureText.{IsTail};
-ghost use Rattle.city_cut.specs.HeldTexts.{AreEnds, pieces, texts_in};
+ghost use Rattle.city_json.specs.OpenNames.{AreEnds};
+ghost use Rattle.city_cut.specs.HeldTexts.{pieces, texts_in};
 ghost use Rattle.city_cut.specs.Lines.{texts_of};
 ghost use Rattle.city_cut.specs.Moved.{chosen_of};
 ghost use Rattle.city_cut.specs.OwnTexts.{EndIn, own_texts};
@@ -59,7 +60,8 @@ pub(crate) struct Pieces {
 
 impl Model for Pieces {
     ghost use Rattle.std.specs.Prelude.{ℕ, List, length};
-    ghost use Rattle.city_cut.specs.HeldTexts.{AreEnds, pieces};
+    ghost use Rattle.city_json.specs.OpenNames.{AreEnds};
+    ghost use Rattle.city_cut.specs.HeldTexts.{pieces};
 
     ghost Value = { List (List ℕ) };
 

@@ -2,7 +2,8 @@
 ghost use Rattle.std.specs.Prelude.{◌≡◌, ◌++◌, [], ◌∷◌, List, IfErr, OnOk, length, map};
 ghost use Rattle.city_feature.specs.Feature.{FeatureValue};
 ghost use Rattle.city_feature.specs.Values.{feature_value};
-ghost use Rattle.city_cut.specs.HeldTexts.{AreEnds, pieces};
+ghost use Rattle.city_json.specs.OpenNames.{AreEnds};
+ghost use Rattle.city_cut.specs.HeldTexts.{pieces};
 ghost use Rattle.city_cut.specs.Lines.{texts_of};
 
 use byte_streams::{Fault, Line};

@@ -24,7 +24,7 @@ pub use features::Feature;
 pub use features::ended::{is_appearance_end, own_text};
 pub use features::faults::vertices_fault;
 pub use features::line_faults::{is_array, is_object, is_text, line_fault};
-pub use features::lines::{feature_line, feature_text};
+pub use features::lines::{feature_line, feature_text, feature_text_in};
 pub use features::members::{is_absent, member_or};
 pub use features::moving::shifted;
 pub use features::on_text::unread::triples_meet;

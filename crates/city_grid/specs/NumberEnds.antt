@@ -15,7 +15,7 @@ abbrev pub number_len : List ℕ → ℕ
 number_len bytes = prefix_len stays_in_number bytes
 
 -- where the three numbers end of the array whose opening bracket is at `at`
-abbrev pub AreEnds : List ℕ → ℕ → ℕ → ℕ → ℕ → Type 0
-AreEnds text at first second third = (first ≡ at + 1 + number_len (drop (at + 1) text))
+abbrev pub AreTripleEnds : List ℕ → ℕ → ℕ → ℕ → ℕ → Type 0
+AreTripleEnds text at first second third = (first ≡ at + 1 + number_len (drop (at + 1) text))
     × (second ≡ first + 1 + number_len (drop (first + 1) text))
     × (third ≡ second + 1 + number_len (drop (second + 1) text))

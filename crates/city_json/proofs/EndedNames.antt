@@ -10,13 +10,13 @@ as_many start [] bytes = refl
 as_many start (end ∷ ends) bytes = ap suc (as_many end ends bytes)
 
 -- ---- where a name lies
-within : (start : ℕ) (ends : List ℕ) (size : ℕ) → AreEnds start ends size → start ≤ size
-within start [] size are = omega (arith, are)
-within start (end ∷ ends) size are = omega (arith, are.0, within end ends size are.1)
+pub ends_onward : (start : ℕ) (ends : List ℕ) (size : ℕ) → AreEnds start ends size → start ≤ size
+ends_onward start [] size are = omega (arith, are)
+ends_onward start (end ∷ ends) size are = omega (arith, are.0, ends_onward end ends size are.1)
 
 pub begins_within : (start place : ℕ) (ends : List ℕ) (size : ℕ) → AreEnds start ends size
     → begin_of start place ends ≤ size
-begins_within start zero ends size are = within start ends size are
+begins_within start zero ends size are = ends_onward start ends size are
 begins_within start (suc place) [] size are = omega (arith, are)
 begins_within start (suc place) (end ∷ ends) size are = begins_within end place ends size are.1
 
@@ -35,7 +35,7 @@ ends_after start (suc place) (end ∷ ends) size are inside = ends_after end pla
 pub ends_within : (start place : ℕ) (ends : List ℕ) (size : ℕ) → AreEnds start ends size → place < length ends
     → get_or ends place 0 ≤ size
 ends_within start place [] size are inside = absurd (omega arith)
-ends_within start zero (end ∷ ends) size are inside = within end ends size are.1
+ends_within start zero (end ∷ ends) size are inside = ends_onward end ends size are.1
 ends_within start (suc place) (end ∷ ends) size are inside = ends_within end place ends size are.1 (omega arith)
 
 name_there : (start place : ℕ) (ends bytes : List ℕ) → place < length ends
@@ -78,7 +78,7 @@ names_of_front : (start : ℕ) (ends bytes : List ℕ) (size n : ℕ) → AreEnd
     → names_between start ends (take n bytes) ≡ names_between start ends bytes
 names_of_front start [] bytes size n are inside = refl
 names_of_front start (end ∷ ends) bytes size n are inside =
-    let low : end ≤ n = omega (arith, within end ends size are.1) in
+    let low : end ≤ n = omega (arith, ends_onward end ends size are.1) in
     ap (λ name. name ∷ names_between end ends (take n bytes)) (range_of_front bytes start end n are.0 low)
     ∙ ap (λ names. slice_range bytes start end ∷ names) (names_of_front end ends bytes size n are.1 inside)
 

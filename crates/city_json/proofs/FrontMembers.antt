@@ -16,7 +16,7 @@ use Rattle.city_json.specs.Parts.{IsPart, AreParts}
 use Rattle.city_json.specs.Tree.{Tree, null, boolean, number, string, array, object, MemberTrees, no_members, member}
 use Rattle.city_json.specs.Writable.{IsWritable, AreWritableMembers}
 use Rattle.city_json.specs.declared.compacting.places.MemberPlace.{MemberPlace}
-use Rattle.city_json.specs.FrontMembers.{EndsAfter, GoesOn, GoneTo, HasFrontParts, IsThere, MembersLeft}
+use Rattle.city_json.specs.FrontMembers.{EndsAfter, GoesOn, GoneTo, HasFrontParts, AllLieIn, MembersLeft}
 
 after_brace : (text rest : List ℕ) (all : MemberTrees) → text ≡ compact (object all) ++ rest
     → drop 1 text ≡ compact_members all ++ close_brace ∷ rest
@@ -38,7 +38,7 @@ members_begin text parts none inside other (member name first others) rest w wit
 }
 
 pub members_none : (text : List ℕ) (parts : List MemberPlace) → parts ≡ [] → 1 < length text
-    → get_or text 1 0 ≡ close_brace → IsThere text parts 2
+    → get_or text 1 0 ≡ close_brace → AllLieIn text parts 2
 members_none text parts none inside here no_members rest w within is =
     (subst (λ l. AreParts 1 l no_members) (sym none) tt, ap (drop 2) is)
 members_none text parts none inside here (member name first others) rest w within is =
@@ -71,7 +71,7 @@ none_left text rest end (member name first others) inside here is =
 
 pub members_stop : (text : List ℕ) (at : ℕ) (part : MemberPlace) (parts new : List MemberPlace) → GoesOn at text parts
     → LeavesMember at part (drop at text) (drop part.end text) → part.end < length text
-    → get_or text part.end 0 ≡ close_brace → new ≡ parts ++ part ∷ [] → IsThere text new (part.end + 1)
+    → get_or text part.end 0 ≡ close_brace → new ≡ parts ++ part ∷ [] → AllLieIn text new (part.end + 1)
 members_stop text at part parts new on leaves inside here pushed all rest w within is =
     let left = on all rest w within is in
     let taken = member_taken text rest at part parts all left leaves in
@@ -123,7 +123,7 @@ object_of (object members) rest tail w is = (members, refl)
 
 of_members : (text : List ℕ) (parts : List MemberPlace) (end : ℕ) (value : Tree) (rest : List ℕ) (members : MemberTrees)
     → value ≡ object members → IsWritable value → depth value ≤ max_depth → text ≡ compact value ++ rest
-    → IsThere text parts end
+    → AllLieIn text parts end
     → (all : MemberTrees) × (value ≡ object all) × AreParts 1 parts all × (drop end text ≡ rest)
 of_members text parts end value rest members is_object w within is on =
     let shallow : depth (object members) ≤ max_depth = subst (λ v. depth v ≤ max_depth) is_object within in
@@ -132,7 +132,7 @@ of_members text parts end value rest members is_object w within is on =
     (members, is_object, there.0, there.1)
 
 pub has_front_parts : (text : List ℕ) (parts : List MemberPlace) (end : ℕ) → 0 < length text → get_or text 0 0 ≡ open_brace
-    → IsThere text parts end → HasFrontParts text parts end
+    → AllLieIn text parts end → HasFrontParts text parts end
 has_front_parts text parts end inside opens on = λ value rest w within is.
     let found = object_of value rest (drop 1 text) w (sym is ∙ drop_one text 0 open_brace inside opens) in
     of_members text parts end value rest found.0 found.1 w within is on
@@ -164,12 +164,12 @@ whole_parts text parts end has = λ value w within is.
 
 -- ---- from one member to the next
 pub gone_stop : (text : List ℕ) (parts : List MemberPlace) (end : ℕ) → GoneTo text parts end → end < length text
-    → get_or text end 0 ≡ close_brace → IsThere text parts (end + 1)
+    → get_or text end 0 ≡ close_brace → AllLieIn text parts (end + 1)
 gone_stop text parts end gone inside here =
     let inside₂ : gone.part.end < length text = subst (λ n. n < length text) (sym gone.ends) inside in
     let here₂ : get_or text gone.part.end 0 ≡ close_brace =
     subst (λ n. get_or text n 0 ≡ close_brace) (sym gone.ends) here in
-    subst (λ n. IsThere text parts (n + 1)) gone.ends
+    subst (λ n. AllLieIn text parts (n + 1)) gone.ends
     (members_stop text gone.at gone.part gone.before parts gone.goes_on gone.leaves inside₂ here₂ gone.listed)
 
 pub gone_on : (text : List ℕ) (parts : List MemberPlace) (end : ℕ) (next : MemberPlace) → GoneTo text parts end

@@ -34,8 +34,8 @@ GoesOn at text parts = (all : MemberTrees) (rest : List ℕ) → AreWritableMemb
     → text ≡ compact (object all) ++ rest → MembersLeft at (drop at text) rest parts all
 
 -- where all members lie, and what is left
-abbrev pub IsThere : List ℕ → List MemberPlace → ℕ → Type 0
-IsThere text parts end = (all : MemberTrees) (rest : List ℕ) → AreWritableMembers all → members_depth all ≤ max_depth
+abbrev pub AllLieIn : List ℕ → List MemberPlace → ℕ → Type 0
+AllLieIn text parts end = (all : MemberTrees) (rest : List ℕ) → AreWritableMembers all → members_depth all ≤ max_depth
     → text ≡ compact (object all) ++ rest → AreParts 1 parts all × (drop end text ≡ rest)
 
 -- the members up to the one that ends there lie in these parts
@@ -51,7 +51,7 @@ pub record GoneTo (text : List ℕ) (parts : List MemberPlace) (end : ℕ) : Typ
 -- whatever further members stand there, all end there
 abbrev pub EndsAfter : List ℕ → ℕ → ℕ → Type 0
 EndsAfter text end stop = (parts : List MemberPlace) → GoneTo text parts end
-    → (more : List MemberPlace) × IsThere text (parts ++ more) stop
+    → (more : List MemberPlace) × AllLieIn text (parts ++ more) stop
 
 -- in the object in front stands a member, named by these bytes up to its colon, and its value begins there
 pub record IsValuePlace (text name : List ℕ) (value : ℕ) : Type 0 where

@@ -26,6 +26,7 @@ mod strings;
 mod triples;
 mod values;
 mod whole_arrays;
+mod workspace;
 
 use byte_streams::Line;
 use byte_streams::limits::MAX_DEPTH;
@@ -34,10 +35,14 @@ pub use ends::{string_end, value_end};
 pub use members::{
     PlacedMembers, colon_after, end_after, members_at, members_of_compact, value_place,
 };
-pub use object::{CompactObject, Compacted, TextPlace, compact_object, compact_parts};
+use names::Names;
+pub use object::{
+    CompactObject, Compacted, TextPlace, compact_object, compact_object_in, compact_parts,
+};
 pub use places::{MemberPlace, Span, between, is_between, part_named};
 use std::alloc::Global;
 use values::value;
+pub use workspace::Workspace;
 
 /// The compact text of the value that the text spells. What `line` held is dropped; it is taken for its memory.
 ///
@@ -49,7 +54,7 @@ pub fn compact(alloc: Global, text: &[u8], line: Line) -> Option<Line>
     if !simdutf8::is_utf8(text) {
         return None;
     }
-    let mut draft = new_draft(alloc, text.len(), line);
+    let mut draft = new_draft(alloc, line, Names::new(alloc, text.len()));
     let at = skip_white(text, 0, &mut draft)?;
     let end = value(text, at, MAX_DEPTH, &mut draft)?;
     let last = skip_white(text, end, &mut draft)?;

@@ -19,9 +19,9 @@ pub use byte_streams::{
 };
 pub use checking::{check, spells_no_object};
 pub use compacting::{
-    CompactObject, Compacted, MemberPlace, PlacedMembers, Span, TextPlace, between, colon_after,
-    compact, compact_object, compact_parts, end_after, is_between, members_at, members_of_compact,
-    part_named, string_end, value_end, value_place,
+    CompactObject, Compacted, MemberPlace, PlacedMembers, Span, TextPlace, Workspace, between,
+    colon_after, compact, compact_object, compact_object_in, compact_parts, end_after, is_between,
+    members_at, members_of_compact, part_named, string_end, value_end, value_place,
 };
 pub use comparing::same;
 pub use json::{Items, Json, Member, Members};

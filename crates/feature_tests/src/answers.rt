@@ -3,10 +3,11 @@
 use crate::texts::{filled, is_named, split};
 use byte_streams::{Fault, Line};
 use city_feature::{
-    Choice, Feature, area, feature, feature_line, feature_text, line, selects, shifted, types,
+    Choice, Feature, area, feature, feature_line, feature_text, feature_text_in, line, selects,
+    shifted, types,
 };
 use city_grid::Shift;
-use city_json::{TextPlace, read};
+use city_json::{TextPlace, Workspace, read};
 use std::alloc::{AllocError, Global};
 
 /// A field of what is asked for: how far features are moved, their types, their area, and `others` where all but these
@@ -79,11 +80,38 @@ fn is_answered_alone(
     let (Ok(mut compact), Ok(mut text)) = (front(alloc), front(alloc)) else {
         return false;
     };
-    match feature_text(alloc, bytes, shift, choice, &mut compact, &mut text) {
-        Ok(Some(place)) => {
-            fault.is_none() && !added.is_empty() && place.bytes(bytes, &text) == added
-        }
-        Ok(None) => fault.is_none() && added.is_empty(),
+    let answer = feature_text(alloc, bytes, shift, choice, &mut compact, &mut text);
+    let mut is_so = is_answer(answer, place_bytes(answer, bytes, &text), added, fault);
+    let mut workspace = Workspace::new(alloc, compact);
+    for _ in 0..2 {
+        let answer = feature_text_in(alloc, bytes, shift, choice, &mut workspace, &mut text);
+        is_so &= is_answer(answer, place_bytes(answer, bytes, &text), added, fault);
+        workspace.trim();
+    }
+    is_so
+}
+
+/// The text that was answered, or an empty one.
+fn place_bytes<'a>(
+    answer: Result<Option<TextPlace>, Fault>,
+    bytes: &'a [u8],
+    text: &'a Line,
+) -> &'a [u8] {
+    match answer {
+        Ok(Some(place)) => place.bytes(bytes, text),
+        _ => b"",
+    }
+}
+
+/// Whether this is the answer: the fault, or else the text, which is empty where the feature is not chosen.
+fn is_answer(
+    answer: Result<Option<TextPlace>, Fault>,
+    given: &[u8],
+    added: &[u8],
+    fault: Option<Fault>,
+) -> bool {
+    match answer {
+        Ok(place) => fault.is_none() && place.is_none() == added.is_empty() && given == added,
         Err(found) => fault == Some(found),
     }
 }

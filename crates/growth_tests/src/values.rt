@@ -2,7 +2,8 @@
 
 use byte_streams::{Bin, Fault, Line, Sequence, Stop, Tape, read_all, write_all};
 use city_json::{
-    Json, MemberPlace, NumText, Str, check, compact, compact_object, compact_parts, print, read,
+    Json, MemberPlace, NumText, Str, Workspace, check, compact, compact_object, compact_object_in,
+    compact_parts, print, read,
 };
 use growth_support::{Call, expect, is_fault, refused, wanted};
 use std::alloc::{AllocError, Global};
@@ -396,6 +397,24 @@ fn texts_stand_compact(rt: &(impl AllocGlobal + Eprint)) -> Result<bool, Fault> 
     Ok(true)
 }
 
+/// The same of texts in turn, in memory that goes from one to the next.
+fn texts_stand_in_turn(rt: &(impl AllocGlobal + Eprint)) -> Result<bool, Fault> {
+    let mut workspace = Workspace::new(rt.alloc(), Line::new(rt.alloc()));
+    for (text, compact) in [(TEXT, COMPACT), (PLAIN, PLAIN), (TEXT, COMPACT)].iter() {
+        let Some(found) = compact_object_in(rt.alloc(), text, &mut workspace) else {
+            return refused(rt, Call("compact_object_in"), Fault::Memory);
+        };
+        let is_so = found.place.bytes(text, &workspace.line) == *compact
+            && are_parts(&found.parts, compact.len());
+        workspace.take_back(found.parts);
+        workspace.trim();
+        if !is_so {
+            return Ok(false);
+        }
+    }
+    Ok(true)
+}
+
 #[test]
 fn bytes_values_and_texts(rt: HostRuntime) -> Result<(), Fault> {
     expect!(rt; line_grows(&rt));
@@ -415,5 +434,6 @@ fn bytes_values_and_texts(rt: HostRuntime) -> Result<(), Fault> {
     expect!(rt; texts_are_compact(&rt));
     expect!(rt; text_is_compact_with_parts(&rt));
     expect!(rt; texts_stand_compact(&rt));
+    expect!(rt; texts_stand_in_turn(&rt));
     Ok(())
 }

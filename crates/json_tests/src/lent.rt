@@ -2,8 +2,11 @@
 //! told of them as of others.
 use crate::texts::{expect, expect_at, read_and_printed, text_of};
 use byte_streams::Line;
-use city_json::{CompactObject, TextPlace, compact_object, compact_parts};
-use std::alloc::{AllocError, Global};
+use city_json::{
+    CompactObject, TextPlace, Workspace, compact_object, compact_object_in, compact_parts,
+};
+use std::alloc::{AllocError, AllocGlobal, Global};
+use std::process::Abort;
 
 /// Texts that are their own compact text but for white space at their end, and how long they are without it.
 const LENT: [(&[u8], usize); 14] = [
@@ -181,6 +184,106 @@ fn is_told(alloc: Global, count: usize, blanks: usize) -> Result<bool, AllocErro
         is_written(alloc, &text, &compact)
     };
     Ok(is_so && has_same_object(alloc, &text))
+}
+
+/// Objects with many names, with names in escapes, and with names that are long where others are short.
+const NAMED: [&[u8]; 6] = [
+    b"{\"a\":1,\"b\":{\"a\":2,\"c\":{\"d\":3}},\"c\":4,\"d\":5,\"e\":6,\"f\":7,\"g\":8,\"h\":9}",
+    b"{\"a\":1}",
+    b"{\"\\u0061\":1,\"\\n\":{\"\\t\":2},\"b\":3}",
+    b"{\"b\":1,\"a\":{\"b\":2,\"a\":3}}",
+    b"{\"a name of many letters, as those of attributes are\":{\"\\u00e9\":null}}",
+    b"{\"\":0}",
+];
+
+/// Whether the same is told of a text in memory that was used for others as in memory of its own.
+fn is_told_in(alloc: Global, text: &[u8], workspace: &mut Workspace) -> bool {
+    match (compact_object_in(alloc, text, workspace), told(alloc, text)) {
+        (
+            Some(object),
+            Some(
+                Found {
+                    object: own,
+                    buffer,
+                },
+            ),
+        ) => {
+            let is_same = object.place == own.place
+                && object.triples == own.triples
+                && object.parts.as_slice() == own.parts.as_slice()
+                && object.place.bytes(text, &workspace.line) == own.place.bytes(text, &buffer);
+            workspace.take_back(object.parts);
+            is_same
+        }
+        (None, None) => true,
+        _ => false,
+    }
+}
+
+/// Asks it of all texts in turn; the memory is trimmed after each where that is asked for.
+fn are_told_in(
+    rt: &(impl AllocGlobal + Abort),
+    texts: &[&[u8]],
+    workspace: &mut Workspace,
+    is_trimmed: bool,
+) {
+    for text in texts.iter() {
+        expect(rt, is_told_in(rt.alloc(), text, workspace), text);
+        if is_trimmed {
+            workspace.trim();
+        }
+    }
+}
+
+#[test]
+fn memory_of_other_texts_changes_nothing(rt: HostRuntime) {
+    let mut workspace = Workspace::new(rt.alloc(), Line::new(rt.alloc()));
+    for is_trimmed in [false, true] {
+        are_told_in(&rt, &NAMED, &mut workspace, is_trimmed);
+        for (text, _) in LENT.iter() {
+            are_told_in(&rt, &[text, b"{\"a\":1}"], &mut workspace, is_trimmed);
+        }
+        are_told_in(&rt, &NONE, &mut workspace, is_trimmed);
+        for (text, _) in WRITTEN.iter() {
+            are_told_in(
+                &rt,
+                &[text, b"{\"b\":[[1,2,3]]}"],
+                &mut workspace,
+                is_trimmed,
+            );
+        }
+        are_told_in(&rt, &NAMED, &mut workspace, is_trimmed);
+    }
+}
+
+/// An object with so many members, each of another name.
+fn many_named(alloc: Global, count: usize) -> Result<Vec<u8>, AllocError> {
+    let mut text = b"{\"a\":0".to_vec(alloc)?;
+    for at in 0..count {
+        text.extend_from_slice(b",\"")?;
+        let mut rest = at;
+        for _ in 0..4 {
+            text.push(b'a' + (rest & 15) as u8)?;
+            rest >>= 4;
+        }
+        text.extend_from_slice(b"\":[]")?;
+    }
+    text.push(b'}')?;
+    Ok(text)
+}
+
+#[test]
+fn memory_of_a_large_text_changes_nothing(rt: HostRuntime) -> Result<(), AllocError> {
+    let mut workspace = Workspace::new(rt.alloc(), Line::new(rt.alloc()));
+    for count in [0usize, 40, 41, 1, 5_000, 3, 5_000] {
+        let text = many_named(rt.alloc(), count)?;
+        let is_same = is_told_in(rt.alloc(), &text, &mut workspace);
+        expect_at(&rt, is_same, count, b"");
+        if count < 5_000 {
+            workspace.trim();
+        }
+    }
+    Ok(())
 }
 
 #[test]

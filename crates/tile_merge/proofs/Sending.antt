@@ -3,8 +3,8 @@ use denote.RattleType.{RattleType}
 use denote.Param.Send.{IsSend, recorded_send, struct_send, view_send}
 use denote.Struct.Declared.{shape}
 use denote.Struct.Struct.{Struct}
-use Rattle.byte_streams.proofs.line.Line.TheSendSync as line
 use Rattle.city_grid.proofs.shifts.Shift.TheSendSync as shift
+use Rattle.city_json.proofs.compacting.workspace.Workspace.TheSendSync as workspace
 use Rattle.city_feature.proofs.choices.Choice.TheSendSync as choice
 use Rattle.tile_merge.proofs.merging.ends.TileEnd.TheSendSync as begun
 use Rattle.tile_merge.specs.contracts.merging.threaded.feeder.FedTile as fed_tile
@@ -18,7 +18,7 @@ module _ (R : RattleType) (reader : IsSend R) where
   reader_inside_send : IsSend (reader_inside.the_row R)
   reader_inside_send =
       let T = reader_inside.the_type R in
-      let fields = struct_send (shape T) (lines.the_send R reader, (held.the_field_send, (line.the_send, tt))) in
+      let fields = struct_send (shape T) (lines.the_send R reader, (held.the_field_send, (workspace.the_field_send, tt))) in
       recorded_send (Struct (shape T)) T.D T.to T.to_one fields
 
   reader_send : IsSend (reader_type.the_row R)

@@ -169,7 +169,8 @@ TextsGoOn before now wrote result mid new failures newer =
 
 -- The stream of the header and of the texts that were taken, in the order in which they were, was
 -- written, up to the first write that failed. Before that nobody asked a thread to stop.
-pub record LinesSoFar {R : Type 0} (begun : List (Begun R)) (header : List ℕ) (tiles : List (RunningState R)) (wrote : Result (Unit {0}) Fault) (old new : Option (List ℕ)) (failures newer : ℕ) : Type 0 where
+pub record LinesSoFar {R : Type 0} (begun : List (Begun R)) (header : List ℕ) (tiles : List (RunningState R))
+    (wrote : Result (Unit {0}) Fault) (old new : Option (List ℕ)) (failures newer : ℕ) : Type 0 where
   pub same : begun_of tiles ≡ begun
   pub out : List (List ℕ)
   pub mixes : Interleaves (lines_taken tiles) out

@@ -6,13 +6,13 @@ use Rattle.tile_stream.specs.Tile.{TileLines, is_blank, is_newline, nothing_left
 use Rattle.tile_stream.specs.Unread.{GivesLine, Unread, Leaves, part_before}
 
 -- The next line, blank or not, stands whole in front, and has this length.
-pub record IsWhole {R : Type 0} (lines : Unread R) (count : ℕ) : Type 0 where
+pub record IsWholeLine {R : Type 0} (lines : Unread R) (count : ℕ) : Type 0 where
   pub going : lines.ended ≡ None
   pub part : IsPart lines.limits lines.start lines.ahead.held count
 
 -- It is the next of what may have been left before. Where no newline ends it, nothing was left behind it.
 pub record IsNext {R : Type 0} (gives : R → List ℕ → Bool → Type 0) (before now : Unread R) (count : ℕ) : Type 0 where
-  pub whole : IsWhole now count
+  pub whole : IsWholeLine now count
   pub back : (left : TileLines) → Leaves gives now left → Leaves gives before left
   pub last : count ≡ length now.ahead.held
       → Leaves gives before (part_before (part_of now.number now.start now.ahead.held) (nothing_left now.number))

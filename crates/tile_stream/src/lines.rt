@@ -6,7 +6,7 @@ ghost use Rattle.tile_stream.specs.Ahead.{MayCome};
 ghost use Rattle.tile_stream.specs.Parts.{HoldsNewline};
 ghost use Rattle.tile_stream.specs.Tile.{TileLines, only_fault, limits_of, stream_limits};
 ghost use Rattle.tile_stream.specs.Unread.{Unread, Leaves, IsOfTile, GivesPart, GivesLine, MayBeOver, StandsAt, IsRefused, IsLineFault, IsAgain, BeginsFrom, EndsFrom, is_refused, most_left, has_failed, failed_reads_between};
-ghost use Rattle.tile_stream.specs.Whole.{HoldsLine, IsNext, IsNextLine, IsWhole, TakesLine};
+ghost use Rattle.tile_stream.specs.Whole.{HoldsLine, IsNext, IsNextLine, IsWholeLine, TakesLine};
 
 mod parts;
 mod read_ahead;
@@ -212,7 +212,7 @@ impl<R: Source> Lines<R> {
     /// Leaves the line that stands whole in front, of this length, blank or not: its number. After one that no newline
     /// ends the tile is over.
     pub(crate) fn leave_line(&mut self, count: usize) -> u64
-        requires { IsWhole self.old count }
+        requires { IsWholeLine self.old count }
         ensures part { (before : Unread R) → IsNext R.gives before self.old count
             → GivesPart (Leaves R.gives before) (Leaves R.gives self.new) result
             (take count self.old.ahead.held) }

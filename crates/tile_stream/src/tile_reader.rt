@@ -22,8 +22,9 @@ use crate::tile_reader::held::{Held, texts_of};
 pub use crate::tile_reader::ready::ReadyTexts;
 use byte_streams::{Fault, Line, LineFault, Source};
 use city_cut::FeatureTexts;
-use city_feature::{Choice, feature_text};
+use city_feature::{Choice, feature_text_in};
 use city_grid::Shift;
+use city_json::Workspace;
 use std::alloc::Global;
 use std::marker::Model;
 use std::mem;
@@ -34,8 +35,8 @@ use std::mem;
 pub struct TileReader<R> {
     lines: Lines<R>,
     held: Held,
-    // a buffer that goes round
-    compact: Line,
+    // memory that goes round
+    workspace: Workspace,
 }
 
 /// What the next line of a tile came to: the text of its feature, or, where that is not chosen,
@@ -79,7 +80,7 @@ impl<R: Source> TileReader<R> {
                 line: 0,
                 texts: FeatureTexts::none(alloc),
             },
-            compact: Line::new(alloc),
+            workspace: Workspace::new(alloc, Line::new(alloc)),
         }
     }
 
@@ -224,9 +225,9 @@ impl<R: Source> TileReader<R> {
             Err(at) => return Err(at),
         };
         let bytes = self.lines.front(count);
-        let passed = passed_line(alloc, bytes, shift, choice, &mut self.compact, spare);
+        let passed = passed_line(alloc, bytes, shift, choice, &mut self.workspace, spare);
         let line = self.lines.leave_line(count);
-        self.compact.trim();
+        self.workspace.trim();
         match passed {
             Ok(passed) => return Ok(Some(passed)),
             Err(fault) => return Err(LineFault { line, fault }),
@@ -242,13 +243,13 @@ impl<R: Source> TileReader<R> {
     }
 }
 
-/// What the line of a feature comes to, moved by the shift. `compact` and `text` are buffers; what they held is lost.
+/// What the line of a feature comes to, moved by the shift. `text` is a buffer; what it held is lost.
 fn passed_line(
     alloc: Global,
     line: &[u8],
     shift: Shift,
     choice: &Choice,
-    compact: &mut Line,
+    workspace: &mut Workspace,
     mut text: Line,
 ) -> Result<Passed, Fault>
     ensures chosen { IfOk result (λ passed. passed.is_chosen ≡ true
@@ -257,7 +258,7 @@ fn passed_line(
         × GivesFeature (IsChosen choice.now) shift line.now None) }
     ensures refusal { IfErr result (λ fault. RefusesFeatureLine shift fault line.now) }
 {
-    let Some(place) = feature_text(alloc, line, shift, choice, compact, &mut text)? else {
+    let Some(place) = feature_text_in(alloc, line, shift, choice, workspace, &mut text)? else {
         text.truncate(0);
         return Ok(Passed {
             is_chosen: false,

@@ -14,8 +14,9 @@ use crate::features::on_text::object_text;
 use crate::features::reader::feature;
 use byte_streams::{Fault, Line};
 use city_grid::Shift;
-use city_json::{TextPlace, compact_object, print, read};
+use city_json::{TextPlace, Workspace, compact_object_in, print, read};
 use std::alloc::Global;
+use std::mem;
 
 /// Reads a line as a feature, and moves it by the shift.
 fn moved_feature(alloc: Global, bytes: &[u8], shift: Shift) -> Result<Feature, Fault>
@@ -69,8 +70,35 @@ pub fn feature_text(
         (option_map (λ place. placed_text place bytes.now text.new) given)) }
     ensures refusal { IfErr result (λ fault. RefusesFeatureLine shift fault bytes.now) }
 {
-    if let Some(object) = compact_object(alloc, bytes, compact) {
-        if let Some(given) = object_text(alloc, bytes, &object, shift, choice, compact, text) {
+    let mut workspace = Workspace::new(alloc, mem::replace(compact, Line::new(alloc)));
+    let given = feature_text_in(alloc, bytes, shift, choice, &mut workspace, text);
+    let Workspace { line, .. } = workspace;
+    *compact = line;
+    given
+}
+
+/// The same, where the first buffer is that of a workspace, which is taken for all its memory.
+///
+/// # Errors
+///
+/// Those of [`feature_line`].
+pub fn feature_text_in(
+    alloc: Global,
+    bytes: &[u8],
+    shift: Shift,
+    choice: &Choice,
+    workspace: &mut Workspace,
+    text: &mut Line,
+) -> Result<Option<TextPlace>, Fault>
+    ensures ok { IfOk result (λ given. GivesFeature (IsChosen choice.now) shift bytes.now
+        (option_map (λ place. placed_text place bytes.now text.new) given)) }
+    ensures refusal { IfErr result (λ fault. RefusesFeatureLine shift fault bytes.now) }
+{
+    if let Some(object) = compact_object_in(alloc, bytes, workspace) {
+        let compact = &mut workspace.line;
+        let given = object_text(alloc, bytes, &object, shift, choice, compact, text);
+        workspace.take_back(object.parts);
+        if let Some(given) = given {
             return Ok(given);
         }
     }

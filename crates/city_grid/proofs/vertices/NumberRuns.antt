@@ -10,7 +10,7 @@ use lib.Count.{count_trailing_zeros}
 use lib.Lanes.{mask_l, top, zip2}
 use Rattle.std.specs.List.{AllByRecursion}
 use Rattle.city_json.proofs.WholeArrays.{marks_behind}
-use Rattle.city_grid.specs.NumberEnds.{AreEnds, ends_number, number_len}
+use Rattle.city_grid.specs.NumberEnds.{AreTripleEnds, ends_number, number_len}
 
 -- ---- the bits of up to 64 bytes
 abbrev where_same : ℕ → ℕ → ℕ
@@ -128,7 +128,7 @@ Finds stops len after = (bytes : List ℕ) → length bytes ≤ 64 → stops ≡
     → (len ≡ number_len bytes) × (len < length bytes) × (after ≡ mask_l (map ends_number (drop (len + 1) bytes)))
 
 pub record AreNear (text : List ℕ) (at count x y z : ℕ) : Type 0 where
-  pub ends : AreEnds text at (at + 1 + x) (at + 1 + x + 1 + y) (at + 1 + x + 1 + y + 1 + z)
+  pub ends : AreTripleEnds text at (at + 1 + x) (at + 1 + x + 1 + y) (at + 1 + x + 1 + y + 1 + z)
   pub few : at + 1 + x + 1 + y + 1 + z < at + count
 
 -- a run in a window, and the window after it

@@ -9,7 +9,7 @@ ghost use Rattle.city_json.specs.Compact.{compact};
 ghost use Rattle.city_json.specs.Tree.{Tree};
 ghost use Rattle.city_json.specs.Triples.{IsShortNumeral, IsTriple};
 ghost use Rattle.city_grid.specs.Axes.{IsInRange, triple};
-ghost use Rattle.city_grid.specs.NumberEnds.{AreEnds, ends_number, number_len};
+ghost use Rattle.city_grid.specs.NumberEnds.{AreTripleEnds, ends_number, number_len};
 ghost use Rattle.city_grid.specs.Vertex.{vertex_tree};
 
 use crate::vertices::Vertex;
@@ -87,7 +87,7 @@ fn ends_by(text: &[u8], at: usize, stops: u64) -> Option<NumberEnds>
     requires { at < length text.now }
     ensures { IfSome result (λ ends. (count : ℕ) → count ≤ 64 → at + count ≤ length text.now
         → stops ≡ mask_l (map ends_number (take count (drop at text.now)))
-        → AreEnds text.now at ends.first ends.second ends.third × (ends.third < at + count)) }
+        → AreTripleEnds text.now at ends.first ends.second ends.third × (ends.third < at + count)) }
 {
     let x = first_run(stops >> 1)?;
     let y = first_run(x.after)?;
@@ -119,7 +119,7 @@ fn number_end(text: &[u8], at: usize) -> Option<usize>
 /// Where the three numbers end of the array whose opening bracket is at `at`, wherever that is, number by number.
 fn ends_by_numbers(text: &[u8], at: usize) -> Option<NumberEnds>
     requires { at < length text.now }
-    ensures are { IfSome result (λ ends. AreEnds text.now at ends.first ends.second ends.third) }
+    ensures are { IfSome result (λ ends. AreTripleEnds text.now at ends.first ends.second ends.third) }
     ensures within { IfSome result (λ ends. ends.third < length text.now) }
 {
     let first = number_end(text, at + 1)?;
@@ -136,7 +136,7 @@ fn ends_by_numbers(text: &[u8], at: usize) -> Option<NumberEnds>
 #[inline(never)]
 fn far_ends(text: &[u8], at: usize) -> Option<NumberEnds>
     requires { at < length text.now }
-    ensures are { IfSome result (λ ends. AreEnds text.now at ends.first ends.second ends.third) }
+    ensures are { IfSome result (λ ends. AreTripleEnds text.now at ends.first ends.second ends.third) }
     ensures within { IfSome result (λ ends. ends.third < length text.now) }
 {
     if text.len() - at >= WIDE_WINDOW {
@@ -152,7 +152,7 @@ fn far_ends(text: &[u8], at: usize) -> Option<NumberEnds>
 #[inline(always)]
 fn ends_at(text: &[u8], at: usize) -> Option<NumberEnds>
     requires { at < length text.now }
-    ensures are { IfSome result (λ ends. AreEnds text.now at ends.first ends.second ends.third) }
+    ensures are { IfSome result (λ ends. AreTripleEnds text.now at ends.first ends.second ends.third) }
     ensures within { IfSome result (λ ends. ends.third < length text.now) }
 {
     if text.len() - at >= WINDOW {

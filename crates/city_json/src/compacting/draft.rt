@@ -21,11 +21,11 @@ pub(super) struct Draft {
     pub(super) names: Names,
 }
 
-/// A draft of a text of this length, with nothing written.
-pub(super) fn new_draft(alloc: Global, text_len: usize, line: Line) -> Draft
+/// A draft with nothing written, and these names.
+pub(super) fn new_draft(alloc: Global, line: Line, names: Names) -> Draft
     ensures line { result.line ≡ [] }
     ensures from { result.from ≡ 0 }
-    ensures names { result.names ≡ [] }
+    ensures names { result.names ≡ names }
 {
     let mut line = line;
     line.truncate(0);
@@ -33,7 +33,7 @@ pub(super) fn new_draft(alloc: Global, text_len: usize, line: Line) -> Draft
         alloc,
         line,
         from: 0,
-        names: Names::new(alloc, text_len),
+        names,
     }
 }
 

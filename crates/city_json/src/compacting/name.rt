@@ -4,7 +4,7 @@ ghost use Rattle.city_json.specs.MemberName.{name_bytes, IsWithin};
 
 /// The place of a name, in bytes: in the text, where it ends before the text does; else among the names that are held,
 /// whose places go on from the text's end.
-#[derive(Clone, Copy)]
+#[derive(Clone, Copy, Debug)]
 pub(super) struct Name {
     pub(super) from: u32,
     pub(super) end: u32,

@@ -74,20 +74,28 @@ impl Names {
     pub(super) fn new(alloc: Global, text_len: usize) -> Names
         ensures { result ≡ [] }
     {
+        Names::in_memory(text_len, Vec::new(alloc), Vec::new(alloc))
+    }
+
+    /// The same, in memory that was used for others, which are left out. Room for most texts is asked for once.
+    pub(super) fn in_memory(text_len: usize, listed: Vec<Name>, held: Vec<u8>) -> Names
+        ensures { result ≡ [] }
+    {
         let text_len = text_len.min(u32::MAX as usize);
-        let held = Vec::new(alloc);
-        match Vec::with_capacity(alloc, COMMON_NAMES) {
-            Ok(listed) => Names {
-                text_len,
-                listed,
-                held,
-            },
-            Err(_) => Names {
-                text_len,
-                listed: Vec::new(alloc),
-                held,
-            },
+        let (mut listed, mut held) = (listed, held);
+        listed.truncate(0);
+        held.truncate(0);
+        let _ = listed.reserve(COMMON_NAMES);
+        Names {
+            text_len,
+            listed,
+            held,
         }
+    }
+
+    /// The memory of the names.
+    pub(super) fn into_memory(self) -> (Vec<Name>, Vec<u8>) {
+        (self.listed, self.held)
     }
 
     #[inline(always)]

@@ -11,9 +11,10 @@ ghost use Rattle.city_json.specs.TextPlace.{placed_text};
 ghost use Rattle.city_json.specs.Tree.{MemberTrees, object};
 ghost use Rattle.city_json.specs.Triples.{HasTriples};
 
-use super::draft::{Draft, copy_to, new_draft, skip_white, white_end};
+use super::draft::{Draft, copy_to, skip_white, white_end};
 use super::parts::members;
-use super::places::{MemberPlace, Span, no_parts};
+use super::places::{MemberPlace, Span};
+use super::workspace::Workspace;
 use byte_streams::Line;
 use byte_streams::limits::MAX_DEPTH;
 use std::alloc::{AllocError, Global};
@@ -99,14 +100,36 @@ pub fn compact_object(alloc: Global, text: &[u8], buffer: &mut Line) -> Option<C
         HasTriples (placed_text found.place text.now buffer.new) found.triples) }
 {
     let line = mem::replace(buffer, Line::new(alloc));
-    let mut draft = new_draft(alloc, text.len(), line);
+    let mut workspace = Workspace::new(alloc, line);
+    let object = compact_object_in(alloc, text, &mut workspace)?;
+    let Workspace { line, .. } = workspace;
+    *buffer = line;
+    Some(object)
+}
+
+/// The same, where the buffer is that of a workspace, which is taken for all its memory. The parts are in it, too, until
+/// [`Workspace::take_back`] takes them back.
+pub fn compact_object_in(
+    alloc: Global,
+    text: &[u8],
+    workspace: &mut Workspace,
+) -> Option<CompactObject>
+    ensures object { IfSome result (λ found. (members : MemberTrees)
+        × Spells text.now (object members) × Fits (object members) × (¬ IsDeep text.now)
+        × (placed_text found.place text.now workspace.new.line ≡ compact (object members))
+        × AreParts 1 found.parts.items members) }
+    ensures triples { IfSome result (λ found.
+        HasTriples (placed_text found.place text.now workspace.new.line) found.triples) }
+{
+    let mut draft = workspace.draft(alloc, text.len());
+    let parts = workspace.no_parts(alloc)?;
     let WholeObject {
         end,
         parts,
         triples,
-    } = pass(text, &mut draft)?;
+    } = pass(text, parts, &mut draft)?;
     let place = place_of(text, end, &mut draft)?;
-    *buffer = draft.line;
+    workspace.keep(draft);
     Some(CompactObject {
         place,
         parts,
@@ -137,8 +160,9 @@ struct WholeObject {
     triples: Span,
 }
 
-/// Goes over a whole text, of which nothing was written yet.
-fn pass(text: &[u8], draft: &mut Draft) -> Option<WholeObject>
+/// Goes over a whole text, of which nothing was written yet. The places of its members come after `parts`.
+fn pass(text: &[u8], parts: Vec<MemberPlace>, draft: &mut Draft) -> Option<WholeObject>
+    requires no_parts { parts.items ≡ [] }
     requires line { draft.old.line ≡ [] }
     requires from { draft.old.from ≡ 0 }
     requires names { names_in text.now draft.old.names ≡ [] }
@@ -154,7 +178,7 @@ fn pass(text: &[u8], draft: &mut Draft) -> Option<WholeObject>
     if !simdutf8::is_utf8(text) {
         return None;
     }
-    let mut parts = no_parts(draft.alloc)?;
+    let mut parts = parts;
     let mut triples = Span { from: 0, end: 0 };
     let at = skip_white(text, 0, draft)?;
     if at == text.len() || text[at] != b'{' {

@@ -5,7 +5,7 @@ ghost use Rattle.city_json.specs.Parts.{IsPartNamed};
 use std::alloc::Global;
 
 /// Most objects, and most features, have no more members.
-const COMMON_PARTS: usize = 8;
+pub(super) const COMMON_PARTS: usize = 8;
 
 /// Where a member lies in the compact text of an object, in bytes from its beginning: its name from `at` on, a colon
 /// before `value`, its value from there up to `end`.

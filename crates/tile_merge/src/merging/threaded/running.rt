@@ -72,6 +72,43 @@ impl<R: Source> Model for RunningTile<R> {
         × (tile.thread.promise.tile.value.begun.count ≡ length tile.first) };
 }
 
+/// A new ring, and what ties the thread at its one end to the caller at the other.
+#[derive(Drop)]
+struct Sides {
+    sender: Sender,
+    links: Links,
+    receiver: Receiver,
+    canceller: Canceller,
+    emptied: SpacedBell,
+}
+
+/// A ring for so many notes. The bell `filled` is to be rung at each.
+fn sides_of(alloc: Global, capacity: u32, filled: &Bell) -> Result<Sides, Fault>
+    requires { (0 < capacity) × (capacity ≤ MAX_CAPACITY) }
+    ensures pair { IfOk result (λ sides. ArePair sides.sender sides.receiver) }
+    ensures unused { IfOk result (λ sides. (notes_put sides.sender ≡ []) × (notes_taken sides.receiver ≡ [])) }
+    ensures word { IfOk result (λ sides. IsPair sides.canceller.producer sides.links.cancellation.consumer) }
+    ensures unasked { IfOk result (λ sides. (sent sides.canceller.producer ≡ [])
+        × (received sides.links.cancellation.consumer ≡ [])) }
+    ensures memory { IfErr result (λ fault. fault ≡ Fault.Memory) }
+{
+    let emptied = Bell::new(alloc)?;
+    let (canceller, cancellation) = cancel_ends(alloc)?;
+    let links = Links {
+        filled: filled.again()?,
+        emptied: emptied.again()?,
+        cancellation,
+    };
+    let (sender, receiver) = ends(alloc, capacity)?;
+    Ok(Sides {
+        sender,
+        links,
+        receiver,
+        canceller,
+        emptied: SpacedBell::new(emptied, capacity),
+    })
+}
+
 /// Starts a thread that puts the texts of the tile into a new ring, those of its first line excepted, which are kept, and
 /// rings the bell `filled` at each.
 ///
@@ -97,19 +134,18 @@ where
     ensures refused { IfErr result (λ fault.
         (fault ≡ Fault.Memory) ⊎ (fault ≡ Fault.NoThread)) }
 {
-    let emptied = Bell::new(alloc)?;
-    let (canceller, cancellation) = cancel_ends(alloc)?;
-    let links = Links {
-        filled: filled.again()?,
-        emptied: emptied.again()?,
-        cancellation,
-    };
-    let (sender, receiver) = ends(alloc, capacity)?;
+    let Sides {
+        sender,
+        links,
+        receiver,
+        canceller,
+        emptied,
+    } = sides_of(alloc, capacity, filled)?;
     let caller = CallerSide {
         first,
         receiver,
         canceller,
-        emptied: SpacedBell::new(emptied, capacity),
+        emptied,
     };
     start_with(rt, alloc, tile, sender, links, caller)
 }

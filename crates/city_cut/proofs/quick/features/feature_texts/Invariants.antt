@@ -1,5 +1,6 @@
 use Rattle.std.proofs.Common.{◌≡◌, ◌++◌, ◌+◌, map, ℕ, List, Option, length, take}
 use Rattle.std.specs.List.{AllZip}
+use Rattle.city_json.specs.OpenNames.{AreEnds}
 use Rattle.city_json.specs.Parts.{AreParts}
 use Rattle.city_json.specs.Tree.{Tree, member_trees, object}
 use Rattle.city_feature.specs.Feature.{FeatureValue}
@@ -7,7 +8,7 @@ use Rattle.city_cut.specs.CityObjects.{roots}
 use Rattle.city_cut.specs.Cut.{IsFeatureOf}
 use Rattle.city_cut.specs.Families.{AreRelated, IsMarkedSoFar}
 use Rattle.city_cut.specs.FeatureText.{tail_text}
-use Rattle.city_cut.specs.HeldTexts.{AreEnds, pieces}
+use Rattle.city_cut.specs.HeldTexts.{pieces}
 use Rattle.city_cut.specs.Lines.{texts_of}
 use Rattle.city_feature.specs.Texts.{IsCompactOf}
 use Rattle.city_cut.specs.VertexTexts.{StandAt}
