@@ -482,8 +482,9 @@ if (ulimit -s 1000000) 2>/dev/null; then
     (
         printf '%s\n' "$header"
         sleep 1
-        printf '%s\n' "$one"
+        # before the line at which the thread may end, so that the merge does not end between the two
         : >"$room/last"
+        printf '%s\n' "$one"
     ) >"$room/slow"
     wait $!
     expect 'the thread that runs is waited for' '1|waited|citymerge: tile 2: a thread could not be started' "$(cat "$room/status")|$(cat "$room/errors")"
