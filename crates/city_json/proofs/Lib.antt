@@ -58,3 +58,4 @@ pub mod WholeArrays
 pub mod WholeBytes
 pub mod WholeMasks
 pub mod WrittenLetters
+pub mod WrittenRoom

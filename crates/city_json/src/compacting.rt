@@ -27,6 +27,7 @@ mod triples;
 mod values;
 mod whole_arrays;
 mod workspace;
+mod written;
 
 use byte_streams::Line;
 use byte_streams::limits::MAX_DEPTH;
@@ -62,5 +63,5 @@ pub fn compact(alloc: Global, text: &[u8], line: Line) -> Option<Line>
         return None;
     }
     copy_to(text, last, last, &mut draft)?;
-    Some(draft.line)
+    Some(draft.line.into_line())
 }

@@ -154,7 +154,7 @@ fn put_run<'a>(line: &mut Line, text: &'a [u8]) -> Result<&'a [u8], AllocError>
     if run == text.len() {
         return Ok(&text[run..]);
     }
-    put_escape(line, text[run])?;
+    line.append(escape_bytes(text[run], &mut [0; 6]))?;
     Ok(&text[run + 1..])
 }
 
@@ -168,31 +168,37 @@ fn run_length(text: &[u8]) -> usize
     plain_len(text)
 }
 
-/// Appends what is written for a character of a text.
+/// What is written for a character of a text, in `room` where it does not stand elsewhere.
 #[inline(always)]
-pub(crate) fn put_character(line: &mut Line, character: char) -> Result<(), AllocError>
-    ensures { OnOk result (line.new ≡ line.old ++ flat_map written (encode_utf8 character)) }
+pub(crate) fn character_bytes<'a>(character: char, room: &'a mut [u8; 6]) -> &'a [u8]
+    ensures { result.now ≡ flat_map written (encode_utf8 character) }
 {
     if character.is_ascii() {
-        return put_escape(line, character as u8);
+        return escape_bytes(character as u8, room);
     }
-    line.append(character.encode_utf8(&mut [0; 4]).as_bytes())
+    character.encode_utf8(room).as_bytes()
 }
 
-fn put_escape(line: &mut Line, byte: u8) -> Result<(), AllocError>
-    ensures ok { OnOk result (line.new ≡ line.old ++ written byte) }
-    ensures front { take (length line.old) line.new ≡ line.old }
+/// What is written for a byte of a text, in `room` where it does not stand elsewhere.
+fn escape_bytes<'a>(byte: u8, room: &'a mut [u8; 6]) -> &'a [u8]
+    ensures { result.now ≡ written byte }
 {
     match byte {
-        b'"' => line.append(b"\\\""),
-        b'\\' => line.append(b"\\\\"),
-        b'\x08' => line.append(b"\\b"),
-        b'\x0c' => line.append(b"\\f"),
-        b'\n' => line.append(b"\\n"),
-        b'\r' => line.append(b"\\r"),
-        b'\t' => line.append(b"\\t"),
-        ..=b'\x1f' => line.append(&[b'\\', b'u', b'0', b'0', digit(byte / 16), digit(byte % 16)]),
-        _ => line.append(&[byte]),
+        b'"' => b"\\\"",
+        b'\\' => b"\\\\",
+        b'\x08' => b"\\b",
+        b'\x0c' => b"\\f",
+        b'\n' => b"\\n",
+        b'\r' => b"\\r",
+        b'\t' => b"\\t",
+        ..=b'\x1f' => {
+            *room = [b'\\', b'u', b'0', b'0', digit(byte / 16), digit(byte % 16)];
+            room
+        }
+        _ => {
+            *room = [byte, 0, 0, 0, 0, 0];
+            &room[..1]
+        }
     }
 }
 

@@ -286,6 +286,54 @@ fn memory_of_a_large_text_changes_nothing(rt: HostRuntime) -> Result<(), AllocEr
     Ok(())
 }
 
+/// Pieces of an array with white space in them, and without it. Between two of these stand so few bytes that they are
+/// copied by one move, just as many as that, or more; or an escape stands there.
+const PIECES: [(&[u8], &[u8]); 7] = [
+    (b", 1", b",1"),
+    (b",\t12345678901234", b",12345678901234"),
+    (b", 123456789012345", b",123456789012345"),
+    (b", 1234567890123456", b",1234567890123456"),
+    (
+        b" ,\"of more than sixteen bytes\"",
+        b",\"of more than sixteen bytes\"",
+    ),
+    (
+        b",\"\\/\\u0001\\u00e9\\ud83c\\udfe0\"",
+        b",\"/\\u0001\xc3\xa9\xf0\x9f\x8f\xa0\"",
+    ),
+    (b",{\"\\u0061\": \"\\u0062\"}", b",{\"a\":\"b\"}"),
+];
+
+/// Whether the compact text of an object that holds so many of a piece is written in memory that was used for others.
+fn is_written_in(
+    alloc: Global,
+    piece: &'static [u8],
+    compact: &'static [u8],
+    count: usize,
+    workspace: &mut Workspace,
+) -> Result<bool, AllocError> {
+    let text = text_of(alloc, &[(b"{\"n\":[ 0", 1), (piece, count), (b"]}", 1)])?;
+    let compact = text_of(alloc, &[(b"{\"n\":[0", 1), (compact, count), (b"]}", 1)])?;
+    let Some(object) = compact_object_in(alloc, &text, workspace) else {
+        return Ok(false);
+    };
+    let is_so = object.place == TextPlace::Written && workspace.line.items() == compact.as_slice();
+    workspace.take_back(object.parts);
+    Ok(is_so)
+}
+
+#[test]
+fn a_text_is_written_over_longer_and_shorter_ones(rt: HostRuntime) -> Result<(), AllocError> {
+    let mut workspace = Workspace::new(rt.alloc(), Line::new(rt.alloc()));
+    for count in [0usize, 3, 300, 1, 70, 64, 2_000, 0, 299, 5] {
+        for (piece, compact) in PIECES.iter() {
+            let is_so = is_written_in(rt.alloc(), piece, compact, count, &mut workspace)?;
+            expect_at(&rt, is_so, count, piece);
+        }
+    }
+    Ok(())
+}
+
 #[test]
 fn large_texts_are_lent_or_written(rt: HostRuntime) {
     for count in [1usize, 1_000, 300_000] {

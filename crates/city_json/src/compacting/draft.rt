@@ -5,18 +5,16 @@ ghost use Rattle.city_json.specs.ListedNames.{names_in};
 ghost use Rattle.city_json.specs.Reading.{after_white};
 
 use super::names::Names;
+use super::written::{SHORT, Written};
 use byte_streams::Line;
 use std::alloc::Global;
-
-/// At most so many bytes are few, and are copied by one move of as many.
-const SHORT: usize = 16;
 
 /// What is written so far: the line, and after it the text from `from` on, which is still to be copied. Beside it
 /// the names of the objects that are open, those of an inner one last.
 #[derive(Drop)]
 pub(super) struct Draft {
     pub(super) alloc: Global,
-    pub(super) line: Line,
+    pub(super) line: Written,
     pub(super) from: usize,
     pub(super) names: Names,
 }
@@ -27,11 +25,9 @@ pub(super) fn new_draft(alloc: Global, line: Line, names: Names) -> Draft
     ensures from { result.from ≡ 0 }
     ensures names { result.names ≡ names }
 {
-    let mut line = line;
-    line.truncate(0);
     Draft {
         alloc,
-        line,
+        line: Written::in_memory(line),
         from: 0,
         names,
     }
@@ -49,12 +45,9 @@ pub(super) fn copy_to(text: &[u8], at: usize, next: usize, draft: &mut Draft) ->
     ensures names { OnSome result (names_in text.now draft.new.names ≡ names_in text.now draft.old.names) }
 {
     let from = draft.from;
-    if at - from <= SHORT {
-        if text.len() - from >= SHORT {
-            append_short(text, from, at, &mut draft.line)?;
-            draft.from = next;
-            return Some(());
-        }
+    if at - from <= SHORT && text.len() - from >= SHORT && draft.line.append_short(text, from, at) {
+        draft.from = next;
+        return Some(());
     }
     copy_long(text, at, next, draft)
 }
@@ -70,29 +63,8 @@ fn copy_long(text: &[u8], at: usize, next: usize, draft: &mut Draft) -> Option<(
     ensures from { OnSome result (draft.new.from ≡ next) }
     ensures names { OnSome result (names_in text.now draft.new.names ≡ names_in text.now draft.old.names) }
 {
-    if draft.line.append(&text[draft.from..at]).is_err() {
-        return None;
-    }
+    draft.line.append(&text[draft.from..at])?;
     draft.from = next;
-    Some(())
-}
-
-/// Appends a few bytes: [`SHORT`] bytes are copied, and those after `at` left out again.
-#[inline(always)]
-fn append_short(text: &[u8], from: usize, at: usize, line: &mut Line) -> Option<()>
-    requires order { from ≤ at }
-    requires few { at ≤ from + 16 }
-    requires within { from + 16 ≤ length text.now }
-    ensures { OnSome result (line.new ≡ shown line.old text.now from at) }
-{
-    let written = line.items().len();
-    let Some(len) = written.checked_add(at - from) else {
-        return None;
-    };
-    let Ok(_) = line.append(&text[from..from + SHORT]) else {
-        return None;
-    };
-    line.truncate(len);
     Some(())
 }
 
@@ -207,5 +179,5 @@ pub(super) fn written_len(text: &[u8], at: usize, draft: &Draft) -> Option<usize
     requires within { at ≤ length text.now }
     ensures { IfSome result (λ n. n ≡ length (shown draft.now.line text.now draft.now.from at)) }
 {
-    draft.line.items().len().checked_add(at - draft.from)
+    draft.line.len().checked_add(at - draft.from)
 }

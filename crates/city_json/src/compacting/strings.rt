@@ -11,7 +11,7 @@ ghost use Rattle.city_json.specs.WrittenLetters.{is_letter_written};
 use super::draft::{Draft, copy_to, skip};
 use super::names::Names;
 use super::scalars::plain_string;
-use crate::printing::put_character;
+use crate::printing::character_bytes;
 use crate::reading::plain::plain_len;
 use crate::reading::strings::{decode_into, escape};
 use std::alloc::Global;
@@ -113,9 +113,7 @@ fn rewritten_escape(text: &[u8], at: usize, draft: &mut Draft) -> Option<usize>
     let (character, rest) = escape(&text[at + 1..])?;
     let end = text.len() - rest.len();
     copy_to(text, at, end, draft)?;
-    let Ok(()) = put_character(&mut draft.line, character) else {
-        return None;
-    };
+    draft.line.append(character_bytes(character, &mut [0; 6]))?;
     Some(end)
 }
 

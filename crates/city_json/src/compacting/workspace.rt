@@ -72,7 +72,7 @@ impl Workspace {
     {
         let Draft { line, names, .. } = draft;
         let (listed, held) = names.into_memory();
-        self.line = line;
+        self.line = line.into_line();
         self.listed = listed;
         self.held = held;
     }

@@ -8,4 +8,4 @@ returns c = text_taken c.args.text.now _ c.in_ok-at.at c.in_ok-end.end c.in_ok-l
     (c.if-not-is_utf8.ensures.0 refl)
     (nothing_shown c.new_draft-draft.result.line c.args.text.now c.new_draft-draft.result.from c.new_draft-draft.ensures.line
     c.new_draft-draft.ensures.from) c.in_ok-at.ensures.is_shown c.in_ok-at.ensures.skipped c.in_ok-end.ensures.taken
-    c.in_ok-last.ensures.skipped (omega arith) (c.in_ok-copy_to.ensures.line ∙ c.in_ok-last.ensures.is_shown)
+    c.in_ok-last.ensures.skipped (omega arith) (c.into_line.ensures ∙ (c.in_ok-copy_to.ensures.line ∙ c.in_ok-last.ensures.is_shown))

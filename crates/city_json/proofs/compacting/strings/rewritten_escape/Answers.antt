@@ -1,4 +1,4 @@
-use Rattle.std.proofs.Common.{arith, sym}
+use Rattle.std.proofs.Common.{◌∙◌, ◌++◌, ap, arith, sym}
 use Rattle.city_json.proofs.PassEscapes.{escape_end, escape_taken}
 use Rattle.city_json.proofs.compacting.strings.rewritten_escape.Goals as goal
 
@@ -22,5 +22,6 @@ returns-clause-taken c =
     let rest = c.in_ok-character.rest.now in
     let read = sym c.in_ok-character.ensures in
     let end = escape_end text rest c.args.at c.in_ok-character.character c.requires.within read in
-    escape_taken text rest c.copy_to.new.draft.line _ c.put_character.new.line c.args.at c.copy_to.new.draft.from
-    c.in_ok-character.character read end c.in_ok-copy_to.ensures.from c.in_ok-copy_to.ensures.line c.in-Ok.ensures
+    escape_taken text rest c.copy_to.new.draft.line _ c.append.new.self c.args.at c.copy_to.new.draft.from
+    c.in_ok-character.character read end c.in_ok-copy_to.ensures.from c.in_ok-copy_to.ensures.line
+    (c.in_ok-append.ensures ∙ ap (λ l. c.copy_to.new.draft.line ++ l) c.character_bytes.ensures)
