@@ -4,7 +4,7 @@
 //! It decides only lines in the common spellings that have no fault.
 ghost use Rattle.std.specs.Prelude.{◌≡◌, ◌≤◌, ◌↔◌, ℕ, List, All, slice_range, option_map, IfSome, IsTrue, OnSome};
 ghost use Rattle.city_json.specs.Compact.{compact};
-ghost use Rattle.city_json.specs.Parts.{with_value};
+ghost use Rattle.city_json.specs.Parts.{IsPartNamed, with_value};
 ghost use Rattle.city_json.specs.TextPlace.{placed_text};
 ghost use Rattle.city_json.specs.Tree.{Tree, MemberTrees, object};
 ghost use Rattle.city_json.specs.Triples.{HasTriples};
@@ -41,24 +41,38 @@ enum Vertices {
     Move(MemberPlace, Vec<Vertex>),
 }
 
+/// The part of this name. Most writers put the members of a feature in one order, by which it is the part at this place.
+#[inline(always)]
+fn usual_part(line: &[u8], parts: &[MemberPlace], place: usize, name: &[u8]) -> Option<MemberPlace>
+    ensures { IfSome result (λ part. IsPartNamed line.now parts.now name.now part) }
+{
+    if place < parts.len() {
+        let part = parts[place];
+        if is_between(line, part.at, part.value, name) {
+            return Some(part);
+        }
+    }
+    part_named(line, parts, name)
+}
+
 /// Whether the line has the type of a feature, an identifier and city objects.
 fn has_other_members(line: &[u8], parts: &[MemberPlace]) -> bool
     ensures { IsTrue result → (members : MemberTrees) → IsLine line.now parts.now members
         → HasOtherMembers (object members) }
 {
-    let Some(kind) = part_named(line, parts, b"\"type\":") else {
+    let Some(kind) = usual_part(line, parts, 0, b"\"type\":") else {
         return false;
     };
     if !is_between(line, kind.value, kind.end, b"\"CityJSONFeature\"") {
         return false;
     }
-    let Some(id) = part_named(line, parts, b"\"id\":") else {
+    let Some(id) = usual_part(line, parts, 1, b"\"id\":") else {
         return false;
     };
     if !byte_is(line, id.value, b'"') {
         return false;
     }
-    let Some(objects) = part_named(line, parts, b"\"CityObjects\":") else {
+    let Some(objects) = usual_part(line, parts, 2, b"\"CityObjects\":") else {
         return false;
     };
     byte_is(line, objects.value, b'{')
@@ -125,7 +139,7 @@ fn line_vertices(
     if !has_other_members(line, parts) {
         return None;
     }
-    let part = part_named(line, parts, b"\"vertices\":")?;
+    let part = usual_part(line, parts, 3, b"\"vertices\":")?;
     let stay = is_still(shift);
     if stay {
         if let Some(meets) = unread_vertices_meet(area, line, triples, part) {
