@@ -1,6 +1,6 @@
 -- The compact text of a string: each character is written by a piece that stands for it, in UTF-8 and with no byte
 -- below a space.
-use Rattle.std.proofs.Common.{cond, nat_lt, ap, add_comm, take, drop, add-one, ◌≡◌, ◌≢◌, inl, inr, ℕ, suc, ◌+◌, ◌*◌, ◌/◌, ◌%◌, ◌<◌, ◌≤◌, ◌&&◌, Bool, true, false, List, [], ◌∷◌, ◌++◌, Some, length, get_or, IsUtf8, refl, sym, subst, arith, ◌∙◌}
+use Rattle.std.proofs.Common.{cond, nat_lt, ap, add_comm, take, drop, add-one, ◌≡◌, ◌≢◌, inl, inr, ℕ, suc, ◌+◌, ◌*◌, ◌/◌, ◌%◌, ◌<◌, ◌≤◌, ◌&&◌, Bool, true, false, List, [], ◌∷◌, ◌++◌, Some, length, get_or, IsUtf8, refl, sym, subst, arith}
 use Rattle.std.specs.Char.{IsScalar, digit_char}
 use Rattle.std.specs.List.{flat_map, prefix_len, AllByRecursion}
 use Rattle.std.specs.Prelude.{encode_utf8_all}
@@ -9,8 +9,7 @@ use Rattle.std.proofs.Math.Utf8.{low_scalar, scalar, scalars}
 use Rattle.std.proofs.lemmas.Bool.{cases_eq, cases_lt}
 use Rattle.std.proofs.lemmas.Bool.Decides.{nat_tests}
 use Rattle.std.proofs.lemmas.Grind.{flat_map-append}
-use Rattle.std.proofs.Math.Seq.{take-append_seam}
-use Rattle.std.proofs.lemmas.List.{append-nil, length-append, take-take}
+use Rattle.std.proofs.lemmas.List.{append-nil}
 use Rattle.std.proofs.lemmas.Str.{IsUtf8-append, IsUtf8-encode, IsUtf8-nil, digit_value-digit_char, encode_ascii, inside_one}
 use Rattle.city_json.specs.Bytes.{quotation_mark, backslash, backspace, form_feed, newline, carriage_return, tab, space, small_b, small_f, small_n, small_r, small_t, small_u, digit_zero}
 use Rattle.city_json.specs.Compact.{written, quoted}
@@ -163,14 +162,6 @@ pub written_run : (b : List ℕ)
     → take (prefix_len is_plain b) b ++ flat_map written (drop (prefix_len is_plain b) b) ≡ flat_map written b
 written_run [] = refl
 written_run (c ∷ b) = run-step c b (is_plain c) refl (written_run b)
-
--- what is in front of a text that stands in front of a line is in front of that line
-pub front_stays : (front more next line : List ℕ) → next ≡ front ++ more → take (length next) line ≡ next
-    → take (length front) line ≡ front
-front_stays front more next line longer stays =
-    let count : length next ≡ length front + length more = ap length longer ∙ length-append front more in
-    sym (take-take (length front) (length next) line (omega (arith, count)))
-    ∙ (ap (take (length front)) (stays ∙ longer) ∙ take-append_seam front more)
 
 -- a character of several bytes is written as itself
 

@@ -14,8 +14,7 @@ use crate::reading::names::are_apart_when_sorted;
 use std::alloc::Global;
 use std::marker::Model;
 
-/// Most features have no more names in objects that are open at once. They take 320 bytes, which are asked for once a
-/// text.
+/// Most features have no more names in objects that are open at once. They take 320 bytes, which are asked for at once.
 const COMMON_NAMES: usize = 40;
 
 /// The most names that are compared with one another at once. Names of attributes often begin alike and are as long as
