@@ -8,6 +8,6 @@ build)
     echo "Proving and building citymerge, from nothing some 30 minutes on four processors; $here, and $kept crates keep proofs."
     ;;
 gate)
-    echo "The gate, some 80 minutes (reckoned) on four processors; $here. Where the kit keeps what an earlier run proved, it says so below."
+    echo "The gate, some two hours (reckoned) on four processors; $here. Where the kit keeps what an earlier run proved, it says so below."
     ;;
 esac
