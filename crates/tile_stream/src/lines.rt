@@ -209,18 +209,6 @@ impl<R: Source> Lines<R> {
         &self.ahead.held()[..count]
     }
 
-    /// The same, and the byte after them where one was read.
-    pub(crate) fn front_and_next(&self, count: usize) -> &[u8]
-        requires { count ≤ length self.now.ahead.held }
-        ensures { result.now ≡ take (count + 1) self.now.ahead.held }
-    {
-        let held = self.ahead.held();
-        if count == held.len() {
-            return held;
-        }
-        &held[..count + 1]
-    }
-
     /// Leaves the line that stands whole in front, of this length, blank or not: its number. After one that no newline
     /// ends the tile is over.
     pub(crate) fn leave_line(&mut self, count: usize) -> u64

@@ -1,66 +1,22 @@
 //! The next line of a tile, passed on to an output.
-ghost use Rattle.std.specs.Prelude.{◌≡◌, ◌≤◌, ◌<◌, ℕ, List, false, [], None, length, take, option_map, IfOk, IfErr, IfSome, IfNone, OnOk, OnErr};
-ghost use Rattle.std.specs.Io.KnownBytes.{Appends};
+ghost use Rattle.std.specs.Prelude.{◌≡◌, ◌≤◌, ◌<◌, false, [], None, option_map, IfOk, IfErr, IfSome, IfNone, OnOk, OnErr};
 ghost use Rattle.byte_streams.specs.Failures.{after_call};
 ghost use Rattle.city_feature.specs.Choice.{IsChosen};
 ghost use Rattle.city_json.specs.TextPlace.{placed_text};
 ghost use Rattle.tile_stream.specs.Coming.{LinesMayComeTo, SomethingComes};
 ghost use Rattle.tile_stream.specs.Filtered.{failed_reads_after_filter, failures_after_filter};
 ghost use Rattle.tile_stream.specs.Progress.{HasBegun, HasWritten, IsRefusedAfter, SoFar};
-ghost use Rattle.tile_stream.specs.Stream.{with_newline};
 ghost use Rattle.tile_stream.specs.Unread.{has_failed, most_left};
 
 use crate::tile_reader::TileReader;
 use crate::writing::write_text;
-use byte_streams::{Fault, Line, MergeFault, Sink, Source, write_all};
+use byte_streams::{Fault, Line, MergeFault, Sink, Source};
 use city_feature::{Choice, feature_text_in};
 use city_grid::Shift;
 use city_json::TextPlace;
 use std::alloc::Global;
 
-/// The text that stands at a place of a line, and its newline, where that was read behind it. `read` is the line and what
-/// was read after it.
-fn text_and_newline<'a>(place: TextPlace, line: &[u8], read: &'a [u8]) -> Option<&'a [u8]>
-    requires front { take (length line.now) read.now ≡ line.now }
-    ensures { IfSome result (λ found. (buffer : List ℕ)
-        → found.now ≡ with_newline (placed_text place line.now buffer)) }
-{
-    let TextPlace::Read(end) = place else {
-        return None;
-    };
-    if end <= line.len() && end < read.len() && read[end] == b'\n' {
-        return Some(&read[..end + 1]);
-    }
-    None
-}
-
-/// Writes the text that stands at a place of a line, and its newline: both at once, where they were read so.
-///
-/// # Errors
-///
-/// [`Fault::Write`] where a write failed; some first bytes of the line were written then.
-fn write_placed<W: Sink>(
-    place: TextPlace,
-    line: &[u8],
-    read: &[u8],
-    buffer: &Line,
-    output: &mut W,
-) -> Result<(), Fault>
-    requires front { take (length line.now) read.now ≡ line.now }
-    ensures all { OnOk result (Appends (W.taken output.old) (W.taken output.new)
-        (with_newline (placed_text place line.now buffer.now))) }
-    ensures some { OnErr result ((count : ℕ) × Appends (W.taken output.old) (W.taken output.new)
-        (take count (with_newline (placed_text place line.now buffer.now)))) }
-    ensures failures { W.failures output.new ≡ after_call result (W.failures output.old) }
-{
-    match text_and_newline(place, line, read) {
-        Some(text) => write_all(output, text),
-        None => write_text(output, place.bytes(line, buffer)),
-    }
-}
-
-/// Writes the text that a line came to, if it did, with its newline, and says how many texts that are. `read` is the line
-/// and what was read after it.
+/// Writes the text that a line came to, if it did, with its newline, and says how many texts that are.
 ///
 /// # Errors
 ///
@@ -68,11 +24,9 @@ fn write_placed<W: Sink>(
 fn write_given<W: Sink>(
     given: Option<TextPlace>,
     line: &[u8],
-    read: &[u8],
     buffer: &Line,
     output: &mut W,
 ) -> Result<u64, Fault>
-    requires front { take (length line.now) read.now ≡ line.now }
     ensures all { IfOk result (λ count. HasWritten
         (option_map (λ place. placed_text place line.now buffer.now) given) count
         (W.taken output.old) (W.taken output.new)) }
@@ -84,7 +38,7 @@ fn write_given<W: Sink>(
     let Some(place) = given else {
         return Ok(0);
     };
-    match write_placed(place, line, read, buffer, output) {
+    match write_text(output, place.bytes(line, buffer)) {
         Ok(()) => Ok(1),
         Err(fault) => Err(fault),
     }
@@ -141,8 +95,7 @@ pub(crate) fn write_next<R: Source, W: Sink>(
             return Err(MergeFault::of_line(number, fault));
         }
     };
-    let read = tile.lines.front_and_next(count);
-    let written = write_given(given, line, read, text, output);
+    let written = write_given(given, line, text, output);
     tile.lines.leave_line(count);
     tile.workspace.trim();
     text.trim();
