@@ -18,6 +18,7 @@ pub mod HeldNames
 pub mod HiddenString
 pub mod ItemsGoOn
 pub mod ListEnds
+pub mod Marks
 pub mod MemberEnds
 pub mod MemberPlaces
 pub mod NamesApart

@@ -1,5 +1,5 @@
 -- The names of members that differ, as the pass holds them.
-use Rattle.std.proofs.Common.{◌≡◌, ◌≢◌, ◌∙◌, ◌≤◌, ◌<◌, ◌+◌, ◌-◌, ℕ, List, [], ◌∷◌, length, take, drop, map, get_or, ap, sym, subst, arith, Bool, true, false}
+use Rattle.std.proofs.Common.{◌≡◌, ◌≢◌, ◌∙◌, ◌≤◌, ◌<◌, ◌+◌, ◌-◌, ℕ, List, [], ◌∷◌, length, take, drop, map, get_or, refl, ap, sym, subst, arith, Bool, true, false}
 use Rattle.std.proofs.lemmas.List.{drop_more, take_rest}
 use Rattle.std.proofs.Common.{true≢false, ltb}
 use Rattle.std.proofs.lemmas.Bool.{ltb-true}
@@ -22,6 +22,14 @@ pub none_differ : (members : MemberTrees) → names members ≡ [] → HasDistin
 none_differ no_members is = tt
 none_differ (member n v o) is = cc
 
+-- one name is apart from all others
+pub one_differs : (members : MemberTrees) (listed : List (List ℕ)) → names members ≡ listed → length listed < 2
+    → HasDistinctNames members
+one_differs no_members listed is few = tt
+one_differs (member n v no_members) listed is few = (tt, tt)
+one_differs (member n v (member m w o)) listed is few =
+    absurd (omega (arith, few, ap length is))
+
 pub new_step : (name other : List ℕ) (rest : List (List ℕ)) → (other ≡ name → ⊥)
     → ((members : MemberTrees) → names members ≡ rest → IsNewName name members) → (members : MemberTrees)
     → names members ≡ other ∷ rest → IsNewName name members
@@ -38,6 +46,20 @@ differ_step name rest new differ (member n v o) is =
     let others : names o ≡ rest = cc in
     (subst (λ l. IsNewName l o) (sym same) (new o others), differ o others)
 
+-- two are, where they differ
+pub two_differ : (first second : List ℕ) (members : MemberTrees) → second ≢ first
+    → names members ≡ first ∷ second ∷ [] → HasDistinctNames members
+two_differ first second members apart = differ_step first (second ∷ [])
+    (new_step first second [] apart (no_names first))
+    (differ_step second [] (no_names second) none_differ) members
+
+two_items : {A : Type 0} (l : List A) (d : A) → 2 ≤ length l → length l < 3
+    → l ≡ get_or l 0 d ∷ get_or l 1 d ∷ []
+two_items [] d some few = absurd (omega (arith, some))
+two_items (x ∷ []) d some few = absurd (omega (arith, some))
+two_items (x ∷ y ∷ []) d some few = refl
+two_items (x ∷ y ∷ z ∷ l) d some few = absurd (omega (arith, few))
+
 -- the names of listed things are new, are different
 abbrev pub AreNew : {A : Type 0} → (A → List ℕ) → List ℕ → List A → Type 0
 AreNew bytes name listed = (members : MemberTrees) → names members ≡ map bytes listed → IsNewName name members
@@ -51,6 +73,15 @@ pub new_step_at : {A : Type 0} (bytes : A → List ℕ) (name : List ℕ) (liste
 new_step_at bytes name listed i d W inside apart before new = before (λ members is.
     new_step name (bytes (get_or listed i d)) (map bytes (drop (i + 1) listed)) apart new members (is
     ∙ ap (map bytes) (drop_more listed i d inside)))
+
+-- two listed things, where the name of the second is not that of the first
+pub two_apart : {A : Type 0} (bytes : A → List ℕ) (listed : List A) (d : A) (first : List ℕ) → 2 ≤ length listed
+    → length listed < 3 → first ≡ bytes (get_or listed 0 d) → bytes (get_or listed 1 d) ≢ first
+    → AreApart bytes listed
+two_apart bytes listed d first some few is apart members are =
+    two_differ (bytes (get_or listed 0 d)) (bytes (get_or listed 1 d)) members
+    (λ same. apart (same ∙ sym is))
+    (are ∙ ap (map bytes) (two_items listed d some few))
 
 pub differ_step_at : {A : Type 0} (bytes : A → List ℕ) (rest : List A) (n : ℕ) (d : A) (W : Type 0) → 1 ≤ length rest
     → n ≡ length rest - 1 → AreNew bytes (bytes (get_or rest 0 d)) (take n (drop 1 rest)) → (AreApart bytes rest → W)

@@ -2,7 +2,7 @@
 use Rattle.std.proofs.Common.{◌≡◌, ◌++◌, ◌∙◌, ◌≤◌, ◌-◌, ℕ, List, [], ◌∷◌, length, take, drop, refl, ap, sym, subst, arith, append_assoc, append-nil, IsUtf8}
 use Rattle.city_json.specs.Depth.{IsDeep}
 use Rattle.city_json.proofs.DepthLaws.{nests_as_value}
-use Rattle.std.proofs.lemmas.List.{drop-append-le, take-append-le, drop_all}
+use Rattle.std.proofs.lemmas.List.{drop-append-le, take-append-le, drop_all, length_push}
 use Rattle.city_json.specs.Bytes.{comma, colon, open_brace, close_brace}
 use Rattle.city_json.specs.Compact.{quoted, compact, compact_members}
 use Rattle.city_json.specs.Compacting.{Taken, TakenMembers, TakenStart, TakenMember}
@@ -10,6 +10,7 @@ use Rattle.city_json.specs.Fits.{Fits, AreDistinctMembers, HasDistinctNames}
 use Rattle.byte_streams.specs.Limits.{max_depth}
 use Rattle.city_json.specs.Grammar.{Spells}
 use Rattle.city_json.specs.Members.{names}
+use Rattle.city_json.specs.Marks.{TakenMark}
 use Rattle.city_json.specs.Reading.{after_white}
 use Rattle.city_json.specs.Tree.{Tree, object, MemberTrees, no_members, member}
 use Rattle.city_json.proofs.Scanning.{after_white-splits}
@@ -173,7 +174,6 @@ object_taken levels b b' rest before before' after some opens is taken = record 
       ∙ append_assoc before (open_brace ∷ []) (compact_members taken.members ++ close_brace ∷ []));
 }
 
--- one name more behind those from `base` on
 -- one name more after those from `base` on
 pub names_more : (base : ℕ) (one two three : List (List ℕ)) (x : List ℕ) (listed : List (List ℕ)) → base ≤ length one
     → two ≡ one ++ x ∷ [] → three ≡ two → drop base one ++ (x ∷ listed) ≡ drop base three ++ listed
@@ -185,6 +185,26 @@ names_more base one two three x listed fits is same =
 pub names_kept : (base : ℕ) (one two three : List (List ℕ)) (x : List ℕ) → base ≤ length one → two ≡ one ++ x ∷ []
     → three ≡ two → take base three ≡ take base one
 names_kept base one two three x fits is same = ap (take base) (same ∙ is) ∙ take-append-le base one (x ∷ []) fits
+
+pub names_left : (base : ℕ) (one two three : List (List ℕ)) (x : List ℕ) → base ≤ length one → two ≡ one ++ x ∷ []
+    → three ≡ two → base ≤ length three
+names_left base one two three x fits is same = omega (arith, fits, ap length same, ap length is, length_push one x)
+
+-- what takes the members from the next one on takes all, where it does so from the one before the comma on
+pub members_more : (levels base : ℕ) (all b behind b' rest shown_all before mid before' after : List ℕ)
+    (one two three listed : List (List ℕ)) (taken : TakenMember levels b behind before mid one two)
+    → base ≤ length one → three ≡ two → TakenMark comma behind b' mid before'
+    → ((l : List (List ℕ)) → MembersFrom levels b rest before after l
+    → MembersWhole levels all rest shown_all after (drop base one ++ l))
+    → MembersFrom levels b' rest before' after listed
+    → MembersWhole levels all rest shown_all after (drop base three ++ listed)
+members_more levels base all b behind b' rest shown_all before mid before' after one two three listed taken fits same mark
+    so_far from =
+    subst (MembersWhole levels all rest shown_all after)
+    (names_more base one two three taken.name listed fits taken.names_are same)
+    (so_far (taken.name ∷ listed)
+    (members_step levels b behind mark.next b' rest before mid mid before' before' after one two listed taken mark.is_next
+    refl mark.is_shown mark.starts refl from))
 
 -- ---- the whole text
 unfoldable pub text_taken : (text line : List ℕ) (at end last : ℕ) (start shown_at shown_end : List ℕ) → IsUtf8 text

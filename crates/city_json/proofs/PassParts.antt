@@ -8,12 +8,13 @@ use Rattle.city_json.specs.Parts.{IsPart, AreParts}
 use Rattle.city_json.specs.Fits.{HasDistinctNames, Fits}
 use Rattle.byte_streams.specs.Limits.{max_depth}
 use Rattle.city_json.specs.Members.{names}
+use Rattle.city_json.specs.Marks.{TakenMark}
 use Rattle.city_json.specs.Reading.{after_white}
 use Rattle.city_json.specs.Tree.{Tree, object, MemberTrees, no_members, member}
 use Rattle.city_json.specs.declared.compacting.places.MemberPlace.{MemberPlace}
 use Rattle.city_json.specs.Depth.{IsDeep}
 use Rattle.city_json.specs.Grammar.{Spells}
-use Rattle.city_json.proofs.PassMembers.{MembersFrom, members_none, members_start, members_step, members_stop, object_taken, text_taken}
+use Rattle.city_json.proofs.PassMembers.{MembersFrom, members_none, members_start, members_step, members_stop, names_more, object_taken, text_taken}
 use Rattle.city_json.proofs.Places.{at_mark}
 
 pub record PartsFrom (levels : ℕ) (b rest before after : List ℕ) (listed : List (List ℕ))
@@ -119,6 +120,24 @@ parts_step levels b behind next b' rest before mid at_mark behind_mark before' a
 pub parts_more : (one two : List MemberPlace) (part : MemberPlace) (parts : List MemberPlace) → two ≡ one ++ part ∷ []
     → one ++ (part ∷ parts) ≡ two ++ parts
 parts_more one two part parts is = sym (ap (λ l. l ++ parts) is ∙ append_assoc one (part ∷ []) parts)
+
+-- what takes the members from the next one on takes all, where it does so from the one before the comma on
+pub parts_go_on : (levels : ℕ) (all b behind b' rest shown_all before mid before' after : List ℕ)
+    (one two three listed : List (List ℕ)) (p_one p_two parts : List MemberPlace)
+    (t : TakenPart levels b behind before mid one two p_one p_two) → three ≡ two → TakenMark comma behind b' mid before'
+    → ((l : List (List ℕ)) (p : List MemberPlace) → PartsFrom levels b rest before after l p
+    → PartsWhole levels all rest shown_all after (one ++ l) (p_one ++ p))
+    → PartsFrom levels b' rest before' after listed parts
+    → PartsWhole levels all rest shown_all after (three ++ listed) (p_two ++ parts)
+parts_go_on levels all b behind b' rest shown_all before mid before' after one two three listed p_one p_two parts t same mark
+    so_far from =
+    subst (λ l. PartsWhole levels all rest shown_all after l (p_two ++ parts))
+    (names_more 0 one two three t.taken.name listed (omega arith) t.taken.names_are same)
+    (subst (PartsWhole levels all rest shown_all after (one ++ (t.taken.name ∷ listed)))
+    (parts_more p_one p_two t.part parts t.parts_are)
+    (so_far (t.taken.name ∷ listed) (t.part ∷ parts)
+    (parts_step levels b behind mark.next b' rest before mid mid before' before' after one two p_one p_two listed parts t
+    mark.is_next refl mark.is_shown mark.starts refl from)))
 
 pub whole_parts : (text line : List ℕ) (at end last : ℕ) (shown_at shown_top shown_end : List ℕ) (parts : List MemberPlace)
     → IsUtf8 text → shown_at ≡ [] → drop at text ≡ after_white text → drop at text ≡ open_brace ∷ drop (at + 1) text

@@ -12,6 +12,7 @@ pub mod FrontMembers
 pub mod Gives
 pub mod Grammar
 pub mod ListedNames
+pub mod Marks
 pub mod MemberName
 pub mod Members
 pub mod NamePrint

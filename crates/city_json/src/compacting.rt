@@ -13,6 +13,7 @@ ghost use Rattle.city_json.specs.Tree.{Tree};
 mod draft;
 mod ends;
 mod flat;
+mod marks;
 mod members;
 mod name;
 mod names;

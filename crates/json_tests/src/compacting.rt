@@ -147,6 +147,55 @@ fn white_space_of_any_length_is_left_out(rt: HostRuntime) {
     assert!(rt; spaced_text_is_taken(rt.alloc()));
 }
 
+/// An object in pieces, between any two of which white space may stand.
+const MARKED: [&[u8]; 15] = [
+    b"{",
+    b"\"a\"",
+    b":",
+    b"{",
+    b"\"b\"",
+    b":",
+    b"1",
+    b",",
+    b"\"c\"",
+    b":",
+    b"\"d\"",
+    b"}",
+    b",",
+    b"\"e\":[]",
+    b"}",
+];
+
+/// White space that is left out in several ways: none, one blank, and all other.
+const BETWEEN: [&[u8]; 8] = [b"", b" ", b"\t", b"\n", b"\r", b"  ", b" \t", b"\n "];
+
+/// The object with white space after the piece at this place.
+fn marked(alloc: Global, place: usize, white: &[u8]) -> Result<Vec<u8>, AllocError> {
+    let mut text = Vec::new(alloc);
+    for (at, piece) in MARKED.iter().enumerate() {
+        text.extend_from_slice(piece)?;
+        if at == place {
+            text.extend_from_slice(white)?;
+        }
+    }
+    Ok(text)
+}
+
+fn is_taken_at(alloc: Global, place: usize, white: &[u8]) -> bool {
+    match marked(alloc, place, white) {
+        Ok(text) => is_compacted(alloc, &text, b"{\"a\":{\"b\":1,\"c\":\"d\"},\"e\":[]}"),
+        Err(_) => false,
+    }
+}
+
+#[test]
+fn white_space_beside_any_mark_is_left_out(rt: HostRuntime) {
+    for white in BETWEEN.iter() {
+        let all = (0..MARKED.len()).all(|place| is_taken_at(rt.alloc(), place, white));
+        expect(&rt, all, white);
+    }
+}
+
 /// A member of an object, as it stands in the compact text: its name with the colon, and its value.
 type Part = (&'static [u8], &'static [u8]);
 

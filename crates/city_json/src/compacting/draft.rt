@@ -109,6 +109,26 @@ fn skip_blank(text: &[u8], at: usize, draft: &mut Draft) -> usize
         ≡ shown draft.old.line text.now draft.old.from at }
     ensures names { result < length text.now → names_in text.now draft.new.names ≡ names_in text.now draft.old.names }
 {
+    leave_blank(text, at, draft)
+}
+
+/// Leaves out the blank that stands at a place, and goes on from the byte after it, which is no white space.
+#[inline(always)]
+pub(super) fn leave_blank(text: &[u8], at: usize, draft: &mut Draft) -> usize
+    requires copied { draft.old.from ≤ at }
+    requires within { at + 1 < length text.now }
+    requires blank { slice_index text.now at ≡ 32 }
+    requires ends { 32 < slice_index text.now (at + 1) }
+    ensures within { result ≤ length text.now }
+    ensures onward { result < length text.now → at ≤ result }
+    ensures copied { result < length text.now → draft.new.from ≤ result }
+    ensures skipped { result < length text.now
+        → drop result text.now ≡ after_white (drop at text.now) }
+    ensures is_shown { result < length text.now
+        → shown draft.new.line text.now draft.new.from result
+        ≡ shown draft.old.line text.now draft.old.from at }
+    ensures names { result < length text.now → names_in text.now draft.new.names ≡ names_in text.now draft.old.names }
+{
     match copy_to(text, at, at + 1, draft) {
         Some(()) => at + 1,
         None => text.len(),

@@ -169,7 +169,21 @@ impl Names {
     /// Whether the names from `base` on are pairwise different in this text. `false` may also mean out of memory, or a
     /// text that is not as long as the one that they are listed of.
     /// The time is near linear in the names' bytes, whatever they are.
+    #[inline(always)]
     pub(super) fn are_apart_from(&self, alloc: Global, text: &[u8], base: usize) -> bool
+        requires { base ≤ length self.now }
+        ensures { IsTrue result → (members : MemberTrees) → names members ≡ drop base (names_in text.now self.now)
+            → HasDistinctNames members }
+    {
+        if self.len() - base < 2 {
+            return true;
+        }
+        self.several_are_apart_from(alloc, text, base)
+    }
+
+    /// The same, of any number of names.
+    #[inline(never)]
+    fn several_are_apart_from(&self, alloc: Global, text: &[u8], base: usize) -> bool
         requires { base ≤ length self.now }
         ensures { IsTrue result → (members : MemberTrees) → names members ≡ drop base (names_in text.now self.now)
             → HasDistinctNames members }
@@ -205,6 +219,9 @@ fn few_are_apart(listed: &[Name], text: &[u8], held: &[u8]) -> bool
     ensures { IsTrue result → (members : MemberTrees) → names members ≡ map (name_bytes text.now held.now) listed.now
         → HasDistinctNames members }
 {
+    if let [first, second] = listed {
+        return !second.has_bytes(first.bytes(text, held), text, held);
+    }
     let mut rest = listed;
     while let [first, others @ ..] = rest {
         if !is_new(first.bytes(text, held), others, text, held) {

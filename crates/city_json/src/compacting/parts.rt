@@ -5,6 +5,7 @@ ghost use Rattle.city_json.specs.ListedNames.{names_in};
 ghost use Rattle.city_json.specs.Triples.{HasTriples, IsTriplesText};
 
 use super::draft::{Draft, skip, written_len};
+use super::marks::{after_member, is_bare};
 use super::places::{MemberPlace, Span};
 use super::strings::name_and_colon;
 use super::triples::{look_at_triples, may_begin_triples};
@@ -45,23 +46,21 @@ pub(super) fn members(
     }
     'members: loop {
         let end = member(text, i, levels, draft, parts, triples)?;
-        let place = skip(text, end, draft);
-        if place == text.len() {
+        if is_bare(text, end, b',') {
+            i = end + 1;
+            continue 'members;
+        }
+        let after = after_member(text, end, draft);
+        if after.at == text.len() {
             return None;
         }
-        if text[place] == b'}' {
+        if after.closed {
             if !draft.names.are_apart_from(draft.alloc, text, 0) {
                 return None;
             }
-            return Some(place + 1);
+            return Some(after.at + 1);
         }
-        if text[place] != b',' {
-            return None;
-        }
-        i = skip(text, place + 1, draft);
-        if i == text.len() {
-            return None;
-        }
+        i = after.at;
     }
 }
 

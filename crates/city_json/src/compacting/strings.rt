@@ -8,7 +8,8 @@ ghost use Rattle.city_json.specs.ListedNames.{as_decoded, names_in};
 ghost use Rattle.city_json.specs.ReadString.{decoded};
 ghost use Rattle.city_json.specs.WrittenLetters.{is_letter_written};
 
-use super::draft::{Draft, copy_to, skip};
+use super::draft::{Draft, copy_to};
+use super::marks::{is_bare, past_spaced_mark};
 use super::names::Names;
 use super::scalars::plain_string;
 use crate::printing::character_bytes;
@@ -33,7 +34,10 @@ pub(super) fn text_value(text: &[u8], at: usize, levels: usize, draft: &mut Draf
 {
     match plain_string(text, at + 1) {
         Some(close) => Some(close + 1),
-        None => respelled(text, at, draft),
+        None => {
+            let end = respelled(text, at, draft)?;
+            Some(end)
+        }
     }
 }
 
@@ -201,11 +205,10 @@ pub(super) fn name_and_colon(text: &[u8], at: usize, draft: &mut Draft) -> Optio
         return None;
     }
     let end = name(text, at, draft)?;
-    let colon = skip(text, end, draft);
-    if colon == text.len() || text[colon] != b':' {
-        return None;
+    if is_bare(text, end, b':') {
+        return Some(end + 1);
     }
-    let start = skip(text, colon + 1, draft);
+    let start = past_spaced_mark(text, end, b':', draft);
     if start == text.len() {
         return None;
     }

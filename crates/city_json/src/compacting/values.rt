@@ -7,6 +7,7 @@ ghost use Rattle.city_json.specs.Reading.{after_white};
 
 use super::draft::{Draft, skip};
 use super::flat::{ItemPlace, after_item, numbers, opens_array};
+use super::marks::{after_member, is_bare};
 use super::scalars::{decimal_end, may_end, scalar_end};
 use super::strings::{name_and_colon, text_value};
 use super::whole_arrays::{whole_after_comma, whole_from};
@@ -31,14 +32,20 @@ pub(super) fn member_value(
         (shown draft.old.line text.now draft.old.from at)
         (shown draft.new.line text.now draft.new.from end)) }
 {
-    if at < text.len() && text[at] == b'"' {
+    if at == text.len() {
+        return None;
+    }
+    if text[at] == b'"' {
         return text_value(text, at, levels, draft);
     }
-    let end = decimal_end(text, at);
-    if at < end && may_end(text, end) {
-        return Some(end);
+    if text[at] <= b'9' {
+        let end = decimal_end(text, at);
+        if at < end && may_end(text, end) {
+            return Some(end);
+        }
     }
-    value(text, at, levels, draft)
+    let end = value(text, at, levels, draft)?;
+    Some(end)
 }
 
 /// A value that begins at `at` and nests at most `levels` deep: where it ends.
@@ -226,24 +233,22 @@ fn object(text: &[u8], at: usize, levels: usize, draft: &mut Draft) -> Option<us
     }
     'members: loop {
         let end = member(text, i, levels, draft)?;
-        let place = skip(text, end, draft);
-        if place == text.len() {
+        if is_bare(text, end, b',') {
+            i = end + 1;
+            continue 'members;
+        }
+        let after = after_member(text, end, draft);
+        if after.at == text.len() {
             return None;
         }
-        if text[place] == b'}' {
+        if after.closed {
             if !draft.names.are_apart_from(draft.alloc, text, base) {
                 return None;
             }
             draft.names.truncate(base);
-            return Some(place + 1);
+            return Some(after.at + 1);
         }
-        if text[place] != b',' {
-            return None;
-        }
-        i = skip(text, place + 1, draft);
-        if i == text.len() {
-            return None;
-        }
+        i = after.at;
     }
 }
 

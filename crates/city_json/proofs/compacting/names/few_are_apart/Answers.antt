@@ -1,10 +1,15 @@
-use Rattle.std.proofs.Common.{◌∙◌, ap, drop, length, map, arith, refl, subst}
+use Rattle.std.specs.Bool.{IsTrue}
+use Rattle.std.proofs.Common.{◌≡◌, Bool, true, false, not, ◌∙◌, ap, drop, length, map, arith, refl, subst}
 use Rattle.std.proofs.lemmas.List.{nil_from_length}
 use Rattle.std.proofs.lemmas.List.Elements.{All-drop, All-take}
 use Rattle.city_json.specs.Fits.{IsNewName}
 use Rattle.city_json.specs.MemberName.{IsWithin, name_bytes}
-use Rattle.city_json.proofs.NamesApart.{differ_step_at, none_differ}
+use Rattle.city_json.proofs.NamesApart.{differ_step_at, none_differ, two_apart}
 use Rattle.city_json.proofs.compacting.names.few_are_apart.Goals as goal
+
+not_true : (b : Bool) → IsTrue (not b) → b ≡ false
+not_true false so = refl
+not_true true so = cc
 
 pub returns : goal.returns
 returns c = λ ok. c.loop-rest.invariant.differ
@@ -18,7 +23,19 @@ loop-rest-preserved c = record {
       c.loop-rest.invariant.within);
   differ = differ_step_at (name_bytes c.args.text.now c.args.held.now) c.loop-rest.rest.now _ _ _
       c.in-len1-up.len_at_least refl
-      (λ members is. subst (λ l. IsNewName l members) c.bytes.ensures
+      (λ members is. subst (λ l. IsNewName l members) c.bytes-in-len1-up.ensures
       (c.is_new.ensures c.if-not-is_new.false members is))
       c.loop-rest.invariant.differ;
+}
+
+pub returns-in-len2 : goal.returns-in-len2
+returns-in-len2 c = λ ok.
+    two_apart (name_bytes c.args.text.now c.args.held.now) c.args.listed.now _ c.bytes.result.now
+    c.in-len2.len_at_least c.in-len2.len_below c.bytes.ensures (c.has_bytes.ensures (not_true c.has_bytes.result ok))
+
+pub is_new-requires : goal.is_new-requires
+is_new-requires c = record {
+  within = All-take (IsWithin (length c.args.text.now) (length c.args.held.now)) _ (drop 1 c.loop-rest.rest.now)
+      (All-drop (IsWithin (length c.args.text.now) (length c.args.held.now)) 1 c.loop-rest.rest.now
+      c.loop-rest.invariant.within);
 }

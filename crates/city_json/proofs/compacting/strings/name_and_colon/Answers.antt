@@ -1,29 +1,36 @@
-use Rattle.std.proofs.Common.{◌≡◌, ◌≤◌, ◌<◌, ◌+◌, ◌∙◌, length, drop, get_or, refl, arith}
+use Rattle.std.proofs.Common.{◌≤◌, ◌<◌, ◌+◌, length, drop, refl, arith}
 use Rattle.city_json.specs.Bytes.{colon}
 use Rattle.city_json.specs.Compacting.{shown}
 use Rattle.city_json.specs.ListedNames.{names_in}
+use Rattle.city_json.proofs.Marks.{bare_mark}
 use Rattle.city_json.proofs.PassStrings.{start_taken}
-use Rattle.city_json.proofs.Places.{at_mark, mark_shown}
 use Rattle.city_json.proofs.compacting.strings.name_and_colon.Goals as goal
+
+pub returns-then-is_bare-clause-taken : goal.returns-then-is_bare-clause-taken
+returns-then-is_bare-clause-taken c =
+    let text = c.args.text.now in
+    let names = names_in text in
+    let end = c.in_ok-end.end in
+    let named = c.name.new.draft in
+    let mark = bare_mark named.line text named.from end colon c.in_ok-end.ensures.copied (omega arith)
+    (c.is_bare.ensures c.if-is_bare.true) in
+    start_taken (drop c.args.at text) (drop end text) mark.next (drop (end + 1) text) _ _
+    (shown named.line text named.from end) (shown named.line text named.from (end + 1)) _
+    (names c.args.draft.now.names) (names named.names) (names named.names) c.in_ok-end.ensures.taken mark.is_next refl
+    mark.is_shown mark.starts refl refl
 
 pub returns-clause-taken : goal.returns-clause-taken
 returns-clause-taken c =
     let text = c.args.text.now in
     let names = names_in text in
-    let colon_end : c.skip-colon.result ≤ length text = c.skip-colon.ensures.within in
-    let colon_inside : c.skip-colon.result < length text = omega (arith, c.if-colon-text.false) in
-    let is_colon : get_or text c.skip-colon.result 0 ≡ colon = omega (arith, c.if-text-colon-ne58.false) in
-    let start_end : c.skip-start.result ≤ length text = c.skip-start.ensures.within in
-    let start_inside : c.skip-start.result < length text = omega (arith, c.if-start-text.false) in
-    let draft = c.skip-colon.new.draft in
-    start_taken (drop c.args.at text) (drop c.in_ok-end.end text) (drop (c.skip-colon.result + 1) text)
-    (drop c.skip-start.result text) _ _ (shown draft.line text draft.from c.skip-colon.result)
-    (shown draft.line text draft.from (c.skip-colon.result + 1)) _ (names c.args.draft.now.names)
-    (names c.name.new.draft.names)
-    (names c.skip-start.new.draft.names)
-    c.in_ok-end.ensures.taken (at_mark text (drop c.in_ok-end.end text) c.skip-colon.result colon
-    (c.skip-colon.ensures.skipped colon_inside) colon_inside is_colon) (c.skip-colon.ensures.is_shown colon_inside)
-    (mark_shown draft.line text _ draft.from c.skip-colon.result colon
-    (c.skip-colon.ensures.copied colon_inside) colon_inside is_colon refl)
-    (c.skip-start.ensures.skipped start_inside) (c.skip-start.ensures.is_shown start_inside)
-    (c.skip-start.ensures.names start_inside ∙ c.skip-colon.ensures.names colon_inside)
+    let end = c.in_ok-end.end in
+    let start = c.past_spaced_mark-start.result in
+    let named = c.name.new.draft in
+    let draft = c.past_spaced_mark-start.new.draft in
+    let before_end : start ≤ length text = c.past_spaced_mark-start.ensures.within in
+    let inside : start < length text = omega (arith, c.if-start-text.false) in
+    let mark = c.past_spaced_mark-start.ensures.taken inside in
+    start_taken (drop c.args.at text) (drop end text) mark.next (drop start text) _ _
+    (shown named.line text named.from end) (shown draft.line text draft.from start) _ (names c.args.draft.now.names)
+    (names named.names) (names draft.names) c.in_ok-end.ensures.taken mark.is_next refl mark.is_shown mark.starts refl
+    (c.past_spaced_mark-start.ensures.names inside)

@@ -1,4 +1,3 @@
-use Rattle.city_json.proofs.PassScalars.{if_some}
 use Rattle.city_json.proofs.PassStrings.{plain_taken, string_taken}
 use Rattle.city_json.proofs.compacting.strings.text_value.Goals as goal
 
@@ -9,7 +8,5 @@ returns-in-Some-clause-taken c =
     c.requires.copied c.requires.within c.requires.opened c.in-Some.ensures.onward c.in-Some.ensures.within
     c.in-Some.ensures.plain)
 
-pub returns-in-None-clause-taken : goal.returns-in-None-clause-taken
-returns-in-None-clause-taken c =
-    if_some _ _ c.respelled.result
-    (λ end anew. string_taken c.args.levels _ _ _ _ _ anew.taken) c.respelled.ensures.taken
+pub returns-in_ok-end-in-None-clause-taken : goal.returns-in_ok-end-in-None-clause-taken
+returns-in_ok-end-in-None-clause-taken c = string_taken c.args.levels _ _ _ _ _ c.in_ok-end-in-None.ensures.taken.taken

@@ -1,12 +1,13 @@
 use Rattle.std.proofs.Common.{◌≡◌, ◌≤◌, ◌<◌, ◌+◌, ◌-◌, ◌∙◌, length, drop, get_or, refl, arith, ap, sym, subst, take_all, append-nil, [], ◌∷◌}
-use Rattle.std.proofs.lemmas.List.{drop_all, length-map, length_push, take-map}
+use Rattle.std.proofs.lemmas.List.{drop_all, length-map, take-map}
 use Rattle.city_json.specs.Bytes.{comma, close_bracket, open_bracket, close_brace, open_brace}
 use Rattle.city_json.specs.Compacting.{shown, Taken}
 use Rattle.city_json.specs.ListedNames.{bytes_in, names_in}
 use Rattle.city_json.proofs.WholeArrays.{whole_taken}
+use Rattle.city_json.proofs.Marks.{bare_mark}
 use Rattle.city_json.proofs.PassFlat.{all_taken, next_array, next_closed, next_run, next_skip, next_value, one_open}
 use Rattle.city_json.proofs.PassItems.{array_taken, items_none, items_start}
-use Rattle.city_json.proofs.PassMembers.{MembersWhole, member_taken, members_none, members_start, members_step, members_stop, names_kept, names_more, object_taken}
+use Rattle.city_json.proofs.PassMembers.{member_taken, members_more, members_none, members_start, members_stop, names_kept, names_left, names_more, object_taken}
 use Rattle.city_json.proofs.PassScalars.{if_some, if_some_both, scalar_taken}
 use Rattle.city_json.proofs.Places.{at_mark, drop_one, mark_shown, shown_one}
 use Rattle.city_json.proofs.compacting.values.+value.Goals as goal
@@ -107,89 +108,100 @@ object-members-init t c =
           (drop_all c.len-base.result (names c.skip-i.new.draft.names) (omega (arith, count, long))) from;
     }
 
+pub object-members-preserved-then-is_bare : goal.object-members-preserved-then-is_bare
+object-members-preserved-then-is_bare t c =
+    let text = c.args.text.now in
+    let names = names_in text in
+    let end = c.in_ok-end.end in
+    let onward : c.members.i < end = c.in_ok-end.ensures.onward in
+    let draft = c.member.new.draft in
+    let bare = c.is_bare.ensures c.if-is_bare.true in
+    let one = names c.members.draft.names in
+    let taken = c.in_ok-end.ensures.taken in
+    record {
+      onward = omega (arith, onward, c.members.invariant.onward);
+      within = omega (arith, bare.within);
+      copied = omega (arith, c.in_ok-end.ensures.copied);
+      few = names_left c.len-base.result one (names draft.names) (names draft.names) taken.name c.members.invariant.few
+          taken.names_are refl;
+      names = names_kept c.len-base.result one (names draft.names) (names draft.names) taken.name
+          c.members.invariant.few taken.names_are refl ∙ c.members.invariant.names;
+      goes_on = λ rest after listed.
+          members_more c.args.levels c.len-base.result (drop c.args.at text) (drop c.members.i text) (drop end text)
+          (drop (end + 1) text) rest (shown c.args.draft.now.line text c.args.draft.now.from c.args.at)
+          (shown c.members.draft.line text c.members.draft.from c.members.i) (shown draft.line text draft.from end)
+          (shown draft.line text draft.from (end + 1)) after one (names draft.names) (names draft.names) listed taken
+          c.members.invariant.few refl
+          (bare_mark draft.line text draft.from end comma c.in_ok-end.ensures.copied (omega arith) bare)
+          (c.members.invariant.goes_on rest after);
+    }
+
 pub object-members-preserved : goal.object-members-preserved
 object-members-preserved t c =
     let text = c.args.text.now in
     let names = names_in text in
-    let onward : c.members.i < c.in_ok-end.end = c.in_ok-end.ensures.onward in
-    let before_end : c.skip-place.result ≤ length text = c.skip-place.ensures.within in
-    let inside : c.skip-place.result < length text = omega (arith, c.if-place-text.false) in
-    let further : c.in_ok-end.end ≤ c.skip-place.result = c.skip-place.ensures.onward inside in
-    let before_end₂ : c.skip-i-in-members.result ≤ length text = c.skip-i-in-members.ensures.within in
-    let inside₂ : c.skip-i-in-members.result < length text = omega (arith, c.if-i-text-2.false) in
-    let behind : c.skip-place.result + 1 ≤ c.skip-i-in-members.result = (c.skip-i-in-members.ensures.onward inside₂) in
-    let is_comma : get_or text c.skip-place.result 0 ≡ comma = omega arith in
-    let draft = c.skip-place.new.draft in
-    let same : names c.skip-i-in-members.new.draft.names ≡ names c.member.new.draft.names =
-    (c.skip-i-in-members.ensures.names inside₂) ∙ (c.skip-place.ensures.names inside) in
+    let end = c.in_ok-end.end in
+    let next = c.after_member-after.result.at in
+    let before_end : next ≤ length text = c.after_member-after.ensures.within in
+    let inside : next < length text = omega (arith, c.if-after-text.false) in
+    let onward : c.members.i < end = c.in_ok-end.ensures.onward in
+    let further : end < next = c.after_member-after.ensures.further inside c.if-after.false in
+    let was = c.member.new.draft in
+    let draft = c.after_member-after.new.draft in
+    let same : names draft.names ≡ names was.names = c.after_member-after.ensures.names inside in
     let one = names c.members.draft.names in
     let taken = c.in_ok-end.ensures.taken in
-    let few : c.len-base.result ≤ length one = c.members.invariant.few in
-    let grown : length (names c.member.new.draft.names) ≡ length one + 1 = ap length taken.names_are
-    ∙ length_push one taken.name in
-    let long : length (names c.skip-i-in-members.new.draft.names) ≡ length (names c.member.new.draft.names) = ap
-    length same in
     record {
-      onward = omega (arith, onward, further, c.members.invariant.onward, behind);
-      within = c.skip-i-in-members.ensures.within;
-      copied = (c.skip-i-in-members.ensures.copied inside₂);
-      few = omega (arith, few, grown, long);
-      names = names_kept c.len-base.result one (names c.member.new.draft.names)
-          (names c.skip-i-in-members.new.draft.names) taken.name
-          few taken.names_are same ∙ c.members.invariant.names;
-      goes_on = λ rest after listed from.
-          subst (λ l. MembersWhole c.args.levels (drop c.args.at text) rest
-          (shown c.args.draft.now.line text c.args.draft.now.from c.args.at) after l)
-          (names_more c.len-base.result one (names c.member.new.draft.names)
-          (names c.skip-i-in-members.new.draft.names) taken.name
-          listed few taken.names_are same)
-          (c.members.invariant.goes_on rest after (taken.name ∷ listed)
-          (members_step c.args.levels (drop c.members.i text) (drop c.in_ok-end.end text)
-          (drop (c.skip-place.result + 1) text) (drop c.skip-i-in-members.result text) rest _ _ _
-          (shown draft.line text draft.from (c.skip-place.result + 1)) _ after one (names c.member.new.draft.names)
-          listed
-          taken
-          (at_mark text (drop c.in_ok-end.end text) c.skip-place.result comma
-          (c.skip-place.ensures.skipped inside) inside is_comma) (c.skip-place.ensures.is_shown inside)
-          (mark_shown draft.line text _ draft.from c.skip-place.result comma
-          (c.skip-place.ensures.copied inside) inside is_comma refl) (c.skip-i-in-members.ensures.skipped inside₂)
-          (c.skip-i-in-members.ensures.is_shown inside₂) from));
+      onward = omega (arith, onward, further, c.members.invariant.onward);
+      within = before_end;
+      copied = c.after_member-after.ensures.copied inside;
+      few = names_left c.len-base.result one (names was.names) (names draft.names) taken.name c.members.invariant.few
+          taken.names_are same;
+      names = names_kept c.len-base.result one (names was.names) (names draft.names) taken.name
+          c.members.invariant.few taken.names_are same ∙ c.members.invariant.names;
+      goes_on = λ rest after listed.
+          members_more c.args.levels c.len-base.result (drop c.args.at text) (drop c.members.i text) (drop end text)
+          (drop next text) rest (shown c.args.draft.now.line text c.args.draft.now.from c.args.at)
+          (shown c.members.draft.line text c.members.draft.from c.members.i) (shown was.line text was.from end)
+          (shown draft.line text draft.from next) after one (names was.names) (names draft.names) listed taken
+          c.members.invariant.few same (c.after_member-after.ensures.goes_on inside c.if-after.false)
+          (c.members.invariant.goes_on rest after);
     }
 
-pub object-returns-then-text-place-eq125-clause-names : goal.object-returns-then-text-place-eq125-clause-names
-object-returns-then-text-place-eq125-clause-names t c =
+pub object-returns-then-after-clause-names : goal.object-returns-then-after-clause-names
+object-returns-then-after-clause-names t c =
     let text = c.args.text.now in
-    let before_end : c.skip-place.result ≤ length text = c.skip-place.ensures.within in
-    let inside : c.skip-place.result < length text = omega (arith, c.if-place-text.false) in
     let names = names_in text in
+    let next = c.after_member-after.result.at in
+    let before_end : next ≤ length text = c.after_member-after.ensures.within in
+    let inside : next < length text = omega (arith, c.if-after-text.false) in
     let taken = c.in_ok-end.ensures.taken in
     ap names c.truncate.ensures
-    ∙ (sym (take-map (bytes_in text) c.len-base.result c.skip-place.new.draft.names)
+    ∙ (sym (take-map (bytes_in text) c.len-base.result c.after_member-after.new.draft.names)
     ∙ (names_kept c.len-base.result (names c.members.draft.names) (names c.member.new.draft.names)
-    (names c.skip-place.new.draft.names) taken.name c.members.invariant.few taken.names_are
-    (c.skip-place.ensures.names inside) ∙ c.members.invariant.names))
+    (names c.after_member-after.new.draft.names) taken.name c.members.invariant.few taken.names_are
+    (c.after_member-after.ensures.names inside) ∙ c.members.invariant.names))
 
-pub object-returns-then-text-place-eq125-clause-taken : goal.object-returns-then-text-place-eq125-clause-taken
-object-returns-then-text-place-eq125-clause-taken t c =
+pub object-returns-then-after-clause-taken : goal.object-returns-then-after-clause-taken
+object-returns-then-after-clause-taken t c =
     let text = c.args.text.now in
     let names = names_in text in
-    let before_end : c.skip-place.result ≤ length text = c.skip-place.ensures.within in
-    let inside : c.skip-place.result < length text = omega (arith, c.if-place-text.false) in
-    let draft = c.skip-place.new.draft in
+    let end = c.in_ok-end.end in
+    let next = c.after_member-after.result.at in
+    let before_end : next ≤ length text = c.after_member-after.ensures.within in
+    let inside : next < length text = omega (arith, c.if-after-text.false) in
+    let member_draft = c.member.new.draft in
+    let draft = c.after_member-after.new.draft in
+    let brace = c.after_member-after.ensures.closes inside c.if-after.true in
     let one = names c.members.draft.names in
     let taken = c.in_ok-end.ensures.taken in
     let few : c.len-base.result ≤ length one = c.members.invariant.few in
     let all = c.members.invariant.goes_on _ _ (taken.name ∷ [])
-    (members_stop c.args.levels (drop c.members.i text) (drop c.in_ok-end.end text)
-    (drop (c.skip-place.result + 1) text) _ _ _
-    (shown draft.line text draft.from (c.skip-place.result + 1)) one (names c.member.new.draft.names) taken
-    (at_mark text (drop c.in_ok-end.end text) c.skip-place.result close_brace
-    (c.skip-place.ensures.skipped inside) inside c.if-text-place-eq125.true) (c.skip-place.ensures.is_shown inside)
-    (mark_shown draft.line text _ draft.from c.skip-place.result close_brace
-    (c.skip-place.ensures.copied inside) inside c.if-text-place-eq125.true refl)) in
-    let listed = names_more c.len-base.result one (names c.member.new.draft.names) (names draft.names) taken.name []
-    few taken.names_are
-    (c.skip-place.ensures.names inside) in
+    (members_stop c.args.levels (drop c.members.i text) (drop end text) (drop (next + 1) text) _ _
+    (shown member_draft.line text member_draft.from end) (shown draft.line text draft.from (next + 1)) one
+    (names member_draft.names) taken brace.is_next refl brace.is_shown) in
+    let listed = names_more c.len-base.result one (names member_draft.names) (names draft.names) taken.name []
+    few taken.names_are (c.after_member-after.ensures.names inside) in
     all.whole (c.are_apart_from.ensures c.if-not-are_apart_from.false all.members (all.names_are
     ∙ (listed ∙ append-nil (drop c.len-base.result (names draft.names)))))
 
