@@ -21,7 +21,8 @@ pub(super) struct AfterMember {
 #[inline(always)]
 pub(super) fn is_bare(text: &[u8], at: usize, mark: u8) -> bool
     requires { at ≤ length text.now }
-    ensures { IsTrue result → IsBareMark mark text.now at }
+    ensures is { IsTrue result → IsBareMark mark text.now at }
+    ensures told { IsBareMark mark text.now at → IsTrue result }
 {
     text.len() - at > 1 && text[at] == mark && text[at + 1] > b' '
 }
@@ -51,7 +52,8 @@ pub(super) fn past_spaced_mark(text: &[u8], at: usize, mark: u8, draft: &mut Dra
 #[inline(always)]
 fn is_before_blank(text: &[u8], at: usize, mark: u8) -> bool
     requires { at ≤ length text.now }
-    ensures { IsTrue result → IsMarkBeforeBlank mark text.now at }
+    ensures is { IsTrue result → IsMarkBeforeBlank mark text.now at }
+    ensures told { IsMarkBeforeBlank mark text.now at → IsTrue result }
 {
     text.len() - at > 2 && text[at] == mark && text[at + 1] == b' ' && text[at + 2] > b' '
 }

@@ -57,7 +57,7 @@ members-preserved-then-is_bare c =
     let onward : c.members.i < end = c.in_ok-end.ensures.onward in
     let was = c.members.draft in
     let draft = c.member.new.draft in
-    let bare = c.is_bare.ensures c.if-is_bare.true in
+    let bare = c.is_bare.ensures.is c.if-is_bare.true in
     let mark = bare_mark draft.line text draft.from end comma c.in_ok-end.ensures.copied (omega arith) bare in
     record {
       onward = omega (arith, onward, c.members.invariant.onward);

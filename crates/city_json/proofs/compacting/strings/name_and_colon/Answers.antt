@@ -13,7 +13,7 @@ returns-then-is_bare-clause-taken c =
     let end = c.in_ok-end.end in
     let named = c.name.new.draft in
     let mark = bare_mark named.line text named.from end colon c.in_ok-end.ensures.copied (omega arith)
-    (c.is_bare.ensures c.if-is_bare.true) in
+    (c.is_bare.ensures.is c.if-is_bare.true) in
     start_taken (drop c.args.at text) (drop end text) mark.next (drop (end + 1) text) _ _
     (shown named.line text named.from end) (shown named.line text named.from (end + 1)) _
     (names c.args.draft.now.names) (names named.names) (names named.names) c.in_ok-end.ensures.taken mark.is_next refl

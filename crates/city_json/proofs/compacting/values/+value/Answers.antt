@@ -115,7 +115,7 @@ object-members-preserved-then-is_bare t c =
     let end = c.in_ok-end.end in
     let onward : c.members.i < end = c.in_ok-end.ensures.onward in
     let draft = c.member.new.draft in
-    let bare = c.is_bare.ensures c.if-is_bare.true in
+    let bare = c.is_bare.ensures.is c.if-is_bare.true in
     let one = names c.members.draft.names in
     let taken = c.in_ok-end.ensures.taken in
     record {
