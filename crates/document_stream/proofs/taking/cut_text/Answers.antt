@@ -1,4 +1,4 @@
-use Rattle.std.proofs.Common.{◌≡◌, ◌∙◌, ap, subst, sym, IfOk, List, ℕ}
+use Rattle.std.proofs.Common.{◌∙◌, ap, subst, sym, IfOk, List, ℕ}
 use Rattle.city_cut.specs.HeldTexts.{texts_in}
 use Rattle.city_cut.specs.declared.cuts.CutTexts.{CutTexts}
 use Rattle.city_feature.specs.Values.{header_value}
