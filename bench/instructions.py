@@ -10,25 +10,26 @@ from measured import (
 from running import counted, dominant
 from streams import HEADER, elsewhere
 
-# The most that is wanted for each input byte.
+# The most that is wanted for each input byte: some tenth more than was counted on 29 November 2026, so that a fast way that
+# no longer answers shows, which no proof does.
 MOST = {
-    (BUILDINGS, ()): 12,
-    (BUILDINGS, BY_TYPES): 12,
-    (BUILDINGS, BY_BOX): 15,
-    (HOUSES, ()): 16,
-    (HOUSES, BY_TYPES): 16,
-    (HOUSES, BY_BOX): 18,
-    (TINY, ()): 25,
-    (TINY, BY_TYPES): 28,
-    (TINY, BY_BOX): 28,
-    (WIDE, ()): 16,
-    (REGISTER, ()): 16,
-    (YEARLY, ()): 16,
-    (SPACED, ()): 22,
-    (ESCAPED, ()): 30,
-    (MINUS_ZERO, ()): 22,
-    (ONE_LINE, ()): 13,
-    (MOVED, ()): 20,
+    (BUILDINGS, ()): 7.3,
+    (BUILDINGS, BY_TYPES): 7.4,
+    (BUILDINGS, BY_BOX): 10.3,
+    (HOUSES, ()): 10.4,
+    (HOUSES, BY_TYPES): 10.5,
+    (HOUSES, BY_BOX): 12.7,
+    (TINY, ()): 17,
+    (TINY, BY_TYPES): 19.3,
+    (TINY, BY_BOX): 19.3,
+    (WIDE, ()): 9.5,
+    (REGISTER, ()): 11.3,
+    (YEARLY, ()): 7.4,
+    (SPACED, ()): 19,
+    (ESCAPED, ()): 21.6,
+    (MINUS_ZERO, ()): 19,
+    (ONE_LINE, ()): 7.2,
+    (MOVED, ()): 16.9,
 }
 
 
@@ -46,14 +47,14 @@ def measure(bench, name, path, options, words=None):
     if found is None:
         return
     most = MOST.get((name, options))
-    wanted = "" if most is None else "wanted: at most %d" % most
+    wanted = "" if most is None else "wanted: at most %g" % most
     bench.say(("  %-38s %-32s %6.1f   %s" % (name, " ".join(options), found, wanted)).rstrip())
     bench.tell(name, "instructions", "%.1f" % found)
     if bench.options.functions:
         show_functions(bench, os.path.getsize(path))
     if most is not None and found > most:
         name = " ".join((name, *options))
-        bench.fail("%s: %.1f instructions for each byte, wanted: at most %d" % (name, found, most))
+        bench.fail("%s: %.1f instructions for each byte, wanted: at most %g" % (name, found, most))
 
 
 def measure_merge(bench):

@@ -4,8 +4,8 @@ from streams import buildings, escaped, minus_zero, one_line, spaced, tiny, wide
 from town import houses, register
 
 BUILDINGS, TINY, HOUSES = "building tiles", "tiny features, 200 bytes a line", "town houses, mixed attributes"
-WIDE, REGISTER = "features with 300 attributes", "features with 60 mixed attributes"
-YEARLY = "features with 100 attributes, a year in each name"
+WIDE, REGISTER = "300 attributes", "60 mixed attributes"
+YEARLY = "100 attributes, a year in each name"
 SPACED, ESCAPED = "a blank after each comma and colon", "names and texts with escapes"
 MINUS_ZERO, ONE_LINE = "building tiles, a -0 in each", "one long line"
 MEASURED = {

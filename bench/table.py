@@ -2,6 +2,7 @@
 
 import os
 
+from speed import SHORTER
 from threads import LARGER
 
 README = os.path.join(os.path.dirname(os.path.dirname(os.path.abspath(__file__))), "README.md")
@@ -25,10 +26,13 @@ def rows(figures):
 def text(bench):
     options = bench.options
     yield (
-        "MB/s of `filter` by processor time, the best of %d runs on %d processors at a load of %.1f: %g MB of building "
-        "tiles and of one long line, a fifth of that of the other streams; beside it the instructions for each input "
-        "byte, of %g MB. Merges are of %g MB of building tiles, each vertex moved, by the clock."
-        % (options.rounds, os.cpu_count(), bench.load, options.size, options.small, LARGER * options.size)
+        "MB/s of `filter` by processor time, the best of %d runs on %d processors at a load of %.1f, on %g MB of building "
+        "tiles and of one long line, %g MB of the others; beside it instructions an input byte, on %g MB. Merges are of "
+        "%g MB of building tiles, each vertex moved, by the clock."
+        % (
+            options.rounds, os.cpu_count(), bench.load, options.size, options.size / SHORTER, options.small,
+            LARGER * options.size,
+        )
     )
     yield ""
     yield from rows(bench.figures)
