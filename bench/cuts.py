@@ -12,9 +12,10 @@ from documents import FACES, HEAD, MEGA, buildings, listed, vertices
 from running import Run, counted
 from streams import attributes
 
-# The most instructions for each byte of a document, and the peak memory at most, in times of the document: of one
+# The most instructions for each byte of a document, some tenth more than was counted on 29 November 2026 of the dearest,
+# and the peak memory at most, in times of the document: of one
 # whose vertices are written as they stand, and of one whose vertices are written anew.
-BOUNDS, BOUNDS_ANEW = (36, 2.35), (39, 2.5)
+BOUNDS, BOUNDS_ANEW = (29.5, 2.35), (32.5, 2.5)
 # The size of a document whose peak is measured.
 LARGE = 20 * MEGA
 SURFACES = '[{"type":"GroundSurface"},{"type":"RoofSurface","slope":%d},{"type":"WallSurface"}]'
@@ -127,7 +128,7 @@ def hold(bench, name, found, peak, bounds):
     """Both are within their bounds."""
     most, most_peak = bounds
     if found is not None and found > most:
-        bench.fail("cat of %s: %.1f instructions for each byte, wanted: at most %d" % (name, found, most))
+        bench.fail("cat of %s: %.1f instructions for each byte, wanted: at most %g" % (name, found, most))
     if peak > most_peak:
         bench.fail("cat of %s: %.2f times the document in memory, wanted: at most %.2f" % (name, peak, most_peak))
 
