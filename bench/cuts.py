@@ -13,8 +13,8 @@ from running import Run, counted
 from streams import attributes
 
 # The most instructions for each byte of a document, some tenth more than was counted on 29 November 2026 of the dearest,
-# and the peak memory at most, in times of the document: of one
-# whose vertices are written as they stand, and of one whose vertices are written anew.
+# and the peak memory at most, in times of the document: of one whose vertices are written as they stand, and of one whose
+# vertices are written anew.
 BOUNDS, BOUNDS_ANEW = (29.5, 2.35), (32.5, 2.5)
 # The size of a document whose peak is measured.
 LARGE = 20 * MEGA
