@@ -1,6 +1,6 @@
 # The short commands. `make` alone prints those for users; docs/CONTRIBUTING.md has the others.
 
-.PHONY: help build check demo install uninstall dist test contracts program-test install-test docs-test compile-test torture bench clean
+.PHONY: help build check demo install uninstall dist test store-times contracts program-test install-test docs-test compile-test torture bench clean
 
 help:
 	@echo 'citymerge: merges, filters and makes streams of 3D city features (CityJSONSeq)'
@@ -67,6 +67,11 @@ torture: build
 # The documents, what must not compile, the gate, and the program that the gate built, at its edges.
 test:
 	@tools/gate.sh
+
+# What the last `make test` took, where it began from nothing, becomes what tools/gate.tsv says.
+store-times:
+	@tools/need.sh python3
+	@python3 tools/times.py store build/gate.tsv tools/gate.tsv
 
 # PREFIX is where the programs, their manual pages, completions and documents go.
 PREFIX = /usr/local

@@ -159,15 +159,14 @@ def said_sizes(path):
 
 
 def shim():
-    """These sizes stand in a C file, in the library that crates of tests use, and in tests of the program, which uses
-    none but its own."""
+    """These sizes stand in a C file, and in the library that crates of tests use."""
     shim = "tools/torture/refuse.c"
     wanted = said_sizes(shim)
     if [name for name, _ in wanted] != ["GIVE", "TAKE"]:
         yield shim + " does not say TAKE and GIVE once each"
-    for path in ("crates/growth_support/src/lib.rt", "crates/citymerge/src/growths/memory.rt"):
-        if said_sizes(path) != wanted:
-            yield "TAKE and GIVE of %s are not those of %s" % (path, shim)
+    path = "crates/growth_support/src/lib.rt"
+    if said_sizes(path) != wanted:
+        yield "TAKE and GIVE of %s are not those of %s" % (path, shim)
 
 
 def main():

@@ -32,8 +32,9 @@ import runs
 # No run of a test takes this long, in seconds, unless it hangs.
 LONG = 60
 
-# The crates with such tests, and what the names of these begin with.
-CRATES = {"growth_tests": "", "stream_growth_tests": "", "citymerge": "growths::"}
+# The crates with such tests, whose names begin with `GROWTHS`.
+CRATES = ("city_cut_tests", "tile_merge_tests", "command_runs_tests")
+GROWTHS = "growths::"
 
 # How a test says that a call answered want of memory, and where the sources name such calls.
 SAID = re.compile(rb"^wanted memory: (.*)$", re.MULTILINE)
@@ -123,7 +124,7 @@ def tests_of(crate):
     program = os.path.join(model.ROOT, "crates", crate, "out", crate + "_tests")
     listed = subprocess.run([program, "--list"], stdout=subprocess.PIPE, check=True).stdout.decode()
     names = re.findall(r"^(.*): test$", listed, re.MULTILINE)
-    return [Test(program, name) for name in names if name.startswith(CRATES[crate])]
+    return [Test(program, name) for name in names if name.startswith(GROWTHS)]
 
 
 def named_in(crate):
@@ -139,7 +140,7 @@ def never_wanted(crates, wanted):
 
 def options_of(words):
     parser = argparse.ArgumentParser(description=__doc__.partition("\n")[0])
-    parser.add_argument("crates", nargs="*", default=list(CRATES), metavar="CRATE", help="by default all that have such tests")
+    parser.add_argument("crates", nargs="*", default=CRATES, metavar="CRATE", help="by default all that have such tests")
     parser.add_argument("--jobs", type=int, default=os.cpu_count(), help="how many processes at once")
     parser.add_argument("--keep", default=os.path.join(model.ROOT, "build", "growths"), help="where the runs have their files")
     return parser.parse_args(words)

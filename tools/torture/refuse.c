@@ -27,8 +27,7 @@
 enum kind { MEMORY, READ, WRITE, SAY, OPEN, THREAD, MAP, KINDS };
 enum way { FAIL, SHORT, NONE, INTERRUPT, WAYS };
 
-/* In bytes, as in lib.rt of crates/growth_support and memory.rt of crates/citymerge/src/growths: tools/docs_test.py
-   compares them. */
+/* In bytes, as in lib.rt of crates/growth_support: tools/docs_test.py compares them. */
 #define TAKE 7777777
 #define GIVE 7777779
 

@@ -229,10 +229,19 @@ impl OwnTexts {
 }
 
 /// The texts of features, in order, without newlines.
-#[derive(Debug, Drop)]
+#[derive(Debug)]
 pub struct FeatureTexts {
     own: OwnTexts,
     common: Line,
+}
+
+impl Drop for FeatureTexts {
+    fn drop(self) {
+        let FeatureTexts {
+            own: _own,
+            common: _common,
+        } = self;
+    }
 }
 
 impl Model for FeatureTexts {

@@ -1,5 +1,6 @@
-//! Tests of `city_cut` by its public calls. There is no code but these tests, so that the crate whose
-//! code they run is not proved once more with them.
+//! Tests of `city_cut` by its public calls, and, where memory is refused, of those of the crates below it and of
+//! `command_line` (`growths`). There is no code but these tests, so that the crates whose code they run are not proved
+//! once more with them.
 #![tactic(auto)]
 
 #[cfg(test)]
@@ -10,6 +11,8 @@ mod families;
 mod faults;
 #[cfg(test)]
 mod geometries;
+#[cfg(test)]
+mod growths;
 #[cfg(test)]
 mod moving;
 #[cfg(test)]

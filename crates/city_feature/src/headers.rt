@@ -12,10 +12,19 @@ use std::marker::Model;
 
 /// A header: the CityJSON object in the first line of a stream, with its transform (CityJSON 2.0,
 /// CityJSON Object).
-#[derive(Debug, Drop)]
+#[derive(Debug)]
 pub struct Header {
     json: Json,
     transform: Transform,
+}
+
+impl Drop for Header {
+    fn drop(self) {
+        let Header {
+            json: _json,
+            transform: _transform,
+        } = self;
+    }
 }
 
 impl Model for Header {

@@ -17,6 +17,7 @@ pub mod GivenTexts
 pub mod HeldNames
 pub mod HiddenString
 pub mod ItemsGoOn
+pub mod LineParts
 pub mod ListEnds
 pub mod Marks
 pub mod MemberEnds

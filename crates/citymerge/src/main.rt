@@ -1,25 +1,8 @@
 //! `citymerge`: merges, filters and makes streams of CityJSON features.
 #![tactic(auto)]
 
-mod answering;
-mod cat;
-mod fault_line;
-#[cfg(test)]
-mod growths;
-mod output;
-mod report;
-mod run;
-#[cfg(test)]
-mod tests;
-mod tiles;
-mod words;
-
-use crate::answering::answer;
-use crate::output::buffered;
-use crate::report::report_fault;
-use crate::tiles::SystemFiles;
-use crate::words::parse_args;
 use byte_streams::{Device, MergeFault};
+use command_runs::{SystemFiles, answer, buffered, parse_args, report_fault};
 use std::env;
 use std::process::ExitCode;
 

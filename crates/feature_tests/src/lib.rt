@@ -1,5 +1,5 @@
-//! Tests of `city_feature` by its public calls. There is no code but these tests, so that the crate whose
-//! code they run is not proved once more with them.
+//! Tests of `city_grid` and `city_feature` by their public calls. There is no code but these tests, so that the crates
+//! whose code they run are not proved once more with them.
 #![tactic(auto)]
 
 #[cfg(test)]
@@ -14,6 +14,8 @@ mod ended;
 mod faults;
 #[cfg(test)]
 mod generated;
+#[cfg(test)]
+mod grid;
 #[cfg(test)]
 mod headers;
 #[cfg(test)]

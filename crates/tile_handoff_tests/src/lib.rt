@@ -1,8 +1,10 @@
-//! Tests of `tile_handoff` by its public calls. There is no code but these tests, so that the crate whose
-//! code they run is not proved once more with them. What rows, queues and ends answer call by call is tested in
-//! `stream_growth_tests`, with ample memory and with memory refused.
+//! Tests of `byte_streams` and `tile_handoff` by their public calls. There is no code but these tests, so that the crates
+//! whose code they run are not proved once more with them. What rows, queues and ends answer call by call is tested in
+//! `tile_merge_tests`, with ample memory and with memory refused.
 #![tactic(auto)]
 
+#[cfg(test)]
+mod bytes;
 #[cfg(test)]
 mod rings;
 #[cfg(test)]

@@ -86,6 +86,11 @@ module _ {X : Type 0} (line : X → ℕ) (P : ℕ → Type 0) where
       let numbers : map (λ (h : HeadedTile). h.held.line) heads ≡ map line items = cc same in
       one_later head heads place P (at_place heads items numbers place some)
 
+-- a tile has no head, or memory ran out
+pub no_heads : {A B C : Type 0} → A ⊎ C → A ⊎ (B ⊎ C)
+no_heads (inl headless) = inl headless
+no_heads (inr memory) = inr (inr memory)
+
 -- a refusal of joining, at the line of the tile's header
 module _ {R : Type 0} (gives : Giving R) (base : Base) (readers : List R) (tiles : List (OpenState R))
     (headers : List HeaderValue) (opened : AllThree (IsOpened gives) readers tiles headers) where

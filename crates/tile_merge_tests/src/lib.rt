@@ -1,5 +1,5 @@
 //! Tests of what merges several tiles, and of tiles that begin with a document, with whole streams in and
-//! out. There is no code but these tests, so that the crates whose code they run are not proved once more
+//! out; and of the public calls of streams where memory is refused (`growths`). There is no code but these tests, so that the crates whose code they run are not proved once more
 //! with them.
 #![tactic(auto)]
 
@@ -11,6 +11,8 @@ mod devices;
 mod documents;
 #[cfg(test)]
 mod faults;
+#[cfg(test)]
+mod growths;
 #[cfg(test)]
 mod headers;
 #[cfg(test)]

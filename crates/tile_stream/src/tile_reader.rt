@@ -31,12 +31,22 @@ use std::mem;
 
 /// A tile that is being read: first its header is taken; then, where its first line is a document, the
 /// texts of the features that are cut from it, at once; then those of the lines after it, one by one.
-#[derive(Debug, Drop)]
+#[derive(Debug)]
 pub struct TileReader<R> {
     lines: Lines<R>,
     held: Held,
     // memory that goes round
     workspace: Workspace,
+}
+
+impl<R: Drop> Drop for TileReader<R> {
+    fn drop(self) {
+        let TileReader {
+            lines: _lines,
+            held: _held,
+            workspace: _workspace,
+        } = self;
+    }
 }
 
 /// What the next line of a tile came to: the text of its feature, or, where that is not chosen,

@@ -370,7 +370,7 @@ fn keep_chosen(roots: &mut Vec<usize>, chosen: &[bool])
 }
 
 /// The texts of a document's features, each up to its vertices, which are made when they are written.
-#[derive(Debug, Drop)]
+#[derive(Debug)]
 pub(crate) struct MadeTexts {
     skeletons: Skeletons,
     vertices: Vertices,
@@ -378,6 +378,19 @@ pub(crate) struct MadeTexts {
     roots: Vec<usize>,
     family: Roster,
     order: Roster,
+}
+
+impl Drop for MadeTexts {
+    fn drop(self) {
+        let MadeTexts {
+            skeletons: _skeletons,
+            vertices: _vertices,
+            graph: _graph,
+            roots: _roots,
+            family: _family,
+            order: _order,
+        } = self;
+    }
 }
 
 impl Model for MadeTexts {

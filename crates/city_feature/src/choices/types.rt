@@ -1,5 +1,5 @@
 //! The types that features are to have, read from the text of an option.
-ghost use Rattle.std.specs.Prelude.{◌≡◌, ◌↔◌, IfOk, IfErr, IfSome, IsTrue};
+ghost use Rattle.std.specs.Prelude.{◌≡◌, ◌↔◌, ◌++◌, ◌∷◌, [], IfOk, IfErr, IfSome, IsTrue, OnOk};
 ghost use Rattle.city_feature.specs.Choice.{names_between_commas, HasEmptyName};
 
 use byte_streams::{Fault, Sequence};
@@ -13,6 +13,15 @@ fn has_empty_name(text: &str) -> bool
     ensures { IsTrue result ↔ HasEmptyName text.now }
 {
     text.split(',').any(|name| name.is_empty())
+}
+
+/// Lists one more name. The only fault is [`Fault::Memory`].
+fn list_name(alloc: Global, name: &str, names: &mut Vec<Str>) -> Result<(), Fault>
+    ensures ok { OnOk result (names.new.items ≡ names.old.items ++ name.now ∷ []) }
+    ensures fault { IfErr result (λ fault. fault ≡ Fault.Memory) }
+{
+    names.push(Str::read(alloc, name)?)?;
+    Ok(())
 }
 
 /// The names between the commas of a text; none where one has no characters.
@@ -31,7 +40,7 @@ pub fn types(alloc: Global, text: &str) -> Result<Option<Types>, Fault>
     }
     let mut names = Vec::new(alloc);
     for name in text.split(',') {
-        names.push(Str::read(alloc, name)?)?;
+        list_name(alloc, name, &mut names)?;
     }
     Ok(Some(Sequence::from_vec(names)))
 }
@@ -44,7 +53,7 @@ pub fn copied(alloc: Global, types: &Types) -> Result<Types, Fault>
     let names = types.items();
     let mut copies = Vec::with_capacity(alloc, names.len())?;
     for name in names {
-        copies.push(Str::read(alloc, name.as_str())?)?;
+        list_name(alloc, name.as_str(), &mut copies)?;
     }
     Ok(Sequence::from_vec(copies))
 }

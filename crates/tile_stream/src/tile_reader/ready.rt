@@ -98,9 +98,15 @@ enum GivenTexts {
 
 /// The texts of those features of a first line that are chosen, moved, in their order. Where objects belong to several of
 /// them, each is made when it is written.
-#[derive(Debug, Drop)]
+#[derive(Debug)]
 pub struct ReadyTexts {
     texts: GivenTexts,
+}
+
+impl Drop for ReadyTexts {
+    fn drop(self) {
+        let ReadyTexts { texts: _texts } = self;
+    }
 }
 
 impl Model for ReadyTexts {

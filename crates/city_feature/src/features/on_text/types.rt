@@ -4,7 +4,7 @@ ghost use Rattle.city_json.specs.Bytes.{colon, quotation_mark};
 ghost use Rattle.city_json.specs.Compact.{quoted};
 ghost use Rattle.city_json.specs.Fits.{Fits};
 ghost use Rattle.city_json.specs.Members.{first_named, member_of};
-ghost use Rattle.city_json.specs.Tree.{Tree, MemberTrees, null, object, string};
+ghost use Rattle.city_json.specs.Tree.{Tree, MemberTrees, null, object, string, tree};
 ghost use Rattle.city_feature.specs.Choice.{HasType};
 ghost use Rattle.city_feature.specs.Quick.{AreLetters, IsLetter, IsLine};
 ghost use Rattle.city_feature.specs.Shapes.{IsText, IsThere, member_in};
@@ -134,6 +134,17 @@ fn is_one_of(types: &Types, name: &[u8]) -> bool
         .any(|each| each.as_str().as_bytes() == name)
 }
 
+/// Whether a text is one of the types. `None`: the value is no text.
+fn is_text_of(types: &Types, value: &Json) -> Option<bool>
+    ensures { IfSome result (λ is. (name : List ℕ) × (tree value.now ≡ string name)
+        × (IsTrue is ↔ Contains types.now name)) }
+{
+    let Json::Text(name) = value else {
+        return None;
+    };
+    Some(is_one_of(types, name.as_str().as_bytes()))
+}
+
 /// Whether the value whose compact text this is is one of the types; one that is no text is none. `None`: undecided.
 #[inline(never)]
 fn spells_one_of(alloc: Global, types: &Types, text: &[u8]) -> Option<bool>
@@ -146,11 +157,10 @@ fn spells_one_of(alloc: Global, types: &Types, text: &[u8]) -> Option<bool>
     if let Some(name) = letters_of(&text[1..]) {
         return Some(is_one_of(types, name));
     }
-    let value = read(alloc, text).ok()?;
-    let Json::Text(name) = &value else {
+    let Ok(value) = read(alloc, text) else {
         return None;
     };
-    Some(is_one_of(types, name.as_str().as_bytes()))
+    is_text_of(types, &value)
 }
 
 /// Whether the feature of a line has one of the types, where there are any. `None`: undecided, which a line that fits is

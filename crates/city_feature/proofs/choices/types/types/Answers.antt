@@ -16,18 +16,17 @@ returns-clause-some c =
     let end = YieldsList-end parts c.loop-name.yielded _ c.loop-name.yielded_by _ _ c.in-None.is c.next.ensures.steps in
     c.from_vec.ensures ∙ c.loop-name.invariant ∙ end.0
 
-names_more : (names pushed : List (List ℕ)) (text : List ℕ) (lent : List (Bor (List ℕ))) (name : Bor (List ℕ))
-    → pushed ≡ names ++ text ∷ [] → text ≡ name.now → names ≡ map (λ each. each.now) lent
-    → pushed ≡ map (λ each. each.now) (lent ++ name ∷ [])
-names_more names pushed text lent name is text_is names_are =
-    is ∙ (ap (λ t. names ++ t ∷ []) text_is ∙ (ap (λ l. l ++ name.now ∷ []) names_are
-    ∙ sym (map-append (λ (each : Bor (List ℕ)). each.now) lent (name ∷ []))))
+names_more : (names more : List (List ℕ)) (lent : List (Bor (List ℕ))) (name : Bor (List ℕ))
+    → more ≡ names ++ name.now ∷ [] → names ≡ map (λ each. each.now) lent
+    → more ≡ map (λ each. each.now) (lent ++ name ∷ [])
+names_more names more lent name is names_are =
+    is ∙ (ap (λ l. l ++ name.now ∷ []) names_are
+    ∙ sym (map-append (λ (each : Bor (List ℕ)). each.now) lent (name ∷ [])))
 
 pub loop-name-preserved : goal.loop-name-preserved
 loop-name-preserved c =
-    let loop = c.loop-name in
-    names_more loop.names.items c.push.new.self.items _ loop.yielded c.in-Some.name c.in_ok-push.ensures.items
-    c.in_ok-read.ensures.ok loop.invariant
+    names_more c.loop-name.names.items c.list_name.new.names.items c.loop-name.yielded c.in-Some.name
+    c.in_ok-list_name.ensures.ok c.loop-name.invariant
 
 pub returns-then-has_empty_name-clause-none : goal.returns-then-has_empty_name-clause-none
 returns-then-has_empty_name-clause-none c =

@@ -1,4 +1,5 @@
 use Rattle.std.proofs.Common.{◌∙◌, ◌||◌, refl, ap, arith}
+use Rattle.byte_streams.specs.Failures.{one_more}
 use Rattle.city_feature.specs.Choice.{IsChosen}
 use Rattle.tile_merge.proofs.Turning.{round_start, round_end, turn_some, turn_taken, turn_stopped}
 use Rattle.tile_merge.proofs.merging.in_turn.write_round.Goals as goal
@@ -17,12 +18,16 @@ write_next-requires g c =
     c.tiles.any (g.W.Sink.taken c.tiles.output) c.tiles.invariant.so_far
     (omega (arith, c.tiles-test.true, c.tiles.auto.feeds)) c.requires c.feed-item.result
 
-pub returns-in-Err-clause-failed : goal.returns-in-Err-clause-failed
-returns-in-Err-clause-failed g c =
-    turn_stopped g.R.Source.gives (IsChosen c.args.choice.now) c.args.feeds.now (g.W.Sink.taken c.args.output.now)
-    c.tiles.feeds c.tiles.feed-index c.tiles.any (g.W.Sink.taken c.tiles.output) c.tiles.invariant.so_far
-    (omega (arith, c.tiles-test.true, c.tiles.auto.feeds)) c.feed-item.result c.requires
-    (g.W.Sink.taken c.write_next.new.output) c.in-Err.ensures.failed
+pub returns-in-Err : goal.returns-in-Err
+returns-in-Err g c = record {
+  ok = tt;
+  failed = turn_stopped g.R.Source.gives (IsChosen c.args.choice.now) c.args.feeds.now
+      (g.W.Sink.taken c.args.output.now) c.tiles.feeds c.tiles.feed-index c.tiles.any (g.W.Sink.taken c.tiles.output)
+      c.tiles.invariant.so_far (omega (arith, c.tiles-test.true, c.tiles.auto.feeds)) c.feed-item.result c.requires
+      (g.W.Sink.taken c.write_next.new.output) c.in-Err.ensures.failed;
+  fault = c.in-Err.ensures.fault;
+  failures = c.in-Err.ensures.failures ∙ ap one_more c.tiles.invariant.failures;
+}
 
 pub tiles-preserved : goal.tiles-preserved
 tiles-preserved g c =
@@ -37,9 +42,12 @@ tiles-preserved g c =
       failures = c.in-Ok.ensures.failures ∙ c.tiles.invariant.failures;
     }
 
-pub returns-clause-ok : goal.returns-clause-ok
-returns-clause-ok g c =
-    let old = g.W.Sink.taken c.args.output.now in
-    round_end g.R.Source.gives (IsChosen c.args.choice.now) c.args.feeds.now old c.tiles.feeds c.tiles.feed-index
-    c.tiles.any (g.W.Sink.taken c.tiles.output) c.tiles.invariant.so_far
-    (omega (arith, c.tiles-test.false, c.tiles.auto.feeds))
+pub returns : goal.returns
+returns g c = record {
+  ok = round_end g.R.Source.gives (IsChosen c.args.choice.now) c.args.feeds.now (g.W.Sink.taken c.args.output.now)
+      c.tiles.feeds c.tiles.feed-index c.tiles.any (g.W.Sink.taken c.tiles.output) c.tiles.invariant.so_far
+      (omega (arith, c.tiles-test.false, c.tiles.auto.feeds));
+  failed = tt;
+  fault = tt;
+  failures = c.tiles.invariant.failures;
+}

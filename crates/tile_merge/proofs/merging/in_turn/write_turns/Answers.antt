@@ -1,4 +1,5 @@
-use Rattle.std.proofs.Common.{◌∙◌, refl}
+use Rattle.std.proofs.Common.{◌∙◌, refl, ap}
+use Rattle.byte_streams.specs.Failures.{one_more}
 use Rattle.city_feature.specs.Choice.{IsChosen}
 use Rattle.tile_merge.proofs.Rounding.{turns_start, turns_on, turns_smaller, turns_over, turns_failed}
 use Rattle.tile_merge.proofs.merging.in_turn.write_turns.Goals as goal
@@ -27,16 +28,29 @@ rounds-preserved g c =
       failures = c.in-Ok-true.ensures.failures ∙ c.rounds.invariant.failures;
     }
 
-pub returns-in-Ok-false-clause-ok : goal.returns-in-Ok-false-clause-ok
-returns-in-Ok-false-clause-ok g c =
-    let old = g.W.Sink.taken c.args.output.now in
-    turns_over g.R.Source.gives (IsChosen c.args.choice.now) c.args.feeds.now old c.rounds.feeds
-    (g.W.Sink.taken c.rounds.output) c.rounds.invariant.so_far c.write_round.new.feeds c.in-Ok-false.field-0
-    (g.W.Sink.taken c.write_round.new.output) c.in-Ok-false.ensures.ok c.in-Ok-false.field-0-test
+pub write_round-requires : goal.write_round-requires
+write_round-requires g c = c.rounds.invariant.so_far.some
 
-pub returns-in-Err-clause-failed : goal.returns-in-Err-clause-failed
-returns-in-Err-clause-failed g c =
+pub returns-in-Ok-false : goal.returns-in-Ok-false
+returns-in-Ok-false g c =
     let old = g.W.Sink.taken c.args.output.now in
-    turns_failed g.R.Source.gives (IsChosen c.args.choice.now) c.args.feeds.now old c.rounds.feeds
-    (g.W.Sink.taken c.rounds.output) c.rounds.invariant.so_far (g.W.Sink.taken c.write_round.new.output)
-    c.in-Err.ensures.failed
+    record {
+      ok = turns_over g.R.Source.gives (IsChosen c.args.choice.now) c.args.feeds.now old c.rounds.feeds
+          (g.W.Sink.taken c.rounds.output) c.rounds.invariant.so_far c.write_round.new.feeds c.in-Ok-false.field-0
+          (g.W.Sink.taken c.write_round.new.output) c.in-Ok-false.ensures.ok c.in-Ok-false.field-0-test;
+      failed = tt;
+      fault = tt;
+      failures = c.in-Ok-false.ensures.failures ∙ c.rounds.invariant.failures;
+    }
+
+pub returns-in-Err : goal.returns-in-Err
+returns-in-Err g c =
+    let old = g.W.Sink.taken c.args.output.now in
+    record {
+      ok = tt;
+      failed = turns_failed g.R.Source.gives (IsChosen c.args.choice.now) c.args.feeds.now old c.rounds.feeds
+          (g.W.Sink.taken c.rounds.output) c.rounds.invariant.so_far (g.W.Sink.taken c.write_round.new.output)
+          c.in-Err.ensures.failed;
+      fault = c.in-Err.ensures.fault;
+      failures = c.in-Err.ensures.failures ∙ ap one_more c.rounds.invariant.failures;
+    }

@@ -1,5 +1,6 @@
-use Rattle.std.proofs.Common.{◌≡◌, ◌≤◌, ◌+◌, ◌∷◌, [], length, take, get_or, ap, sym, subst, ◌∙◌, arith, append_assoc}
+use Rattle.std.proofs.Common.{◌≡◌, ◌≤◌, ◌+◌, ◌∷◌, [], length, take, get_or, ap, inl, refl, sym, subst, ◌∙◌, arith, append_assoc}
 use Rattle.std.proofs.lemmas.List.{map-id}
+use Rattle.std.proofs.lemmas.Result.{err_from_is_err_and}
 use Rattle.std.proofs.lemmas.Iterator.Adapters.{YieldsList-from_vec}
 use Rattle.std.proofs.lemmas.Iterator.Consumers.{YieldsList-end}
 use Rattle.tile_merge.specs.Opened.{OpenState}
@@ -21,6 +22,14 @@ bounds-shifts-len g c =
     let within = is_longer tiles loop.yielded c.in-Some.tile _
     (goes_on tiles loop.yielded _ c.in-Some.tile _ loop.invariant.left c.in-Some.ensures.steps.0) in
     omega (arith, long.1, within, c.len-in-loop-tile.ensures, loop.running.ok.0, c.requires.shifts)
+
+pub offset_bounds-shifts-len : goal.offset_bounds-shifts-len
+offset_bounds-shifts-len g c = omega (arith, bounds-shifts-len g c, c.requires.few, c.requires.shifts)
+
+pub returns-in_err-running : goal.returns-in_err-running
+returns-in_err-running g c =
+    let e = err_from_is_err_and c.from_residual.result c.from_residual.ensures.1 in
+    rw (e.1, e.2) (record { ok = tt; long = tt; refused = inl refl })
 
 pub start_tile-requires-clause-most : goal.start_tile-requires-clause-most
 start_tile-requires-clause-most g c κs within =
@@ -60,8 +69,28 @@ loop-tile-preserved g c =
       left = are ∙ sym (append_assoc loop.yielded (tile ∷ []) c.next.new.self.rest.items);
     }
 
-pub returns-in-Err-clause-refused : goal.returns-in-Err-clause-refused
-returns-in-Err-clause-refused g c =
+pub overflow_cast-len : goal.overflow_cast-len
+overflow_cast-len g c =
+    let loop = c.loop-tile in
+    let tiles = c.args.tiles.items in
+    let long = all_three_long (IsRunOf g.R.Source.gives c.args.choice.now) loop.yielded (take (length loop.yielded) c.args.shifts.now)
+    loop.running.items loop.invariant.runs in
+    let within = is_longer tiles loop.yielded c.in-Some.tile _
+    (goes_on tiles loop.yielded _ c.in-Some.tile _ loop.invariant.left c.in-Some.ensures.steps.0) in
+    omega (arith, long.1, within, c.len-in-Err.ensures, loop.running.ok.0, c.requires.few)
+
+pub overflow_add-len : goal.overflow_add-len
+overflow_add-len g c =
+    let loop = c.loop-tile in
+    let tiles = c.args.tiles.items in
+    let long = all_three_long (IsRunOf g.R.Source.gives c.args.choice.now) loop.yielded (take (length loop.yielded) c.args.shifts.now)
+    loop.running.items loop.invariant.runs in
+    let within = is_longer tiles loop.yielded c.in-Some.tile _
+    (goes_on tiles loop.yielded _ c.in-Some.tile _ loop.invariant.left c.in-Some.ensures.steps.0) in
+    omega (arith, long.1, within, c.len-in-Err.ensures, loop.running.ok.0, c.requires.few)
+
+pub returns-in-Err : goal.returns-in-Err
+returns-in-Err g c =
     let loop = c.loop-tile in
     let tiles = c.args.tiles.items in
     let long = all_three_long (IsRunOf g.R.Source.gives c.args.choice.now) loop.yielded (take (length loop.yielded) c.args.shifts.now)
@@ -69,27 +98,28 @@ returns-in-Err-clause-refused g c =
     let within = is_longer tiles loop.yielded c.in-Some.tile _
     (goes_on tiles loop.yielded _ c.in-Some.tile _ loop.invariant.left c.in-Some.ensures.steps.0) in
     let told = c.refusal_at_start-refusal in
-    unstarted (length tiles) (c.len-in-Err.result + 1) (omega arith)
-    (omega (arith, long.1, within, c.len-in-Err.ensures, loop.running.ok.0)) c.in-Err.fault c.in-Err.ensures.refused
-    told.result told.ensures.thread told.ensures.memory
+    record {
+      ok = tt;
+      long = tt;
+      refused = unstarted (length tiles) (c.len-in-Err.result + 1) (omega arith)
+          (omega (arith, long.1, within, c.len-in-Err.ensures, loop.running.ok.0)) c.in-Err.fault
+          c.in-Err.ensures.refused told.result told.ensures.thread told.ensures.memory;
+    }
 
-pub returns-clause-long : goal.returns-clause-long
-returns-clause-long g c =
+pub returns : goal.returns
+returns g c =
     let loop = c.loop-tile in
+    let IsRun = IsRunOf g.R.Source.gives c.args.choice.now in
     let end = YieldsList-end (YieldsList-from_vec {s = c.into_iter-tile-iterator.result} c.args.tiles.items
     c.into_iter-tile-iterator.ensures.into_iter_gives.0
     (c.into_iter-tile-iterator.ensures.into_iter_gives.1 ∙ c.args.tiles.ok.0)) loop.yielded loop.tile-iterator
     loop.yielded_by c.next.result c.next.new.self c.in-None.is c.next.ensures.steps in
-    let long = all_three_long (IsRunOf g.R.Source.gives c.args.choice.now) loop.yielded (take (length loop.yielded) c.args.shifts.now)
-    loop.running.items loop.invariant.runs in
-    long.1 ∙ ap length (sym (map-id loop.yielded) ∙ end.0)
-
-pub returns-clause-ok : goal.returns-clause-ok
-returns-clause-ok g c =
-    let loop = c.loop-tile in
-    let end = YieldsList-end (YieldsList-from_vec {s = c.into_iter-tile-iterator.result} c.args.tiles.items
-    c.into_iter-tile-iterator.ensures.into_iter_gives.0
-    (c.into_iter-tile-iterator.ensures.into_iter_gives.1 ∙ c.args.tiles.ok.0)) loop.yielded loop.tile-iterator
-    loop.yielded_by c.next.result c.next.new.self c.in-None.is c.next.ensures.steps in
-    threes_all (IsRunOf g.R.Source.gives c.args.choice.now) c.args.tiles.items loop.yielded c.args.shifts.now loop.running.items
-    (sym (map-id loop.yielded) ∙ end.0) c.requires.shifts loop.invariant.runs
+    let whole = sym (map-id loop.yielded) ∙ end.0 in
+    let long = all_three_long IsRun loop.yielded (take (length loop.yielded) c.args.shifts.now) loop.running.items
+    loop.invariant.runs in
+    record {
+      ok = threes_all IsRun c.args.tiles.items loop.yielded c.args.shifts.now loop.running.items whole c.requires.shifts
+          loop.invariant.runs;
+      long = long.1 ∙ ap length whole;
+      refused = tt;
+    }

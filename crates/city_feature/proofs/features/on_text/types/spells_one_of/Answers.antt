@@ -1,5 +1,7 @@
-use Rattle.std.proofs.Common.{◌∙◌, refl, sym}
+use Rattle.std.proofs.Common.{◌≡◌, ◌∙◌, refl, sym}
 use Rattle.std.proofs.lemmas.List.{take_rest}
+use Rattle.city_json.specs.Tree.{tree}
+use Rattle.city_feature.proofs.NamedTexts.{if_some_more}
 use Rattle.city_feature.proofs.features.FirstTypes.{letters_spelled}
 use Rattle.city_feature.proofs.features.LineVertices.{not_both}
 use Rattle.city_feature.proofs.features.QuickTypes.{no_text, one_of}
@@ -21,3 +23,10 @@ returns-in-Some c = λ value of.
     (letters_spelled c.args.text.now name more value of.writable of.is within marked letters
     (sym (take_rest c.args.text.now 1) ∙ begins)) refl
     c.is_one_of.ensures
+
+pub returns : goal.returns
+returns c = if_some_more c.is_text_of.result (λ is told value of.
+    let (name, spelled, iff) = told in
+    let again : tree c.in-Ok.value ≡ value =
+    c.in-Ok.ensures.printed value of.writable (of.within, of.distinct) of.is in
+    one_of c.args.types.now value name name is (sym again ∙ spelled) refl iff) c.is_text_of.ensures
