@@ -10,11 +10,13 @@ Eleven parts, each of which can be left out:
   memory        the peak for 10 MB and for 100 MB of building tiles (1 GB with --giga), which must be the
                 same, and for one line of 64 MB
   instructions  executed for each input byte of these streams; they do not depend on the machine's load (valgrind)
-  merges        MB/s of `merge --in-turn` on four building tiles, beside `filter` on the same bytes; it must have no
-                less of the speed that the filter had at the start of the work on speed than it had then; and its
-                peak memory for tiles of 10 MB and of 100 MB each (1 GB with --giga), which must be the same
+  merges        MB/s of `merge --in-turn` on four building tiles, beside `filter` on the same bytes, and where all
+                vertices are moved beside one tile of them: it must have most of that speed; instructions for each
+                byte (valgrind); and its peak memory for tiles of 10 MB and of 100 MB each (1 GB with --giga), which
+                must be the same
   threads       MB/s by the clock of `merge` beside `merge --in-turn`, of four even tiles, of a large one beside
-                three small ones and of 64, and its peak memory, also where a slow reader takes the output
+                three small ones and of 64; where processors are free, which is tried by four filters at once, threads
+                must gain most of what these do; and its peak memory, also where a slow reader takes the output
   waiting       processor time while a tile gives nothing and while the output is read slowly; how soon a merge
                 ends once its output is gone, and how soon a feature of a live tile arrives
   hostile       time against size for worst-case texts; time to join headers whose extensions
@@ -27,8 +29,8 @@ Eleven parts, each of which can be left out:
                 apart, and how memory and time grow from 0.5 to 4 MB; where features share objects, from 50 to 200 kB
 
 Status 0: all is right. 1: an output is wrong, the peak memory grows with the stream or is above its bound for a
-worst case, a stream or a document takes more instructions than is wanted, a merge is too slow beside the filter, one
-that waits takes processor time or ends late, the time for a hostile shape does not grow about as its size, or headers
+worst case, a stream, a merge or a document takes more instructions than is wanted, a merge is too slow beside one
+tile, or gains too little from threads, one that waits takes processor time or ends late, the time for a hostile shape does not grow about as its size, or headers
 join slower for the names of their extensions. 2: the program is not there. A tool that is not there is named, and its part is left out.
 """
 

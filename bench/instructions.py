@@ -33,17 +33,17 @@ MOST = {
 }
 
 
-def each_byte(bench, words, path):
-    """The instructions for each byte of a stream, or None where the run went wrong."""
+def each_byte(bench, words, path, size):
+    """The instructions for each of so many bytes, or None where the run went wrong."""
     run, count = counted(words, path, bench.path("profile"))
     if run.status != 0 or count is None:
         bench.fail("under valgrind: " + run.trouble())
         return None
-    return count / os.path.getsize(path)
+    return count / size
 
 
 def measure(bench, name, path, options, words=None):
-    found = each_byte(bench, words or [*bench.filter, *options], path)
+    found = each_byte(bench, words or [*bench.filter, *options], path, os.path.getsize(path))
     if found is None:
         return
     most = MOST.get((name, options))

@@ -1,28 +1,33 @@
-"""Is a merge in turn as fast as the filter on the same bytes, and does its memory stay the same?
+"""Is a merge in turn nearly as fast as one tile of the same lines, how many instructions does it take, and does its memory
+stay the same?
 
-The tiles are building tiles with one header, or with headers whose translations differ, so that each
-vertex is moved. The filter gets the lines of tiles with one header in the order of the merge, so that
-both have the same output.
+The tiles are building tiles with one header, or with headers whose translations differ from that of a first tile without
+features, so that each vertex is moved. Beside them stand a filter of the lines of tiles with one header in the order of the
+merge, so that both have the same output, and a merge of one tile of these lines whose vertices are all moved, too.
 """
 
 import itertools
 import os
+import shutil
+import statistics
 
+from instructions import each_byte
 from running import Run
-from speed import MEGA, best_processor, show
+from speed import MEGA, show
 from streams import HEADER, buildings
 
 TILES = 4
-# What a merge of tiles with one header had of the filter's speed at the start of the work on speed, which docs/PERF.md
-# names. No less is wanted of it now, of the speed that the filter had then: it has since become faster by this factor.
-SHARE_AT_START = 0.96
-FILTER_GAIN = 1.65
 # By so much may the peak for longer tiles be above that for shorter ones: the texts that are held of each
 # may be longer.
 MAX_MORE = 2 * MEGA
 FILTER = "filter"
 MERGE = "merge --in-turn"
+ONE_MOVED = "one tile, moved"
 MOVING = "tiles far apart"
+# What a merge has at least of the speed of one tile, in the median of the turns, by processor time.
+LEAST_SHARES = {MERGE: (FILTER, 0.7), MOVING: (ONE_MOVED, 0.7)}
+# The most instructions for each byte: some tenth more than was counted on 30 November 2026.
+MOST_INSTRUCTIONS = {MERGE: 8.5, MOVING: 17.2}
 
 
 def features(bench, number, size):
@@ -43,9 +48,9 @@ def tiles(bench, name, size, header):
     ]
 
 
-def in_turn(bench, size):
+def in_turn(bench, size, header=HEADER):
     """The lines of the tiles with one header, as a merge writes them."""
-    yield HEADER
+    yield header
     rounds = itertools.zip_longest(*[features(bench, number, size / TILES) for number in range(TILES)])
     for lines in rounds:
         for line in lines:
@@ -77,33 +82,63 @@ def right(bench, near, stream):
         os.remove(target)
 
 
+class Streams:
+    """The tiles, and the streams that stand beside them, of so many bytes."""
+
+    def __init__(self, bench, size):
+        self.near = tiles(bench, "near", size, lambda number: HEADER)
+        self.apart = tiles(bench, "apart", size, lambda number: far(number + 1))
+        self.stream = bench.write("stream", in_turn(bench, size))
+        self.moved = bench.write("moved", in_turn(bench, size, far(1)))
+        self.first = bench.write("first", (HEADER,))
+        self.size = os.path.getsize(self.stream)
+
+    def programs(self, bench):
+        return {
+            FILTER: (bench.filter, self.stream),
+            MERGE: ([*bench.merge, *self.near], os.devnull),
+            ONE_MOVED: ([*bench.merge, self.first, self.moved], os.devnull),
+            MOVING: ([*bench.merge, self.first, *self.apart], os.devnull),
+        }
+
+    def remove(self):
+        for path in (*self.near, *self.apart, self.stream, self.moved, self.first):
+            os.remove(path)
+
+
+def share(runs, name, beside):
+    """What one has of the speed of the other, in the median of the turns."""
+    return statistics.median(other.processor / run.processor for run, other in zip(runs[name], runs[beside]))
+
+
 def speed(bench, megabytes):
-    size = megabytes * MEGA
-    stream = bench.write("stream", in_turn(bench, size))
-    near = tiles(bench, "near", size, lambda number: HEADER)
-    apart = tiles(bench, "apart", size, far)
-    right(bench, near, stream)
-    bench.say("  %d building tiles, together %.0f MB" % (TILES, os.path.getsize(stream) / MEGA))
-    runs = race(
-        bench,
-        {
-            FILTER: (bench.filter, stream),
-            MERGE: ([*bench.merge, *near], os.devnull),
-            MOVING: ([*bench.merge, *apart], os.devnull),
-        },
-    )
+    streams = Streams(bench, megabytes * MEGA)
+    right(bench, streams.near, streams.stream)
+    bench.say("  %d building tiles, together %.0f MB" % (TILES, streams.size / MEGA))
+    runs = race(bench, streams.programs(bench))
     for name, some in runs.items():
-        show(bench, name, some, os.path.getsize(stream))
-    for name in (MERGE, MOVING):
-        share = best_processor(runs[FILTER]) / best_processor(runs[name])
-        before = share * FILTER_GAIN
-        told = (name, share, before)
-        bench.say("    by processor time %s at %.2f of the filter's speed, %.2f of that at the start" % told)
-        if name == MERGE and before < SHARE_AT_START:
-            wanted = (name, before, SHARE_AT_START)
-            bench.fail("%s: %.2f of the speed that the filter had at the start, wanted: at least %.2f" % wanted)
-    for path in (stream, *near, *apart):
-        os.remove(path)
+        show(bench, name, some, streams.size)
+    for name, (beside, least) in LEAST_SHARES.items():
+        found = share(runs, name, beside)
+        bench.say("    by processor time %s at %.2f of the speed of %s" % (name, found, beside))
+        if found < least:
+            bench.fail("%s: %.2f of the speed of %s, wanted: at least %.2f" % (name, found, beside, least))
+    streams.remove()
+
+
+def instructions(bench, megabytes):
+    if not shutil.which("valgrind"):
+        bench.say("  missing: valgrind (apt-get install valgrind); left out")
+        return
+    streams = Streams(bench, megabytes * MEGA)
+    programs = streams.programs(bench)
+    for name, most in MOST_INSTRUCTIONS.items():
+        found = each_byte(bench, programs[name][0], os.devnull, streams.size)
+        if found is not None:
+            bench.say("  %-38s %6.1f   wanted: at most %g" % (name, found, most))
+            if found > most:
+                bench.fail("%s: %.1f instructions for each byte, wanted: at most %g" % (name, found, most))
+    streams.remove()
 
 
 def peak(bench, megabytes):
@@ -129,5 +164,7 @@ def memory(bench):
 def merges(bench):
     bench.say("How fast is a merge in turn? (%d runs of each in turn, the best)" % bench.options.rounds)
     speed(bench, bench.options.size)
+    bench.say("How many instructions for each byte? (%g MB)" % bench.options.small)
+    instructions(bench, bench.options.small)
     bench.say("How much memory does it take?")
     memory(bench)

@@ -14,9 +14,10 @@ from speed import MEGA
 
 # The tiles are so many times as large as those of a merge in turn, since a start takes some milliseconds.
 LARGER = 4
-# How many times as fast a merge with threads is to be, on so many cores that have nothing else to do.
-LEAST_GAIN = 2.5
-CORES = 4
+# The gain of threads is judged where as many filters at once as there are tiles are together so many times as fast as one
+# after another, which says how many processors are free; and it is to be at least this share of that.
+LEAST_FREE, LEAST_SHARE = 2, 0.6
+TILES = 4
 # What a slow reader of the output takes, in MB/s and at a time in bytes.
 SLOW = 16
 PIECE = 64 * 1024
@@ -24,8 +25,9 @@ PIECE = 64 * 1024
 TURNS, THREADS = "in turn", "with a thread for each tile"
 
 # The shares of the whole that the tiles have.
+JUDGED = "4 tiles"
 SHAPES = {
-    "4 tiles": [1 / 4] * 4,
+    JUDGED: [1 / TILES] * TILES,
     "1 large tile and 3 small ones": [0.85, 0.05, 0.05, 0.05],
     "64 tiles": [1 / 64] * 64,
 }
@@ -76,6 +78,26 @@ def gain(bench, name, paths):
     return times
 
 
+def opened(path):
+    """The file for each of as many filters as there are tiles."""
+    for _ in range(TILES):
+        with open(path, "rb") as given:
+            yield given
+
+
+def at_once(bench, path):
+    """How many times as fast as one after another as many filters at once as there are tiles get through this."""
+    one, all_of_them = [], []
+    for turn in range(bench.options.rounds):
+        one.append(Run(bench.filter, path).seconds)
+        began = time.monotonic()
+        children = [subprocess.Popen(bench.filter, stdin=given, stdout=subprocess.DEVNULL) for given in opened(path)]
+        for child in children:
+            child.wait()
+        all_of_them.append(time.monotonic() - began)
+    return TILES * min(one) / min(all_of_them)
+
+
 def slow_peak(bench, paths):
     """The peak memory while a slow reader takes the output, for some seconds."""
     child = subprocess.Popen([*bench.merge_threads, *paths], stdout=subprocess.PIPE, stderr=subprocess.DEVNULL)
@@ -95,7 +117,7 @@ def slow_peak(bench, paths):
 def memory(bench):
     most = []
     for megabytes in (10, 100):
-        paths = tiles(bench, megabytes * MEGA * CORES, SHAPES["4 tiles"])
+        paths = tiles(bench, megabytes * MEGA * TILES, SHAPES[JUDGED])
         peaks = {
             "": Run([*bench.merge_threads, *paths], os.devnull).peak,
             ", a slow reader": slow_peak(bench, paths),
@@ -109,15 +131,27 @@ def memory(bench):
         bench.fail("the peak memory of a merge with threads grows: %.1f and %.1f MB" % tuple(each / MEGA for each in most))
 
 
+def judge(bench, name, times, free):
+    """Threads are to gain something wherever there are processors for them."""
+    if free < LEAST_FREE:
+        bench.say("  %s: not judged, since %d filters at once are %.1f times as fast as one" % (name, TILES, free))
+    elif times < LEAST_SHARE * free:
+        wanted = (name, times, TILES, free, LEAST_SHARE * free)
+        bench.fail("%s: threads are %.2f times as fast, %d filters at once %.2f times; wanted: at least %.2f times" % wanted)
+
+
 def threads(bench):
     load, cores = os.getloadavg()[0], os.cpu_count()
     bench.say("How fast is a merge with a thread for each tile? (%d cores, a load of %.1f)" % (cores, load))
     for name, shares in SHAPES.items():
         paths = tiles(bench, LARGER * bench.options.size * MEGA, shares)
         right(bench, paths)
-        times = gain(bench, name, paths)
-        if name == "4 tiles" and times < LEAST_GAIN and cores >= CORES and load < 1:
-            bench.fail("%s: a merge with threads is %.2f times as fast, wanted: %.1f" % (name, times, LEAST_GAIN))
+        if name == JUDGED:
+            free = at_once(bench, paths[0])
+            bench.say("  %d filters at once are %.2f times as fast as one after another" % (TILES, free))
+            judge(bench, name, gain(bench, name, paths), free)
+        else:
+            gain(bench, name, paths)
         for path in paths:
             os.remove(path)
     bench.say("How much memory does it take?")

@@ -27,7 +27,7 @@ SMALL_SIZES = tuple(int(size * MEGA) for size in (0.05, 0.1, 0.2))
 
 # Peak memory in times of the input, as README.md states it: of a valid line and one at fault, of a valid document and one
 # at fault, of one that is nearly all header, of the headers of a merge, and of a document whose features share objects.
-LINE, REFUSED_LINE, DOCUMENT, REFUSED_DOCUMENT, OWN_HEADER, HEADERS, SHARED = 6, 7, 8.4, 9.4, 26.4, 26, 6.4
+LINE, REFUSED_LINE, DOCUMENT, REFUSED_DOCUMENT, OWN_HEADER, HEADERS, SHARED = 6, 7, 8.4, 10.3, 26.4, 26, 6.4
 
 # The peak, in times of the input, grows at most so much from the smallest size to the largest: tables that double give
 # up to 2, the square of the size would give 8.

@@ -1,7 +1,8 @@
 #!/bin/sh
 # Proves from nothing the crates that the program stands on: build_beside.sh JOBS. The longest chain of them is proved here
 # with so many jobs. While rt is at work on a crate, no other rt works on those below it; so what stands beside the chain is
-# proved with one job in a second checkout, build/beside, which is given what was proved here, and gives back what it proved.
+# proved with one job in a second checkout, build/beside, which is given what was proved here, while the chain goes on, and
+# gives back what it proved.
 set -u
 cd "$(dirname "$0")/.." || exit 1
 jobs=$1
@@ -20,31 +21,34 @@ prove() {
     return 1
 }
 
-# Gives the second checkout these crates, with what was proved of them.
-lend() {
-    for crate in "$@"; do
-        grep "^$crate:" crates.txt >>"$beside/crates.txt" && cp -R "crates/$crate" "$beside/crates/" || exit 1
+# Proves a crate in the second checkout, which is given it, and those below it that it has not yet, and takes it over:
+# prove_beside CRATE BELOW..
+prove_beside() {
+    proved=$1
+    shift
+    for crate in "$@" "$proved"; do
+        grep "^$crate:" crates.txt >>"$beside/crates.txt" && cp -R "crates/$crate" "$beside/crates/" || return 1
     done
-}
-
-# Proves the first crate here and the second one beside it, which it then takes over.
-prove_both() {
-    lend "$2"
-    prove "$beside" "$2" 1 build/beside.log &
-    other=$!
-    prove . "$1" "$jobs" build/build.log
-    here=$?
-    wait "$other" && [ "$here" -eq 0 ] || exit 1
-    cp -R "$beside/crates/$2/out" "crates/$2/" && return
-    rm -rf "crates/$2/out"
-    exit 1
+    prove "$beside" "$proved" 1 build/beside.log || return 1
+    cp -R "$beside/crates/$proved/out" "crates/$proved/" && return
+    rm -rf "crates/$proved/out"
+    return 1
 }
 
 : >build/beside.log
 prove . byte_streams "$jobs" build/build.log || exit 1
-lend byte_streams
-prove_both city_feature tile_handoff
-lend city_json city_grid city_feature
-prove_both tile_stream command_line
-lend city_cut tile_stream
-prove_both tile_merge document_stream
+prove_beside tile_handoff byte_streams &
+other=$!
+prove . city_feature "$jobs" build/build.log
+here=$?
+wait "$other" && [ "$here" -eq 0 ] || exit 1
+prove_beside command_line city_json city_grid city_feature &
+other=$!
+prove . tile_stream "$jobs" build/build.log
+here=$?
+wait "$other" && [ "$here" -eq 0 ] || exit 1
+prove_beside document_stream city_cut tile_stream &
+other=$!
+prove . tile_merge "$jobs" build/build.log
+here=$?
+wait "$other" && [ "$here" -eq 0 ] || exit 1

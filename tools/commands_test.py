@@ -23,7 +23,7 @@ ROOT = os.path.dirname(os.path.dirname(os.path.abspath(__file__)))
 DOCUMENTS = ("README.md", "docs/GUIDE.md", "docs/FAULTS.md")
 # where a package has them, and the examples
 SHARE = "usr/share/doc/citymerge"
-TOOLS = ("jq", "gzip", "make")
+TOOLS = ("jq", "gzip", "iconv", "make")
 END = "==== end of a command, status "
 
 # files that are not what they should be: how one is made as FILE, what refuses it and how, and what GUIDE says to do,
@@ -111,7 +111,7 @@ def run(name, text, place):
 
 
 def wrong_files(text, place):
-    """What is wrong of what GUIDE's table says of files that are not what they should be."""
+    """What is wrong of what GUIDE's table says of files that are not what they should be, and how many were made."""
     room, path, _ = place
     rows = [line for line in text.splitlines() if line.startswith("|")]
 
@@ -119,16 +119,18 @@ def wrong_files(text, place):
         return subprocess.run(["sh", "-c", command.replace("FILE", "file").replace("NEW", "new")], cwd=room, check=False,
                               capture_output=True, env={**os.environ, "PATH": path + ":" + os.environ["PATH"]})
 
-    wrong = []
+    wrong, made = [], 0
     for make, refused, text, advice, mend in WRONG_FILES:
-        if missing_tool(make + mend):
+        if not any(advice in row for row in rows):
+            wrong.append("docs/GUIDE.md: its table does not say " + advice)
+        if missing := missing_tool(make + mend):
+            print("%s is not installed: left out: %s" % (missing, make))
             continue
+        made += 1
         found = [ended(command) for command in (make, refused, mend, "citymerge filter < NEW")]
         if [run.returncode for run in found] != [0, 1, 0, 0] or text not in found[1].stderr.decode():
             wrong.append("docs/GUIDE.md: %s: %r" % (make, found))
-        if not any(advice in row for row in rows):
-            wrong.append("docs/GUIDE.md: its table does not say " + advice)
-    return wrong
+    return wrong, made
 
 
 def dead_links(folder, names):
@@ -160,8 +162,9 @@ def main():
             place = (room, os.path.join(root, "usr/bin") if root else programs, root)
             found, count = run(name, text, place)
             if name == "docs/GUIDE.md":
-                found += wrong_files(text, place)
-                count += len(WRONG_FILES)
+                wrong_of_files, made = wrong_files(text, place)
+                found += wrong_of_files
+                count += made
         total += count
         wrong += found
     for text in wrong:

@@ -261,6 +261,15 @@ expect 'a full device and no header' '1|citymerge: tile 1 line 1: the object is 
 }
 expect 'a closed pipe' '1|citymerge: the output could not be written' "$(cat "$room/status")|$(cat "$room/errors")"
 
+# the same where all that is written fits into the buffer, so that only the flush at the end fails
+mkfifo "$room/gone"
+for words in "filter" "merge $room/three $room/three" "merge --in-turn $room/three $room/three" "cat"; do
+    given="$room/three"
+    [ "$words" != cat ] || given=examples/town.city.json
+    (exec 3<>"$room/gone" 4>"$room/gone" 3<&-; timeout 60 "$program" $words <"$given" >&4 2>"$room/errors")
+    expect "a few lines of ${words%% /*} to a closed pipe" '1|citymerge: the output could not be written' "$?|$(cat "$room/errors")"
+done
+
 # the fault line cannot be written either
 printf '{' >"$room/in"
 for command in filter cat; do
@@ -477,6 +486,12 @@ if (ulimit -s 1000000) 2>/dev/null; then
     for _ in $(seq 8); do
         expect 'no thread beside one whose ring is full' '1||citymerge: tile 2: a thread could not be started' "$(ulimit -s 1000000; ulimit -v 1500000; merged "$types" many b)"
     done
+    # a tile before it that does not end by itself is asked to
+    { printf '%s\n' "$header"; yes "$one"; } >"$room/endless" 2>"$room/ignored" &
+    gives=$!
+    expect 'no thread beside an endless tile' '1||citymerge: tile 2: a thread could not be started' "$(ulimit -s 1000000; ulimit -v 1500000; merged endless b)"
+    end_late $gives
+    wait $gives
     expect 'no thread, in turn' "0|$(printf '%s\n%s\n%s' "$header" "$one" "$far")|" "$(ulimit -s 1000000; ulimit -v 500000; merged --in-turn a b)"
     beside "$room/b" 1500000 &
     (

@@ -16,6 +16,16 @@ TYPES = ("Building", "Bridge", "Road", "BuildingPart", "+Straße", 'a"b', "CityO
 NAMES = ("a", "b", "NL.IMBAG.Pand.0503100000012345", "", "größe", "say \"so\"", "back\\slash", "\U0001f3e0", "\x01\x7f", "id")
 SCALES = (UNIT // 1000, UNIT // 100, UNIT, UNIT // 10**6, UNIT // 4000, 1, 123456 * UNIT // 1000)
 DEPTHS = (1, 2, 5, 20, 120, 123, 124, 125, 126, 127, 128, 129)
+# texts with escapes that a compact text has, too, so that a line with them may stay where it was read
+ESCAPED = ("a\nb", "\t", 'say "so"', "back\\slash", "\b\f", "\n\r")
+# parts of names of one print by all their bytes, whichever of each two is taken, where all have as many: found by a search
+# for two words each after which FxHash has the same number
+OF_ONE_PRINT = (
+    ("Z BH uRJNCQtw5Jc", "jxa4L3ASW97rdD1l"), ("867p10ijATlF_ gy", "Unrck9Escg4dr3Bj"), ("k_jl7HvDrKbr_eyz", "NosZFcNMSXi3Ju4K"),
+    ("llm157LuB7h3e95r", "t4vg3XrrXpQHvvzs"), ("t0nQX4iVoC4yBZEa", "dG8p87GJjuCldQ73"), ("eVhS3riDd8WH65P0", "EqII2gRzpLcxOXMm"),
+    ("OzAXxv0A06y1S84u", "eYlZJmeCkr_v1gl8"), ("UGcakOmf6ZlqFT 1", "jPb4C3mrFp8YZ7xx"), ("wyq4e5IutJ2Teyc3", "wv3L0fKSejg G5LF"),
+    ("nA8ARngaYEPLvN02", "CSA4aiHNtdDv64bt"), ("4wbXZaxZ78THktPK", "VObai_NQxWE1VI2W"), ("D9kIwCv ZLq7kv6f", "SPwvcc1M2iD0Q1se"),
+)
 
 
 @dataclasses.dataclass
@@ -70,13 +80,20 @@ def number(rng):
 
 
 def scalar(rng):
-    return rng.choice((lambda: None, lambda: rng.random() < 0.5, lambda: number(rng), lambda: rng.choice(LETTERS + NAMES)))()
+    return rng.choice((
+        lambda: None, lambda: rng.random() < 0.5, lambda: number(rng), lambda: rng.choice(LETTERS + NAMES + ESCAPED),
+    ))()
+
+
+def of_one_print(each):
+    return "".join(pair[each >> at & 1] for at, pair in enumerate(OF_ONE_PRINT)) + "oneprint"
 
 
 def names(rng, count):
-    """Different names: some alike at both ends, some with escapes."""
-    way = rng.choice(("%d", "attribute_of_a_building_%d_in_metres", "é%d", 'quoted"%d', "%d\n"))
-    drawn = [way % each for each in range(count)]
+    """Different names: some alike at both ends, some of one print, some with escapes."""
+    ways = ("%d", "attribute_of_a_building_%d_in_metres", "é%d", 'quoted"%d', "%d\n", None)
+    way = rng.choice(ways)
+    drawn = [way % each if way else of_one_print(each) for each in range(count)]
     rng.shuffle(drawn)
     return drawn
 
@@ -100,7 +117,7 @@ def deep(rng):
 
 
 def attributes(rng):
-    count = rng.choice((0, 0, 1, 2)) if rng.random() < 0.95 else rng.choice((16, 17, 40))
+    count = rng.choice((0, 0, 1, 2)) if rng.random() < 0.95 else rng.choice((6, 7, 16, 17, 40, 64, 65))
     drawn = {name: anything(rng, 2) if count < 3 else scalar(rng) for name in names(rng, count)}
     if rng.random() < 0.01:
         drawn["deep"] = deep(rng)
@@ -135,7 +152,9 @@ class World:
         self.base = [rng.choice((0, 0, 84710100 * (UNIT // 1000), -5 * UNIT)) for _ in range(3)]
         self.system = rng.choice((None, None, "https://www.opengis.net/def/crs/EPSG/0/7415"))
         self.templates = rng.choice((None, None, None, {"templates": [], "vertices-templates": [[Number("1.0")] * 3]}))
-        self.appearance = rng.choice((None, None, {"materials": [{"name": "wand"}]}))
+        self.appearance = rng.choice((
+            None, None, {"materials": [{"name": "wand"}]}, {"textures": [{"image": name} for name in names(rng, 40)]},
+        ))
         self.extensions = {name: anything(rng, 2) for name in ("Noise", "Énergie", "x")}
         self.is_strict = rng.random() < 0.8
 
@@ -165,7 +184,7 @@ class World:
         if rng.random() < 0.7:
             drawn.update({"CityObjects": {}, "vertices": []})
         if rng.random() < 0.1:
-            drawn["other"] = anything(rng)
+            drawn[rng.choice(("other", *ESCAPED))] = anything(rng)
         return drawn
 
     def add_shared(self, drawn):
@@ -352,12 +371,40 @@ def family(rng, count):
     return objects
 
 
+def shared(rng, count):
+    """City objects of which several name the same children: a chain, or one long child of many, or any of all."""
+    own = ["%s %d" % (rng.choice(NAMES), each) for each in range(rng.choice((2, 3, 8, 20)))]
+    objects = {name: {"type": "Building"} for name in own}
+    way = rng.randrange(3)
+    for at, name in enumerate(own):
+        after = own[at + 1:]
+        if after and (way < 2 or rng.random() < 0.7):
+            some = (after[:1], own[-1:], rng.sample(after, rng.randrange(1, len(after) + 1)))[way]
+            objects[name]["children"] = rng.sample(some, len(some))
+            if rng.random() < 0.5:
+                objects[name]["geometry"] = [geometry(rng, count)]
+    objects[own[-1]].update({"attributes": {"text": "a" * rng.choice((0, 40, 400))}, "geometry": [geometry(rng, count)]})
+    for name in own[1:]:
+        if rng.random() < 0.8:
+            objects[name]["parents"] = own[:1]
+    return objects
+
+
+def small(rng):
+    """Many city objects with little in them."""
+    return {"%d" % each: rng.choice(({}, {"type": "Road"})) for each in range(rng.choice((20, 70, 300)))}
+
+
 def document(rng, world):
     drawn = world.header()
     points = vertices(rng)
     objects = {}
     for _ in range(rng.choice((0, 1, 1, 2, 3))):
         objects.update(family(rng, len(points)))
+    if rng.random() < 0.2:
+        objects.update(shared(rng, len(points)))
+    if rng.random() < 0.03:
+        objects.update(small(rng))
     members = list(objects.items())
     rng.shuffle(members)
     drawn.update({"CityObjects": dict(members), "vertices": points})
@@ -416,8 +463,8 @@ def spoilt(rng, drawn, spoil):
 
 
 def ended(rng, line):
-    """A line with its newline, and now and then blank ones around it."""
-    blank = rng.choice((b"\n", b" \t\r\n", b"\r\n")) if rng.random() < 0.1 else b""
+    """A line with its newline, and now and then blank ones before it."""
+    blank = rng.choice((b"\n", b" \t\r\n", b"\r\n", b"\n" * 70, b" " * 200 + b"\n \n")) if rng.random() < 0.1 else b""
     return blank + line + (b"\r\n" if rng.random() < 0.1 else b"\n")
 
 

@@ -19,6 +19,8 @@ mod going_on;
 #[cfg(test)]
 mod lent;
 #[cfg(test)]
+mod members;
+#[cfg(test)]
 mod names;
 #[cfg(test)]
 mod numbers;

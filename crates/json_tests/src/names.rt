@@ -177,7 +177,7 @@ struct Objects {
     repeated: &'static str,
 }
 
-const OBJECTS: [Objects; 9] = [
+const OBJECTS: [Objects; 10] = [
     Objects {
         names: Names::Alike,
         counts: &[
@@ -243,7 +243,15 @@ const OBJECTS: [Objects; 9] = [
         counts: &[1, 2, 3, 12, 13, 40, 60, 61, 300, 508, 509],
         distinct: SAME_PLACES,
         compact: SAME_PLACES,
-        repeated: ",\"a name that begins like each other 002848\":null,\"a name that begins like each other 002848\":null",
+        repeated: REPEATED_PLACE,
+    },
+    // their ends agree, so that it is the sieve by all bytes that does not tell the last four apart
+    Objects {
+        names: Names::EndAlike,
+        counts: &[2, 3, 12, 13, 40, 60, 61, 300, 508, 509],
+        distinct: SAME_PLACES,
+        compact: SAME_PLACES,
+        repeated: REPEATED_PLACE,
     },
 ];
 
@@ -254,6 +262,10 @@ const FIRST_OF_ONE_PRINT: &str =
 /// Members whose names have prints of their own, and pairwise the same places in both sets of the sieve.
 const SAME_PLACES: &str =
     ",\"a name that begins like each other 002848\":null,\"a name that begins like each other 008407\":null,\"a name that begins like each other 022695\":null,\"a name that begins like each other 033663\":null";
+
+/// One of these members twice.
+const REPEATED_PLACE: &str =
+    ",\"a name that begins like each other 002848\":null,\"a name that begins like each other 002848\":null";
 
 fn are_told_apart(alloc: Global, row: &Objects, count: usize) -> bool {
     is_taken(alloc, row.names, count, row.distinct, row.compact)

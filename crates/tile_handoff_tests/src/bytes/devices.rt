@@ -100,6 +100,131 @@ fn a_device_tries_each_call_once(rt: HostRuntime) {
     assert!(rt; flushed_twice() == (Err(Fault::Write), Ok(())));
 }
 
+/// Ways to fail that one might take for something else: for an end, for a call to be made again, for success.
+const KINDS: [ErrorKind; 8] = [
+    ErrorKind::BrokenPipe,
+    ErrorKind::ConnectionReset,
+    ErrorKind::Other,
+    ErrorKind::OutOfMemory,
+    ErrorKind::TimedOut,
+    ErrorKind::UnexpectedEof,
+    ErrorKind::WouldBlock,
+    ErrorKind::WriteZero,
+];
+
+/// Its first call fails in this way, and the others succeed.
+#[derive(Drop)]
+struct FailsOnceAs {
+    kind: ErrorKind,
+    called: bool,
+}
+
+impl FailsOnceAs {
+    fn call(&mut self) -> io::Result<()> {
+        if self.called {
+            return Ok(());
+        }
+        self.called = true;
+        Err(io::Error::from(self.kind))
+    }
+}
+
+impl Read for FailsOnceAs {
+    fn read(&mut self, _to: &mut [u8]) -> io::Result<usize> {
+        self.call()?;
+        Ok(0)
+    }
+}
+
+impl Write for FailsOnceAs {
+    fn write(&mut self, from: &[u8]) -> io::Result<usize> {
+        self.call()?;
+        Ok(from.len())
+    }
+
+    fn flush(&mut self) -> io::Result<()> {
+        self.call()
+    }
+}
+
+/// What the first call of a device of its own answers, and what the second.
+fn answers_twice(kind: ErrorKind) -> (Answers, Answers) {
+    let called = false;
+    let mut reader = Device::new(FailsOnceAs { kind, called });
+    let mut writer = Device::new(FailsOnceAs { kind, called });
+    let mut flushed = Device::new(FailsOnceAs { kind, called });
+    let first = (
+        reader.read(&mut [0; 2]),
+        writer.write(b"abc"),
+        flushed.flush(),
+    );
+    let second = (
+        reader.read(&mut [0; 2]),
+        writer.write(b"abc"),
+        flushed.flush(),
+    );
+    (first, second)
+}
+
+#[test]
+fn a_device_tells_each_kind_of_failure_at_once(rt: HostRuntime) {
+    for kind in KINDS {
+        assert!(rt; answers_twice(kind) == (ALL_FAIL, ALL_SUCCEED));
+    }
+}
+
+/// Each call takes or gives one byte, the number of the call, but for the second, which fails.
+#[derive(Drop)]
+struct OneByOne {
+    calls: u8,
+}
+
+impl OneByOne {
+    fn call(&mut self) -> io::Result<u8> {
+        self.calls = self.calls.saturating_add(1);
+        if self.calls == 2 {
+            return Err(io::Error::from(ErrorKind::Other));
+        }
+        Ok(self.calls)
+    }
+}
+
+impl Read for OneByOne {
+    fn read(&mut self, to: &mut [u8]) -> io::Result<usize> {
+        let number = self.call()?;
+        match to {
+            [first, ..] => {
+                *first = number;
+                Ok(1)
+            }
+            [] => Ok(0),
+        }
+    }
+}
+
+impl Write for OneByOne {
+    fn write(&mut self, from: &[u8]) -> io::Result<usize> {
+        let _number = self.call()?;
+        Ok(from.len().min(1))
+    }
+
+    fn flush(&mut self) -> io::Result<()> {
+        Ok(())
+    }
+}
+
+#[test]
+fn a_device_does_not_go_on_after_a_short_call(rt: HostRuntime) {
+    let mut reader = Device::new(OneByOne { calls: 0 });
+    assert!(rt; read_into(&mut reader, *b"..") == (Ok(1), [1, b'.']));
+    assert!(rt; read_into(&mut reader, *b"..") == (Err(Fault::Read), *b".."));
+    assert!(rt; read_into(&mut reader, *b"..") == (Ok(1), [3, b'.']));
+    let mut writer = Device::new(OneByOne { calls: 0 });
+    let answers = (writer.write(b"abc"), writer.write(b"bc"));
+    assert!(rt; answers == (Ok(1), Err(Fault::Write)));
+    assert!(rt; writer.write(b"bc") == Ok(1));
+}
+
 /// Its first calls, this many, are interrupted by a signal, and the others succeed.
 #[derive(Drop)]
 struct IsInterrupted {

@@ -1,0 +1,44 @@
+//! That a member of an object is found by its name in the compact text: wherever it stands, and only where it does.
+use byte_streams::Line;
+use city_json::{compact_object, part_named, value_place};
+use std::alloc::Global;
+
+/// A compact text, a name with its marks and its colon, and where the value of that member begins, if there is one.
+type Row = (&'static [u8], &'static [u8], Option<usize>);
+
+const FOUR: &[u8] = b"{\"a\":1,\"b\":[2],\"c\":{\"x\":3},\"d\":\"x\"}";
+
+const ROWS: [Row; 14] = [
+    (b"{}", b"\"a\":", None),
+    (b"{\"a\":1}", b"\"a\":", Some(5)),
+    (b"{\"A\":1}", b"\"a\":", None),
+    (FOUR, b"\"a\":", Some(5)),
+    (FOUR, b"\"b\":", Some(11)),
+    (FOUR, b"\"c\":", Some(19)),
+    (FOUR, b"\"d\":", Some(31)),
+    (FOUR, b"\"e\":", None),
+    (FOUR, b"\"x\":", None),
+    (b"{\"\":0,\"a\":1}", b"\"\":", Some(4)),
+    (b"{\"b\":{\"a\":1}}", b"\"a\":", None),
+    (b"{\"b\":{\"a\":1},\"a\":2}", b"\"a\":", Some(17)),
+    (b"{\"b\":[{\"a\":1}],\"aa\":2}", b"\"a\":", None),
+    (b"{\"b\":\"\\\"a\\\":\",\"a\":2}", b"\"a\":", Some(18)),
+];
+
+/// Whether both ways find the member of a row where it stands.
+fn is_found(alloc: Global, row: &Row) -> bool {
+    let (text, name, wanted) = *row;
+    let mut buffer = Line::new(alloc);
+    let Some(object) = compact_object(alloc, text, &mut buffer) else {
+        return false;
+    };
+    let part = part_named(text, &object.parts, name);
+    part.map(|part| part.value) == wanted && value_place(text, name) == wanted
+}
+
+#[test]
+fn a_member_is_found_wherever_it_stands(rt: HostRuntime) {
+    for row in ROWS.iter() {
+        assert!(rt; is_found(rt.alloc(), row));
+    }
+}
