@@ -55,12 +55,21 @@ fn features_are_made_of_objects_that_they_share(rt: HostRuntime) {
     }
 }
 
-/// Whether the quick cut answers what the row gives.
+/// Whether the quick cut answers with texts that are made when they are asked for, so that little is held.
+fn are_made(alloc: Global, document: &str) -> bool {
+    match quick_cut(alloc, document.as_bytes()) {
+        Some(cut) => cut.texts.is_made(),
+        None => false,
+    }
+}
+
+/// Whether the quick cut answers what the row gives, with texts that are made.
 fn is_given_answered(alloc: Global, row: &str) -> Result<bool, AllocError> {
     let Some((given, _)) = row.split_once(" => ") else {
         return Ok(false);
     };
-    Ok(is_answered(alloc, &filled(alloc, OBJECTS, given)?))
+    let document = filled(alloc, OBJECTS, given)?;
+    Ok(is_answered(alloc, &document) && are_made(alloc, &document))
 }
 
 /// Twenty features that name all vertices, whose texts are longer together than what is held of such.
@@ -85,7 +94,8 @@ fn are_all_vertices_kept(alloc: Global) -> Result<bool, AllocError> {
         &wanted.replace(alloc, "VERTICES", LONG_VERTICES)?,
         "",
     )?;
-    Ok(texts_are(alloc, &given, wanted.as_bytes(), None) && is_answered(alloc, &given))
+    let is_kept = texts_are(alloc, &given, wanted.as_bytes(), None) && is_answered(alloc, &given);
+    Ok(is_kept && are_made(alloc, &given))
 }
 
 #[test]

@@ -121,8 +121,8 @@ impl<R: Source + Drop> FedTile<R> {
                 Err(at) => return finish(rt, links, sender, TileEnd::new(count, Some(at))),
             };
             if is_chosen {
-                spare = roomy_line(alloc, text.items().len());
-                put(rt, &links, &mut sender, text);
+                put(rt, &links, &mut sender, fitted(text));
+                spare = Line::new(alloc);
                 count += 1;
             } else {
                 spare = text;
@@ -134,14 +134,19 @@ impl<R: Source + Drop> FedTile<R> {
     }
 }
 
-/// An empty line, with room for so many bytes where there is memory for them.
-fn roomy_line(alloc: Global, room: usize) -> Line
-    ensures { result ≡ [] }
+/// In bytes: how much more than its text a line may take that waits in a ring. 1 KiB, our own choice: less is not worth a
+/// call.
+const MOST_TO_SPARE: usize = 1024;
+
+/// The line without the room that it has to spare, where that is much.
+fn fitted(line: Line) -> Line
+    ensures { result ≡ line }
 {
-    match Vec::with_capacity(alloc, room) {
-        Ok(bytes) => Line::from_vec(bytes),
-        Err(_) => Line::new(alloc),
+    let mut bytes = line.into_vec();
+    if bytes.capacity().saturating_sub(bytes.len()) > MOST_TO_SPARE {
+        bytes.shrink_to_fit();
     }
+    Line::from_vec(bytes)
 }
 
 /// Puts a line, and waits while the ring is full.

@@ -1,4 +1,5 @@
-use Rattle.std.proofs.Common.{◌≡◌, ◌≤◌, ◌+◌, Some, None, length, ap, sym, subst, ◌∙◌, refl, arith, rules}
+use Rattle.std.proofs.Common.{◌≡◌, ◌≤◌, ◌+◌, ◌++◌, ◌∷◌, [], ℕ, List, Some, None, length, ap, sym, subst, ◌∙◌, refl, arith, rules}
+use Rattle.tile_handoff.specs.declared.note.Note.{Note}
 use Rattle.rtrb.specs.Ring.{received}
 use Rattle.city_feature.specs.Choice.{IsChosen}
 use Rattle.tile_handoff.specs.Ends.{notes_put, notes_carried}
@@ -73,7 +74,8 @@ returns-then-is_asked-clause-fed g c =
           let given = text w.if-is_chosen.true in
           subst (λ n. FedSoFar before after c.self.inside.begun.count n old (notes_put c.if-is_chosen.sender)) (sym w.count-is)
           (fed_text before c.self.inside.begun.count old now c.lines.count (notes_put c.lines.sender) so_far after c.in-Ok-Some.passed.text given
-          (notes_put c.if-is_chosen.sender) (ap notes_put w.sender-is ∙ w.put.ensures.put))
+          (notes_put c.if-is_chosen.sender) (ap notes_put w.sender-is ∙ w.put.ensures.put
+          ∙ ap (λ (text : List ℕ). notes_put c.lines.sender ++ Note.Line text ∷ []) w.fitted.ensures))
       | else-is_chosen w ↦ rw (w.count-is, w.sender-is)
           (fed_nothing before c.self.inside.begun.count old now c.lines.count (notes_put c.lines.sender) so_far after
           (skipped w.if-is_chosen.false).1)
@@ -108,7 +110,8 @@ lines-preserved g c =
           let given = text w.if-is_chosen.true in
           subst (λ n. FedSoFar before after c.self.inside.begun.count n old (notes_put c.if-is_chosen.sender)) (sym w.count-is)
           (fed_text before c.self.inside.begun.count old now c.lines.count (notes_put c.lines.sender) so_far after c.in-Ok-Some.passed.text given
-          (notes_put c.if-is_chosen.sender) (ap notes_put w.sender-is ∙ w.put.ensures.put))
+          (notes_put c.if-is_chosen.sender) (ap notes_put w.sender-is ∙ w.put.ensures.put
+          ∙ ap (λ (text : List ℕ). notes_put c.lines.sender ++ Note.Line text ∷ []) w.fitted.ensures))
       | else-is_chosen w ↦ rw (w.count-is, w.sender-is)
           (fed_nothing before c.self.inside.begun.count old now c.lines.count (notes_put c.lines.sender) so_far after
           (skipped w.if-is_chosen.false).1)
