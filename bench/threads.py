@@ -16,8 +16,10 @@ from speed import MEGA
 LARGER = 4
 # The gain of threads is judged where as many filters at once as there are tiles are together so many times as fast as one
 # after another, which says how many processors are free; and it is to be at least this share of that.
-LEAST_FREE, LEAST_SHARE = 2, 0.6
+LEAST_FREE, LEAST_SHARE = 2, 0.5
 TILES = 4
+# The peak memory of a merge of 64 tiles with threads is at most so much: some tenth more than README.md says.
+MOST_PEAK = 73 * MEGA
 # What a slow reader of the output takes, in MB/s and at a time in bytes.
 SLOW = 16
 PIECE = 64 * 1024
@@ -75,6 +77,8 @@ def gain(bench, name, paths):
         bench.tell(name, way, "%.0f" % (size / MEGA / best[way]))
         bench.say("  %-30s %-27s %6.0f MB/s by the clock, peak memory %5.1f MB" % shown)
     bench.say("  %-30s %.2f times as fast" % (name, times))
+    if peaks[THREADS] > MOST_PEAK:
+        bench.fail("%s: peak memory %.1f MB, wanted: at most %.1f" % (name, peaks[THREADS] / MEGA, MOST_PEAK / MEGA))
     return times
 
 
