@@ -16,7 +16,7 @@ Eleven parts, each of which can be left out:
                 must be the same
   threads       MB/s by the clock of `merge` beside `merge --in-turn`, of four even tiles, of a large one beside
                 three small ones and of 64; where processors are free, which is tried by four filters at once, threads
-                must gain most of what these do; and its peak memory, also where a slow reader takes the output
+                must gain half of what these do; and its peak memory, also where a slow reader takes the output
   waiting       processor time while a tile gives nothing and while the output is read slowly; how soon a merge
                 ends once its output is gone, and how soon a feature of a live tile arrives
   hostile       time against size for worst-case texts; time to join headers whose extensions
@@ -30,8 +30,8 @@ Eleven parts, each of which can be left out:
 
 Status 0: all is right. 1: an output is wrong, the peak memory grows with the stream or is above its bound for a
 worst case, a stream, a merge or a document takes more instructions than is wanted, a merge is too slow beside one
-tile, or gains too little from threads, one that waits takes processor time or ends late, the time for a hostile shape does not grow about as its size, or headers
-join slower for the names of their extensions. 2: the program is not there. A tool that is not there is named, and its part is left out.
+tile, or gains too little from threads, one that waits takes processor time or ends late, the time for a hostile shape
+does not grow about as its size, or headers join slower for the names of their extensions. 2: the program is not there. A tool that is not there is named, and its part is left out.
 """
 
 import argparse

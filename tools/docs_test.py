@@ -52,7 +52,7 @@ SAID_LIMITS = {
     "examples/many_tiles.py": (
         "One call of `citymerge merge` takes {MAX_TILES} tiles", "`citymerge merge` takes {MAX_TILES}; the joined header",
         "MAX_IN_A_MERGE = {ONE_TILE_FEWER}  #", "LONGEST_LINE = {MAX_LINE_BYTES}  #"),
-    "tools/torture/model.py": ("MAX_TILES = {MAX_TILES}", "MAX_STEPS = {MAX_STEPS}", ),
+    "tools/torture/model.py": ("MAX_TILES = {MAX_TILES}", "MAX_STEPS = {MAX_STEPS}"),
     "tools/torture/values.py": ("MAX_OPEN = {MAX_DEPTH}",),
 }
 # other powers of two that these say: what a word of the machine holds
