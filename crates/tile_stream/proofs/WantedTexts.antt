@@ -99,7 +99,7 @@ module _ (IsWanted : FeatureValue → Type 0) (k : Triple) where
       → ((features : List FeatureValue) → AllZip SpellsFeature (texts_in held) features
       → AllByRecursion (λ feature. IsMovable feature k) features
       → texts_in there ≡ texts_of (map (λ feature. moved feature k) features))
-      → kept ≡ record { own = chosen_of wanted there.own; common = there.common } → (texts : List (List ℕ))
+      → kept ≡ record there { own = chosen_of wanted there.own } → (texts : List (List ℕ))
       → texts ≡ texts_in kept
       → LinesGive IsWanted k (texts_in held) texts × (length texts ≤ length (texts_in held))
   kept_given held wanted told there kept moves is texts are =

@@ -6,7 +6,8 @@ ghost use Rattle.tile_stream.specs.Stream.{with_newline};
 
 use byte_streams::{Fault, Line, Sink, write_all};
 
-/// Writes a line and its newline, and gives the line back empty, for its memory.
+/// Writes a line and its newline, and gives the line back empty, for its memory, of which it keeps what [`Line::trim`]
+/// leaves.
 ///
 /// # Errors
 ///
@@ -24,6 +25,7 @@ pub fn write_line<W: Sink>(output: &mut W, mut line: Line) -> Result<Line, Fault
         Err(fault) => return Err(fault),
     }
     line.truncate(0);
+    line.trim();
     Ok(line)
 }
 

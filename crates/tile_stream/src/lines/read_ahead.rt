@@ -132,13 +132,15 @@ impl<R: Source> ReadAhead<R> {
 }
 
 /// Makes room behind the bytes from `at` to `filled`: they are moved to the front, or, where they stand there, the buffer
-/// grows if it is full.
+/// grows if it is full, by 64 KiB.
 fn make_room(piece: &mut Vec<u8>, at: usize, filled: usize) -> Result<(), AllocError>
     requires order { at ≤ filled }
     requires filled { filled ≤ vec_len piece.old }
     ensures front { OnOk result (take (filled - at) piece.new.items
         ≡ slice_range piece.old.items at filled) }
     ensures room { OnOk result (filled - at < vec_len piece.new) }
+    ensures stays { filled - at < vec_len piece.old → vec_len piece.new ≡ vec_len piece.old }
+    ensures most { vec_len piece.new ≤ vec_len piece.old + MAX_PIECE_BYTES }
     ensures err { OnErr result (VecUnchanged piece.old piece.new) }
 {
     if at > 0 {
@@ -151,12 +153,13 @@ fn make_room(piece: &mut Vec<u8>, at: usize, filled: usize) -> Result<(), AllocE
     piece.resize(filled + MAX_PIECE_BYTES, 0)
 }
 
-/// One read into what stands behind the first `held` bytes, which stay.
+/// One read into what stands behind the first `held` bytes, which stay, of at most 64 KiB.
 fn read_behind<R: Source>(reader: &mut R, piece: &mut [u8], held: usize) -> Result<usize, Fault>
     requires { held < length piece.old }
     ensures front { take held piece.new ≡ take held piece.old }
     ensures length { length piece.new ≡ length piece.old }
     ensures bound { IfOk result (λ count. held + count ≤ length piece.new) }
+    ensures most { IfOk result (λ count. count ≤ MAX_PIECE_BYTES) }
     ensures given { IfOk result (λ count. GivesFirst (R.gives reader.old) (R.gives reader.new)
         (take count (drop held piece.new))) }
     ensures end { IfOk result (λ count. count ≡ 0 → R.gives reader.old [] false) }

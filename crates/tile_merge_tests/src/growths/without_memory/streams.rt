@@ -2,13 +2,14 @@
 
 use byte_streams::{Bin, Fault, Line, MergeFault, Tape};
 use city_feature::{Base, Choice};
+use city_grid::Shift;
 use growth_support::texts::{A, HEADER};
 use growth_support::{give, take};
 use std::alloc::{AllocError, Global};
 use std::sync::Wait;
 use std::thread::Threads;
 use tile_merge::{Report, merge, merge_in_turn, tile_count};
-use tile_stream::{Lines, TileReader, write_line};
+use tile_stream::{Lines, Passed, TileReader, write_line};
 
 fn too_many() -> MergeFault {
     MergeFault::of_no_line(Fault::TooManyTiles)
@@ -148,5 +149,51 @@ fn tiles_are_begun_and_a_line_is_written(rt: HostRuntime) -> Result<(), Fault> {
     assert!(rt; short_lines_are_begun(rt.alloc())?);
     assert!(rt; tile_is_begun(rt.alloc())?);
     assert!(rt; line_is_written(rt.alloc())?);
+    Ok(())
+}
+
+/// What the next line comes to, where that is this text.
+fn passed_text(
+    alloc: Global,
+    tile: &mut TileReader<Tape>,
+    spare: Line,
+    wanted: &str,
+) -> Option<Line> {
+    let every = Choice::new(None, None, false);
+    let Ok(Some(passed)) = tile.pass(alloc, Shift::new(0, 0, 0)?, &every, spare) else {
+        return None;
+    };
+    let Passed { is_chosen, text } = passed;
+    (is_chosen && text.items() == wanted.as_bytes()).then_some(text)
+}
+
+/// A feature as it is written, and with blanks.
+const SPELLINGS: [&str; 2] = [
+    r#"{"type":"CityJSONFeature","id":"a","CityObjects":{"a":{"type":"Road"}},"vertices":[[1,2,3]]}"#,
+    r#"{ "type": "CityJSONFeature", "id": "a", "CityObjects": { "a": { "type": "Road" } }, "vertices": [ [ 1, 2, 3 ] ] }"#,
+];
+
+/// Whether three lines of this spelling come to the text, the third where there is no memory: a text and the buffer of the
+/// tile change places at each, so that two lines make both.
+fn memory_goes_round(alloc: Global, line: &str) -> Result<bool, Fault> {
+    let text = format!(in alloc; "{}\n{}\n{}\n{}\n", HEADER, line, line, line)?;
+    let mut tile = TileReader::new(alloc, tape_of(alloc, text.as_bytes())?);
+    let has_head = takes_head(alloc, &mut tile);
+    let Some(spare) = passed_text(alloc, &mut tile, Line::new(alloc), SPELLINGS[0]) else {
+        return Ok(false);
+    };
+    let Some(spare) = passed_text(alloc, &mut tile, spare, SPELLINGS[0]) else {
+        return Ok(false);
+    };
+    let gone = take(alloc);
+    let again = passed_text(alloc, &mut tile, spare, SPELLINGS[0]);
+    Ok(give(alloc, gone) && has_head && again.is_some())
+}
+
+#[test]
+fn the_memory_of_two_lines_serves_the_next(rt: HostRuntime) -> Result<(), Fault> {
+    for line in SPELLINGS.iter() {
+        assert!(rt; memory_goes_round(rt.alloc(), line)?, "{line}");
+    }
     Ok(())
 }
