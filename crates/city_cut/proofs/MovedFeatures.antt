@@ -23,7 +23,7 @@ use Rattle.city_cut.specs.Chosen.{point_at}
 use Rattle.city_cut.specs.CityObjects.{IsReached}
 use Rattle.city_cut.specs.Cut.{feature_tree, last_members}
 use Rattle.city_cut.specs.FeatureText.{tail_text}
-use Rattle.city_cut.specs.HeldTexts.{texts_in}
+use Rattle.city_cut.specs.HeldTexts.{with_end}
 use Rattle.city_cut.specs.Lines.{texts_of}
 use Rattle.city_cut.specs.Made.{AreMakings, Makings, family, made_text, order_of}
 use Rattle.city_cut.specs.Moved.{is_in_range, moved_or_same}
@@ -232,9 +232,9 @@ module _ (makings : Makings) (of : AreMakings makings) (k : Triple) (vertices st
   pub moved_texts : (appearance : Option Tree) → AreWritableMembers (last_members appearance) → (roots : List ℕ)
       → AllByRecursion (λ root. root < length makings.graph) roots → (features : List FeatureValue)
       → AllZip SpellsFeature
-      (texts_in (record { own = map (made_text makings) roots; common = tail_text appearance })) features
+      (with_end (tail_text appearance) (map (made_text makings) roots)) features
       → AllByRecursion (λ feature. IsMovable feature k) features
-      → texts_in (record { own = map (made_text there) roots; common = tail_text appearance })
+      → with_end (tail_text appearance) (map (made_text there) roots)
       ≡ texts_of (map (λ feature. moved feature k) features)
   moved_texts appearance last [] inside [] spell movable = refl
   moved_texts appearance last [] inside (f ∷ fs) spell movable = absurd spell
@@ -244,7 +244,7 @@ module _ (makings : Makings) (of : AreMakings makings) (k : Triple) (vertices st
       let one = moved_made of.pairs of.points makings root of.skeletons of.stand of.few
       (made.family_is_one (member_trees of.pairs) makings.graph root of.distinct.0 of.linked inside.0)
       of.range of.writable of.distinct k vertices starts stand appearance last f spell.0 movable.0 in
-      ap (λ text. text ∷ texts_in (record { own = map (made_text there) roots; common = tail_text appearance })) one
+      ap (λ text. text ∷ with_end (tail_text appearance) (map (made_text there) roots)) one
       ∙ ap (λ texts. compact (moved f k).value ∷ texts) rest
 
 -- ---- what all of them end in

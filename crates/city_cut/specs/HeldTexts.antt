@@ -1,14 +1,19 @@
 -- Texts that are held with what all of them end in once.
-use Rattle.std.specs.Prelude.{◌≡◌, ◌++◌, ℕ, List, [], ◌∷◌, map, slice_range}
+use Rattle.std.specs.Prelude.{◌≡◌, ◌++◌, ℕ, Bool, List, [], ◌∷◌, map, slice_range}
 
--- texts: what each begins with, and what all of them end in
+-- texts: what each begins with, what all of them end in, and whether the former is made when it is asked for
 pub record HeldTexts : Type 0 where
   pub own : List (List ℕ)
   pub common : List ℕ
+  pub is_made : Bool
+
+-- texts that begin so, and all end in the same
+abbrev pub with_end : List ℕ → List (List ℕ) → List (List ℕ)
+with_end common own = map (λ one. one ++ common) own
 
 -- the texts themselves
 abbrev pub texts_in : HeldTexts → List (List ℕ)
-texts_in held = map (λ own. own ++ held.common) held.own
+texts_in held = with_end held.common held.own
 
 -- the pieces of bytes that end at these places, the first from `from` on
 abbrev pub pieces : List ℕ → ℕ → List ℕ → List (List ℕ)

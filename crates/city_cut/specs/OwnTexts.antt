@@ -1,5 +1,5 @@
 -- What each text of a document's features has of its own, held or made.
-use Rattle.std.specs.Prelude.{ℕ, List}
+use Rattle.std.specs.Prelude.{ℕ, Bool, true, false, List}
 use Rattle.city_cut.specs.FeatureText.{IsTail}
 use Rattle.city_cut.specs.declared.held.OwnTexts.{OwnTexts}
 use Rattle.city_cut.specs.declared.held.OwnTexts.TheVariants.{Held, Made}
@@ -7,6 +7,10 @@ use Rattle.city_cut.specs.declared.held.OwnTexts.TheVariants.{Held, Made}
 abbrev pub own_texts : OwnTexts → List (List ℕ)
 own_texts (Held texts) = texts
 own_texts (Made texts) = texts
+
+abbrev pub are_made : OwnTexts → Bool
+are_made (Held texts) = false
+are_made (Made texts) = true
 
 -- texts that are made end in the rest of a feature
 abbrev pub EndIn : List ℕ → OwnTexts → Type 0

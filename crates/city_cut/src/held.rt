@@ -1,6 +1,6 @@
 //! The texts of a document's features. What each has of its own is held, or made when it is asked for; what all of them
 //! end in is held once.
-ghost use Rattle.std.specs.Prelude.{◌≡◌, ◌<◌, ◌≤◌, ◌^◌, ◌++◌, ◌∷◌, [], ℕ, List, length, map, get_or, slice_range, take, IfErr, IfSome, OnErr, OnOk};
+ghost use Rattle.std.specs.Prelude.{◌≡◌, ◌<◌, ◌≤◌, ◌^◌, ◌++◌, ◌∷◌, [], ℕ, List, Err, true, false, length, map, get_or, slice_range, take, IfErr, IfSome, IsOk, OnErr, OnOk};
 ghost use Rattle.std.specs.Io.KnownBytes.{Appends};
 ghost use Rattle.std.specs.List.{AllByRecursion, AllZip};
 ghost use Rattle.byte_streams.specs.Failures.{after_call};
@@ -8,10 +8,10 @@ ghost use Rattle.city_feature.specs.Feature.{FeatureValue, IsMovable, moved};
 ghost use Rattle.city_feature.specs.FeatureLine.{SpellsFeature};
 ghost use Rattle.city_cut.specs.FeatureText.{IsTail};
 ghost use Rattle.city_json.specs.OpenNames.{AreEnds};
-ghost use Rattle.city_cut.specs.HeldTexts.{pieces, texts_in};
+ghost use Rattle.city_cut.specs.HeldTexts.{pieces, texts_in, with_end};
 ghost use Rattle.city_cut.specs.Lines.{texts_of};
 ghost use Rattle.city_cut.specs.Moved.{chosen_of};
-ghost use Rattle.city_cut.specs.OwnTexts.{EndIn, own_texts};
+ghost use Rattle.city_cut.specs.OwnTexts.{EndIn, are_made, own_texts};
 
 mod line_sink;
 
@@ -108,6 +108,18 @@ enum OwnTexts {
     Made(MadeTexts),
 }
 
+/// Puts a text after a line. The only fault is [`Fault::Memory`].
+fn append_held(text: &[u8], line: &mut Line) -> Result<(), Fault>
+    ensures ok { OnOk result (line.new ≡ line.old ++ text.now) }
+    ensures some { OnErr result ((count : ℕ) × (line.new ≡ line.old ++ take count text.now)) }
+    ensures fault { IfErr result (λ fault. fault ≡ Fault.Memory) }
+{
+    match line.append(text) {
+        Ok(()) => return Ok(()),
+        Err(_) => return Err(Fault::Memory),
+    }
+}
+
 /// Puts a made text after a line. The only fault is [`Fault::Memory`].
 fn append_made(
     alloc: Global,
@@ -117,16 +129,17 @@ fn append_made(
 ) -> Result<(), Fault>
     requires { at < length texts.old }
     ensures ok { OnOk result (line.new ≡ line.old ++ get_or texts.old at []) }
+    ensures some { OnErr result ((count : ℕ) × (line.new ≡ line.old ++ take count (get_or texts.old at []))) }
     ensures fault { IfErr result (λ fault. fault ≡ Fault.Memory) }
     ensures same { texts.new ≡ texts.old }
 {
     let mut sink = LineSink::new(mem::replace(line, Line::new(alloc)));
     let written = texts.write_own(at, &mut sink);
     *line = sink.into_line();
-    if written.is_err() {
-        return Err(Fault::Memory);
+    match written {
+        Ok(()) => return Ok(()),
+        Err(_) => return Err(Fault::Memory),
     }
-    Ok(())
 }
 
 impl OwnTexts {
@@ -146,6 +159,15 @@ impl OwnTexts {
         match self {
             OwnTexts::Held(texts) => texts.known(),
             OwnTexts::Made(texts) => texts.known(),
+        }
+    }
+
+    fn is_made(&self) -> bool
+        ensures { result ≡ are_made self.now }
+    {
+        match self {
+            OwnTexts::Held(_) => false,
+            OwnTexts::Made(_) => true,
         }
     }
 
@@ -180,14 +202,13 @@ impl OwnTexts {
     fn append(&mut self, alloc: Global, at: usize, line: &mut Line) -> Result<(), Fault>
         requires { at < length (own_texts self.old) }
         ensures ok { OnOk result (line.new ≡ line.old ++ get_or (own_texts self.old) at []) }
+        ensures some { OnErr result ((count : ℕ)
+            × (line.new ≡ line.old ++ take count (get_or (own_texts self.old) at []))) }
         ensures fault { IfErr result (λ fault. fault ≡ Fault.Memory) }
         ensures same { self.new ≡ self.old }
     {
         match self {
-            OwnTexts::Held(texts) => {
-                line.append(texts.text(at))?;
-                Ok(())
-            }
+            OwnTexts::Held(texts) => append_held(texts.text(at), line),
             OwnTexts::Made(texts) => append_made(alloc, texts, at, line),
         }
     }
@@ -195,12 +216,13 @@ impl OwnTexts {
     /// Moves the vertices of texts that are made by the shift. The only fault is [`Fault::Memory`], of held texts, too.
     fn move_by(&mut self, alloc: Global, shift: Shift) -> Result<(), Fault>
         ensures ok { OnOk result ((common : List ℕ) (features : List FeatureValue) → EndIn common self.old
-            → AllZip SpellsFeature (texts_in (record { own = own_texts self.old; common = common })) features
+            → AllZip SpellsFeature (with_end common (own_texts self.old)) features
             → AllByRecursion (λ feature. IsMovable feature shift) features
-            → texts_in (record { own = own_texts self.new; common = common })
-            ≡ texts_of (map (λ feature. moved feature shift) features)) }
+            → with_end common (own_texts self.new) ≡ texts_of (map (λ feature. moved feature shift) features)) }
         ensures end { (common : List ℕ) → EndIn common self.old → EndIn common self.new }
         ensures count { length (own_texts self.new) ≡ length (own_texts self.old) }
+        ensures made { are_made self.new ≡ are_made self.old }
+        ensures held { are_made self.old ≡ false → result ≡ Err Fault.Memory }
         ensures failed { OnErr result (self.new ≡ self.old) }
         ensures fault { IfErr result (λ fault. fault ≡ Fault.Memory) }
     {
@@ -215,6 +237,9 @@ impl OwnTexts {
     fn keep(&mut self, chosen: &[bool]) -> Result<(), Fault>
         ensures ok { OnOk result (own_texts self.new ≡ chosen_of chosen.now (own_texts self.old)) }
         ensures end { (common : List ℕ) → EndIn common self.old → EndIn common self.new }
+        ensures same { are_made self.new ≡ are_made self.old }
+        ensures made { are_made self.old ≡ true → IsOk result }
+        ensures held { are_made self.old ≡ false → result ≡ Err Fault.Memory }
         ensures failed { OnErr result (self.new ≡ self.old) }
         ensures fault { IfErr result (λ fault. fault ≡ Fault.Memory) }
     {
@@ -246,11 +271,15 @@ impl Drop for FeatureTexts {
 
 impl Model for FeatureTexts {
     ghost use Rattle.city_cut.specs.HeldTexts.{HeldTexts};
-    ghost use Rattle.city_cut.specs.OwnTexts.{EndIn, own_texts};
+    ghost use Rattle.city_cut.specs.OwnTexts.{EndIn, are_made, own_texts};
 
     ghost Value = { HeldTexts };
 
-    ghost view = { λ texts. record { own = own_texts texts.own; common = texts.common } };
+    ghost view = { λ texts. record {
+      own = own_texts texts.own;
+      common = texts.common;
+      is_made = are_made texts.own;
+    } };
 
     ghost invariant = { λ texts. EndIn texts.common texts.own };
 }
@@ -258,7 +287,7 @@ impl Model for FeatureTexts {
 impl FeatureTexts {
     /// The texts whose own parts are held.
     pub(crate) fn new(own: Pieces, common: Line) -> FeatureTexts
-        ensures { result ≡ record { own = own; common = common } }
+        ensures { result ≡ record { own = own; common = common; is_made = false } }
     {
         FeatureTexts {
             own: OwnTexts::Held(own),
@@ -269,7 +298,7 @@ impl FeatureTexts {
     /// The texts whose own parts are made when they are asked for.
     pub(crate) fn made(own: MadeTexts, common: Line) -> FeatureTexts
         requires { IsTail common }
-        ensures { result ≡ record { own = own; common = common } }
+        ensures { result ≡ record { own = own; common = common; is_made = true } }
     {
         FeatureTexts {
             own: OwnTexts::Made(own),
@@ -300,11 +329,10 @@ impl FeatureTexts {
     }
 
     /// Whether the texts are made when they are asked for.
-    pub fn is_made(&self) -> bool {
-        match &self.own {
-            OwnTexts::Held(_) => false,
-            OwnTexts::Made(_) => true,
-        }
+    pub fn is_made(&self) -> bool
+        ensures { result ≡ self.now.is_made }
+    {
+        self.own.is_made()
     }
 
     /// Moves the vertices of texts that are made by the shift: the features are what they were, moved, where all of them
@@ -319,6 +347,8 @@ impl FeatureTexts {
             → texts_in self.new ≡ texts_of (map (λ feature. moved feature shift) features)) }
         ensures count { length self.new.own ≡ length self.old.own }
         ensures common { self.new.common ≡ self.old.common }
+        ensures made { self.new.is_made ≡ self.old.is_made }
+        ensures held { self.old.is_made ≡ false → result ≡ Err Fault.Memory }
         ensures failed { OnErr result (self.new ≡ self.old) }
         ensures fault { IfErr result (λ fault. fault ≡ Fault.Memory) }
     {
@@ -332,8 +362,9 @@ impl FeatureTexts {
     ///
     /// [`Fault::Memory`] where the texts are held ([`FeatureTexts::is_made`]).
     pub fn keep(&mut self, chosen: &[bool]) -> Result<(), Fault>
-        ensures ok { OnOk result (self.new
-            ≡ record { own = chosen_of chosen.now self.old.own; common = self.old.common }) }
+        ensures ok { OnOk result (self.new ≡ record self.old { own = chosen_of chosen.now self.old.own }) }
+        ensures made { self.old.is_made ≡ true → IsOk result }
+        ensures held { self.old.is_made ≡ false → result ≡ Err Fault.Memory }
         ensures failed { OnErr result (self.new ≡ self.old) }
         ensures fault { IfErr result (λ fault. fault ≡ Fault.Memory) }
     {
@@ -372,27 +403,36 @@ impl FeatureTexts {
         self.own.write(at, output)
     }
 
-    /// Appends what the text at a place has of its own. The only fault is [`Fault::Memory`], after which a part of it may
-    /// have been appended.
+    /// Appends what the text at a place has of its own. The only fault is [`Fault::Memory`], after which some first bytes of
+    /// it may have been appended.
     pub fn append_own(&mut self, alloc: Global, at: usize, line: &mut Line) -> Result<(), Fault>
         requires { at < length self.old.own }
         ensures ok { OnOk result (line.new ≡ line.old ++ get_or self.old.own at []) }
+        ensures some { OnErr result ((count : ℕ)
+            × (line.new ≡ line.old ++ take count (get_or self.old.own at []))) }
         ensures fault { IfErr result (λ fault. fault ≡ Fault.Memory) }
         ensures same { self.new ≡ self.old }
     {
         self.own.append(alloc, at, line)
     }
 
-    /// Appends the text at a place. The only fault is [`Fault::Memory`], after which a part of the text may have been
-    /// appended.
+    /// Appends the text at a place. The only fault is [`Fault::Memory`], after which some first bytes of the text may have
+    /// been appended.
     pub fn append_to(&mut self, alloc: Global, at: usize, line: &mut Line) -> Result<(), Fault>
         requires { at < length self.old.own }
         ensures ok { OnOk result (line.new ≡ line.old ++ (get_or self.old.own at [] ++ self.old.common)) }
+        ensures some { OnErr result ((count : ℕ)
+            × (line.new ≡ line.old ++ take count (get_or self.old.own at [] ++ self.old.common))) }
         ensures fault { IfErr result (λ fault. fault ≡ Fault.Memory) }
         ensures same { self.new ≡ self.old }
     {
-        self.append_own(alloc, at, line)?;
-        line.append(self.common())?;
-        Ok(())
+        match self.append_own(alloc, at, line) {
+            Ok(()) => {}
+            Err(fault) => return Err(fault),
+        }
+        match append_held(self.common(), line) {
+            Ok(()) => return Ok(()),
+            Err(fault) => return Err(fault),
+        }
     }
 }

@@ -13,7 +13,7 @@ ghost use Rattle.city_feature.specs.Feature.{FeatureValue, IsMovable, moved};
 ghost use Rattle.city_feature.specs.FeatureLine.{SpellsFeature};
 ghost use Rattle.city_cut.specs.Cut.{last_members};
 ghost use Rattle.city_cut.specs.FeatureText.{middle_text, tail_text};
-ghost use Rattle.city_cut.specs.HeldTexts.{texts_in};
+ghost use Rattle.city_cut.specs.HeldTexts.{with_end};
 ghost use Rattle.city_cut.specs.Lines.{texts_of};
 ghost use Rattle.city_cut.specs.Made.{AreMakings, beginners, comma_before, feature_text, first_uses, listed, made_text, place_in, vertex_in};
 ghost use Rattle.city_cut.specs.Moved.{chosen_of};
@@ -501,9 +501,9 @@ impl MadeTexts {
     pub(crate) fn move_by(&mut self, alloc: Global, shift: Shift) -> Result<(), Fault>
         ensures ok { OnOk result ((appearance : Option Tree) (features : List FeatureValue)
             → AreWritableMembers (last_members appearance)
-            → AllZip SpellsFeature (texts_in (record { own = self.old; common = tail_text appearance })) features
+            → AllZip SpellsFeature (with_end (tail_text appearance) self.old) features
             → AllByRecursion (λ feature. IsMovable feature shift) features
-            → texts_in (record { own = self.new; common = tail_text appearance })
+            → with_end (tail_text appearance) self.new
             ≡ texts_of (map (λ feature. moved feature shift) features)) }
         ensures count { length self.new ≡ length self.old }
         ensures failed { OnErr result (self.new ≡ self.old) }

@@ -4,7 +4,7 @@ use Rattle.std.proofs.lemmas.List.Elements.{recursion_from_All}
 use Rattle.std.specs.List.{AllZip}
 use Rattle.city_feature.specs.FeatureLine.{SpellsFeature}
 use Rattle.city_cut.specs.FeatureText.{tail_text}
-use Rattle.city_cut.specs.HeldTexts.{texts_in}
+use Rattle.city_cut.specs.HeldTexts.{with_end}
 use Rattle.city_cut.specs.Made.{Makings, made_text}
 use Rattle.city_cut.specs.Moved.{moved_or_same}
 use Rattle.city_cut.proofs.MovedFeatures.{moved_makings, moved_texts}
@@ -24,7 +24,7 @@ returns-clause-ok c = λ appearance features last spell movable.
     moved_texts makings of c.args.shift there.text there.starts.items
     (c.in_ok-self-inside.ensures.ok of.points of.stand of.range) appearance last all.roots.items
     (recursion_from_All (λ root. root < length all.graph) all.roots.items c.self.invariant.inside) features
-    (subst (λ own. AllZip SpellsFeature (texts_in (record { own = own; common = tail_text appearance })) features)
+    (subst (λ own. AllZip SpellsFeature (with_end (tail_text appearance) own) features)
     (sym c.self.view_is) spell) movable
 
 pub returns-clause-count : goal.returns-clause-count
