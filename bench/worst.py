@@ -456,14 +456,14 @@ def tell(bench, worst, runs, most_of=max):
 def measure(bench, worst, idle):
     """Neither memory nor time may grow faster than the size."""
     runs = [measured(bench, worst, size, idle) for size in SIZES]
-    # a load on the machine makes single times longer: those that grow too much are taken again
+    # a load on the machine makes single times longer: two that grow too much are taken again, one after the other
     for _ in range(TURNS):
         if None in runs or not is_slower(runs):
             break
         again = [measured(bench, worst, size, idle) for size in SIZES[-2:]]
         if None in again:
             return
-        runs[-2:] = [old if old.seconds < new.seconds else new for old, new in zip(runs[-2:], again)]
+        runs[-2:] = min(runs[-2:], again, key=slower_by)
     if None in runs:
         return
     tell(bench, worst, runs)
@@ -476,8 +476,15 @@ def measure(bench, worst, idle):
 
 def measure_overlapping(bench, worst, idle):
     """What is written, and with it the time, grows as the square; were the memory to, the largest would take thousands of
-    times its size. It alone is held against what is wanted: threads and buffers take some hundred kilobytes."""
+    times its size. It alone is held against what is wanted: threads and buffers take some hundred kilobytes, and these
+    differ from run to run, so that a peak that is too large is taken again."""
     runs = [measured(bench, worst, size, idle) for size in SMALL_SIZES]
+    for _ in range(TURNS):
+        if None in runs or runs[-1].peak <= worst.most * runs[-1].read:
+            break
+        runs.append(measured(bench, worst, SMALL_SIZES[-1], idle))
+        if None not in runs:
+            runs[-2:] = [min(runs[-2:], key=lambda run: run.peak)]
     if None not in runs:
         tell(bench, worst, runs, lambda times: times[-1])
 

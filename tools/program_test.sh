@@ -687,6 +687,18 @@ for turns in '' --in-turn; do
     comes_out "20,000 extensions of two tiles $turns" merge $turns "$room/some" "$room/more"
 done
 
+# Names that have one hash in a map of the standard library are told apart about as fast as others: each of these compared
+# with all before it would take far more than ten seconds of a processor.
+{
+    printf '%s,"extensions":{' "${header%\}}"
+    seq -f %08.0f 100000 | sed 's/.*/"of_one_hash_296eG$EoGp5v&_is_of_one_hash_":{}/' | listed
+    printf '}}\n'
+} >"$room/in"
+for turns in '' --in-turn; do
+    (ulimit -t 10; exec timeout 60 "$program" merge $turns "$room/in" >"$room/out" 2>"$room/errors")
+    expect "100,000 extensions of one hash $turns" '0||same' "$?|$(cat "$room/errors")|$(cmp "$room/in" "$room/out" && echo same)"
+done
+
 # a word of 108,898 bytes, where the system takes 131,071, and many words
 { printf '%s\n' "$header"; seq 19999 20002 | sed 's/.*/{"type":"CityJSONFeature","id":"&","CityObjects":{"&":{"type":"&"}},"vertices":[]}/'; } >"$room/in"
 head -n 3 "$room/in" >"$room/wanted"
@@ -833,6 +845,22 @@ for moved in 0 1.5; do
     done
 done
 
+# A tile in turn keeps little room of its longest line: each of twelve has one of 10 MB, or of 300,000 members, moved and
+# not compact, and a short one.
+for kind in text members; do
+    {
+        moved_to 1.5
+        printf '\n{"type":"CityJSONFeature","id":"a","CityObjects":{},"vertices":[[1,2,3]], '
+        case $kind in
+        text) printf '"holds":"'; head -c 10000000 /dev/zero | tr '\0' a; printf '"' ;;
+        members) seq 300000 | sed 's/.*/"n&":0/' | listed ;;
+        esac
+        printf '}\n%s\n' "$empty"
+    } >"$room/long"
+    (ulimit -v 130000; exec timeout 60 "$program" merge --in-turn "$room/first" $(yes "$room/long" | head -n 12) >"$room/out" 2>"$room/errors")
+    expect "twelve tiles with a long line of $kind in 130000 KB" '0||25' "$?|$(cat "$room/errors")|$(wc -l <"$room/out")"
+done
+
 # While the output is quiet, a merge reads as many texts as it holds and no more: of a file of lines of 100 KB, this
 # far, a second after it has read so many at least. Of its output nobody takes a byte; a pipe and a buffer hold 128 KB.
 read_of() {
@@ -955,5 +983,35 @@ done
 for order in '' --in-turn; do
     expect "merge $order, 200 features with a large appearance" '200 features of 201 lines' "$(in_little_memory merge $order "$room/textured")"
 done
+
+# Features that share objects are made one at a time: those of a chain of 2,000 objects, each the child of the one before,
+# have some 70 MB.
+{
+    printf '%s"CityObjects":{' "${header%%\"CityObjects\"*}"
+    seq 1999 | awk '{ printf "\"%d\":{\"type\":\"Road\",\"children\":[\"%d\"]},", $1, $1 + 1 }'
+    printf '"2000":{"type":"Road"}},"vertices":[[0,0,0]]}\n'
+} >"$room/chained"
+# Those of 4,000 objects that all name the same 200 long vertices have some 50 MB.
+{
+    printf '%s"CityObjects":{' "${header%%\"CityObjects\"*}"
+    boundaries=$(seq -s , 0 199)
+    seq 4000 | sed 's/.*/"&":{"type":"Road","geometry":[{"type":"MultiPoint","lod":"1","boundaries":['"$boundaries"']}]}/' | listed
+    printf '},"vertices":['
+    seq -f %03.0f 200 | sed 's/.*/[900000000000&,900000000000&,900000000000&]/' | listed
+    printf ']}\n'
+} >"$room/long_vertices"
+made() {
+    (ulimit -v 30000; exec timeout 60 "$program" "$@") 2>"$room/errors" |
+        awk '{ objects += gsub(/"type":"Road"/, "") } END { printf "%d objects in %d lines", objects, NR }'
+    cat "$room/errors"
+}
+while read -r shape wanted; do
+    expect "cat, features of a document: $shape" "$wanted" "$(made cat <"$room/$shape")"
+    expect "filter, features of a document: $shape" "$wanted" "$(made filter <"$room/$shape")"
+    expect "merge in turn, features of a document: $shape" "$wanted" "$(made merge --in-turn "$room/$shape")"
+done <<END
+chained 2001000 objects in 2001 lines
+long_vertices 4000 objects in 4001 lines
+END
 
 counted 'The program at its edges'
