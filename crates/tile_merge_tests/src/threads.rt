@@ -370,6 +370,48 @@ fn flow(rt: HostRuntime) {
     assert!(rt; flows(&rt, 64) == Ok(true));
 }
 
+/// How many turns of one load the first flush of an output takes.
+const PAUSE: u64 = 5_000_000;
+
+/// It counts its flushes, and the first takes its time.
+#[derive(Drop)]
+struct Pausing {
+    flushes: Arc<AtomicU64, Global>,
+}
+
+impl Write for Pausing {
+    fn write(&mut self, from: &[u8]) -> io::Result<usize> {
+        Ok(from.len())
+    }
+
+    fn flush(&mut self) -> io::Result<()> {
+        if self.flushes.fetch_add(1, SeqCst) == 0 {
+            for _ in 0..PAUSE {
+                self.flushes.load(SeqCst);
+            }
+        }
+        Ok(())
+    }
+}
+
+/// A tile that ends while the output is flushed for the first time, just before the caller would sleep: nothing would wake
+/// it after that.
+fn ends_in_a_flush<H>(rt: &H) -> Result<bool, AllocError>
+where
+    H: Abort + AllocGlobal + Threads + Wait + Copy + Send + 'static,
+{
+    let (begun, flushes) = (shared(rt.alloc())?, shared(rt.alloc())?);
+    let mut readers = Vec::new(rt.alloc());
+    readers.push(waiting(1, &begun, (3, &flushes, 1))?)?;
+    let mut output = Device::new(Pausing { flushes });
+    Ok(merges_with_threads(rt, readers, (&PLAIN, 64), &mut output, "[1]"))
+}
+
+#[test]
+fn what_comes_before_it_sleeps_is_taken(rt: HostRuntime) {
+    assert!(rt; ends_in_a_flush(&rt) == Ok(true));
+}
+
 /// Whether they are answered so, merged in turn or with threads.
 fn merges<H, W>(
     rt: &H,
