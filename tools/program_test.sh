@@ -236,6 +236,10 @@ done
 expect 'no memory for a line' "$header|citymerge: tile 1 line 2: there is not enough memory" "$(cat "$room/out")|$(cat "$room/errors")"
 (ulimit -v 250000; exec timeout 60 "$program" filter --exclude --cotype=Road <"$room/in" >"$room/out" 2>"$room/errors")
 expect 'a long line with no type in 250000 KB' '0|same' "$?|$(cmp -s "$room/in" "$room/out" && echo same)"
+{ printf '['; yes '1, ' | tr -d '\n' | head -c 60000000; printf '1]'; } | holding >"$room/in"
+tr -d ' ' <"$room/in" >"$room/wanted"
+(ulimit -v 250000; exec timeout 60 "$program" filter <"$room/in" >"$room/out" 2>"$room/errors")
+expect 'a long line with blanks in 250000 KB' '0|same' "$?|$(cmp -s "$room/wanted" "$room/out" && echo same)"
 { printf '%s\n{"type":"CityJSONFeature","id":"a","CityObjects":{},"vertices":[[0.5,0,0]],"holds":[' "$header"; yes '1,' | tr -d '\n' | head -c 60000000; printf '1]}\n'; } >"$room/in"
 expect 'a long line at fault in 250000 KB' "1|$header|citymerge: tile 1 line 2: a vertex number is not written as a whole number" "$(ulimit -v 250000; answer filter)"
 

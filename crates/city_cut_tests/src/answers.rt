@@ -8,7 +8,7 @@ ghost use Rattle.city_feature.specs.Texts.{IsCompactOf};
 use crate::texts::{expect, filled, put_texts, repeated, texts_are, with_repeated};
 use byte_streams::Line;
 use city_cut::{CutTexts, cut_compacted_triples, triples_text};
-use city_json::{Compacted, Span, compact_object};
+use city_json::{MemberPlace, Span, Workspace, compact_object};
 use std::alloc::{AllocError, AllocGlobal, Global};
 use std::process::Abort;
 
@@ -17,45 +17,48 @@ fn is_plain(alloc: Global, cut: &mut CutTexts, document: &str) -> bool {
     put_texts(&mut stream, alloc, cut).is_ok() && texts_are(alloc, document, stream.items(), None)
 }
 
-/// A document in its compact text, and the triples that are noted in it.
+/// A document in its compact text, the place of each of its members in it, and the triples that are noted in it.
 #[derive(Drop)]
 pub(crate) struct DocumentText {
-    pub(crate) found: Compacted,
+    pub(crate) line: Line,
+    pub(crate) parts: Vec<MemberPlace>,
     pub(crate) triples: Span,
 }
 
 /// The document in its compact text, in which its triples are noted.
 pub(crate) fn given(alloc: Global, document: &str) -> Option<DocumentText>
-    ensures { IfSome result (λ feature. (members : MemberTrees) × IsCompactOf feature.found.line (object members)
-        × AreParts 1 feature.found.parts.items members × HasTriples feature.found.line feature.triples) }
+    ensures { IfSome result (λ given. (members : MemberTrees) × IsCompactOf given.line (object members)
+        × AreParts 1 given.parts.items members × HasTriples given.line given.triples) }
 {
     compact_document(alloc, document.as_bytes())
 }
 
 fn compact_document(alloc: Global, text: &[u8]) -> Option<DocumentText>
-    ensures { IfSome result (λ feature. (members : MemberTrees) × IsCompactOf feature.found.line (object members)
-        × AreParts 1 feature.found.parts.items members × HasTriples feature.found.line feature.triples) }
+    ensures { IfSome result (λ given. (members : MemberTrees) × IsCompactOf given.line (object members)
+        × AreParts 1 given.parts.items members × HasTriples given.line given.triples) }
 {
-    let mut line = Line::new(alloc);
-    let object = compact_object(alloc, text, &mut line)?;
+    let mut workspace = Workspace::new(alloc, Line::new(alloc));
+    let Ok(Some(object)) = compact_object(alloc, text, &mut workspace) else {
+        return None;
+    };
+    let Workspace { mut line, .. } = workspace;
     let Ok(_) = object.place.copy_to_buffer(text, &mut line) else {
         return None;
     };
-    let found = Compacted {
+    Some(DocumentText {
         line,
         parts: object.parts,
-    };
-    Some(DocumentText {
-        found,
         triples: object.triples,
     })
 }
 
 /// The document, cut on its compact text where that stands. `None`: undecided.
 pub(crate) fn quick_cut(alloc: Global, text: &[u8]) -> Option<CutTexts> {
-    let mut buffer = Line::new(alloc);
-    let found = compact_object(alloc, text, &mut buffer)?;
-    let line = found.place.bytes(text, &buffer);
+    let mut workspace = Workspace::new(alloc, Line::new(alloc));
+    let Ok(Some(found)) = compact_object(alloc, text, &mut workspace) else {
+        return None;
+    };
+    let line = found.place.bytes(text, &workspace.line);
     cut_compacted_triples(alloc, line, &found.parts, found.triples)
 }
 
@@ -64,8 +67,8 @@ fn compacted_cut(alloc: Global, document: &str) -> Option<CutTexts> {
     let feature = given(alloc, document)?;
     cut_compacted_triples(
         alloc,
-        feature.found.line.items(),
-        &feature.found.parts,
+        feature.line.items(),
+        &feature.parts,
         Span { from: 0, end: 0 },
     )
 }
@@ -73,12 +76,7 @@ fn compacted_cut(alloc: Global, document: &str) -> Option<CutTexts> {
 /// The document, cut where its triples are known.
 fn given_cut(alloc: Global, document: &str) -> Option<CutTexts> {
     let feature = given(alloc, document)?;
-    cut_compacted_triples(
-        alloc,
-        feature.found.line.items(),
-        &feature.found.parts,
-        feature.triples,
-    )
+    cut_compacted_triples(alloc, feature.line.items(), &feature.parts, feature.triples)
 }
 
 fn is_some_plain(alloc: Global, answer: Option<CutTexts>, document: &str) -> bool {
@@ -377,11 +375,7 @@ const TRIPLES: &str = "[[1,2,3]]
 /// Whether the vertices of a document are told to be triples, and are this text.
 fn are_told(alloc: Global, document: &str, vertices: &str) -> Option<bool> {
     let feature = given(alloc, document)?;
-    let found = triples_text(
-        feature.found.line.items(),
-        &feature.found.parts,
-        feature.triples,
-    )?;
+    let found = triples_text(feature.line.items(), &feature.parts, feature.triples)?;
     Some(found == vertices.as_bytes())
 }
 

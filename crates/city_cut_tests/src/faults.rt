@@ -9,7 +9,7 @@ use std::process::Abort;
 /// Why the document is refused, as its compact text tells.
 fn told(alloc: Global, document: &str) -> Option<Fault> {
     let feature = given(alloc, document)?;
-    cut_fault(alloc, feature.found.line.items(), &feature.found.parts)
+    cut_fault(alloc, feature.line.items(), &feature.parts)
 }
 
 /// Whether the fault of this name is told of the document, or `None`.

@@ -58,13 +58,3 @@ IsVerticesText text = (ps : List Triple) × (text ≡ compact (vertices_tree ps)
 abbrev pub SpellsVertices : List ℕ → List Triple → Type 0
 SpellsVertices text ps =
     (items : ItemTrees) × (text ≡ compact (array items)) × AreWritableItems items × AreVertices items ps
-
--- the line is the compact text of the object that the bytes spell, and its members lie in these parts
-abbrev pub IsCompacted : List ℕ → List ℕ → List MemberPlace → Type 0
-IsCompacted bytes line parts =
-    (members : MemberTrees)
-    × Spells bytes (object members)
-    × Fits (object members)
-    × (¬ IsDeep bytes)
-    × (line ≡ compact (object members))
-    × AreParts 1 parts members

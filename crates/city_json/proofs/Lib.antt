@@ -37,6 +37,7 @@ pub mod PassScalars
 pub mod PassStrings
 pub mod Places
 pub mod PlainRuns
+mod PrintedParts
 pub mod ReadString
 pub mod Replacing
 pub mod ScalarRuns

@@ -22,11 +22,13 @@ pub mod NumberAt
 pub mod OpenNames
 pub mod Parts
 pub mod PlainRun
+pub mod PrintedParts
 pub mod ReadString
 pub mod Reading
 pub mod Refusals
 pub mod ShortBytes
 pub mod Sieve
+pub mod SpelledObjects
 pub mod Strings
 pub mod TextPlace
 pub mod Tree

@@ -230,7 +230,7 @@ fn check_text(alloc: Global, bytes: &[u8]) -> Result<bool, Fault>
 /// than 128 brackets are open; [`Fault::Syntax`] where no value is spelled; [`Fault::DuplicateName`] where an object
 /// has a name twice. The first two come before any memory is asked for. [`Fault::Memory`] may stand in place of the
 /// last two, and of an answer that the text is taken.
-pub fn check(alloc: Global, bytes: &[u8]) -> Result<(), Fault>
+pub(crate) fn check(alloc: Global, bytes: &[u8]) -> Result<(), Fault>
     ensures taken { OnOk result ((value : Tree) × Spells bytes.now value × Fits value
         × ¬ IsDeep bytes.now) }
     ensures refused { IfErr result (λ fault. RefusesText fault bytes.now) }
@@ -260,7 +260,7 @@ fn check_whole(alloc: Global, bytes: &[u8]) -> Result<(), Fault>
 }
 
 /// Whether the text spells no object, whatever else it spells: no brace opens after white space.
-pub fn spells_no_object(bytes: &[u8]) -> bool
+pub(crate) fn spells_no_object(bytes: &[u8]) -> bool
     ensures { IsTrue result → (members : MemberTrees) → ¬ Spells bytes.now (object members) }
 {
     after_byte(b'{', after_white(bytes)).is_none()

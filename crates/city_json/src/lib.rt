@@ -1,6 +1,6 @@
-//! JSON texts (RFC 8259) and their values: [`read`] takes exactly the texts that fit, [`check`] says which these are
-//! with no value held, [`print`] gives the one compact text of a value, and [`compact`] goes from the one text to the
-//! other in one pass.
+//! JSON texts (RFC 8259) and their values: [`read`] takes exactly the texts that fit, [`print`] gives the one compact text
+//! of a value, and [`compact_object`] goes from the text of an object to its compact text, in one pass and with no value
+//! held, and tells of any other text what it is.
 #![tactic(auto)]
 
 mod checking;
@@ -17,11 +17,10 @@ mod text;
 pub use byte_streams::{
     Bin, Device, Fault, Intake, Line, Sequence, Sink, Source, Stop, Tape, read_all, write_all,
 };
-pub use checking::{check, spells_no_object};
 pub use compacting::{
-    CompactObject, Compacted, MemberPlace, PlacedMembers, Span, TextPlace, Workspace, between,
-    colon_after, compact, compact_object, compact_object_in, compact_parts, end_after, is_between,
-    members_at, members_of_compact, part_named, string_end, value_end, value_place,
+    CompactObject, MemberPlace, PlacedMembers, Span, TextPlace, Workspace, between, colon_after,
+    compact_object, end_after, is_between, members_at, members_of_compact, part_named, string_end,
+    value_end, value_place,
 };
 pub use comparing::same;
 pub use json::{Items, Json, Member, Members};

@@ -29,7 +29,7 @@ pub fn print(value: &Json, line: &mut Line) -> Result<(), Fault>
 }
 
 #[cycle(put)]
-fn put_value(line: &mut Line, value: &Json) -> Result<(), AllocError>
+pub(crate) fn put_value(line: &mut Line, value: &Json) -> Result<(), AllocError>
     ensures ok { OnOk result (line.new ≡ line.old ++ compact (tree value.now)) }
     ensures front { take (length line.old) line.new ≡ line.old }
     ensures writable { OnOk result (IsWritable (tree value.now)) }

@@ -117,20 +117,6 @@ module _ (text : List ℕ) where
   read_refused document some spelled fault (inl memory) = subst (λ fault. RefusesCutting fault text) (sym memory) tt
   read_refused document some spelled fault (inr cause) = document_refused document some spelled fault cause
 
-  pub plain_given : {X : Type 0} (answer : Result X Fault) (document : Tree) (header : X → HeaderValue)
-      (texts : X → List (List ℕ)) → IsReadAs text document
-      → IfOk answer (λ cut. (features : List FeatureValue) × IsCut document (header cut) features
-      × (texts cut ≡ texts_of features)) → OnOk answer (IsCuttable document)
-      → IfOk answer (λ cut. HasCut text (header cut) (texts cut))
-  plain_given (Ok cut) document header texts spelled made cuttable =
-      (document, spelled, (cuttable, made.0, made.1, made.2))
-  plain_given (Err fault) document header texts spelled made cuttable = tt
-
-  pub plain_refused : {X : Type 0} (answer : Result X Fault) (document : Tree) → ¬ IsBlank text → IsReadAs text document
-      → IfErr answer (λ fault. RefusesCut fault document) → IfErr answer (λ fault. RefusesCutting fault text)
-  plain_refused (Ok cut) document some spelled refused = tt
-  plain_refused (Err fault) document some spelled refused = document_refused document some spelled fault refused
-
   -- its compact text was cut, or refused
   module _ (line : List ℕ) (parts : List MemberPlace)
       (found : (members : MemberTrees) × Spells text (object members) × Fits (object members) × (¬ IsDeep text)

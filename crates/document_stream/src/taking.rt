@@ -18,7 +18,7 @@ use byte_streams::limits::MAX_LINE_BYTES;
 use byte_streams::{Fault, Line, Source, Stop, read_all};
 use city_cut::{CutTexts, FeatureTexts, cut_compacted_triples, cut_fault, cut_texts};
 use city_feature::Header;
-use city_json::{Compacted, Json, Span, check, compact_object, print, read, spells_no_object};
+use city_json::{Json, MemberPlace, Span, Workspace, compact_object, print, read};
 use std::alloc::Global;
 
 /// The stream of a document that was cut.
@@ -95,10 +95,11 @@ fn cut_text(alloc: Global, text: Vec<u8>) -> Result<CutTexts, Fault>
     if is_white_space(&text) {
         return Err(Fault::NoHeader);
     }
-    let mut buffer = Line::new(alloc);
-    let Some(found) = compact_object(alloc, &text, &mut buffer) else {
-        return plain_cut(alloc, &text);
+    let mut workspace = Workspace::new(alloc, Line::new(alloc));
+    let Some(found) = compact_object(alloc, &text, &mut workspace)? else {
+        return Err(Fault::NotCityJson);
     };
+    let Workspace { line: buffer, .. } = workspace;
     let compacted = Compacted {
         line: found.place.into_line(text, buffer),
         parts: found.parts,
@@ -106,18 +107,11 @@ fn cut_text(alloc: Global, text: Vec<u8>) -> Result<CutTexts, Fault>
     cut_compact(alloc, compacted, found.triples)
 }
 
-/// Cuts the document that a text spells by its value, once it is known to spell one.
-fn plain_cut(alloc: Global, text: &[u8]) -> Result<CutTexts, Fault>
-    requires { ¬ IsBlank text.now }
-    ensures ok { IfOk result (λ cut. HasCut text.now (header_value cut.header) (texts_in cut.texts)) }
-    ensures refused { IfErr result (λ fault. RefusesCutting fault text.now) }
-{
-    check(alloc, text)?;
-    if spells_no_object(text) {
-        return Err(Fault::NotCityJson);
-    }
-    let document = read(alloc, text)?;
-    cut_texts(alloc, document)
+/// The compact text of an object, and the place of each of its members in it.
+#[derive(Drop)]
+struct Compacted {
+    line: Line,
+    parts: Vec<MemberPlace>,
 }
 
 /// Cuts a document in its compact text, in which these triples stand, or tells why it is refused: on the text where that

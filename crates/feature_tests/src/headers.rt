@@ -2,7 +2,7 @@
 use crate::texts::{filled, is_named, split};
 use byte_streams::{Fault, Line};
 use city_feature::{Header, header, holds_city, is_document};
-use city_json::{compact_object, print, read};
+use city_json::{Workspace, compact_object, print, read};
 use std::alloc::{AllocGlobal, Global};
 use std::process::Abort;
 
@@ -178,9 +178,10 @@ fn is_document_of(alloc: Global, text: &str) -> Result<bool, Fault> {
 
 /// The same of its compact text, which is asked of objects alone.
 fn is_document_text(alloc: Global, text: &str) -> Option<bool> {
-    let mut buffer = Line::new(alloc);
-    let object = compact_object(alloc, text.as_bytes(), &mut buffer)?;
-    holds_city(object.place.bytes(text.as_bytes(), &buffer), &object.parts)
+    let mut workspace = Workspace::new(alloc, Line::new(alloc));
+    let object = compact_object(alloc, text.as_bytes(), &mut workspace).ok()??;
+    let line = object.place.bytes(text.as_bytes(), &workspace.line);
+    holds_city(line, &object.parts)
 }
 
 fn expect_documents(rt: &(impl Abort + AllocGlobal), table: &str, wanted: bool) {

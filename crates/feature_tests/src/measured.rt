@@ -2,7 +2,7 @@
 use crate::texts::{filled, split};
 use byte_streams::Line;
 use city_feature::{area, triples_meet};
-use city_json::{compact_object, part_named};
+use city_json::{Workspace, compact_object, part_named};
 use std::alloc::{AllocError, Global};
 
 /// A feature whose vertices are the last triples of its line, and the same with other members.
@@ -32,9 +32,12 @@ const TRIPLES: &str = "
 
 /// Whether the vertices of a line meet an area. `None`: that is not said.
 fn meets(alloc: Global, line: &str, corners: &str) -> Option<bool> {
-    let mut buffer = Line::new(alloc);
-    let object = compact_object(alloc, line.as_bytes(), &mut buffer)?;
-    let text = object.place.bytes(line.as_bytes(), &buffer);
+    let mut workspace = Workspace::new(alloc, Line::new(alloc));
+    let bytes = line.as_bytes();
+    let Ok(Some(object)) = compact_object(alloc, bytes, &mut workspace) else {
+        return None;
+    };
+    let text = object.place.bytes(bytes, &workspace.line);
     let part = part_named(text, &object.parts, b"\"vertices\":")?;
     if !object.triples.is_value_of(part) {
         return None;

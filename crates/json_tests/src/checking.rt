@@ -1,7 +1,6 @@
 //! What is said of a text with more than one fault, and of names in objects that stand in one another.
-use crate::texts::{Pieces, expect_of_pieces, is_answered, is_checked_as_read};
+use crate::texts::{Pieces, expect_of_pieces, has_one_answer, is_answered, object_text};
 use byte_streams::Fault;
-use city_json::{check, spells_no_object};
 use std::alloc::Global;
 use std::process::Abort;
 
@@ -105,37 +104,47 @@ fn is_cut_alike(alloc: Global, at: usize) -> bool {
         return false;
     }
     text.remove(at);
-    is_checked_as_read(alloc, &text) && is_checked_as_read(alloc, &WHOLE[..at])
+    has_one_answer(alloc, &text) && has_one_answer(alloc, &WHOLE[..at])
 }
 
 #[test]
-fn broken_texts_are_checked_as_they_are_read(rt: HostRuntime) {
-    assert!(rt; check(rt.alloc(), WHOLE).is_ok());
+fn broken_texts_are_refused_as_they_are_read(rt: HostRuntime) {
+    assert!(rt; object_text(rt.alloc(), WHOLE).is_ok_and(|line| line.is_some()));
     for at in 0..WHOLE.len() {
         assert!(rt; is_cut_alike(rt.alloc(), at), "{at}");
     }
 }
 
-/// Texts of no object, some of which spell nothing.
-const OTHERS: &str = r#"[{}]
- [{"a":1}]
-"{"
-"{}"
-0
--1.5
-true
-false
-null
-,{}
-x{"a":1}"#;
+/// Texts of values that are no objects.
+const OTHERS: [&str; 10] = [
+    "[{}]",
+    " [{\"a\":1}]",
+    "\"{\"",
+    "\"{}\"",
+    "0",
+    "-1.5 ",
+    "true",
+    "false",
+    " \t\r\nnull",
+    "[[],[{}]]",
+];
+
+fn is_no_object(alloc: Global, text: &str) -> bool {
+    match object_text(alloc, text.as_bytes()) {
+        Ok(line) => line.is_none(),
+        Err(_) => false,
+    }
+}
 
 #[test]
 fn what_is_no_object_is_told(rt: HostRuntime) {
-    for text in OTHERS.lines() {
-        assert!(rt; spells_no_object(text.as_bytes()), "{text}");
+    for text in OTHERS.iter() {
+        assert!(rt; is_no_object(rt.alloc(), text), "{text}");
     }
-    assert!(rt; spells_no_object(b""));
-    assert!(rt; spells_no_object(b" \t\r\n"));
-    assert!(rt; !spells_no_object(b"{}"));
-    assert!(rt; !spells_no_object(b" \t\r\n{\"a\":[1]} "));
+    for text in ["{}", " \t\r\n{\"a\":[1]} "] {
+        assert!(rt;
+            object_text(rt.alloc(), text.as_bytes()).is_ok_and(|line| line.is_some()),
+            "{text}"
+        );
+    }
 }

@@ -1,7 +1,7 @@
 //! Of the one pass: that it answers for the texts that users have, as the reader and the printer do.
 use crate::texts::{Pieces, expect, expect_of_pieces, is_answered, is_compacted, text_of};
 use byte_streams::Line;
-use city_json::{compact_object, compact_parts};
+use city_json::{Workspace, compact_object};
 use std::alloc::{AllocError, Global};
 
 /// Texts and their compact texts.
@@ -265,17 +265,16 @@ fn are_parts(line: &[u8], found: &[city_json::MemberPlace], parts: &[Part]) -> b
     agree
 }
 
-fn has_parts(alloc: Global, text: &[u8], parts: &[Part]) -> bool {
-    match compact_parts(alloc, text, Line::new(alloc)) {
-        Some(found) => are_parts(found.line.items(), found.parts.as_slice(), parts),
-        None => false,
-    }
-}
-
+/// Whether an object is told by these parts, or none is told.
 fn is_parted(alloc: Global, row: &Parted) -> bool {
-    match row.parts {
-        Some(parts) => has_parts(alloc, row.text, parts),
-        None => compact_parts(alloc, row.text, Line::new(alloc)).is_none(),
+    let mut workspace = Workspace::new(alloc, Line::new(alloc));
+    match (compact_object(alloc, row.text, &mut workspace), row.parts) {
+        (Ok(Some(found)), Some(parts)) => {
+            let line = found.place.bytes(row.text, &workspace.line);
+            are_parts(line, found.parts.as_slice(), parts)
+        }
+        (Ok(None) | Err(_), None) => true,
+        _ => false,
     }
 }
 
@@ -300,8 +299,9 @@ const ROOM: usize = 1_000;
 
 /// What a text that is given away becomes, with room to spare for a copy.
 fn given(alloc: Global, text: Vec<u8>, spare: Line) -> Option<Vec<u8>> {
-    let mut buffer = spare;
-    let found = compact_object(alloc, &text, &mut buffer)?;
+    let mut workspace = Workspace::new(alloc, spare);
+    let found = compact_object(alloc, &text, &mut workspace).ok()??;
+    let Workspace { line: buffer, .. } = workspace;
     let line = found.place.into_line(text, buffer);
     Some(line.into_vec())
 }

@@ -1,6 +1,6 @@
 //! Which texts are too deep. This is looked for before the text is read, so that it says nothing of what
 //! else is wrong with it.
-use crate::texts::{Pieces, expect_of_pieces, is_answered, is_checked_as_read, text_of};
+use crate::texts::{Pieces, expect_of_pieces, has_one_answer, is_answered, text_of};
 use byte_streams::Fault;
 use city_json::read;
 use std::alloc::Global;
@@ -86,7 +86,7 @@ fn nesting_is_deep_past_the_limit(rt: HostRuntime) {
 fn is_shallow(alloc: Global, pieces: Pieces<'_>) -> bool {
     match text_of(alloc, pieces) {
         Ok(text) => {
-            read(alloc, &text).err() != Some(Fault::TooDeep) && is_checked_as_read(alloc, &text)
+            read(alloc, &text).err() != Some(Fault::TooDeep) && has_one_answer(alloc, &text)
         }
         Err(_) => false,
     }

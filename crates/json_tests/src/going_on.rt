@@ -1,19 +1,11 @@
 //! Of arrays that begin as triples, and of nested whole numbers: wherever in a block something else stands, or a bracket,
-//! the pass says what the reader says.
-use crate::texts::{Pieces, expect_at, read_and_printed, text_of};
-use byte_streams::Line;
-use city_json::compact_object;
+//! the answer is the reader's.
+use crate::texts::{Pieces, expect_at, has_one_answer, read_and_printed, text_of};
 use std::alloc::{AllocError, Global};
 
-/// Whether the pass over an object's members answers as the reader does, which takes the text or not, as is wanted.
+/// Whether the answer is the reader's, which takes the text or not, as is wanted.
 fn is_told(alloc: Global, text: &[u8], is_taken: bool) -> bool {
-    let wanted = read_and_printed(alloc, text);
-    let mut buffer = Line::new(alloc);
-    match compact_object(alloc, text, &mut buffer) {
-        Some(found) => is_taken
-            && wanted.is_some_and(|line| line.items() == found.place.bytes(text, &buffer)),
-        None => !is_taken && wanted.is_none(),
-    }
+    read_and_printed(alloc, text).is_some() == is_taken && has_one_answer(alloc, text)
 }
 
 fn are_told(alloc: Global, pieces: Pieces<'_>, is_taken: bool) -> bool {
@@ -158,11 +150,6 @@ fn shape(alloc: Global, count: usize, number: usize, end: &[u8]) -> Result<Vec<u
     }
     text.extend_from_slice(end)?;
     Ok(text)
-}
-
-/// Whether the pass answers for what the reader takes, and for nothing else.
-fn has_one_answer(alloc: Global, text: &[u8]) -> bool {
-    is_told(alloc, text, true) || is_told(alloc, text, false)
 }
 
 fn shape_has_one_answer(alloc: Global, count: usize, number: usize) -> bool {

@@ -2,9 +2,7 @@
 //! told of them as of others.
 use crate::texts::{expect, expect_at, read_and_printed, text_of};
 use byte_streams::Line;
-use city_json::{
-    CompactObject, TextPlace, Workspace, compact_object, compact_object_in, compact_parts,
-};
+use city_json::{CompactObject, TextPlace, Workspace, compact_object, members_of_compact};
 use std::alloc::{AllocError, AllocGlobal, Global};
 use std::process::Abort;
 
@@ -75,23 +73,23 @@ struct Found {
     buffer: Line,
 }
 
-/// What is told of a text. `None`: nothing, or out of memory.
+/// The object that is told of a text, if one is.
 fn told(alloc: Global, text: &[u8]) -> Option<Found> {
-    let mut buffer = old_line(alloc).ok()?;
-    let object = compact_object(alloc, text, &mut buffer)?;
+    let mut workspace = Workspace::new(alloc, old_line(alloc).ok()?);
+    let object = compact_object(alloc, text, &mut workspace).ok()??;
+    let Workspace { line: buffer, .. } = workspace;
     Some(Found { object, buffer })
 }
 
-/// Whether the text and its members are those that the call tells of which always copies.
+/// Whether its members are where they are found in its compact text.
 fn has_same_object(alloc: Global, text: &[u8]) -> bool {
-    let Some(parted) = compact_parts(alloc, text, Line::new(alloc)) else {
-        return false;
-    };
     let Some(Found { object, buffer }) = told(alloc, text) else {
         return false;
     };
-    object.place.bytes(text, &buffer) == parted.line.items()
-        && object.parts.as_slice() == parted.parts.as_slice()
+    match members_of_compact(alloc, object.place.bytes(text, &buffer)) {
+        Some(parts) => object.parts.as_slice() == parts.as_slice(),
+        None => false,
+    }
 }
 
 /// Whether the reader gives the same text.
@@ -198,9 +196,9 @@ const NAMED: [&[u8]; 6] = [
 
 /// Whether the same is told of a text in memory that was used for others as in memory of its own.
 fn is_told_in(alloc: Global, text: &[u8], workspace: &mut Workspace) -> bool {
-    match (compact_object_in(alloc, text, workspace), told(alloc, text)) {
+    match (compact_object(alloc, text, workspace), told(alloc, text)) {
         (
-            Some(object),
+            Ok(Some(object)),
             Some(
                 Found {
                     object: own,
@@ -215,7 +213,7 @@ fn is_told_in(alloc: Global, text: &[u8], workspace: &mut Workspace) -> bool {
             workspace.take_back(object.parts);
             is_same
         }
-        (None, None) => true,
+        (Ok(None) | Err(_), None) => true,
         _ => false,
     }
 }
@@ -314,7 +312,7 @@ fn is_written_in(
 ) -> Result<bool, AllocError> {
     let text = text_of(alloc, &[(b"{\"n\":[ 0", 1), (piece, count), (b"]}", 1)])?;
     let compact = text_of(alloc, &[(b"{\"n\":[0", 1), (compact, count), (b"]}", 1)])?;
-    let Some(object) = compact_object_in(alloc, &text, workspace) else {
+    let Ok(Some(object)) = compact_object(alloc, &text, workspace) else {
         return Ok(false);
     };
     let is_so = object.place == TextPlace::Written && workspace.line.items() == compact.as_slice();

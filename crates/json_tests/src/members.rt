@@ -1,6 +1,6 @@
 //! That a member of an object is found by its name in the compact text: wherever it stands, and only where it does.
 use byte_streams::Line;
-use city_json::{compact_object, part_named, value_place};
+use city_json::{Workspace, compact_object, part_named, value_place};
 use std::alloc::Global;
 
 /// A compact text, a name with its marks and its colon, and where the value of that member begins, if there is one.
@@ -28,8 +28,8 @@ const ROWS: [Row; 14] = [
 /// Whether both ways find the member of a row where it stands.
 fn is_found(alloc: Global, row: &Row) -> bool {
     let (text, name, wanted) = *row;
-    let mut buffer = Line::new(alloc);
-    let Some(object) = compact_object(alloc, text, &mut buffer) else {
+    let mut workspace = Workspace::new(alloc, Line::new(alloc));
+    let Ok(Some(object)) = compact_object(alloc, text, &mut workspace) else {
         return false;
     };
     let part = part_named(text, &object.parts, name);

@@ -1,6 +1,6 @@
-//! Texts for the tests of both paths, the reader and printer and the one pass, and of the check with no value.
+//! Texts for the tests of both ways: the reader and the printer, and the compact text with no value.
 use byte_streams::{Fault, Line};
-use city_json::{check, compact, print, read};
+use city_json::{Workspace, compact_object, print, read};
 use std::alloc::{AllocError, Global};
 use std::process::Abort;
 
@@ -56,45 +56,76 @@ fn is_written(alloc: Global, text: &[u8], wanted: &[u8]) -> bool {
     }
 }
 
-/// What the pass answers, begun with a line that holds something.
-fn passed(alloc: Global, text: &[u8]) -> Option<Line> {
-    match b"an old line".to_vec(alloc) {
-        Ok(old) => compact(alloc, text, Line::from_vec(old)),
-        Err(_) => None,
+/// The compact text of the object that the text spells, in memory that held something; none where it spells another value.
+pub(crate) fn object_text(alloc: Global, text: &[u8]) -> Result<Option<Line>, Fault> {
+    let mut workspace = Workspace::new(alloc, Line::from_vec(b"an old line".to_vec(alloc)?));
+    let Some(object) = compact_object(alloc, text, &mut workspace)? else {
+        return Ok(None);
+    };
+    let Workspace { mut line, .. } = workspace;
+    object.place.copy_to_buffer(text, &mut line)?;
+    Ok(Some(line))
+}
+
+/// An object that has this value alone.
+fn holding(alloc: Global, text: &[u8]) -> Result<Vec<u8>, AllocError> {
+    let mut object = b"{\"\":".to_vec(alloc)?;
+    object.extend_from_slice(text)?;
+    object.push(b'}')?;
+    Ok(object)
+}
+
+/// The compact text of a value that is no object, as it stands in the object that has it alone, unless that nests too deeply.
+fn held_text(alloc: Global, text: &[u8]) -> Result<Line, Fault> {
+    match object_text(alloc, &holding(alloc, text)?) {
+        Ok(Some(line)) => match line.items() {
+            [b'{', b'"', b'"', b':', inner @ .., b'}'] => Ok(Line::from_vec(inner.to_vec(alloc)?)),
+            _ => Err(Fault::Syntax),
+        },
+        Ok(None) => Err(Fault::Syntax),
+        Err(Fault::TooDeep) => written(alloc, text),
+        Err(fault) => Err(fault),
     }
 }
 
-fn is_passed(alloc: Global, text: &[u8], wanted: &[u8]) -> bool {
-    match passed(alloc, text) {
-        Some(line) => line.items() == wanted,
-        None => false,
+/// The compact text of the value that the text spells, with none held that is an object; or why there is none.
+fn compacted(alloc: Global, text: &[u8]) -> Result<Line, Fault> {
+    match object_text(alloc, text)? {
+        Some(line) => Ok(line),
+        None => held_text(alloc, text),
     }
 }
 
-/// Whether both paths give this compact text, and the check takes the text.
+fn is_told(answer: Result<Line, Fault>, wanted: &[u8]) -> bool {
+    match answer {
+        Ok(line) => line.items() == wanted,
+        Err(_) => false,
+    }
+}
+
+fn is_fault(answer: Result<Line, Fault>, fault: Fault) -> bool {
+    match answer {
+        Ok(_) => false,
+        Err(other) => other == fault,
+    }
+}
+
+/// Whether both ways give this compact text.
 pub(crate) fn is_compacted(alloc: Global, text: &[u8], wanted: &[u8]) -> bool {
-    is_written(alloc, text, wanted) && is_passed(alloc, text, wanted) && check(alloc, text).is_ok()
+    is_written(alloc, text, wanted) && is_told(compacted(alloc, text), wanted)
 }
 
-/// Whether the reader and the check have this fault, and the pass says nothing.
+/// Whether both ways have this fault.
 pub(crate) fn is_refused(alloc: Global, text: &[u8], fault: Fault) -> bool {
-    read(alloc, text).err() == Some(fault)
-        && check(alloc, text) == Err(fault)
-        && passed(alloc, text).is_none()
+    is_fault(written(alloc, text), fault) && is_fault(compacted(alloc, text), fault)
 }
 
-/// Whether the pass answers for what the reader takes, with the same text, and for nothing else, and the check says of
-/// the text what the reader says.
+/// Whether both ways have one answer.
 pub(crate) fn has_one_answer(alloc: Global, text: &[u8]) -> bool {
     match written(alloc, text) {
-        Ok(line) => is_passed(alloc, text, line.items()) && check(alloc, text).is_ok(),
-        Err(fault) => passed(alloc, text).is_none() && check(alloc, text) == Err(fault),
+        Ok(line) => is_told(compacted(alloc, text), line.items()),
+        Err(fault) => is_fault(compacted(alloc, text), fault),
     }
-}
-
-/// Whether the check says of the text what the reader says.
-pub(crate) fn is_checked_as_read(alloc: Global, text: &[u8]) -> bool {
-    check(alloc, text).err() == read(alloc, text).err()
 }
 
 /// Whether the text is refused for this fault, or is as it is where there is none.

@@ -2,7 +2,7 @@
 use crate::chance::Chance;
 use crate::texts::{Pieces, expect, expect_at, has_one_answer, text_of};
 use byte_streams::Line;
-use city_json::{Span, compact, compact_object};
+use city_json::{Span, Workspace, compact_object};
 use std::alloc::{AllocError, Global};
 
 /// A text, and what is noted of it.
@@ -72,10 +72,12 @@ const NOTED: [(&[u8], &[u8]); 33] = [
 /// Whether the triples that are noted of a text are these, or none are noted where there are none of these. `None`:
 /// nothing is told of the text.
 fn noted(alloc: Global, text: &[u8], wanted: &[u8]) -> Option<bool> {
-    let mut buffer = Line::new(alloc);
-    let found = compact_object(alloc, text, &mut buffer)?;
+    let mut workspace = Workspace::new(alloc, Line::new(alloc));
+    let Ok(Some(found)) = compact_object(alloc, text, &mut workspace) else {
+        return None;
+    };
     let Span { from, end } = found.triples;
-    let line = found.place.bytes(text, &buffer);
+    let line = found.place.bytes(text, &workspace.line);
     Some(line.get(from..end) == Some(wanted))
 }
 
@@ -84,7 +86,7 @@ fn notes(alloc: Global, text: &[u8], wanted: &[u8]) -> bool {
 }
 
 fn is_noted_alike(alloc: Global, text: &[u8], wanted: &[u8]) -> bool {
-    notes(alloc, text, wanted) && has_same_answer(alloc, text)
+    notes(alloc, text, wanted) && has_one_answer(alloc, text)
 }
 
 #[test]
@@ -137,25 +139,11 @@ const PIECES: [&[u8]; 12] = [
     b",1,2,3],[",
 ];
 
-/// Whether the pass has the reader's answer, and the same of an object with and without its parts.
-fn has_same_answer(alloc: Global, text: &[u8]) -> bool {
-    has_one_answer(alloc, text) && has_same_line(alloc, text)
-}
-
-fn has_same_line(alloc: Global, text: &[u8]) -> bool {
-    let line = compact(alloc, text, Line::new(alloc));
-    let mut buffer = Line::new(alloc);
-    match compact_object(alloc, text, &mut buffer) {
-        Some(found) => line.is_some_and(|line| line.items() == found.place.bytes(text, &buffer)),
-        None => line.is_none(),
-    }
-}
-
 fn changed_has_same_answer(alloc: Global, at: usize, piece: &'static [u8], count: usize) -> bool {
     let front = TEXT.get(..at).unwrap_or(b"");
     let back = TEXT.get(at.saturating_add(count)..).unwrap_or(b"");
     match text_of(alloc, &[(front, 1), (piece, 1), (back, 1)]) {
-        Ok(text) => has_same_answer(alloc, &text),
+        Ok(text) => has_one_answer(alloc, &text),
         Err(_) => false,
     }
 }
@@ -173,11 +161,7 @@ fn all_changed_have_same_answer(alloc: Global, at: usize) -> bool {
 
 #[test]
 fn a_byte_changed_in_triples_has_one_answer(rt: HostRuntime) {
-    expect(
-        &rt,
-        compact_object(rt.alloc(), TEXT, &mut Line::new(rt.alloc())).is_some(),
-        TEXT,
-    );
+    expect(&rt, noted(rt.alloc(), TEXT, b"").is_some(), TEXT);
     for at in 0..TEXT.len() {
         let holds = all_changed_have_same_answer(rt.alloc(), at);
         expect_at(&rt, holds, at, TEXT);

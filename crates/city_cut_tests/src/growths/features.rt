@@ -9,7 +9,7 @@ use city_feature::{
     shifted, types, vertices_fault,
 };
 use city_grid::{Shift, Vertex, append_vertex, vertex_json, write_vertex};
-use city_json::{Json, compact_object, read};
+use city_json::{Json, Workspace, compact_object, read};
 use growth_support::texts::{
     A, BUILDING, CHILDLESS, CLASHING, DOCUMENT, DUTCH, EXTENDED, EXTENDED_BOTH, EXTENDED_TWICE,
     FAR_HEADER, HEADER, OFF_GRID, ORPHANED, OTHER_DUTCH, SCALED, UNBOUNDED,
@@ -568,12 +568,12 @@ fn document_is_cut_into_texts(rt: &(impl AllocGlobal + Eprint)) -> Result<bool, 
 
 /// The document, cut on its compact text.
 fn cut_at_once(rt: &(impl AllocGlobal + Eprint), text: &[u8]) -> Result<CutTexts, Fault> {
-    let mut buffer = Line::new(rt.alloc());
-    let Some(found) = compact_object(rt.alloc(), text, &mut buffer) else {
+    let mut workspace = Workspace::new(rt.alloc(), Line::new(rt.alloc()));
+    let Ok(Some(found)) = compact_object(rt.alloc(), text, &mut workspace) else {
         wanted(rt, Call("compact_object"));
         return Err(Fault::Memory);
     };
-    let line = found.place.bytes(text, &buffer);
+    let line = found.place.bytes(text, &workspace.line);
     let Some(cut) = cut_compacted_triples(rt.alloc(), line, &found.parts, found.triples) else {
         wanted(rt, Call("cut_compacted_triples"));
         return Err(Fault::Memory);

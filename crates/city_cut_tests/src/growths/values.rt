@@ -1,10 +1,7 @@
 //! Bytes that are gathered, JSON values and texts.
 
 use byte_streams::{Bin, Fault, Line, Sequence, Stop, Tape, read_all, write_all};
-use city_json::{
-    Json, MemberPlace, NumText, Str, Workspace, check, compact, compact_object, compact_object_in,
-    compact_parts, print, read,
-};
+use city_json::{Json, MemberPlace, NumText, Str, Workspace, compact_object, print, read};
 use growth_support::{Call, expect, is_fault, refused, wanted};
 use std::alloc::{AllocError, Global};
 use std::io::Eprint;
@@ -159,25 +156,30 @@ fn no_texts_are_read(rt: &(impl AllocGlobal + Eprint)) -> Result<bool, Fault> {
     Ok(true)
 }
 
-fn is_checked(rt: &(impl AllocGlobal + Eprint), text: &str) -> Result<bool, Fault> {
-    match check(rt.alloc(), text.as_bytes()) {
-        Ok(()) => Ok(true),
-        Err(fault) => refused(rt, Call("check"), fault),
+/// Whether a text spells an object, of this text when it is compact, or a value of another kind, and this text is its own.
+fn is_told(rt: &(impl AllocGlobal + Eprint), text: &str, compact: &str) -> Result<bool, Fault> {
+    let mut workspace = Workspace::new(rt.alloc(), Line::new(rt.alloc()));
+    match compact_object(rt.alloc(), text.as_bytes(), &mut workspace) {
+        Ok(Some(found)) => {
+            Ok(found.place.bytes(text.as_bytes(), &workspace.line) == compact.as_bytes())
+        }
+        Ok(None) => Ok(text == compact && !text.starts_with('{')),
+        Err(fault) => refused(rt, Call("compact_object"), fault),
     }
 }
 
-fn texts_are_checked(rt: &(impl AllocGlobal + Eprint)) -> Result<bool, Fault> {
-    for (text, _) in TEXTS.iter() {
-        if !is_checked(rt, text)? {
+fn texts_are_told(rt: &(impl AllocGlobal + Eprint)) -> Result<bool, Fault> {
+    for (text, compact) in TEXTS.iter() {
+        if !is_told(rt, text, compact)? {
             return Ok(false);
         }
     }
     Ok(true)
 }
 
-fn no_texts_are_checked(rt: &(impl AllocGlobal + Eprint)) -> Result<bool, Fault> {
+fn no_texts_are_told(rt: &(impl AllocGlobal + Eprint)) -> Result<bool, Fault> {
     for (text, fault) in NO_TEXTS.iter() {
-        if !is_fault(is_checked(rt, text), *fault)? {
+        if !is_fault(is_told(rt, text, ""), *fault)? {
             return Ok(false);
         }
     }
@@ -325,27 +327,6 @@ const ESCAPED_NAMES: [(&str, &str); 5] = [
     ),
 ];
 
-/// Of a text nothing is said where memory is wanted, and only there.
-fn text_is_compact(
-    rt: &(impl AllocGlobal + Eprint),
-    text: &[u8],
-    wanted: &[u8],
-) -> Result<bool, Fault> {
-    match compact(rt.alloc(), text, Line::new(rt.alloc())) {
-        Some(line) => Ok(line.items() == wanted),
-        None => refused(rt, Call("compact"), Fault::Memory),
-    }
-}
-
-fn texts_are_compact(rt: &(impl AllocGlobal + Eprint)) -> Result<bool, Fault> {
-    for (text, compact) in ESCAPED_NAMES.iter() {
-        if !text_is_compact(rt, text.as_bytes(), compact.as_bytes())? {
-            return Ok(false);
-        }
-    }
-    text_is_compact(rt, TEXT, COMPACT)
-}
-
 /// Whether these parts stand beside one another between the braces of a text of this length.
 fn are_parts(parts: &[MemberPlace], length: usize) -> bool {
     let mut at = 1;
@@ -358,51 +339,46 @@ fn are_parts(parts: &[MemberPlace], length: usize) -> bool {
     at == length
 }
 
-fn text_is_compact_with_parts(rt: &(impl AllocGlobal + Eprint)) -> Result<bool, Fault> {
-    match compact_parts(rt.alloc(), TEXT, Line::new(rt.alloc())) {
-        Some(found) => {
-            let is_so = found.line.items() == COMPACT && found.parts.len() == 3;
-            Ok(is_so && are_parts(&found.parts, COMPACT.len()))
-        }
-        None => refused(rt, Call("compact_parts"), Fault::Memory),
-    }
-}
-
-/// Of a text nothing is said where memory is wanted, and only there. It is copied only where it is not compact, or to be
-/// held.
+/// The text is that of the object, between whose braces its parts stand, or memory is wanted. It is copied only where it is
+/// not compact, or to be held.
 fn text_stands_compact(
     rt: &(impl AllocGlobal + Eprint),
     text: &[u8],
     compact: &[u8],
 ) -> Result<bool, Fault> {
-    let mut buffer = Line::new(rt.alloc());
-    let Some(found) = compact_object(rt.alloc(), text, &mut buffer) else {
-        return refused(rt, Call("compact_object"), Fault::Memory);
+    let mut workspace = Workspace::new(rt.alloc(), Line::new(rt.alloc()));
+    let found = match compact_object(rt.alloc(), text, &mut workspace) {
+        Ok(Some(found)) => found,
+        Ok(None) => return Ok(false),
+        Err(fault) => return refused(rt, Call("compact_object"), fault),
     };
-    if found.place.bytes(text, &buffer) != compact {
+    let Workspace { mut line, .. } = workspace;
+    if found.place.bytes(text, &line) != compact || !are_parts(&found.parts, compact.len()) {
         return Ok(false);
     }
-    match found.place.copy_to_buffer(text, &mut buffer) {
-        Ok(()) => Ok(buffer.items() == compact),
+    match found.place.copy_to_buffer(text, &mut line) {
+        Ok(()) => Ok(line.items() == compact),
         Err(_) => refused(rt, Call("TextPlace::copy_to_buffer"), Fault::Memory),
     }
 }
 
 fn texts_stand_compact(rt: &(impl AllocGlobal + Eprint)) -> Result<bool, Fault> {
-    for (text, compact) in [(TEXT, COMPACT), (PLAIN, PLAIN)].iter() {
-        if !text_stands_compact(rt, text, compact)? {
+    for (text, compact) in ESCAPED_NAMES.iter() {
+        if !text_stands_compact(rt, text.as_bytes(), compact.as_bytes())? {
             return Ok(false);
         }
     }
-    Ok(true)
+    Ok(text_stands_compact(rt, TEXT, COMPACT)? && text_stands_compact(rt, PLAIN, PLAIN)?)
 }
 
 /// The same of texts in turn, in memory that goes from one to the next.
 fn texts_stand_in_turn(rt: &(impl AllocGlobal + Eprint)) -> Result<bool, Fault> {
     let mut workspace = Workspace::new(rt.alloc(), Line::new(rt.alloc()));
     for (text, compact) in [(TEXT, COMPACT), (PLAIN, PLAIN), (TEXT, COMPACT)].iter() {
-        let Some(found) = compact_object_in(rt.alloc(), text, &mut workspace) else {
-            return refused(rt, Call("compact_object_in"), Fault::Memory);
+        let found = match compact_object(rt.alloc(), text, &mut workspace) {
+            Ok(Some(found)) => found,
+            Ok(None) => return Ok(false),
+            Err(fault) => return refused(rt, Call("compact_object"), fault),
         };
         let is_so = found.place.bytes(text, &workspace.line) == *compact
             && are_parts(&found.parts, compact.len());
@@ -422,8 +398,8 @@ fn bytes_values_and_texts(rt: HostRuntime) -> Result<(), Fault> {
     expect!(rt; reader_gives_all(&rt));
     expect!(rt; texts_are_read(&rt));
     expect!(rt; no_texts_are_read(&rt));
-    expect!(rt; texts_are_checked(&rt));
-    expect!(rt; no_texts_are_checked(&rt));
+    expect!(rt; texts_are_told(&rt));
+    expect!(rt; no_texts_are_told(&rt));
     expect!(rt; deepest_is_read(&rt));
     expect!(rt; deepest_is_refused(&rt));
     expect!(rt; value_is_printed(&rt));
@@ -431,8 +407,6 @@ fn bytes_values_and_texts(rt: HostRuntime) -> Result<(), Fault> {
     expect!(rt; numbers_are_read(&rt));
     expect!(rt; names_are_read(&rt));
     expect!(rt; bin_is_filled(&rt));
-    expect!(rt; texts_are_compact(&rt));
-    expect!(rt; text_is_compact_with_parts(&rt));
     expect!(rt; texts_stand_compact(&rt));
     expect!(rt; texts_stand_in_turn(&rt));
     Ok(())

@@ -25,7 +25,7 @@ use Rattle.city_feature.specs.declared.choices.Choice.{Choice}
 use Rattle.city_feature.specs.Ended.{IsAppearanceEnd, appearance_alone}
 use Rattle.city_feature.specs.Feature.{FeatureValue, IsFeature, moved, moved_vertices, vertices_tree}
 use Rattle.city_feature.specs.FeatureLine.{GivesFeature, SpellsFeature, SpellsMoved}
-use Rattle.city_feature.specs.Quick.{IsCompacted}
+use Rattle.city_json.specs.SpelledObjects.{SpellsObject}
 use Rattle.city_feature.specs.Shapes.{IsArray, IsObject, IsText, IsThere, member_in}
 
 -- ---- a member that comes last
@@ -355,7 +355,7 @@ end_there end rest text a begins opened is writable fits = record {
   fits = fits;
 }
 
-pub alone_there : (text line : List ℕ) (parts : List MemberPlace) (part : MemberPlace) → IsCompacted text line parts
+pub alone_there : (text line : List ℕ) (parts : List MemberPlace) (part : MemberPlace) → SpellsObject text line parts
     → length parts ≡ 1 → IsPartNamed line parts (quoted (codes "appearance") ++ colon ∷ []) part → text ≡ line
     → (a : Tree) × (text ≡ compact (object (appearance_alone a))) × IsWritable a × Fits (object (appearance_alone a))
 alone_there text line parts part given one named same =

@@ -13,7 +13,7 @@ use Rattle.city_grid.specs.Vertex.{RefusesVertex}
 use Rattle.city_feature.specs.Faults.{RefusesMoved, SpellsLeaving}
 use Rattle.city_feature.specs.Feature.{HasFeatureShape, IsFeature, RefusesFeature, RefusesFirst, moved_vertices}
 use Rattle.city_feature.specs.FeatureLine.{RefusesFeatureLine}
-use Rattle.city_feature.specs.Quick.{IsCompacted}
+use Rattle.city_json.specs.SpelledObjects.{SpellsObject}
 use Rattle.city_feature.specs.Shapes.{IsArray, IsObject, IsText, IsThere}
 use Rattle.city_feature.specs.Texts.{IsCompactOf}
 use Rattle.city_feature.proofs.QuickLines.{utf8}
@@ -120,7 +120,7 @@ module _ (members : MemberTrees) (text : List ℕ) (shape : HasFeatureShape (obj
       )
 
 -- ---- the line
-module _ (k : Triple) (fault : Fault) (bytes line : List ℕ) (parts : List MemberPlace) (given : IsCompacted bytes line parts)
+module _ (k : Triple) (fault : Fault) (bytes line : List ℕ) (parts : List MemberPlace) (given : SpellsObject bytes line parts)
     (refused : (members : MemberTrees) → IsCompactOf line (object members) → AreParts 1 parts members
     → RefusesMoved k fault (object members)) where
   refused_here : RefusesMoved k fault (object given.0)

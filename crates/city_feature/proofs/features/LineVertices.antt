@@ -21,7 +21,8 @@ use Rattle.city_feature.specs.declared.features.on_text.Vertices.TheVariants.{St
 use Rattle.city_feature.specs.Feature.{FeatureValue, IsFeature, moved, moved_vertices, vertices_tree}
 use Rattle.city_feature.specs.FeatureLine.{GivesFeature, SpellsMoved}
 use Rattle.city_feature.specs.LineVertices.{AreKnown, BecomeOf, text_with}
-use Rattle.city_feature.specs.Quick.{IsCompacted, IsLine, IsPlaceOf, no_steps}
+use Rattle.city_feature.specs.Quick.{IsLine, IsPlaceOf, no_steps}
+use Rattle.city_json.specs.SpelledObjects.{SpellsObject}
 use Rattle.city_feature.specs.Shapes.{IsText, IsThere}
 use Rattle.city_feature.specs.Texts.{IsCompactOf}
 
@@ -30,11 +31,11 @@ not_both b is_not = λ is. cc
 
 -- what a text that is compact says of the object that the bytes spell
 pub compacted_here : (bytes line given : List ℕ) (parts passed : List MemberPlace) → given ≡ line → passed ≡ parts
-    → IsCompacted bytes line parts → IsCompacted bytes given passed
+    → SpellsObject bytes line parts → SpellsObject bytes given passed
 compacted_here bytes line given parts passed same_line same_parts (members, spells, fits, shallow, written, are) =
     (members, spells, fits, shallow, same_line ∙ written, subst (λ l. AreParts 1 l members) (sym same_parts) are)
 
-module _ (bytes line : List ℕ) (parts : List MemberPlace) (is : IsCompacted bytes line parts) where
+module _ (bytes line : List ℕ) (parts : List MemberPlace) (is : SpellsObject bytes line parts) where
   writable_here : IsWritable (object is.0)
   writable_here = spelled_writable bytes (object is.0) is.1
 
@@ -94,7 +95,7 @@ module _ (choice : Choice) (k : Triple) (bytes line : List ℕ) (parts : List Me
     (selects : (value : Tree) (ps : List Triple) → IsTrue has ↔ IfSome choice.types (λ types. HasType types value)
     → AreKnown choice.area ps vertices
     → IsTrue chosen ↔ IsChosen choice (record { value = value; vertices = ps }))
-    (is : IsCompacted bytes line parts) where
+    (is : SpellsObject bytes line parts) where
   abbrev of_line : IsLine line parts is.0
   of_line = line_of bytes line parts is
 

@@ -17,7 +17,7 @@ use crate::features::members::is_absent;
 use crate::features::on_text::object_text;
 use byte_streams::Line;
 use city_grid::Shift;
-use city_json::{TextPlace, compact_object, part_named};
+use city_json::{TextPlace, Workspace, compact_object, part_named};
 use std::alloc::Global;
 
 fn are_same(text: &[u8], other: &[u8]) -> bool
@@ -45,14 +45,14 @@ fn is_appearance_alone(alloc: Global, text: &[u8]) -> bool
         × IsWritable appearance
         × Fits (object (appearance_alone appearance)) }
 {
-    let mut buffer = Line::new(alloc);
-    let Some(object) = compact_object(alloc, text, &mut buffer) else {
+    let mut workspace = Workspace::new(alloc, Line::new(alloc));
+    let Ok(Some(object)) = compact_object(alloc, text, &mut workspace) else {
         return false;
     };
     if object.parts.len() != 1 {
         return false;
     }
-    let line = object.place.bytes(text, &buffer);
+    let line = object.place.bytes(text, &workspace.line);
     let Some(_part) = part_named(line, &object.parts, b"\"appearance\":") else {
         return false;
     };
@@ -86,13 +86,23 @@ fn closed_text(
         × GivesFeature (IsChosen choice.now) shift line.now
         (option_map (λ place. placed_text place line.now text.new) given)) }
 {
-    let mut compact = Line::new(alloc);
-    let object = compact_object(alloc, line, &mut compact)?;
-    let found = object.place.bytes(line, &compact);
+    let mut workspace = Workspace::new(alloc, Line::new(alloc));
+    let Ok(Some(object)) = compact_object(alloc, line, &mut workspace) else {
+        return None;
+    };
+    let found = object.place.bytes(line, &workspace.line);
     if !are_same(line, found) || !is_absent(found, &object.parts, b"\"appearance\":") {
         return None;
     }
-    object_text(alloc, line, &object, shift, choice, &mut compact, text)
+    object_text(
+        alloc,
+        line,
+        &object,
+        shift,
+        choice,
+        &mut workspace.line,
+        text,
+    )
 }
 
 /// Makes of a feature's own part the text of an object.

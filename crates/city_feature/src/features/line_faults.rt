@@ -17,7 +17,7 @@ use crate::features::moving::moved_all;
 use crate::features::texts::vertices_of;
 use byte_streams::{Fault, Line};
 use city_grid::{Shift, byte_is};
-use city_json::{MemberPlace, check, compact_object, spells_no_object};
+use city_json::{MemberPlace, Workspace, compact_object};
 use std::alloc::Global;
 
 /// Whether the value whose compact text this is is the type of a feature.
@@ -117,23 +117,21 @@ pub fn line_fault(alloc: Global, bytes: &[u8], shift: Shift) -> Option<Fault>
     ensures refusal { IfSome result (λ fault. RefusesFeatureLine shift fault bytes.now) }
     ensures fault { IfSome result (λ fault. fault ≢ Fault.Memory) }
 {
-    let mut buffer = Line::new(alloc);
-    let object = compact_object(alloc, bytes, &mut buffer)?;
-    let line = object.place.bytes(bytes, &buffer);
+    let mut workspace = Workspace::new(alloc, Line::new(alloc));
+    let Ok(Some(object)) = compact_object(alloc, bytes, &mut workspace) else {
+        return None;
+    };
+    let line = object.place.bytes(bytes, &workspace.line);
     object_fault(alloc, line, &object.parts, shift)
 }
 
-/// Refuses a line that gives no feature which is moved by the shift, as far as that is told with no value of it; the faults
-/// are those of [`feature_line`](super::lines::feature_line).
+/// Refuses a line that spells an object and gives no feature which is moved by the shift, as far as that is told with no
+/// value of it; the faults are those of [`feature_line`](super::lines::feature_line).
 pub(super) fn check_line(alloc: Global, bytes: &[u8], shift: Shift) -> Result<(), Fault>
     ensures { IfErr result (λ fault. RefusesFeatureLine shift fault bytes.now) }
 {
-    if let Some(fault) = line_fault(alloc, bytes, shift) {
-        return Err(fault);
+    match line_fault(alloc, bytes, shift) {
+        Some(fault) => Err(fault),
+        None => Ok(()),
     }
-    check(alloc, bytes)?;
-    if spells_no_object(bytes) {
-        return Err(Fault::NotAFeature);
-    }
-    Ok(())
 }

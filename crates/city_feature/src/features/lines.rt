@@ -14,7 +14,7 @@ use crate::features::on_text::object_text;
 use crate::features::reader::feature;
 use byte_streams::{Fault, Line};
 use city_grid::Shift;
-use city_json::{TextPlace, Workspace, compact_object_in, print, read};
+use city_json::{TextPlace, Workspace, compact_object, print, read};
 use std::alloc::Global;
 use std::mem;
 
@@ -94,13 +94,14 @@ pub fn feature_text_in(
         (option_map (λ place. placed_text place bytes.now text.new) given)) }
     ensures refusal { IfErr result (λ fault. RefusesFeatureLine shift fault bytes.now) }
 {
-    if let Some(object) = compact_object_in(alloc, bytes, workspace) {
-        let compact = &mut workspace.line;
-        let given = object_text(alloc, bytes, &object, shift, choice, compact, text);
-        workspace.take_back(object.parts);
-        if let Some(given) = given {
-            return Ok(given);
-        }
+    let Some(object) = compact_object(alloc, bytes, workspace)? else {
+        return Err(Fault::NotAFeature);
+    };
+    let compact = &mut workspace.line;
+    let given = object_text(alloc, bytes, &object, shift, choice, compact, text);
+    workspace.take_back(object.parts);
+    if let Some(given) = given {
+        return Ok(given);
     }
     plain_line(alloc, bytes, shift, choice, text)
 }

@@ -7,6 +7,7 @@ ghost use Rattle.city_json.specs.Compact.{compact};
 ghost use Rattle.city_json.specs.Parts.{IsPartNamed, with_value};
 ghost use Rattle.city_json.specs.TextPlace.{placed_text};
 ghost use Rattle.city_json.specs.Tree.{Tree, MemberTrees, object};
+ghost use Rattle.city_json.specs.SpelledObjects.{SpellsObject};
 ghost use Rattle.city_json.specs.Triples.{HasTriples};
 ghost use Rattle.city_grid.specs.Axes.{IsInRange, Triple};
 ghost use Rattle.city_feature.specs.Area.{Meets};
@@ -14,7 +15,7 @@ ghost use Rattle.city_feature.specs.Choice.{HasType, IsChosen};
 ghost use Rattle.city_feature.specs.Feature.{moved_vertices, vertices_tree};
 ghost use Rattle.city_feature.specs.FeatureLine.{GivesFeature};
 ghost use Rattle.city_feature.specs.LineVertices.{AreKnown, BecomeOf, text_with};
-ghost use Rattle.city_feature.specs.Quick.{HasOtherMembers, IsCompacted, IsLine, SpellsVertices, no_steps};
+ghost use Rattle.city_feature.specs.Quick.{HasOtherMembers, IsLine, SpellsVertices, no_steps};
 
 mod types;
 pub(crate) mod unread;
@@ -188,7 +189,7 @@ fn chosen_vertices(
     choice: &Choice,
 ) -> Option<Option<Vertices>>
     requires triples { HasTriples line.now triples }
-    ensures { IfSome result (λ chosen. (bytes : List ℕ) → IsCompacted bytes line.now parts.now
+    ensures { IfSome result (λ chosen. (bytes : List ℕ) → SpellsObject bytes line.now parts.now
         → GivesFeature (IsChosen choice.now) shift bytes
         (option_map (λ vertices. text_with vertices line.now) chosen)) }
 {
@@ -238,7 +239,7 @@ pub(super) fn object_text(
 ) -> Option<Option<TextPlace>>
     requires triples { HasTriples (placed_text object.now.place bytes.now compact.old) object.now.triples }
     ensures { IfSome result (λ given. (spelled : List ℕ)
-        → IsCompacted spelled (placed_text object.now.place bytes.now compact.old) object.now.parts.items
+        → SpellsObject spelled (placed_text object.now.place bytes.now compact.old) object.now.parts.items
         → GivesFeature (IsChosen choice.now) shift spelled
         (option_map (λ place. placed_text place bytes.now text.new) given)) }
 {

@@ -1,24 +1,21 @@
 //! The compact text of an object, which stays where it was read where it is compact already.
-ghost use Rattle.std.specs.Prelude.{◌≡◌, ◌≤◌, [], length, IfSome, OnOk};
-ghost use Rattle.city_json.specs.Compact.{compact};
+ghost use Rattle.std.specs.Prelude.{◌≡◌, ◌≤◌, [], Err, length, IfErr, IfNone, IfOk, IfSome, IsUtf8, OnOk};
 ghost use Rattle.city_json.specs.Compacting.{shown};
 ghost use Rattle.city_json.specs.Depth.{IsDeep};
-ghost use Rattle.city_json.specs.Fits.{Fits};
-ghost use Rattle.city_json.specs.Grammar.{Spells};
 ghost use Rattle.city_json.specs.ListedNames.{names_in};
-ghost use Rattle.city_json.specs.Parts.{AreParts};
+ghost use Rattle.city_json.specs.Refusals.{RefusesText};
+ghost use Rattle.city_json.specs.SpelledObjects.{SpellsObject, SpellsOther};
 ghost use Rattle.city_json.specs.TextPlace.{placed_text};
-ghost use Rattle.city_json.specs.Tree.{MemberTrees, object};
 ghost use Rattle.city_json.specs.Triples.{HasTriples};
 
 use super::draft::{Draft, copy_to, skip_white, white_end};
+use super::floor::told_object;
 use super::parts::members;
 use super::places::{MemberPlace, Span};
 use super::workspace::Workspace;
-use byte_streams::Line;
 use byte_streams::limits::MAX_DEPTH;
+use byte_streams::{Fault, Line};
 use std::alloc::{AllocError, Global};
-use std::mem;
 
 /// Where a compact text stands.
 #[derive(Clone, Copy, Debug, PartialEq, Eq)]
@@ -79,45 +76,40 @@ pub struct CompactObject {
     pub triples: Span,
 }
 
-/// The compact text of an object, and the place of each of its members in it.
-#[derive(Debug, Drop)]
-pub struct Compacted {
-    pub line: Line,
-    pub parts: Vec<MemberPlace>,
-}
-
-/// The compact text of the object that the text spells. It stays where it was read where white space stands at its end
-/// alone, no name in it has an escape, and each escape in another string is a letter's, in the one spelling; else it
-/// stands in `buffer`. What the buffer held is dropped; it is taken for its memory.
+/// The compact text of the object that a text spells; none where it spells a value that is no object. The text stays where
+/// it was read where white space stands at its end alone, no name in it has an escape, and each escape in another string is
+/// a letter's, in the one spelling; else it stands in the buffer of the workspace, which is taken for all its memory. The
+/// parts are in that, too, until [`Workspace::take_back`] takes them back.
 ///
-/// `None`: undecided; [`crate::read`] decides.
-pub fn compact_object(alloc: Global, text: &[u8], buffer: &mut Line) -> Option<CompactObject>
-    ensures object { IfSome result (λ found. (members : MemberTrees)
-        × Spells text.now (object members) × Fits (object members) × (¬ IsDeep text.now)
-        × (placed_text found.place text.now buffer.new ≡ compact (object members))
-        × AreParts 1 found.parts.items members) }
-    ensures triples { IfSome result (λ found.
-        HasTriples (placed_text found.place text.now buffer.new) found.triples) }
-{
-    let line = mem::replace(buffer, Line::new(alloc));
-    let mut workspace = Workspace::new(alloc, line);
-    let object = compact_object_in(alloc, text, &mut workspace)?;
-    let Workspace { line, .. } = workspace;
-    *buffer = line;
-    Some(object)
-}
-
-/// The same, where the buffer is that of a workspace, which is taken for all its memory. The parts are in it, too, until
-/// [`Workspace::take_back`] takes them back.
-pub fn compact_object_in(
+/// # Errors
+///
+/// Those of [`read`](crate::read), in the same order. [`Fault::NotUtf8`] and [`Fault::TooDeep`] come before any memory is
+/// asked for that the workspace does not have; [`Fault::Memory`] may stand in place of the others, and of an answer.
+pub fn compact_object(
     alloc: Global,
     text: &[u8],
     workspace: &mut Workspace,
-) -> Option<CompactObject>
-    ensures object { IfSome result (λ found. (members : MemberTrees)
-        × Spells text.now (object members) × Fits (object members) × (¬ IsDeep text.now)
-        × (placed_text found.place text.now workspace.new.line ≡ compact (object members))
-        × AreParts 1 found.parts.items members) }
+) -> Result<Option<CompactObject>, Fault>
+    ensures object { IfOk result (λ found. IfSome found (λ found.
+        SpellsObject text.now (placed_text found.place text.now workspace.new.line) found.parts.items)) }
+    ensures triples { IfOk result (λ found. IfSome found (λ found.
+        HasTriples (placed_text found.place text.now workspace.new.line) found.triples)) }
+    ensures other { IfOk result (λ found. IfNone found (SpellsOther text.now)) }
+    ensures refused { IfErr result (λ fault. RefusesText fault text.now) }
+    ensures not_utf8 { (¬ IsUtf8 text.now) → result ≡ Err Fault.NotUtf8 }
+    ensures too_deep { IsUtf8 text.now → IsDeep text.now → result ≡ Err Fault.TooDeep }
+{
+    if let Some(object) = passed_object(alloc, text, workspace) {
+        return Ok(Some(object));
+    }
+    told_object(alloc, text, workspace)
+}
+
+/// The same in one pass, which copies what is in its compact spelling. None where the text spells no object that is taken,
+/// or memory is out; which of them it is [`told_object`] tells.
+fn passed_object(alloc: Global, text: &[u8], workspace: &mut Workspace) -> Option<CompactObject>
+    ensures object { IfSome result (λ found.
+        SpellsObject text.now (placed_text found.place text.now workspace.new.line) found.parts.items) }
     ensures triples { IfSome result (λ found.
         HasTriples (placed_text found.place text.now workspace.new.line) found.triples) }
 {
@@ -137,20 +129,6 @@ pub fn compact_object_in(
     })
 }
 
-/// The same, where the text is always in memory of its own. What `line` held is dropped; it is taken for its memory.
-///
-/// `None`: undecided; [`crate::read`] decides.
-pub fn compact_parts(alloc: Global, text: &[u8], line: Line) -> Option<Compacted>
-    ensures { IfSome result (λ found. (members : MemberTrees)
-        × Spells text.now (object members) × Fits (object members) × (¬ IsDeep text.now)
-        × (found.line ≡ compact (object members)) × AreParts 1 found.parts.items members) }
-{
-    let mut line = line;
-    let CompactObject { place, parts, .. } = compact_object(alloc, text, &mut line)?;
-    place.copy_to_buffer(text, &mut line).ok()?;
-    Some(Compacted { line, parts })
-}
-
 /// What the pass over a whole text found: where its object ends, where its members lie in what is written, and where
 /// triples stand there.
 #[derive(Drop)]
@@ -166,10 +144,8 @@ fn pass(text: &[u8], parts: Vec<MemberPlace>, draft: &mut Draft) -> Option<Whole
     requires line { draft.old.line ≡ [] }
     requires from { draft.old.from ≡ 0 }
     requires names { names_in text.now draft.old.names ≡ [] }
-    ensures object { IfSome result (λ found. (members : MemberTrees)
-        × Spells text.now (object members) × Fits (object members) × (¬ IsDeep text.now)
-        × (shown draft.new.line text.now draft.new.from found.end ≡ compact (object members))
-        × AreParts 1 found.parts.items members) }
+    ensures object { IfSome result (λ found.
+        SpellsObject text.now (shown draft.new.line text.now draft.new.from found.end) found.parts.items) }
     ensures copied { IfSome result (λ found. draft.new.from ≤ found.end) }
     ensures within { IfSome result (λ found. found.end ≤ length text.now) }
     ensures triples { IfSome result (λ found.

@@ -14,7 +14,7 @@ ghost use Rattle.tile_stream.specs.Head.{SpellsHeadOf, RefusesHead, HoldsHead, R
 use byte_streams::{Fault, Line};
 use city_cut::{CutTexts, FeatureTexts, cut_compacted_triples, cut_fault, cut_texts};
 use city_feature::{Header, header, holds_city, is_document};
-use city_json::{Json, MemberPlace, Span, check, compact_object, read, spells_no_object};
+use city_json::{Json, MemberPlace, Span, Workspace, compact_object, read};
 use std::alloc::Global;
 
 /// The header of a tile, and the number of the line that spells it, from 1.
@@ -47,24 +47,20 @@ pub(crate) fn read_first_line(alloc: Global, bytes: &[u8]) -> Result<FirstLine, 
     first_line(alloc, read(alloc, bytes)?)
 }
 
-/// The same of a document with city objects or vertices, on its text, and why the line spells no value. Nothing in it: it
+/// The same of a document with city objects or vertices, on its text, and why the line spells no object. Nothing in it: it
 /// is none, or undecided.
 fn quick_first_line(alloc: Global, bytes: &[u8]) -> Result<Option<FirstLine>, Fault>
     ensures ok { IfOk result (λ found. IfSome found (λ first.
         SpellsHeadOf bytes.now (header_value first.header) (texts_in first.texts))) }
     ensures refused { IfErr result (λ fault. RefusesHead fault bytes.now) }
 {
-    let mut compact = Line::new(alloc);
-    let Some(found) = compact_object(alloc, bytes, &mut compact) else {
-        check(alloc, bytes)?;
-        if spells_no_object(bytes) {
-            return Err(Fault::NotCityJson);
-        }
-        return Ok(None);
+    let mut workspace = Workspace::new(alloc, Line::new(alloc));
+    let Some(found) = compact_object(alloc, bytes, &mut workspace)? else {
+        return Err(Fault::NotCityJson);
     };
     document_line(
         alloc,
-        found.place.bytes(bytes, &compact),
+        found.place.bytes(bytes, &workspace.line),
         &found.parts,
         found.triples,
     )

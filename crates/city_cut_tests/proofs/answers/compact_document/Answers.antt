@@ -6,7 +6,7 @@ use Rattle.city_cut_tests.proofs.answers.compact_document.Goals as goal
 
 pub returns : goal.returns
 returns c =
-    let (members, spells, fits, shallow, written, are) = c.in_ok-object.ensures.object in
+    let (members, spells, fits, shallow, written, are) = (rw c.in-Ok-Some.field-0-is at c.in-Ok-Some.ensures.object) in
     let same = c.in-Ok.ensures in (
       members,
       record {
@@ -16,5 +16,6 @@ returns c =
         within = fits.0;
       },
       are,
-      subst (λ line. HasTriples line c.in_ok-object.object.triples) (sym same) c.in_ok-object.ensures.triples,
+      subst (λ line. HasTriples line c.in-Ok-Some.object.triples) (sym same)
+          (rw c.in-Ok-Some.field-0-is at c.in-Ok-Some.ensures.triples),
     )

@@ -3,7 +3,7 @@
 use byte_streams::{
     Bin, Device, Fault, Line, LineFault, MergeFault, Sequence, Sink, Source, Tape, write_all,
 };
-use city_json::{Json, NumText, Str, check, read, same};
+use city_json::{Json, NumText, Str, Workspace, compact_object, print, read, same};
 use growth_support::{give, take};
 use std::alloc::Global;
 
@@ -269,7 +269,7 @@ fn numbers_and_texts_are_lent(rt: HostRuntime) -> Result<(), Fault> {
     Ok(())
 }
 
-/// Texts in which there is no name and no string with an escape, and their faults.
+/// Texts of values that are no objects, in which there is no name and no string with an escape, and their faults.
 const WITHOUT_NAMES: [(&str, Option<Fault>); 6] = [
     (r#"[[1,-2.5e3,[true]],"café",null,{}]"#, None),
     (r#""a text""#, None),
@@ -279,14 +279,69 @@ const WITHOUT_NAMES: [(&str, Option<Fault>); 6] = [
     (r#"[[1],[2]],"#, Some(Fault::Syntax)),
 ];
 
-#[test]
-fn texts_without_names_are_checked(rt: HostRuntime) {
-    let gone = take(rt.alloc());
-    for (text, fault) in WITHOUT_NAMES.iter() {
-        assert!(rt;
-            check(rt.alloc(), text.as_bytes()).err() == *fault,
-            "{text}"
-        );
+/// Whether a text that spells no object is refused with this fault, or is said to spell another value, with no memory but
+/// what an object with no members left.
+fn is_told(alloc: Global, text: &str, fault: Option<Fault>) -> bool {
+    let mut workspace = Workspace::new(alloc, Line::new(alloc));
+    if let Ok(Some(object)) = compact_object(alloc, b"{}", &mut workspace) {
+        workspace.take_back(object.parts);
     }
-    assert!(rt; give(rt.alloc(), gone));
+    let gone = take(alloc);
+    let is_so = match compact_object(alloc, text.as_bytes(), &mut workspace) {
+        Ok(found) => fault.is_none() && found.is_none(),
+        Err(other) => Some(other) == fault,
+    };
+    give(alloc, gone) && is_so
+}
+
+#[test]
+fn texts_without_names_are_told(rt: HostRuntime) {
+    for (text, fault) in WITHOUT_NAMES.iter() {
+        assert!(rt; is_told(rt.alloc(), text, *fault), "{text}");
+    }
+}
+
+/// Objects, most of which are not spelled in their compact texts.
+const SPELLED: [&str; 14] = [
+    r#"{"type":"CityJSONFeature","b":{"a":[[0,1],[2]],"c":"text"}}"#,
+    " \t{ \"a\" : [ 1 , 2 ] , \"b\" : { } } \r",
+    r#"{ }"#,
+    r#"{"a": [-0, 1.50e+3, 0.0010, 1E-24, 12345678901234567890]}"#,
+    r#"{"vertices": [[1, 2, 3], [-4, 5, 6], [7, 8, 9]], "b": [[1, 2], [], [3]]}"#,
+    r#"{"b": [[[[0, 1, 2, 3]], [[4, 5, 6]]], [[[7, 8, 9]]]], "c": [[null, [true]], "x"]}"#,
+    r#"{"a": "caf\u00e9 \/ \ud83d\ude00", "b": "\u000a\u001F\u007f\"\\"}"#,
+    r#"{"\u0061b": 1, "b": {"\u0061b": [{"\u0061": 2, "\/": 3}]}}"#,
+    r#"{"a": {"a": {"a": {"a": {"a": [{"a": {}}, {"a": []}]}}}}}"#,
+    r#"{"\u0030": 0,"1":1,"2":2,"3":3,"4":4,"5":5,"6":6,"7":7,"8":8,"9":9,"10":0,"11":1,"12":2,"13":3,"14":4,"15":5,"16":6,"17":7,"18":8,"19":9}"#,
+    r#"{"0": {"a":0,"b":1,"c":2},"1": {"a":0,"b":1,"c":2},"2": {"a":0,"b":1,"c":2},"3": {"a":0,"b":1,"c":2}}"#,
+    r#"{"attribute 00 attribute": 0,"attribute 01 attribute":1,"attribute 02 attribute":2,"attribute 03 attribute":3,"attribute 04 attribute":4,"attribute 05 attribute":5,"attribute 06 attribute":6,"attribute 07 attribute":7,"attribute 08 attribute":8}"#,
+    r#"{ "type": "CityJSONFeature", "id": "a", "CityObjects": { "a": { "type": "Road" } }, "vertices": [ [ 1, 2, 3 ] ] }"#,
+    r#"{"a":[0.5, 1, "b", false, null, {"c": "d"}, [ ] ]}"#,
+];
+
+/// Whether the text of an object is told with no memory but that in which it was told before.
+fn is_told_again(alloc: Global, text: &str) -> Result<bool, Fault> {
+    let mut workspace = Workspace::new(alloc, Line::new(alloc));
+    if let Some(object) = compact_object(alloc, text.as_bytes(), &mut workspace)? {
+        workspace.take_back(object.parts);
+    }
+    let mut wanted = Line::new(alloc);
+    print(&read(alloc, text.as_bytes())?, &mut wanted)?;
+    let gone = take(alloc);
+    let is_so = match compact_object(alloc, text.as_bytes(), &mut workspace) {
+        Ok(Some(object)) => {
+            object.place.bytes(text.as_bytes(), &workspace.line) == wanted.items()
+        }
+        Ok(None) | Err(_) => false,
+    };
+    Ok(give(alloc, gone) && is_so)
+}
+
+/// So it is told with no value of it, which would want memory.
+#[test]
+fn objects_are_told_with_no_value(rt: HostRuntime) -> Result<(), Fault> {
+    for text in SPELLED.iter() {
+        assert!(rt; is_told_again(rt.alloc(), text)?, "{text}");
+    }
+    Ok(())
 }

@@ -7,7 +7,7 @@ use Rattle.city_cut_tests.proofs.growths.features.cut_at_once.Goals as goal
 
 pub cut_compacted_triples-requires-clause-members : goal.cut_compacted_triples-requires-clause-members
 cut_compacted_triples-requires-clause-members g c =
-    let (members, spells, fits, shallow, written, are) = c.in-Some.ensures.object in (
+    let (members, spells, fits, shallow, written, are) = (rw c.in-Ok-Some.field-0-is at c.in-Ok-Some.ensures.object) in (
       members,
       record {
         is = c.bytes-line.ensures ∙ written;
@@ -20,4 +20,5 @@ cut_compacted_triples-requires-clause-members g c =
 
 pub cut_compacted_triples-requires-clause-triples : goal.cut_compacted_triples-requires-clause-triples
 cut_compacted_triples-requires-clause-triples g c =
-    subst (λ line. HasTriples line c.in-Some.found.triples) (sym c.bytes-line.ensures) c.in-Some.ensures.triples
+    subst (λ line. HasTriples line c.in-Ok-Some.found.triples) (sym c.bytes-line.ensures)
+    (rw c.in-Ok-Some.field-0-is at c.in-Ok-Some.ensures.triples)

@@ -9,7 +9,7 @@ returns-clause-refusal c =
     let line = c.bytes-line.result.now in
     let parts = c.deref.result.now in
     let given = compacted_here bytes _ line _ parts c.bytes-line.ensures c.deref.ensures.value
-    c.in_ok-object.ensures.object in
+    (rw c.in-Ok-Some.field-0-is at c.in-Ok-Some.ensures.object) in
     if_some_more c.object_fault.result
     (λ fault refused. refuses_line c.args.shift fault bytes line parts given refused) c.object_fault.ensures
 
@@ -19,6 +19,6 @@ returns-clause-fault c =
     let line = c.bytes-line.result.now in
     let parts = c.deref.result.now in
     let given = compacted_here bytes _ line _ parts c.bytes-line.ensures c.deref.ensures.value
-    c.in_ok-object.ensures.object in
+    (rw c.in-Ok-Some.field-0-is at c.in-Ok-Some.ensures.object) in
     if_some_more c.object_fault.result
     (λ fault refused. no_memory_line c.args.shift fault bytes line parts given refused) c.object_fault.ensures

@@ -13,7 +13,7 @@ use Rattle.tile_stream.proofs.tile_reader.head.quick_first_line.Goals as goal
 
 pub document_line-requires-clause-members : goal.document_line-requires-clause-members
 document_line-requires-clause-members c =
-    let (members, spells, fits, shallow, written, are) = c.in-Some.ensures.object in (
+    let (members, spells, fits, shallow, written, are) = (rw c.in-Some.is at c.in_ok-found.ensures.object) in (
       members,
       record {
         is = c.bytes.ensures ∙ written;
@@ -26,12 +26,12 @@ document_line-requires-clause-members c =
 
 pub document_line-requires-clause-triples : goal.document_line-requires-clause-triples
 document_line-requires-clause-triples c =
-    subst (λ l. HasTriples l c.in-Some.found.triples) (sym c.bytes.ensures) c.in-Some.ensures.triples
+    subst (λ l. HasTriples l c.in-Some.found.triples) (sym c.bytes.ensures) (rw c.in-Some.is at c.in_ok-found.ensures.triples)
 
 pub returns-clause-ok : goal.returns-clause-ok
 returns-clause-ok c =
     let short : length c.args.bytes.now < 2 ^ 64 = search rules in
-    let (members, spells, fits, shallow, written, are) = c.in-Some.ensures.object in
+    let (members, spells, fits, shallow, written, are) = (rw c.in-Some.is at c.in_ok-found.ensures.object) in
     let of : IsCompactOf c.bytes.result.now (object members) = record {
       is = c.bytes.ensures ∙ written;
       writable = spelled_writable c.args.bytes.now (object members) spells;
@@ -45,7 +45,7 @@ returns-clause-ok c =
 
 pub returns-clause-refused : goal.returns-clause-refused
 returns-clause-refused c =
-    let (members, spells, fits, shallow, written, are) = c.in-Some.ensures.object in
+    let (members, spells, fits, shallow, written, are) = (rw c.in-Some.is at c.in_ok-found.ensures.object) in
     let of : IsCompactOf c.bytes.result.now (object members) = record {
       is = c.bytes.ensures ∙ written;
       writable = spelled_writable c.args.bytes.now (object members) spells;
@@ -56,8 +56,8 @@ returns-clause-refused c =
     (subst (λ l. AreParts 1 l members) (sym c.deref.ensures.value) are)
     c.document_line.result c.document_line.ensures.refused
 
-pub returns-then-spells_no_object-clause-refused : goal.returns-then-spells_no_object-clause-refused
-returns-then-spells_no_object-clause-refused c =
-    let (value, spells, fits, shallow) = c.in_ok-check.ensures.taken in
-    let other = is_no_object c.args.bytes.now value spells (c.spells_no_object.ensures c.if-spells_no_object.true) in
+pub returns-in_default-clause-refused : goal.returns-in_default-clause-refused
+returns-in_default-clause-refused c =
+    let (value, spells, fits, shallow, none) = rw c.in_default.is at c.in_ok-found.ensures.other in
+    let other = is_no_object c.args.bytes.now value spells none in
     inr (value, spells, fits, inr (no_city value other, no_city_json value other))
