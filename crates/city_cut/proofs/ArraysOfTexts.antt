@@ -10,7 +10,7 @@ use Rattle.city_json.specs.CompactEnds.{LeavesString}
 use Rattle.city_json.specs.Tree.{Tree, null, boolean, number, string, array, object, ItemTrees, no_items, item}
 use Rattle.city_json.specs.Writable.{AreWritableItems}
 use Rattle.city_feature.specs.Shapes.{IsArray, IsText}
-use Rattle.city_feature.specs.Texts.{IsCompactOf}
+use Rattle.city_json.specs.CompactTexts.{IsCompactOf}
 use Rattle.city_cut.specs.CityObjects.{AllTexts, AreTexts}
 use Rattle.city_cut.proofs.CopiedTexts.{not_both}
 use Rattle.city_cut.proofs.QuickNames.{TextTaken, text_said, text_taken}

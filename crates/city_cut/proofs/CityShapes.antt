@@ -6,7 +6,7 @@ use Rattle.city_json.specs.Parts.{AreParts}
 use Rattle.city_json.specs.Tree.{Tree, MemberTrees, array, no_items, null, object, member_trees}
 use Rattle.city_json.specs.declared.compacting.places.MemberPlace.{MemberPlace}
 use Rattle.city_feature.specs.Shapes.{IsObject, WhereThere}
-use Rattle.city_feature.specs.Texts.{IsCompactOf}
+use Rattle.city_json.specs.CompactTexts.{IsCompactOf}
 use Rattle.city_cut.specs.Chosen.{named_at}
 use Rattle.city_cut.specs.CityObjects.{AreCityObjects, AreTexts, IsCityObject}
 use Rattle.city_cut.specs.Faults.{HoldsCityObjects}

@@ -1,4 +1,5 @@
 pub mod Answered
+mod AnsweredCuts
 mod ArraysOfTexts
 pub mod Assembly
 pub mod Checking

@@ -8,7 +8,7 @@ use Rattle.city_json.specs.Members.{first_named}
 use Rattle.city_json.specs.Parts.{AreParts, IsPartNamed}
 use Rattle.city_json.specs.Tree.{Tree, MemberTrees, object}
 use Rattle.city_json.specs.declared.compacting.places.MemberPlace.{MemberPlace}
-use Rattle.city_feature.specs.Texts.{IsCompactOf}
+use Rattle.city_json.specs.CompactTexts.{IsCompactOf}
 use Rattle.city_cut.specs.Boundaries.{IsBounded, boundaries, changed_members, relabelled_addresses, relabelled_geometries, relabelled_object}
 use Rattle.city_cut.specs.Holders.{AreHeld, held_uses, name_of, other_than, relabelled_held}
 use Rattle.city_cut.specs.Leaves.{leaves}

@@ -13,7 +13,7 @@ use Rattle.city_feature.specs.Changes.{with_named}
 use Rattle.city_cut.specs.Boundaries.{IsAddress, IsGeometry, address_boundary, changed_members, in_member, located, own_boundary, relabelled_boundary}
 use Rattle.city_cut.specs.Leaves.{IsBoundary, leaves, relabelled}
 use Rattle.city_cut.specs.Walks.{Labelling, Walks, walks_so, walks_text}
-use Rattle.city_feature.specs.Texts.{IsCompactOf}
+use Rattle.city_json.specs.CompactTexts.{IsCompactOf}
 use Rattle.city_cut.proofs.QuickTexts.{changed_absent, changed_with, walks_exchanged, member_there, with_same}
 
 abbrev pub AddressMade : {S : Type 0} → Labelling S → ℕ → S → List ℕ → S → List ℕ → Tree → Type 0

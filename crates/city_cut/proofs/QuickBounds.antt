@@ -6,7 +6,7 @@ use Rattle.city_json.specs.Parts.{AreParts}
 use Rattle.city_json.specs.Tree.{Tree, MemberTrees, member_trees, object}
 use Rattle.city_json.specs.declared.compacting.places.MemberPlace.{MemberPlace}
 use Rattle.city_feature.specs.Shapes.{IsArray, WhereThere}
-use Rattle.city_feature.specs.Texts.{IsCompactOf}
+use Rattle.city_json.specs.CompactTexts.{IsCompactOf}
 use Rattle.city_cut.specs.Boundaries.{IsAddress, IsBounded, IsGeometry}
 use Rattle.city_cut.specs.Chosen.{named_at}
 use Rattle.city_cut.specs.Holders.{AreHeld, name_of}

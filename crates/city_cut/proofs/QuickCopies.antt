@@ -20,7 +20,7 @@ use Rattle.city_cut.specs.declared.quick.holders.Holder.TheVariants.{Geometry, A
 use Rattle.city_cut.specs.Items.{item_list}
 use Rattle.city_cut.specs.Leaves.{leaves}
 use Rattle.city_cut.specs.Walks.{Labelling, Walks, walks_both, walks_so, walks_text}
-use Rattle.city_feature.specs.Texts.{IsCompactOf}
+use Rattle.city_json.specs.CompactTexts.{IsCompactOf}
 use Rattle.city_cut.proofs.QuickTexts.{slice_first}
 
 -- ---- what is made of values

@@ -25,7 +25,7 @@ use Rattle.city_cut.specs.Cut.{AreFeatures, HasFrame, IsCut, IsCuttable, IsDocum
 use Rattle.city_cut.specs.FeatureText.{tail_text}
 use Rattle.city_cut.specs.HeaderText.{HasHeader}
 use Rattle.city_cut.specs.Items.{items_in, members_in}
-use Rattle.city_feature.specs.Texts.{IsCompactOf}
+use Rattle.city_json.specs.CompactTexts.{IsCompactOf}
 use Rattle.city_cut.specs.VertexTexts.{HasPoints}
 use Rattle.city_cut.proofs.HeaderMembers.{header_grid, other_member}
 use Rattle.city_cut.proofs.QuickTexts.{member_there, three}

@@ -17,7 +17,7 @@ use Rattle.city_feature.specs.Feature.{AreVertices, RefusesFirst, item_count}
 use Rattle.city_feature.specs.Header.{HasBadTransform, IsHeader, RefusesGrid, RefusesHeader}
 use Rattle.city_feature.specs.Quick.{SpellsVertices}
 use Rattle.city_feature.specs.Shapes.{IsArray, IsObject, WhereThere}
-use Rattle.city_feature.specs.Texts.{IsCompactOf}
+use Rattle.city_json.specs.CompactTexts.{IsCompactOf}
 use Rattle.city_cut.specs.Chosen.{named_at}
 use Rattle.city_cut.specs.CityObjects.{AreCityObjects, LacksChild, objects_of, vertices_of}
 use Rattle.city_cut.specs.Cut.{HasFrame, HasValidVertices, IsDocument, RefusesCut, RefusesFrame, header_tree}

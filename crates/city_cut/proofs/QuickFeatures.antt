@@ -27,7 +27,7 @@ use Rattle.city_cut.specs.Numbered.{AreNumbered}
 use Rattle.city_cut.specs.Places.{IsFamily, name_at}
 use Rattle.city_cut.specs.Points.{SamePoints}
 use Rattle.city_cut.specs.Relabelling.{own_text}
-use Rattle.city_feature.specs.Texts.{IsCompactOf}
+use Rattle.city_json.specs.CompactTexts.{IsCompactOf}
 use Rattle.city_cut.proofs.Assembly.{numbered_none}
 use Rattle.city_cut.proofs.CopiedTexts.{copies_both, copies_so, copies_text, extends_same}
 use Rattle.city_cut.proofs.FeatureParts.{chosen_are_those, chosen_distinct, from_map, object_name}

@@ -19,7 +19,7 @@ use Rattle.city_cut.specs.Copied.{CopiesItems, CopiesPart}
 use Rattle.city_json.specs.FrontMembers.{EndsAfter, HasFrontParts, IsValuePlace}
 use Rattle.city_cut.specs.Leaves.{IsBoundary, IsNested, leaves, relabelled}
 use Rattle.city_cut.specs.Walks.{Labelling, Walks, walks_so, walks_text}
-use Rattle.city_feature.specs.Texts.{IsCompactOf}
+use Rattle.city_json.specs.CompactTexts.{IsCompactOf}
 use Rattle.city_cut.proofs.CopiedArrays.{part_array}
 use Rattle.city_cut.proofs.CopiedTexts.{shown_here}
 use Rattle.city_json.proofs.FrontMembers.{has_front_parts}

@@ -21,7 +21,7 @@ use Rattle.city_cut.specs.Kin.{AreQuoted, HasChildrenText, HasParents, IsQuoted}
 use Rattle.city_cut.specs.Overviews.{HasChildrenIn, HasParentsIn}
 use Rattle.city_cut.specs.Places.{ArePlaced}
 use Rattle.city_cut.specs.Table.{IsTable}
-use Rattle.city_feature.specs.Texts.{IsCompactOf}
+use Rattle.city_json.specs.CompactTexts.{IsCompactOf}
 use Rattle.city_cut.proofs.FeatureList.{zip_long}
 use Rattle.city_cut.proofs.Kinship.{names_pairs, placed_more}
 use Rattle.city_cut.proofs.QuickNames.{are_texts}

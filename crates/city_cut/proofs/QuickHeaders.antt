@@ -18,7 +18,7 @@ use Rattle.city_cut.specs.Boundaries.{changed_members}
 use Rattle.city_cut.specs.Cut.{header_tree, without_appearance}
 use Rattle.city_cut.specs.HeaderText.{IsBare, IsBareText, emptied}
 use Rattle.city_cut.specs.Items.{members_in}
-use Rattle.city_feature.specs.Texts.{IsCompactOf}
+use Rattle.city_json.specs.CompactTexts.{IsCompactOf}
 use Rattle.city_cut.proofs.MemberChanges.{kept, none_is_unchanged, set_is_changed}
 use Rattle.city_cut.proofs.QuickTexts.{changed_with, member_there, three}
 use Rattle.city_cut.proofs.TwoMembers.{two_exchanged}

@@ -22,7 +22,7 @@ use Rattle.city_cut.specs.NumberWalks.{NumberLabelled}
 use Rattle.city_cut.specs.Points.{CountsUp}
 use Rattle.city_cut.specs.Walks.{Labelling, Walks, walks_both, walks_so, walks_text}
 use Rattle.city_cut.specs.declared.numbering.Numbering.{Numbering}
-use Rattle.city_feature.specs.Texts.{IsCompactOf}
+use Rattle.city_json.specs.CompactTexts.{IsCompactOf}
 use Rattle.city_cut.specs.declared.quick.holders.Holder.{Holder}
 use Rattle.city_cut.specs.declared.quick.holders.Holder.TheVariants.{Geometry, Address}
 use Rattle.city_cut.proofs.CopiedTexts.{copies_so, extends_same, extends_trans}

@@ -7,7 +7,7 @@ use Rattle.city_json.specs.Tree.{Tree, member_trees, null, object}
 use Rattle.city_json.specs.declared.compacting.places.MemberPlace.{MemberPlace}
 use Rattle.city_cut.specs.Chosen.{named_at}
 use Rattle.city_cut.specs.Overviews.{AreHolders, HasHolders}
-use Rattle.city_feature.specs.Texts.{IsCompactOf}
+use Rattle.city_json.specs.CompactTexts.{IsCompactOf}
 use Rattle.city_cut.specs.declared.quick.holders.HeldParts.{HeldParts}
 use Rattle.city_cut.proofs.FeatureList.{zip_at, zip_long}
 use Rattle.city_cut.proofs.QuickFeatures.{as_many_parts, value_there}

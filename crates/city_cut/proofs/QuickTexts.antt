@@ -8,7 +8,8 @@ use Rattle.city_json.specs.Members.{first_named}
 use Rattle.city_json.specs.Parts.{with_value}
 use Rattle.city_json.specs.Tree.{Tree, object, MemberTrees, no_members, member}
 use Rattle.city_json.specs.declared.compacting.places.MemberPlace.{MemberPlace}
-pub use Rattle.city_feature.proofs.NamedTexts.{if_some_more, member_there, same_place, value_or}
+pub use Rattle.city_json.proofs.NamedMembers.{same_place}
+pub use Rattle.city_feature.proofs.NamedTexts.{if_some_more, member_there, value_or}
 use Rattle.city_feature.specs.Changes.{with_named}
 use Rattle.city_cut.specs.Boundaries.{changed_members}
 use Rattle.city_cut.specs.Walks.{Labelling, Walks, walks_both, walks_so, walks_text}

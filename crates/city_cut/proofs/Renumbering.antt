@@ -9,7 +9,7 @@ use Rattle.std.specs.Str.Parse.{digits_value}
 use Rattle.city_json.specs.Fits.{AreDistinctItems, HasDistinctNames, IsDistinct, IsNewName}
 use Rattle.city_json.specs.Members.{first_named, member_of}
 use Rattle.city_json.specs.Tree.{Tree, null, boolean, number, string, array, object, ItemTrees, no_items, item, MemberTrees, no_members, member}
-use Rattle.city_feature.proofs.NamedTexts.{distinct_named}
+use Rattle.city_json.proofs.NamedMembers.{distinct_named}
 use Rattle.city_cut.specs.Boundaries.{IsAddress, IsBounded, IsGeometry, changed_items, changed_members, in_member, own_boundary, relabelled_addresses, relabelled_boundary, relabelled_geometries, relabelled_object, relabelled_objects}
 use Rattle.city_cut.specs.Items.{item_list, items_of}
 use Rattle.city_cut.specs.Leaves.{AreNested, IsBoundary, IsIndex, IsNested, relabelled, relabelled_items, renumbered}

@@ -22,7 +22,7 @@ use Rattle.city_json.specs.Writable.{AreWritableItems}
 use Rattle.city_json.specs.declared.compacting.places.MemberPlace.{MemberPlace}
 use Rattle.city_json.specs.Tree.{Tree, null, boolean, number, string, array, object, ItemTrees, no_items, item, MemberTrees}
 use Rattle.city_feature.specs.Shapes.{IsArray}
-use Rattle.city_feature.specs.Texts.{IsCompactOf}
+use Rattle.city_json.specs.CompactTexts.{IsCompactOf}
 use Rattle.city_cut.specs.Boundaries.{IsAddress, located, own_boundary}
 use Rattle.city_cut.specs.Bounds.{AreBounds}
 use Rattle.city_cut.specs.Holders.{AreHeld, IsHeld}

@@ -10,7 +10,7 @@ use Rattle.city_json.specs.Compact.{compact, quoted}
 use Rattle.city_json.specs.Parts.{AreParts}
 use Rattle.city_json.specs.Tree.{Tree, member_trees, object}
 use Rattle.city_json.specs.declared.compacting.places.MemberPlace.{MemberPlace}
-use Rattle.city_feature.specs.Texts.{IsCompactOf}
+use Rattle.city_json.specs.CompactTexts.{IsCompactOf}
 use Rattle.city_cut.specs.Boundaries.{IsBounded, boundaries, relabelled_object}
 use Rattle.city_cut.specs.Chosen.{named_at}
 use Rattle.city_cut.specs.Leaves.{leaves}

@@ -15,9 +15,10 @@ use Rattle.city_json.specs.Parts.{AreParts, HasMember, replaced, with_value, IsP
 use Rattle.city_json.specs.Tree.{Tree, MemberTrees, no_members, member, object, string}
 use Rattle.city_json.specs.Writable.{AreWritableMembers}
 use Rattle.city_json.specs.declared.compacting.places.MemberPlace.{MemberPlace}
-use Rattle.city_feature.proofs.QuickLines.{first_at, replaced_at}
+use Rattle.city_json.proofs.NamedMembers.{first_at}
+use Rattle.city_feature.proofs.QuickLines.{replaced_at}
 use Rattle.city_cut.specs.Boundaries.{changed_members}
-use Rattle.city_feature.specs.Texts.{IsCompactOf}
+use Rattle.city_json.specs.CompactTexts.{IsCompactOf}
 use Rattle.city_cut.proofs.QuickTexts.{changed_with, same_place}
 use Rattle.city_cut.proofs.Renumbering.{distinct_kept}
 

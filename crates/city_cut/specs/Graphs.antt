@@ -6,7 +6,7 @@ use Rattle.city_json.specs.Tree.{Tree, string}
 use Rattle.city_cut.specs.CityObjects.{AreTexts}
 use Rattle.city_cut.specs.Items.{items_of}
 use Rattle.city_cut.specs.Places.{ArePlaced}
-use Rattle.city_feature.specs.Texts.{IsCompactOf}
+use Rattle.city_json.specs.CompactTexts.{IsCompactOf}
 
 -- whatever value has this text, it is an array of texts, and these are the places of those among the names
 abbrev pub HasRow : List (List ℕ) → List ℕ → List ℕ → Type 0

@@ -8,7 +8,7 @@ use Rattle.city_json.specs.Tree.{Tree, string, array, ItemTrees, no_items}
 use Rattle.city_feature.specs.Shapes.{IsObject, WhereThere}
 use Rattle.city_cut.specs.CityObjects.{AreTexts, has_parents}
 use Rattle.city_cut.specs.Items.{item_list}
-use Rattle.city_feature.specs.Texts.{IsCompactOf}
+use Rattle.city_json.specs.CompactTexts.{IsCompactOf}
 
 -- the text with its marks
 abbrev pub IsQuoted : Bor (List ℕ) → Tree → Type 0

@@ -5,6 +5,7 @@ pub mod Chosen
 pub mod CityObjects
 pub mod Copied
 pub mod Cut
+pub mod CutTexts
 pub mod Families
 pub mod Faults
 pub mod FeatureText

@@ -10,7 +10,7 @@ use Rattle.city_json.specs.Tree.{Tree, MemberTrees, object}
 use Rattle.city_json.specs.declared.compacting.places.MemberPlace.{MemberPlace}
 use Rattle.city_cut.specs.Holders.{name_of}
 use Rattle.city_cut.specs.Kin.{HasChildrenText, HasParents}
-use Rattle.city_feature.specs.Texts.{IsCompactOf}
+use Rattle.city_json.specs.CompactTexts.{IsCompactOf}
 use Rattle.city_cut.specs.declared.quick.holders.Holder.{Holder}
 use Rattle.city_cut.specs.declared.quick.holders.Holder.TheVariants.{Geometry, Address}
 use Rattle.city_cut.specs.declared.quick.holders.HeldParts.{HeldParts}

@@ -3,6 +3,7 @@
 //! parents, a feature with the objects that are reached from it and vertices of its own.
 #![tactic(auto)]
 
+mod answering;
 mod assembling;
 mod boundaries;
 mod cuts;
@@ -26,6 +27,7 @@ mod relabelling;
 mod rosters;
 mod values;
 
+pub use answering::cut_text;
 pub use cuts::{Cut, CutTexts, Features};
 pub use cutting::{cut, cut_texts};
 pub use held::FeatureTexts;

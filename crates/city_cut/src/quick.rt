@@ -45,7 +45,7 @@ ghost use Rattle.city_cut.specs.Overviews.{AreHolders, HasChildrenIn, HasParents
 ghost use Rattle.city_cut.specs.OwnFeatures.{AreOwnTexts};
 ghost use Rattle.city_cut.specs.Search.{InRange};
 ghost use Rattle.city_cut.specs.Lines.{texts_of};
-ghost use Rattle.city_feature.specs.Texts.{IsCompactOf};
+ghost use Rattle.city_json.specs.CompactTexts.{IsCompactOf};
 ghost use Rattle.city_cut.specs.VertexTexts.{HasPoints, HoldVertices, StandAt};
 
 use crate::cuts::CutTexts;

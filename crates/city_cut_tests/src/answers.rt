@@ -3,7 +3,7 @@ ghost use Rattle.std.specs.Prelude.{IfSome};
 ghost use Rattle.city_json.specs.Parts.{AreParts};
 ghost use Rattle.city_json.specs.Tree.{MemberTrees, object};
 ghost use Rattle.city_json.specs.Triples.{HasTriples};
-ghost use Rattle.city_feature.specs.Texts.{IsCompactOf};
+ghost use Rattle.city_json.specs.CompactTexts.{IsCompactOf};
 
 use crate::texts::{expect, filled, put_texts, repeated, texts_are, with_repeated};
 use byte_streams::Line;

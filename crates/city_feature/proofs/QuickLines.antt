@@ -1,22 +1,21 @@
 -- A feature that is found on the compact text of its line.
-use Rattle.std.proofs.Common.{◌≡◌, ◌≢◌, ◌∙◌, ◌++◌, ◌-◌, ◌<◌, ◌≤◌, ℕ, zero, suc, sym, ap, refl, subst, Bool, true, false, if◌then◌else◌, List, [], ◌∷◌, length, take, drop, get_or, slice_range, map, All, Some, codes, bytes_eq, IsUtf8, arith, inl, inr, ⊎_elim, cond, nat_lt}
+use Rattle.std.proofs.Common.{◌≡◌, ◌∙◌, ◌++◌, ◌-◌, ◌<◌, ◌≤◌, ℕ, zero, suc, sym, ap, refl, subst, Bool, true, false, if◌then◌else◌, List, [], ◌∷◌, length, take, drop, get_or, slice_range, map, All, Some, codes, IsUtf8, arith, inl, inr, ⊎_elim, cond, nat_lt}
 use Rattle.std.proofs.lemmas.Bool.Decides.{nat_tests}
-use Rattle.std.proofs.lemmas.List.{append_cancel_right}
 use Rattle.std.proofs.lemmas.List.Elements.{All-tail}
-use Rattle.std.proofs.lemmas.Slice.Eq.{bytes_eq-Decides}
 use Rattle.std.proofs.lemmas.Str.{IsUtf8-from_ascii}
 use Rattle.city_json.proofs.CompactLaws.{compact-tells}
 use Rattle.city_json.proofs.MemberPlaces.{member_in_part}
 use Rattle.city_json.proofs.Places.{drop_one}
 use Rattle.city_json.proofs.Replacing.{replaced_text}
+use Rattle.city_json.proofs.NamedMembers.{equal_names, first_at, new_name, other_names, same_name, writable_at}
 use Rattle.city_json.specs.Bytes.{colon, minus, quotation_mark, open_bracket, open_brace, close_brace}
 use Rattle.city_json.specs.Compact.{quoted, compact}
-use Rattle.city_json.specs.Fits.{HasDistinctNames, IsNewName}
+use Rattle.city_json.specs.Fits.{HasDistinctNames}
 use Rattle.city_json.specs.Members.{first_named, member_of}
 use Rattle.city_json.specs.Number.{IsMinus, IsNumber, IsWhole}
 use Rattle.city_json.specs.Parts.{HasMember, IsMemberText, replaced, with_value, IsPartNamed}
 use Rattle.city_json.specs.Tree.{Tree, null, boolean, number, string, array, object, item_trees, MemberTrees, no_members, member}
-use Rattle.city_json.specs.Writable.{IsWritable, AreWritableMembers, AreWritableItems}
+use Rattle.city_json.specs.Writable.{IsWritable, AreWritableItems}
 use Rattle.city_json.specs.declared.compacting.places.MemberPlace.{MemberPlace}
 use Rattle.city_grid.proofs.VertexLaws.{vertex_is_read, vertex_is_writable}
 use Rattle.city_grid.specs.Axes.{Triple, IsInRange}
@@ -25,33 +24,6 @@ use Rattle.city_feature.specs.Changes.{with_named}
 use Rattle.city_feature.specs.Feature.{AreReadAgain, HasFeatureShape, IsFeature, vertices_tree}
 use Rattle.city_feature.specs.Quick.{HasOtherMembers, IsLine, IsPlaceOf, SpellsVertices}
 use Rattle.city_feature.specs.Shapes.{IsArray, IsObject, IsText, IsThere}
-
-pub equal_names : (other name : List ℕ) → other ≡ name → bytes_eq other name ≡ true
-equal_names other name same = (bytes_eq-Decides other name).1 same
-
-other_names : (other name : List ℕ) → other ≢ name → bytes_eq other name ≡ false
-other_names other name apart = told (bytes_eq other name) (bytes_eq-Decides other name).0
-  where
-    told : (b : Bool) → (b ≡ true → other ≡ name) → b ≡ false
-    told true is = absurd (apart (is refl))
-    told false is = refl
-
--- the member at a place, where names differ
-new_name : (k : ℕ) (another name : List ℕ) (value : Tree) (members : MemberTrees) → IsNewName another members
-    → HasMember k name value members → another ≢ name
-new_name k another name value no_members new has = absurd has
-new_name zero another name value (member other v others) new has = λ same. new.0 (same ∙ sym has.0)
-new_name (suc k) another name value (member other v others) new has = new_name k another name value others new.1 has
-
-pub first_at : (k : ℕ) (name : List ℕ) (value : Tree) (members : MemberTrees) → HasDistinctNames members
-    → HasMember k name value members → first_named name members ≡ Some value
-first_at k name value no_members differ has = absurd has
-first_at zero name value (member other v others) differ has =
-    ap (λ b. if b then Some v else first_named name others) (equal_names other name has.0) ∙ ap Some has.1
-first_at (suc k) name value (member other v others) differ has =
-    ap (λ b. if b then Some v else first_named name others)
-    (other_names other name (new_name k other name value others differ.0 has))
-    ∙ first_at k name value others differ.1 has
 
 pub replaced_at : (k : ℕ) (name : List ℕ) (value new : Tree) (members : MemberTrees) → HasDistinctNames members
     → HasMember k name value members → replaced k new members ≡ with_named name new members
@@ -64,13 +36,6 @@ replaced_at (suc k) name value new (member other v others) differ has =
     ∙ sym (ap (λ b. if b then member other new others else member other v (with_named name new others))
     (other_names other name (new_name k other name value others differ.0 has)))
 
-writable_at : (k : ℕ) (name : List ℕ) (value : Tree) (members : MemberTrees) → AreWritableMembers members
-    → HasMember k name value members → IsUtf8 name × IsWritable value
-writable_at k name value no_members writable has = absurd has
-writable_at zero name value (member other v others) writable has =
-    (subst IsUtf8 has.0 writable.0, subst IsWritable has.1 writable.1)
-writable_at (suc k) name value (member other v others) writable has = writable_at k name value others writable.2 has
-
 -- what a part of a line says of the member of its name
 pub record IsFound (line : List ℕ) (members : MemberTrees) (name : List ℕ) (part : MemberPlace) : Type 0 where
   pub value : Tree
@@ -78,19 +43,6 @@ pub record IsFound (line : List ℕ) (members : MemberTrees) (name : List ℕ) (
   pub writable : IsWritable value
   pub valued : slice_range line part.value part.end ≡ compact value
   pub exchanged : (new : Tree) → compact (object (with_named name new members)) ≡ with_value line part (compact new)
-
-same_name : (other name : List ℕ) → IsUtf8 other → IsUtf8 name → quoted other ++ colon ∷ [] ≡ quoted name ++ colon ∷ []
-    → other ≡ name
-same_name other name utf8 also same =
-    same_text (compact-tells (string other) (string name) utf8 also
-    (append_cancel_right (quoted other) (quoted name) (colon ∷ []) same))
-  where
-    content : Tree → List ℕ
-    content (string text) = text
-    content other = []
-
-    same_text : {a b : List ℕ} → string a ≡ string b → a ≡ b
-    same_text same = ap content same
 
 pub found_at : (line : List ℕ) (parts : List MemberPlace) (members : MemberTrees) (name : List ℕ) (part : MemberPlace) → IsUtf8 name
     → IsLine line parts members → IsPartNamed line parts (quoted name ++ colon ∷ []) part

@@ -14,5 +14,4 @@ pub mod Origin
 pub mod Pieces
 pub mod Quick
 pub mod Shapes
-pub mod Texts
 pub mod Values

@@ -22,9 +22,11 @@ pub mod ListEnds
 pub mod Marks
 pub mod MemberEnds
 pub mod MemberPlaces
+pub mod NamedMembers
 pub mod NamesApart
 pub mod NumberLaws
 pub mod OpenParts
+pub mod ObjectTexts
 pub mod Opened
 pub mod ParityLemmas
 pub mod PartsOfNumbers

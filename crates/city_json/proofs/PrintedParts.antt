@@ -1,5 +1,5 @@
 -- Members that are printed one after another, and their places.
-use Rattle.std.proofs.Common.{◌≡◌, ◌<◌, ◌≤◌, ◌++◌, ◌∙◌, ◌+◌, ◌-◌, ℕ, List, [], ◌∷◌, length, get_or, map, take, drop, take_all, sym, ap, subst, arith, append_assoc, append-nil}
+use Rattle.std.proofs.Common.{◌≡◌, ◌≤◌, ◌++◌, ◌∙◌, ◌+◌, ◌-◌, ℕ, List, [], ◌∷◌, length, get_or, take, drop, take_all, sym, ap, subst, arith, append_assoc, append-nil}
 use Rattle.city_json.specs.Bytes.{colon, comma}
 use Rattle.city_json.specs.Compact.{compact, compact_members, compact_more_members, quoted}
 use Rattle.city_json.specs.Parts.{AreParts}

@@ -4,6 +4,7 @@ pub mod Checking
 pub mod Compact
 pub mod CompactEnds
 pub mod CompactMembers
+pub mod CompactTexts
 pub mod Compacting
 pub mod Depth
 pub mod Fits
@@ -19,6 +20,7 @@ pub mod NamePrint
 pub mod Nested
 pub mod Number
 pub mod NumberAt
+pub mod ObjectTexts
 pub mod OpenNames
 pub mod Parts
 pub mod PlainRun

@@ -1,5 +1,5 @@
 -- Where the members of an object lie in its compact text, and an object with the value of one member exchanged.
-use Rattle.std.specs.Prelude.{◌≡◌, ◌++◌, ◌+◌, ◌<◌, ℕ, zero, suc, List, [], ◌∷◌, length, get_or, take, drop, slice_range}
+use Rattle.std.specs.Prelude.{◌≡◌, ◌≢◌, ◌++◌, ◌+◌, ◌<◌, ◌≤◌, ℕ, zero, suc, List, [], ◌∷◌, length, get_or, take, drop, slice_range}
 use Rattle.city_json.specs.Bytes.{colon}
 use Rattle.city_json.specs.Compact.{quoted, compact}
 use Rattle.city_json.specs.Tree.{Tree, MemberTrees, no_members, member}
@@ -48,3 +48,9 @@ pub record IsPartNamed (line : List ℕ) (parts : List MemberPlace) (name : List
   pub within : place < length parts
   pub is : get_or parts place part ≡ part
   pub named : slice_range line part.at part.value ≡ name
+
+-- none of the first parts that lie within the text has this name
+abbrev pub NotNamed : List ℕ → List MemberPlace → List ℕ → ℕ → Type 0
+NotNamed text parts given n = (i : ℕ) (d : MemberPlace) → i < n → i < length parts
+    → (get_or parts i d).at ≤ (get_or parts i d).value → (get_or parts i d).value ≤ length text
+    → slice_range text (get_or parts i d).at (get_or parts i d).value ≢ given

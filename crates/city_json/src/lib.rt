@@ -1,6 +1,6 @@
 //! JSON texts (RFC 8259) and their values: [`read`] takes exactly the texts that fit, [`print`] gives the one compact text
-//! of a value, and [`compact_object`] goes from the text of an object to its compact text, in one pass and with no value
-//! held, and tells of any other text what it is.
+//! of a value, and [`compact_object`] goes from the text of an object to its compact text, in one pass that holds no value,
+//! and tells of any other text what it is. [`ObjectText`] gives its members by their names.
 #![tactic(auto)]
 
 mod checking;
@@ -9,6 +9,7 @@ mod comparing;
 mod json;
 mod laws;
 mod number_parts;
+mod object_text;
 mod printing;
 mod reading;
 mod short;
@@ -30,6 +31,7 @@ pub use laws::{
     members_lie_in_their_parts, spelled_value_is_writable, texts_nest_as_their_values,
 };
 pub use number_parts::NumberParts;
+pub use object_text::ObjectText;
 pub use printing::print;
 pub use reading::digits::not_digits;
 pub use reading::read;

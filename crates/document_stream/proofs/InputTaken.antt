@@ -1,33 +1,26 @@
 -- From what was read of an input to why it is refused, or what it is cut into.
-use Rattle.std.proofs.Common.{◌≡◌, ◌≤◌, ◌<◌, ◌++◌, ℕ, Bool, false, List, length, Result, Ok, Err, MatchResult, IfOk, IfErr, OnOk, refl, subst, inl, inr, arith, [], ◌∷◌, ◌&&◌, true, true≢false, ap, sym, ◌∙◌}
+use Rattle.std.proofs.Common.{◌≡◌, ◌≤◌, ◌<◌, ◌++◌, ℕ, Bool, false, List, length, Result, Ok, Err, IfOk, IfErr, refl, subst, inl, inr, arith, [], ◌∷◌, ◌&&◌, true, true≢false, ap, sym, ◌∙◌}
 use Rattle.std.proofs.lemmas.List.{length-append, length-map}
 use Rattle.city_json.proofs.Scanning.{IsWhite-is_white, is_white-IsWhite}
-use Rattle.city_json.proofs.SpelledWritable.{spelled_writable}
 use Rattle.city_json.specs.Compact.{compact}
-use Rattle.city_json.specs.Depth.{IsDeep}
-use Rattle.city_json.specs.Fits.{Fits}
-use Rattle.city_json.specs.Grammar.{IsBlank, Spells}
-use Rattle.city_json.specs.Parts.{AreParts}
-use Rattle.city_json.specs.Writable.{IsWritable}
-use Rattle.city_json.specs.declared.compacting.places.MemberPlace.{MemberPlace}
+use Rattle.city_json.specs.Grammar.{IsBlank}
 use Rattle.city_json.specs.Reading.{is_white}
 use Rattle.city_json.specs.Refusals.{RefusesText}
 use Rattle.byte_streams.specs.Source.{GivesFirst}
-use Rattle.city_json.specs.Tree.{Tree, MemberTrees, object, tree}
+use Rattle.city_json.specs.Tree.{Tree}
 use Rattle.byte_streams.specs.declared.fault.Fault.{Fault}
 use Rattle.byte_streams.specs.declared.fault.Fault.TheVariants.{LineTooLong, Memory, NoHeader, Read, Write}
-use Rattle.city_json.specs.declared.json.Json.{Json}
 use Rattle.city_feature.specs.Feature.{FeatureValue}
 use Rattle.city_feature.specs.Header.{HeaderValue}
-use Rattle.city_cut.specs.Cut.{IsCut, IsCuttable, RefusesCut}
+use Rattle.city_cut.specs.Cut.{RefusesCut}
+use Rattle.city_cut.specs.CutTexts.{CutsInto, RefusesRead}
 use Rattle.city_cut.specs.HeldTexts.{HeldTexts, texts_in}
-use Rattle.city_cut.specs.Lines.{texts_of}
-use Rattle.city_feature.specs.Texts.{IsCompactOf}
+use Rattle.city_json.specs.ObjectTexts.{PlacedObject, SpellsThere, object_of}
 use Rattle.tile_stream.specs.Stream.{stream}
 use Rattle.document_stream.specs.CutStream.{IsStreamOf, cut_stream}
 use Rattle.byte_streams.specs.Limits.{max_line_bytes}
 use Rattle.document_stream.specs.Input.{IsReadAs, RefusesInput, SomeInput}
-use Rattle.document_stream.specs.Taking.{CutsInto, GivesCut, HasCut, IsRefusedInput, RefusesCutting, RefusesRead, is_white_space}
+use Rattle.document_stream.specs.Taking.{GivesCut, HasCut, IsRefusedInput, RefusesCutting, is_white_space}
 
 pub blank : (text : List ℕ) → is_white_space text ≡ true → IsBlank text
 blank [] all = tt
@@ -118,73 +111,15 @@ module _ (text : List ℕ) where
   read_refused document some spelled fault (inr cause) = document_refused document some spelled fault cause
 
   -- its compact text was cut, or refused
-  module _ (line : List ℕ) (parts : List MemberPlace)
-      (found : (members : MemberTrees) × Spells text (object members) × Fits (object members) × (¬ IsDeep text)
-      × (line ≡ compact (object members)) × AreParts 1 parts members) where
-    pub compact_of : IsCompactOf line (object found.0)
-    compact_of = record {
-      is = found.4;
-      writable = spelled_writable text (object found.0) found.1;
-      distinct = found.2.1;
-      within = found.2.0;
-    }
-
+  module _ (there : PlacedObject) (spells : SpellsThere text there) where
     pub compact_given : {X : Type 0} (answer : Result X Fault) (header : X → HeaderValue) (texts : X → List (List ℕ))
-        → IfOk answer (λ cut. (members : MemberTrees) → IsCompactOf line (object members) → AreParts 1 parts members
-        → CutsInto (object members) (header cut) (texts cut))
+        → IfOk answer (λ cut. CutsInto (object_of there) (header cut) (texts cut))
         → IfOk answer (λ cut. HasCut text (header cut) (texts cut))
-    compact_given (Ok cut) header texts made =
-        (object found.0, (found.1, found.2, found.3), made found.0 compact_of found.5)
+    compact_given (Ok cut) header texts made = (object_of there, spells, made)
     compact_given (Err fault) header texts made = tt
 
     pub compact_refused : {X : Type 0} (answer : Result X Fault) → ¬ IsBlank text
-        → IfErr answer (λ fault. (members : MemberTrees) → IsCompactOf line (object members) → AreParts 1 parts members
-        → RefusesRead fault (object members)) → IfErr answer (λ fault. RefusesCutting fault text)
+        → IfErr answer (λ fault. RefusesRead fault (object_of there))
+        → IfErr answer (λ fault. RefusesCutting fault text)
     compact_refused (Ok cut) some refused = tt
-    compact_refused (Err fault) some refused =
-        read_refused (object found.0) some (found.1, found.2, found.3) fault (refused found.0 compact_of found.5)
-
--- a document that is read again from its compact text
-module _ (line : List ℕ) (parts : List MemberPlace) where
-  pub again_given : {X : Type 0} (answer : Result X Fault) (found : Tree) (header : X → HeaderValue)
-      (texts : X → List (List ℕ)) → ((members : MemberTrees) → IsCompactOf line (object members)
-      → found ≡ object members) → IfOk answer (λ cut. (features : List FeatureValue) × IsCut found (header cut) features
-      × (texts cut ≡ texts_of features)) → OnOk answer (IsCuttable found)
-      → IfOk answer (λ cut. (members : MemberTrees) → IsCompactOf line (object members) → AreParts 1 parts members
-      → CutsInto (object members) (header cut) (texts cut))
-  again_given (Ok cut) found header texts same made cuttable =
-      λ members of are. subst (λ (t : Tree). CutsInto t (header cut) (texts cut)) (same members of)
-      (cuttable, made.0, made.1, made.2)
-  again_given (Err fault) found header texts same made cuttable = tt
-
-  pub again_refused : {X : Type 0} (answer : Result X Fault) (found : Tree)
-      → ((members : MemberTrees) → IsCompactOf line (object members) → found ≡ object members)
-      → IfErr answer (λ fault. RefusesCut fault found)
-      → IfErr answer (λ fault. (members : MemberTrees) → IsCompactOf line (object members) → AreParts 1 parts members
-      → RefusesRead fault (object members))
-  again_refused (Ok cut) found same refused = tt
-  again_refused (Err fault) found same refused =
-      λ members of are. inr (subst (RefusesCut fault) (same members of) refused)
-
-module _ (text : List ℕ) (answer : Result Json Fault)
-    (printed : (value : Tree) → IsWritable value → Fits value → text ≡ compact value
-    → MatchResult answer (λ again. tree again ≡ value) (λ fault. fault ≡ Memory)) where
-  pub read_value : IfOk answer (λ document. (members : MemberTrees) → IsCompactOf text (object members)
-      → tree document ≡ object members)
-  read_value = each answer (λ members (of : IsCompactOf text (object members)).
-      printed (object members) of.writable (of.within, of.distinct) of.is)
-    where
-      each : (answer : Result Json Fault) → ((members : MemberTrees) → IsCompactOf text (object members)
-          → MatchResult answer (λ again. tree again ≡ object members) (λ fault. fault ≡ Memory))
-          → IfOk answer (λ document. (members : MemberTrees) → IsCompactOf text (object members)
-          → tree document ≡ object members)
-      each (Ok json) same = same
-      each (Err fault) same = tt
-
-  pub read_fault : (members : MemberTrees) → IsCompactOf text (object members) → IfErr answer (λ fault. fault ≡ Memory)
-  read_fault members of = each answer (printed (object members) of.writable (of.within, of.distinct) of.is)
-    where
-      each : (answer : Result Json Fault) → MatchResult answer (λ again. tree again ≡ object members)
-          (λ fault. fault ≡ Memory) → IfErr answer (λ fault. fault ≡ Memory)
-      each (Ok json) same = tt
-      each (Err fault) memory = memory
+    compact_refused (Err fault) some refused = read_refused (object_of there) some spells fault refused

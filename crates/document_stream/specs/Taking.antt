@@ -1,25 +1,18 @@
 -- What is known of an input once it was read.
-use Rattle.std.specs.Prelude.{◌≡◌, ◌⊎◌, ℕ, Bool, List, Result, Ok, Err}
+use Rattle.std.specs.Prelude.{ℕ, Bool, List, Result, Ok, Err}
 use Rattle.std.specs.List.{list_all}
 use Rattle.city_json.specs.Grammar.{IsBlank}
 use Rattle.city_json.specs.Reading.{is_white}
 use Rattle.city_json.specs.Tree.{Tree}
 use Rattle.byte_streams.specs.declared.fault.Fault.{Fault}
 use Rattle.byte_streams.specs.declared.fault.Fault.TheVariants.{LineTooLong, Memory, NoHeader, Read, Write}
-use Rattle.city_feature.specs.Feature.{FeatureValue}
 use Rattle.city_feature.specs.Header.{HeaderValue}
-use Rattle.city_cut.specs.Cut.{IsCut, IsCuttable, RefusesCut}
-use Rattle.city_cut.specs.Lines.{texts_of}
+use Rattle.city_cut.specs.CutTexts.{CutsInto}
 use Rattle.tile_stream.specs.Unread.{failed_reads_after}
 use Rattle.document_stream.specs.Input.{IsReadAs, IsWholeInput, RefusesDocument, RefusesInput, SomeInput}
 
 abbrev pub is_white_space : List ℕ → Bool
 is_white_space text = list_all is_white text
-
--- a document is cut into this header and these texts
-abbrev pub CutsInto : Tree → HeaderValue → List (List ℕ) → Type 0
-CutsInto document header texts =
-    IsCuttable document × (features : List FeatureValue) × IsCut document header features × (texts ≡ texts_of features)
 
 -- a text spells a document that is
 abbrev pub HasCut : List ℕ → HeaderValue → List (List ℕ) → Type 0
@@ -37,10 +30,6 @@ RefusesCutting LineTooLong text = ⊥
 RefusesCutting Read text = ⊥
 RefusesCutting Write text = ⊥
 RefusesCutting fault text = (¬ IsBlank text) × RefusesDocument fault text
-
--- a document whose text was read is not cut, or memory ran out
-abbrev pub RefusesRead : Fault → Tree → Type 0
-RefusesRead fault document = (fault ≡ Memory) ⊎ RefusesCut fault document
 
 -- an input is refused for a cause in it, or memory ran out
 abbrev pub IsRefusedInput : (List ℕ → Bool → Type 0) → Fault → Type 0

@@ -1,24 +1,18 @@
 //! A document that is read whole, and cut.
 ghost use Rattle.std.specs.Prelude.{◌≡◌, ◌≢◌, IfOk, IfErr, length};
 ghost use Rattle.city_json.specs.Compact.{compact};
-ghost use Rattle.city_json.specs.Fits.{IsDistinct};
-ghost use Rattle.city_json.specs.Grammar.{IsBlank};
-ghost use Rattle.city_json.specs.Parts.{AreParts};
-ghost use Rattle.city_json.specs.Tree.{MemberTrees, object, tree};
-ghost use Rattle.city_json.specs.Triples.{HasTriples};
 ghost use Rattle.city_feature.specs.Values.{header_value};
 ghost use Rattle.city_cut.specs.HeldTexts.{texts_in};
-ghost use Rattle.city_feature.specs.Texts.{IsCompactOf};
 ghost use Rattle.document_stream.specs.CutStream.{IsStreamOf};
 ghost use Rattle.document_stream.specs.Input.{SomeInput};
-ghost use Rattle.document_stream.specs.Taking.{CutsInto, GivesCut, HasCut, IsRefusedInput, RefusesCutting, RefusesRead, failed_reads_after_taking, is_white_space};
+ghost use Rattle.document_stream.specs.Taking.{GivesCut, HasCut, IsRefusedInput, RefusesCutting, failed_reads_after_taking, is_white_space};
 ghost use Rattle.tile_stream.specs.Stream.{stream};
 
 use byte_streams::limits::MAX_LINE_BYTES;
 use byte_streams::{Fault, Line, Source, Stop, read_all};
-use city_cut::{CutTexts, FeatureTexts, cut_compacted_triples, cut_fault, cut_texts};
+use city_cut::{CutTexts, FeatureTexts, cut_text};
 use city_feature::Header;
-use city_json::{Json, MemberPlace, Span, Workspace, compact_object, print, read};
+use city_json::{ObjectText, Workspace, compact_object, print};
 use std::alloc::Global;
 
 /// The stream of a document that was cut.
@@ -64,7 +58,7 @@ fn header_text(alloc: Global, header: &Header) -> Result<Line, Fault>
 ///
 /// # Errors
 ///
-/// In this order: [`Fault::LineTooLong`] or [`Fault::Read`], and those of [`cut_text`]. [`Fault::Memory`] may come in
+/// In this order: [`Fault::LineTooLong`] or [`Fault::Read`], and those of [`cut_read`]. [`Fault::Memory`] may come in
 /// place of each.
 fn take_cut<R: Source>(alloc: Global, source: &mut R) -> Result<CutTexts, Fault>
     ensures ok { IfOk result (λ cut. GivesCut (R.gives source.old) (header_value cut.header) (texts_in cut.texts)) }
@@ -75,7 +69,7 @@ fn take_cut<R: Source>(alloc: Global, source: &mut R) -> Result<CutTexts, Fault>
 {
     let intake = read_all(alloc, source, MAX_LINE_BYTES);
     match intake.stop {
-        Stop::End => cut_text(alloc, intake.bytes),
+        Stop::End => cut_read(alloc, intake.bytes),
         Stop::Failure => Err(Fault::Read),
         Stop::Limit => Err(Fault::LineTooLong),
         Stop::Memory => Err(Fault::Memory),
@@ -87,8 +81,8 @@ fn take_cut<R: Source>(alloc: Global, source: &mut R) -> Result<CutTexts, Fault>
 ///
 /// # Errors
 ///
-/// [`Fault::NoHeader`] where the text is blank, then those of [`read`] and [`cut_texts`].
-fn cut_text(alloc: Global, text: Vec<u8>) -> Result<CutTexts, Fault>
+/// [`Fault::NoHeader`] where the text is blank, then those of [`compact_object`] and [`cut_text`].
+fn cut_read(alloc: Global, text: Vec<u8>) -> Result<CutTexts, Fault>
     ensures ok { IfOk result (λ cut. HasCut text.items (header_value cut.header) (texts_in cut.texts)) }
     ensures refused { IfErr result (λ fault. RefusesCutting fault text.items) }
 {
@@ -100,57 +94,9 @@ fn cut_text(alloc: Global, text: Vec<u8>) -> Result<CutTexts, Fault>
         return Err(Fault::NotCityJson);
     };
     let Workspace { line: buffer, .. } = workspace;
-    let compacted = Compacted {
-        line: found.place.into_line(text, buffer),
-        parts: found.parts,
-    };
-    cut_compact(alloc, compacted, found.triples)
-}
-
-/// The compact text of an object, and the place of each of its members in it.
-#[derive(Drop)]
-struct Compacted {
-    line: Line,
-    parts: Vec<MemberPlace>,
-}
-
-/// Cuts a document in its compact text, in which these triples stand, or tells why it is refused: on the text where that
-/// answers, and else by its value.
-fn cut_compact(alloc: Global, compacted: Compacted, triples: Span) -> Result<CutTexts, Fault>
-    requires members { (members : MemberTrees) × IsCompactOf compacted.line (object members)
-        × AreParts 1 compacted.parts.items members }
-    requires triples { HasTriples compacted.line triples }
-    ensures ok { IfOk result (λ cut. (members : MemberTrees) → IsCompactOf compacted.line (object members)
-        → AreParts 1 compacted.parts.items members
-        → CutsInto (object members) (header_value cut.header) (texts_in cut.texts)) }
-    ensures refused { IfErr result (λ fault. (members : MemberTrees) → IsCompactOf compacted.line (object members)
-        → AreParts 1 compacted.parts.items members → RefusesRead fault (object members)) }
-{
-    if let Some(cut) = cut_compacted_triples(
-        alloc,
-        compacted.line.items(),
-        &compacted.parts,
-        triples,
-    ) {
-        return Ok(cut);
-    }
-    if let Some(fault) = cut_fault(alloc, compacted.line.items(), &compacted.parts) {
-        return Err(fault);
-    }
-    let document = read_again(alloc, compacted.line.items())?;
-    drop(compacted);
-    cut_texts(alloc, document)
-}
-
-/// The value whose compact text this is. The only fault is [`Fault::Memory`].
-fn read_again(alloc: Global, text: &[u8]) -> Result<Json, Fault>
-    requires { (members : MemberTrees) × IsCompactOf text.now (object members) }
-    ensures value { IfOk result (λ document. (members : MemberTrees) → IsCompactOf text.now (object members)
-        → tree document ≡ object members) }
-    ensures distinct { IfOk result (λ document. IsDistinct (tree document)) }
-    ensures fault { IfErr result (λ fault. fault ≡ Fault.Memory) }
-{
-    read(alloc, text)
+    let line = found.place.into_line(text, buffer);
+    let document = ObjectText::new(line.items(), &found.parts);
+    cut_text(alloc, &document, found.triples)
 }
 
 fn is_white_space(text: &[u8]) -> bool

@@ -177,17 +177,19 @@ fn is_document_of(alloc: Global, text: &str) -> Result<bool, Fault> {
 }
 
 /// The same of its compact text, which is asked of objects alone.
-fn is_document_text(alloc: Global, text: &str) -> Option<bool> {
+fn is_document_text(alloc: Global, text: &[u8]) -> Option<bool> {
     let mut workspace = Workspace::new(alloc, Line::new(alloc));
-    let object = compact_object(alloc, text.as_bytes(), &mut workspace).ok()??;
-    let line = object.place.bytes(text.as_bytes(), &workspace.line);
-    holds_city(line, &object.parts)
+    let Ok(Some(object)) = compact_object(alloc, text, &mut workspace) else {
+        return None;
+    };
+    let line = object.text(text, &workspace.line);
+    Some(holds_city(&line))
 }
 
 fn expect_documents(rt: &(impl Abort + AllocGlobal), table: &str, wanted: bool) {
     for text in table.lines() {
         assert!(rt; is_document_of(rt.alloc(), text) == Ok(wanted), "{text}");
-        let told = is_document_text(rt.alloc(), text);
+        let told = is_document_text(rt.alloc(), text.as_bytes());
         assert!(rt; told == text.starts_with('{').then_some(wanted), "{text}");
     }
 }

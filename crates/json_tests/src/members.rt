@@ -42,3 +42,48 @@ fn a_member_is_found_wherever_it_stands(rt: HostRuntime) {
         assert!(rt; is_found(rt.alloc(), row));
     }
 }
+
+/// A text of an object, a name with its marks and its colon, and the compact text of the value of that member, if there is
+/// one.
+type Valued = (&'static [u8], &'static [u8], Option<&'static [u8]>);
+
+const VALUED: [Valued; 10] = [
+    (b"{}", b"\"a\":", None),
+    (b"{\"a\":1}", b"\"a\":", Some(b"1")),
+    (b"{\"a\":null}", b"\"a\":", Some(b"null")),
+    (b"{\"b\":1,\"c\":2}", b"\"a\":", None),
+    (
+        b" { \"a\" : [ 1 , 2.50 ] , \"b\" : 3 } ",
+        b"\"a\":",
+        Some(b"[1,2.50]"),
+    ),
+    (
+        b"{\"b\":{\"a\":1},\"a\":{\"a\":2}}",
+        b"\"a\":",
+        Some(b"{\"a\":2}"),
+    ),
+    (b"{\"\\u0061\":\"\\u0062\"}", b"\"a\":", Some(b"\"b\"")),
+    (b"{\"b\":\"\\\"a\\\":\"}", b"\"a\":", None),
+    (b"{\"a\\\"\":1,\"a\":2}", b"\"a\":", Some(b"2")),
+    (b"{\"\":{},\"a\":[]}", b"\"\":", Some(b"{}")),
+];
+
+/// Whether the text of the value of the member of a name is given, and that it is not there where it is not.
+fn is_given(alloc: Global, text: &[u8], name: &[u8], wanted: Option<&[u8]>) -> bool {
+    let mut workspace = Workspace::new(alloc, Line::new(alloc));
+    let Ok(Some(object)) = compact_object(alloc, text, &mut workspace) else {
+        return false;
+    };
+    let line = object.text(text, &workspace.line);
+    let other = b"another text".as_slice();
+    line.value(name).unwrap_or(other) == wanted.unwrap_or(other)
+        && line.value_or(name, other) == wanted.unwrap_or(other)
+        && line.part(name).is_some() == wanted.is_some()
+}
+
+#[test]
+fn the_value_of_a_member_is_given_by_its_name(rt: HostRuntime) {
+    for (text, name, wanted) in VALUED {
+        assert!(rt; is_given(rt.alloc(), text, name, wanted));
+    }
+}

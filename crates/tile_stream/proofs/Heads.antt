@@ -1,24 +1,23 @@
 -- The head of a tile, from its first line.
-use Rattle.std.proofs.Common.{◌≡◌, ◌≢◌, ◌<◌, ◌^◌, length, ℕ, Bool, true, false, List, [], ◌∷◌, Option, Some, None, Result, Ok, Err, IfOk, IfErr, IfSome, refl, sym, ap, subst, ◌∙◌, inl, inr, arith}
+use Rattle.std.proofs.Common.{◌≡◌, ◌⊎◌, ◌≢◌, ◌<◌, ◌^◌, length, ℕ, Bool, true, false, List, [], ◌∷◌, Option, Some, None, Result, Ok, Err, IfOk, IfErr, IfNone, IfSome, refl, sym, ap, subst, ◌∙◌, inl, inr, arith}
+use Rattle.city_json.proofs.Complete.{one_meaning}
 use Rattle.city_json.specs.Compact.{compact}
 use Rattle.city_json.specs.Fits.{Fits}
 use Rattle.city_json.specs.Grammar.{Spells}
-use Rattle.city_json.specs.Parts.{AreParts}
-use Rattle.city_json.specs.Tree.{MemberTrees, Tree, object, tree}
-use Rattle.city_json.specs.declared.compacting.places.MemberPlace as member_part
+use Rattle.city_json.specs.ObjectTexts.{PlacedObject, SpellsThere, object_of}
+use Rattle.city_json.specs.Refusals.{RefusesText}
+use Rattle.city_json.specs.Tree.{Tree, object, tree}
 use Rattle.city_json.specs.declared.json.Json.{Json}
 use Rattle.byte_streams.specs.declared.fault.Fault.{Fault}
 use Rattle.byte_streams.specs.declared.fault.Fault.TheVariants.{NoHeader, Memory, Write}
-use Rattle.city_cut.specs.Cut.{IsCut, IsCuttable}
 use Rattle.city_cut.specs.Lines.{texts_of}
 use Rattle.city_feature.specs.Feature.{FeatureValue}
 use Rattle.city_feature.specs.FeatureLine.{SpellsFeature}
 use Rattle.city_cut.proofs.SpelledFeatures.{texts_spell}
 use Rattle.std.specs.List.{AllZip}
-use Rattle.city_feature.specs.Header.{HeaderValue, HoldsCity, IsHeader}
-use Rattle.city_feature.specs.Texts.{IsCompactOf}
+use Rattle.city_feature.specs.Header.{HeaderValue, HoldsCity, IsHeader, RefusesHeader}
 use Rattle.city_feature.specs.Values.{HeaderJson, header_value}
-use Rattle.tile_stream.specs.Head.{SpellsHead, SpellsHeadOf, HoldsHead, RefusesHeadValue, RefusesHead, HasNoHead, LinesHaveNoHead, SomeTile, GivesHead, GivesHeld}
+use Rattle.tile_stream.specs.Head.{SpellsHead, SpellsHeadOf, HoldsHead, RefusesHeadValue, RefusesHead, SpellsNoCity, HasNoHead, LinesHaveNoHead, SomeTile, GivesHead, GivesHeld}
 use Rattle.tile_stream.specs.Held.{HeldLine}
 use Rattle.tile_stream.specs.Tile.{Part, TileLines, part_of, line_before, nothing_left, only_fault}
 use Rattle.byte_streams.specs.declared.places.LineFault.{LineFault}
@@ -27,24 +26,8 @@ use Rattle.tile_stream.specs.Unread.{GivesLine, MayBeOver, IsRefused, ComesFrom}
 abbrev at_line : ℕ → Fault → LineFault
 at_line number fault = record { line = number; fault = fault }
 
-true_is_false : (answer : Bool) → answer ≡ true → answer ≡ false → ⊥
+pub true_is_false : (answer : Bool) → answer ≡ true → answer ≡ false → ⊥
 true_is_false answer is not = cc (sym is ∙ not)
-
--- a value with city objects was cut; each other one was taken as a header
-module _ (json : Json) (header : HeaderJson) where
-  abbrev Stands : List (List ℕ) → Type 0
-  Stands texts = (features : List FeatureValue) × HoldsHead (tree json) (header_value header) features
-      × (texts ≡ texts_of features)
-
-  pub document_cut : HoldsCity (tree json) → IsCuttable (tree json) → (texts : List (List ℕ))
-      → (features : List FeatureValue) × IsCut (tree json) (header_value header) features × (texts ≡ texts_of features)
-      → Stands texts
-  document_cut holds cuttable texts is = (is.0, inl (holds, cuttable, is.1), is.2)
-
-  pub header_taken : (answer : Bool) → answer ≡ false → (HoldsCity (tree json) → answer ≡ true) → (header.json ≡ json)
-      × IsHeader (tree json) header.grid → (texts : List (List ℕ)) → texts ≡ [] → Stands texts
-  header_taken answer not would is texts none =
-      ([], inr ((λ holds. true_is_false answer (would holds) not), is.1, ap tree is.0, refl), none)
 
 -- a value that the line spells stands for a header and for features with these texts
 module _ (line : List ℕ) (value : Tree) (spells : Spells line value) (fits : Fits value) where
@@ -60,42 +43,47 @@ module _ (line : List ℕ) (value : Tree) (spells : Spells line value) (fits : F
       (subst (λ fs. AllZip SpellsFeature [] fs) (sym taken.3) tt) in
       (features, (value, spells, fits, inr taken), both)
 
--- a value that the line spells was taken as a head, or refused
-module _ (line : List ℕ) (value : Tree) (spells : Spells line value) (fits : Fits value) {X : Type 0} where
-  pub head_read : length line < 2 ^ 64 → (header : X → HeaderValue) (texts : X → List (List ℕ))
-      (result : Result X Fault) → IfOk result (λ x. (features : List FeatureValue) × HoldsHead value (header x) features
-      × (texts x ≡ texts_of features)) → IfOk result (λ x. SpellsHeadOf line (header x) (texts x))
-  head_read short header texts (Ok x) stands =
-      spells_head line value spells fits short (header x) stands.0 (texts x) stands.1 stands.2
-  head_read short header texts (Err fault) stands = tt
-
-  pub head_refused : (result : Result X Fault) → IfErr result (λ fault. RefusesHeadValue fault value)
-      → IfErr result (λ fault. RefusesHead fault line)
-  head_refused (Ok x) is = tt
-  head_refused (Err fault) is = inr (value, spells, fits, is)
-
 -- an object that the line spells was taken as a head on its text, or refused
-module _ (line text : List ℕ) (parts : List member_part.MemberPlace) (members : MemberTrees) (spells : Spells line (object members))
-    (fits : Fits (object members)) (of : IsCompactOf text (object members)) (are : AreParts 1 parts members)
-    {X : Type 0} where
+module _ (line : List ℕ) (there : PlacedObject) (spells : SpellsThere line there) {X : Type 0} where
   pub head_found : length line < 2 ^ 64 → (header : X → HeaderValue) (texts : X → List (List ℕ))
       (result : Result (Option X) Fault)
-      → IfOk result (λ found. IfSome found (λ x. (members : MemberTrees) → IsCompactOf text (object members)
-      → AreParts 1 parts members → (features : List FeatureValue) × HoldsHead (object members) (header x) features
-      × (texts x ≡ texts_of features)))
+      → IfOk result (λ found. IfSome found (λ x. (features : List FeatureValue)
+      × HoldsHead (object_of there) (header x) features × (texts x ≡ texts_of features)))
       → IfOk result (λ found. IfSome found (λ x. SpellsHeadOf line (header x) (texts x)))
-  head_found short header texts (Ok (Some x)) stands =
-      let (features, holds, is) = stands members of are in
-      spells_head line (object members) spells fits short (header x) features (texts x) holds is
+  head_found short header texts (Ok (Some x)) (features, holds, is) =
+      spells_head line (object_of there) spells.0 spells.1 short (header x) features (texts x) holds is
   head_found short header texts (Ok None) stands = tt
   head_found short header texts (Err fault) stands = tt
 
+  pub no_city_found : (result : Result (Option X) Fault)
+      → IfOk result (λ found. IfNone found (¬ HoldsCity (object_of there)))
+      → IfOk result (λ found. IfNone found (SpellsNoCity line))
+  no_city_found (Ok (Some x)) none = tt
+  no_city_found (Ok None) none =
+      λ value other. subst (λ v. ¬ HoldsCity v) (one_meaning line (object_of there) value spells.0.1 other.1) none
+  no_city_found (Err fault) none = tt
+
   pub head_not_found : (result : Result (Option X) Fault)
-      → IfErr result (λ fault. (members : MemberTrees) → IsCompactOf text (object members) → AreParts 1 parts members
-      → RefusesHeadValue fault (object members))
+      → IfErr result (λ fault. (fault ≡ Memory) ⊎ RefusesHeadValue fault (object_of there))
       → IfErr result (λ fault. RefusesHead fault line)
   head_not_found (Ok found) is = tt
-  head_not_found (Err fault) is = inr (object members, spells, fits, is members of are)
+  head_not_found (Err fault) is = elim is [
+    | inl memory ↦ inl (subst (λ f. RefusesText f line) (sym memory) (spells.0.0, spells.2))
+    | inr refused ↦ inr (object_of there, spells.0, spells.1, refused)
+  ]
+
+-- a value that the line spells and that holds no city was taken as a header, or refused
+module _ (line : List ℕ) (json : Json) (spells : Spells line (tree json)) (fits : Fits (tree json))
+    (none : ¬ HoldsCity (tree json)) where
+  pub header_taken : length line < 2 ^ 64 → (header : HeaderJson) → (header.json ≡ json)
+      × IsHeader (tree json) header.grid → (texts : List (List ℕ)) → texts ≡ []
+      → SpellsHeadOf line (header_value header) texts
+  header_taken short header is texts empty =
+      spells_head line (tree json) spells fits short (header_value header) [] texts
+      (inr (none, is.1, ap tree is.0, refl)) empty
+
+  pub header_refused : (fault : Fault) → RefusesHeader fault (tree json) → RefusesHead fault line
+  header_refused fault refused = inr (tree json, spells, fits, inr (none, refused))
 
 memory_in : (lines : List Part) (fault : Option LineFault) (last number : ℕ) → 0 < number
     → ComesFrom number lines fault last → LinesHaveNoHead lines fault last (at_line number Memory)

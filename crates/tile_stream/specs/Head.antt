@@ -39,6 +39,10 @@ abbrev pub SpellsHeadOf : List ℕ → HeaderValue → List (List ℕ) → Type 
 SpellsHeadOf line header texts =
     (features : List FeatureValue) × SpellsHead line header features × AllZip SpellsFeature texts features
 
+-- whatever value the line spells, it holds no city
+abbrev pub SpellsNoCity : List ℕ → Type 0
+SpellsNoCity line = (value : Tree) → Spells line value → ¬ HoldsCity value
+
 -- the line spells no value that is taken, or one that is no head
 abbrev pub RefusesHead : Fault → List ℕ → Type 0
 RefusesHead fault line =

@@ -7,7 +7,7 @@ ghost use Rattle.city_json.specs.Members.{member_of};
 ghost use Rattle.city_json.specs.Parts.{AreParts};
 ghost use Rattle.city_json.specs.Tree.{ItemTrees, MemberTrees, Tree, array, member_trees, object};
 ghost use Rattle.city_json.specs.declared.compacting.places.MemberPlace.{MemberPlace};
-ghost use Rattle.city_feature.specs.Texts.{IsCompactOf};
+ghost use Rattle.city_json.specs.CompactTexts.{IsCompactOf};
 ghost use Rattle.city_cut.specs.Boundaries.{IsBounded, own_boundary};
 ghost use Rattle.city_cut.specs.Bounds.{AreBounds};
 ghost use Rattle.city_cut.specs.Holders.{AreHeld, IsHeld};

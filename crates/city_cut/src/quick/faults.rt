@@ -4,7 +4,7 @@ ghost use Rattle.city_json.specs.Parts.{AreParts};
 ghost use Rattle.city_json.specs.Tree.{MemberTrees, Tree, object};
 ghost use Rattle.city_grid.specs.Axes.{Triple};
 ghost use Rattle.city_feature.specs.Quick.{SpellsVertices};
-ghost use Rattle.city_feature.specs.Texts.{IsCompactOf};
+ghost use Rattle.city_json.specs.CompactTexts.{IsCompactOf};
 ghost use Rattle.city_cut.specs.CityObjects.{IsCityObject};
 ghost use Rattle.city_cut.specs.Cut.{RefusesCut};
 ghost use Rattle.city_cut.specs.Faults.{HoldsCityObjects, RefusesObjects};

@@ -19,7 +19,7 @@ ghost use Rattle.city_cut.specs.OwnFeatures.{AreOwnTexts};
 ghost use Rattle.city_cut.specs.Overviews.{AreHolders};
 ghost use Rattle.city_cut.specs.Places.{IsFamily, name_at};
 ghost use Rattle.city_cut.specs.Search.{InRange};
-ghost use Rattle.city_feature.specs.Texts.{IsCompactOf};
+ghost use Rattle.city_json.specs.CompactTexts.{IsCompactOf};
 ghost use Rattle.city_cut.specs.VertexTexts.{StandAt};
 
 use super::drafts::Draft;

@@ -11,7 +11,7 @@ ghost use Rattle.city_grid.specs.Transform.{Grid};
 ghost use Rattle.city_feature.specs.Header.{IsHeader, RefusesHeader};
 ghost use Rattle.city_cut.specs.Cut.{header_tree};
 ghost use Rattle.city_cut.specs.HeaderText.{HasHeader, IsBareText, emptied};
-ghost use Rattle.city_feature.specs.Texts.{IsCompactOf};
+ghost use Rattle.city_json.specs.CompactTexts.{IsCompactOf};
 
 use super::texts::{append_back, append_front, append_text, is_absent, parts_of};
 use crate::headers::drop_appearance;

@@ -14,7 +14,7 @@ ghost use Rattle.city_json.specs.FrontMembers.{HasFrontParts, IsValuePlace};
 ghost use Rattle.city_cut.specs.Holders.{AreHeld, IsHeld, boundary_in, held_uses, relabelled_held, relabelled_in};
 ghost use Rattle.city_cut.specs.Leaves.{IsBoundary, leaves, relabelled};
 ghost use Rattle.city_cut.specs.Walks.{Walks};
-ghost use Rattle.city_feature.specs.Texts.{IsCompactOf};
+ghost use Rattle.city_json.specs.CompactTexts.{IsCompactOf};
 
 use super::drafts::{Draft, Labels, copy_items};
 use super::holders::Holder;

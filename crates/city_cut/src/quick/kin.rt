@@ -6,7 +6,7 @@ ghost use Rattle.city_json.specs.CompactMembers.{HasParts};
 ghost use Rattle.city_json.specs.Tree.{Tree};
 ghost use Rattle.city_cut.specs.CityObjects.{AreTexts};
 ghost use Rattle.city_cut.specs.Kin.{AreQuoted, HasChildrenText, HasParents};
-ghost use Rattle.city_feature.specs.Texts.{IsCompactOf};
+ghost use Rattle.city_json.specs.CompactTexts.{IsCompactOf};
 
 use super::texts::member_or;
 use byte_streams::push;

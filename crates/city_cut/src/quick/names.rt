@@ -7,7 +7,7 @@ ghost use Rattle.city_json.specs.Compact.{quoted};
 ghost use Rattle.city_json.specs.Parts.{AreParts};
 ghost use Rattle.city_json.specs.Tree.{Tree, member_trees, object};
 ghost use Rattle.city_cut.specs.Table.{AreFirst, IsTable, name_in};
-ghost use Rattle.city_feature.specs.Texts.{IsCompactOf};
+ghost use Rattle.city_json.specs.CompactTexts.{IsCompactOf};
 
 use super::ranges::between;
 use super::short_parts::ShortPart;

@@ -7,7 +7,7 @@ ghost use Rattle.city_json.specs.Members.{first_named};
 ghost use Rattle.city_json.specs.Parts.{AreParts, IsPartNamed};
 ghost use Rattle.city_json.specs.Tree.{MemberTrees, Tree, object};
 ghost use Rattle.city_json.specs.declared.compacting.places.MemberPlace.{MemberPlace};
-ghost use Rattle.city_feature.specs.Texts.{IsCompactOf};
+ghost use Rattle.city_json.specs.CompactTexts.{IsCompactOf};
 ghost use Rattle.city_cut.specs.Boundaries.{IsBounded, boundaries, changed_members, relabelled_object};
 ghost use Rattle.city_cut.specs.Holders.{AreHeld, held_uses, name_of, other_than, relabelled_held};
 ghost use Rattle.city_cut.specs.Leaves.{leaves};

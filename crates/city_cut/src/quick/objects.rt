@@ -13,7 +13,7 @@ ghost use Rattle.city_cut.specs.Holders.{AreHeld, held_uses, name_of, other_than
 ghost use Rattle.city_cut.specs.Leaves.{leaves};
 ghost use Rattle.city_cut.specs.Overviews.{HasHolders};
 ghost use Rattle.city_cut.specs.Walks.{Walks};
-ghost use Rattle.city_feature.specs.Texts.{IsCompactOf};
+ghost use Rattle.city_json.specs.CompactTexts.{IsCompactOf};
 
 use super::drafts::{Draft, Labels};
 use super::holders::{HeldParts, Holder};

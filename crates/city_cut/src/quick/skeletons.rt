@@ -4,7 +4,7 @@
 ghost use Rattle.std.specs.Prelude.{◌≡◌, ◌<◌, ◌+◌, ◌++◌, ◌∷◌, [], ℕ, List, All, length, IfSome, OnSome};
 ghost use Rattle.city_json.specs.Parts.{AreParts};
 ghost use Rattle.city_json.specs.Tree.{Tree, member_trees, object};
-ghost use Rattle.city_feature.specs.Texts.{IsCompactOf};
+ghost use Rattle.city_json.specs.CompactTexts.{IsCompactOf};
 ghost use Rattle.city_cut.specs.Chosen.{named_at};
 ghost use Rattle.city_cut.specs.Overviews.{AreHolders};
 ghost use Rattle.city_cut.specs.Skeletons.{AreSkeletons};

@@ -9,7 +9,7 @@ ghost use Rattle.city_json.specs.Triples.{HasTriples};
 ghost use Rattle.city_grid.specs.Axes.{IsInRange, Triple};
 ghost use Rattle.city_feature.specs.Feature.{vertices_tree};
 ghost use Rattle.city_feature.specs.Quick.{SpellsVertices};
-ghost use Rattle.city_feature.specs.Texts.{IsCompactOf};
+ghost use Rattle.city_json.specs.CompactTexts.{IsCompactOf};
 ghost use Rattle.city_cut.specs.TripleStarts.{IsTriplesArray, is_close, starts_behind};
 ghost use Rattle.city_cut.specs.VertexTexts.{HasPoints, StandAt};
 

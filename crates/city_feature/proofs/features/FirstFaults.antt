@@ -19,7 +19,7 @@ use Rattle.city_grid.specs.Axes.{Triple, IsInRange, three}
 use Rattle.city_grid.specs.Vertex.{IsVertex, RefusesVertex, SpellsVertex}
 use Rattle.city_feature.specs.Faults.{after_item}
 use Rattle.city_feature.specs.Feature.{RefusesFirst}
-use Rattle.city_feature.specs.Texts.{IsCompactOf}
+use Rattle.city_json.specs.CompactTexts.{IsCompactOf}
 
 -- what is known of an answer, where it is known which it is
 pub ok_told : {A E : Type 0} (P : A → Type 0) (answer : Result A E) (value : A) → answer ≡ Ok value → IfOk answer P

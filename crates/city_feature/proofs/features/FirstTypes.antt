@@ -16,7 +16,8 @@ use Rattle.city_json.specs.ReadString.{is_plain, prepend, string_at}
 use Rattle.city_json.specs.Tree.{Tree, null, boolean, number, string, array, object, MemberTrees, no_members, member}
 use Rattle.city_json.specs.Writable.{IsWritable, AreWritableMembers}
 use Rattle.city_json.specs.declared.compacting.places.MemberPlace.{MemberPlace}
-use Rattle.city_feature.proofs.QuickLines.{equal_names, found_at, number_begins, utf8}
+use Rattle.city_json.proofs.NamedMembers.{equal_names}
+use Rattle.city_feature.proofs.QuickLines.{found_at, number_begins, utf8}
 use Rattle.city_feature.specs.Quick.{AreLetters, IsLetter, IsLine}
 use Rattle.city_json.specs.Parts.{IsPartNamed}
 use Rattle.city_feature.specs.Shapes.{member_in}

@@ -5,20 +5,18 @@ use Rattle.byte_streams.specs.declared.fault.Fault.TheVariants.{VertexRange, Mem
 use Rattle.city_json.proofs.CompactLaws.{compact-tells}
 use Rattle.city_json.specs.Compact.{compact, quoted}
 use Rattle.city_json.specs.Members.{first_named}
-use Rattle.city_json.specs.Parts.{AreParts}
+use Rattle.city_json.specs.ObjectTexts.{PlacedObject, SpellsThere, object_of}
 use Rattle.city_json.specs.Tree.{Tree, null, string, array, object, ItemTrees, no_items, item, MemberTrees}
-use Rattle.city_json.specs.declared.compacting.places.MemberPlace.{MemberPlace}
 use Rattle.city_grid.specs.Axes.{IsInRange, Triple}
 use Rattle.city_grid.specs.Vertex.{RefusesVertex}
 use Rattle.city_feature.specs.Faults.{RefusesMoved, SpellsLeaving}
 use Rattle.city_feature.specs.Feature.{HasFeatureShape, IsFeature, RefusesFeature, RefusesFirst, moved_vertices}
 use Rattle.city_feature.specs.FeatureLine.{RefusesFeatureLine}
-use Rattle.city_json.specs.SpelledObjects.{SpellsObject}
 use Rattle.city_feature.specs.Shapes.{IsArray, IsObject, IsText, IsThere}
-use Rattle.city_feature.specs.Texts.{IsCompactOf}
+use Rattle.city_json.specs.CompactTexts.{IsCompactOf}
 use Rattle.city_feature.proofs.QuickLines.{utf8}
 use Rattle.city_feature.proofs.features.FeatureVertices.{feature_refused}
-use Rattle.city_feature.proofs.features.LineVertices.{compact_of, not_both}
+use Rattle.city_feature.proofs.features.LineVertices.{not_both}
 
 -- this byte stands first
 abbrev Begins : List ℕ → ℕ → Type 0
@@ -120,21 +118,14 @@ module _ (members : MemberTrees) (text : List ℕ) (shape : HasFeatureShape (obj
       )
 
 -- ---- the line
-module _ (k : Triple) (fault : Fault) (bytes line : List ℕ) (parts : List MemberPlace) (given : SpellsObject bytes line parts)
-    (refused : (members : MemberTrees) → IsCompactOf line (object members) → AreParts 1 parts members
-    → RefusesMoved k fault (object members)) where
-  refused_here : RefusesMoved k fault (object given.0)
-  refused_here = refused given.0 (compact_of bytes line parts given) given.5
-
-  pub no_memory_line : fault ≢ Memory
-  no_memory_line = refused_here.0
-
+module _ (k : Triple) (fault : Fault) (bytes : List ℕ) (there : PlacedObject) (spells : SpellsThere bytes there)
+    (refused : RefusesMoved k fault (object_of there)) where
   pub refuses_line : RefusesFeatureLine k fault bytes
-  refuses_line = told refused_here.1
+  refuses_line = told refused.1
     where
-      told : RefusesFeature fault (object given.0) ⊎ ((fault ≡ VertexRange)
-          × ((ps : List Triple) × IsFeature (object given.0) ps × ¬ All IsInRange (moved_vertices ps k)))
+      told : RefusesFeature fault (object_of there) ⊎ ((fault ≡ VertexRange)
+          × ((ps : List Triple) × IsFeature (object_of there) ps × ¬ All IsInRange (moved_vertices ps k)))
           → RefusesFeatureLine k fault bytes
-      told (inl no_feature) = inr (inl (object given.0, given.1, given.2, no_feature))
+      told (inl no_feature) = inr (inl (object_of there, spells.0, spells.1, no_feature))
       told (inr (same, (ps, is, leaves))) =
-          inr (inr (same, (record { value = object given.0; vertices = ps }, (given.1, given.2, is), leaves)))
+          inr (inr (same, (record { value = object_of there; vertices = ps }, (spells.0, spells.1, is), leaves)))

@@ -2,15 +2,15 @@
 use Rattle.std.proofs.Common.{◌≡◌, ◌∙◌, ◌++◌, ◌-◌, ◌≤◌, ◌↔◌, ℕ, pos, ◌+ℤ◌, sym, ap, refl, subst, Bool, false, List, [], ◌∷◌, take, drop, slice_range, All, Option, Some, None, codes, arith, option_map, IsTrue, IfSome}
 use Rattle.std.proofs.Math.IntN.{+ℤ_idr}
 use Rattle.std.proofs.lemmas.List.{drop-drop, take-append-drop}
-use Rattle.city_json.proofs.SpelledWritable.{spelled_writable}
+use Rattle.city_json.proofs.ObjectTexts.{compact_of}
 use Rattle.city_json.specs.Compact.{compact}
 use Rattle.city_json.specs.Fits.{Fits}
 use Rattle.city_json.specs.Members.{first_named}
-use Rattle.city_json.specs.Parts.{AreParts, with_value}
+use Rattle.city_json.specs.Parts.{with_value}
 use Rattle.city_json.specs.Tree.{Tree, MemberTrees, object}
-use Rattle.city_json.specs.Writable.{IsWritable}
 use Rattle.city_json.specs.declared.compacting.places.MemberPlace.{MemberPlace}
 use Rattle.city_grid.specs.Axes.{Triple, triple, IsInRange, sum}
+use Rattle.city_feature.proofs.NamedTexts.{line_there}
 use Rattle.city_feature.proofs.features.QuickTypes.{moved_types}
 use Rattle.city_feature.specs.Area.{Meets}
 use Rattle.city_feature.specs.Choice.{HasType, IsChosen}
@@ -24,26 +24,14 @@ use Rattle.city_feature.specs.LineVertices.{AreKnown, BecomeOf, text_with}
 use Rattle.city_feature.specs.Quick.{IsLine, IsPlaceOf, no_steps}
 use Rattle.city_json.specs.SpelledObjects.{SpellsObject}
 use Rattle.city_feature.specs.Shapes.{IsText, IsThere}
-use Rattle.city_feature.specs.Texts.{IsCompactOf}
 
 pub not_both : (b : Bool) → b ≡ false → ¬ IsTrue b
 not_both b is_not = λ is. cc
 
--- what a text that is compact says of the object that the bytes spell
-pub compacted_here : (bytes line given : List ℕ) (parts passed : List MemberPlace) → given ≡ line → passed ≡ parts
-    → SpellsObject bytes line parts → SpellsObject bytes given passed
-compacted_here bytes line given parts passed same_line same_parts (members, spells, fits, shallow, written, are) =
-    (members, spells, fits, shallow, same_line ∙ written, subst (λ l. AreParts 1 l members) (sym same_parts) are)
-
-module _ (bytes line : List ℕ) (parts : List MemberPlace) (is : SpellsObject bytes line parts) where
-  writable_here : IsWritable (object is.0)
-  writable_here = spelled_writable bytes (object is.0) is.1
-
-  pub line_of : IsLine line parts is.0
-  line_of = record { written = is.4; are_parts = is.5; names_differ = is.2.1.0; writable = writable_here }
-
-  pub compact_of : IsCompactOf line (object is.0)
-  compact_of = record { is = is.4; writable = writable_here; distinct = is.2.1; within = is.2.0 }
+pub line_of : (bytes line : List ℕ) (parts : List MemberPlace) (is : SpellsObject bytes line parts)
+    → IsLine line parts is.0
+line_of bytes line parts is =
+    line_there line parts is.0 (compact_of bytes line parts is) is.5
 
 -- what lies in a part, put there again
 pub kept : (line value : List ℕ) (part : MemberPlace) → part.value ≤ part.end → slice_range line part.value part.end ≡ value

@@ -13,7 +13,7 @@ use Rattle.city_feature.specs.Choice.{HasType}
 use Rattle.city_feature.specs.Quick.{IsLine}
 use Rattle.city_json.specs.Parts.{IsPartNamed}
 use Rattle.city_feature.specs.Shapes.{IsText, IsThere, member_in}
-use Rattle.city_feature.specs.Texts.{IsCompactOf}
+use Rattle.city_json.specs.CompactTexts.{IsCompactOf}
 
 -- the text of a member that is a text
 pub text_there : (line : List ℕ) (parts : List MemberPlace) (all : MemberTrees) (name text : List ℕ) (part : MemberPlace)

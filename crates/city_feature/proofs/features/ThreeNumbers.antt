@@ -10,7 +10,7 @@ use Rattle.city_json.specs.Tree.{Tree, null, boolean, number, string, array, obj
 use Rattle.city_json.specs.Writable.{IsWritable}
 use Rattle.city_grid.specs.Axes.{three}
 use Rattle.city_feature.specs.Faults.{AreItemsAt, AreThreeNumbers, IsNoNumberBefore, IsNumberBefore, after_item}
-use Rattle.city_feature.specs.Texts.{IsCompactOf}
+use Rattle.city_json.specs.CompactTexts.{IsCompactOf}
 use Rattle.city_feature.proofs.QuickLines.{number_begins}
 
 -- ---- one number

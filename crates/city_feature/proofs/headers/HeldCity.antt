@@ -3,7 +3,7 @@ use Rattle.std.proofs.Common.{◌≡◌, ◌∙◌, ◌↔◌, Bool, IsTrue, Lis
 use Rattle.city_json.proofs.CompactLaws.{compact-tells}
 use Rattle.city_json.specs.Tree.{Tree, null, boolean, number, string, array, object, no_items, item, no_members, member}
 use Rattle.city_feature.specs.Shapes.{IsArray, IsFilledArray, IsFilledObject, IsObject}
-use Rattle.city_feature.specs.Texts.{IsCompactOf}
+use Rattle.city_json.specs.CompactTexts.{IsCompactOf}
 use Rattle.city_feature.proofs.features.LineVertices.{not_both}
 
 -- an array with no item has one text, and so has an object with no member

@@ -5,7 +5,7 @@ ghost use Rattle.city_grid.specs.Axes.{IsInRange};
 ghost use Rattle.city_grid.specs.Vertex.{IsVertex, RefusesVertex};
 ghost use Rattle.city_feature.specs.Faults.{AreThreeNumbers, IsNoNumberBefore, IsNumberBefore};
 ghost use Rattle.city_feature.specs.Feature.{RefusesFirst};
-ghost use Rattle.city_feature.specs.Texts.{IsCompactOf};
+ghost use Rattle.city_json.specs.CompactTexts.{IsCompactOf};
 
 use byte_streams::Fault;
 use city_grid::{Vertex, byte_is, spelled_vertex_at, vertex};

@@ -1,23 +1,19 @@
 //! Why the line of a feature is refused, found in its compact text.
-ghost use Rattle.std.specs.Prelude.{◌≡◌, ◌≢◌, ◌++◌, ◌∷◌, [], ℕ, List, All, codes, ◌↔◌, unwrap_or, IfErr, IfSome, IsTrue, IsUtf8};
-ghost use Rattle.city_json.specs.Bytes.{colon};
-ghost use Rattle.city_json.specs.Compact.{quoted};
-ghost use Rattle.city_json.specs.Members.{first_named};
-ghost use Rattle.city_json.specs.Parts.{AreParts};
-ghost use Rattle.city_json.specs.Tree.{MemberTrees, Tree, null, object, string};
+ghost use Rattle.std.specs.Prelude.{◌≡◌, ◌≢◌, codes, ◌↔◌, IfSome, IsTrue};
+ghost use Rattle.city_json.specs.ObjectTexts.{object_of};
+ghost use Rattle.city_json.specs.Tree.{Tree, string};
 ghost use Rattle.city_feature.specs.Faults.{RefusesMoved, SpellsLeaving};
 ghost use Rattle.city_feature.specs.Feature.{HasFeatureShape};
 ghost use Rattle.city_feature.specs.FeatureLine.{RefusesFeatureLine};
 ghost use Rattle.city_feature.specs.Shapes.{IsArray, IsObject, IsText};
-ghost use Rattle.city_feature.specs.Texts.{IsCompactOf};
+ghost use Rattle.city_json.specs.CompactTexts.{IsCompactOf};
 
 use crate::features::faults::vertices_fault;
-use crate::features::members::member_or;
 use crate::features::moving::moved_all;
 use crate::features::texts::vertices_of;
 use byte_streams::{Fault, Line};
 use city_grid::{Shift, byte_is};
-use city_json::{MemberPlace, Workspace, compact_object};
+use city_json::{ObjectText, Workspace, compact_object};
 use std::alloc::Global;
 
 /// Whether the value whose compact text this is is the type of a feature.
@@ -49,39 +45,24 @@ pub fn is_array(text: &[u8]) -> bool
     byte_is(text, 0, b'[')
 }
 
-/// The compact text of the value of a member, of `null` where there is none; its name is given as in
-/// [`part_named`](city_json::part_named).
-pub(crate) fn value_named<'a>(
-    line: &'a [u8],
-    parts: &[MemberPlace],
-    name: &[u8],
-) -> Option<&'a [u8]>
-    ensures { IfSome result (λ found. (members : MemberTrees) → IsCompactOf line.now (object members)
-        → AreParts 1 parts.now members → (named : List ℕ) → IsUtf8 named → name.now ≡ quoted named ++ colon ∷ []
-        → IsCompactOf found.now (unwrap_or (first_named named members) null)) }
-{
-    member_or(line, parts, name, b"null")
-}
-
 /// Whether an object has what a feature has, whatever its vertices are.
-fn has_feature_shape(line: &[u8], parts: &[MemberPlace]) -> Option<bool>
-    ensures { IfSome result (λ has. (members : MemberTrees) → IsCompactOf line.now (object members)
-        → AreParts 1 parts.now members → (IsTrue has ↔ HasFeatureShape (object members))) }
+fn has_feature_shape(line: &ObjectText<'_>) -> bool
+    ensures { IsTrue result ↔ HasFeatureShape (object_of line.now) }
 {
-    let kind = value_named(line, parts, b"\"type\":")?;
+    let kind = line.value_or(b"\"type\":", b"null");
     if !is_feature_type(kind) {
-        return Some(false);
+        return false;
     }
-    let id = value_named(line, parts, b"\"id\":")?;
+    let id = line.value_or(b"\"id\":", b"null");
     if !is_text(id) {
-        return Some(false);
+        return false;
     }
-    let objects = value_named(line, parts, b"\"CityObjects\":")?;
+    let objects = line.value_or(b"\"CityObjects\":", b"null");
     if !is_object(objects) {
-        return Some(false);
+        return false;
     }
-    let vertices = value_named(line, parts, b"\"vertices\":")?;
-    Some(is_array(vertices))
+    let vertices = line.value_or(b"\"vertices\":", b"null");
+    is_array(vertices)
 }
 
 /// The fault of vertices of which one leaves the range when it is moved.
@@ -96,15 +77,13 @@ fn leaving_fault(alloc: Global, text: &[u8], shift: Shift) -> Option<Fault>
 }
 
 /// The fault of the object whose compact text this is. `None`: it has none, or undecided.
-fn object_fault(alloc: Global, line: &[u8], parts: &[MemberPlace], shift: Shift) -> Option<Fault>
-    ensures { IfSome result (λ fault. (members : MemberTrees) → IsCompactOf line.now (object members)
-        → AreParts 1 parts.now members → RefusesMoved shift fault (object members)) }
+fn object_fault(alloc: Global, line: &ObjectText<'_>, shift: Shift) -> Option<Fault>
+    ensures { IfSome result (λ fault. RefusesMoved shift fault (object_of line.now)) }
 {
-    let has_shape = has_feature_shape(line, parts)?;
-    if !has_shape {
+    if !has_feature_shape(line) {
         return Some(Fault::NotAFeature);
     }
-    let vertices = value_named(line, parts, b"\"vertices\":")?;
+    let vertices = line.value_or(b"\"vertices\":", b"null");
     if let Some(fault) = vertices_fault(alloc, vertices) {
         return Some(fault);
     }
@@ -121,17 +100,5 @@ pub fn line_fault(alloc: Global, bytes: &[u8], shift: Shift) -> Option<Fault>
     let Ok(Some(object)) = compact_object(alloc, bytes, &mut workspace) else {
         return None;
     };
-    let line = object.place.bytes(bytes, &workspace.line);
-    object_fault(alloc, line, &object.parts, shift)
-}
-
-/// Refuses a line that spells an object and gives no feature which is moved by the shift, as far as that is told with no
-/// value of it; the faults are those of [`feature_line`](super::lines::feature_line).
-pub(super) fn check_line(alloc: Global, bytes: &[u8], shift: Shift) -> Result<(), Fault>
-    ensures { IfErr result (λ fault. RefusesFeatureLine shift fault bytes.now) }
-{
-    match line_fault(alloc, bytes, shift) {
-        Some(fault) => Err(fault),
-        None => Ok(()),
-    }
+    object_fault(alloc, &object.text(bytes, &workspace.line), shift)
 }

@@ -8,7 +8,7 @@ ghost use Rattle.city_feature.specs.Values.{feature_value};
 use crate::choices::Choice;
 use crate::choices::selecting::selects;
 use crate::features::Feature;
-use crate::features::line_faults::check_line;
+use crate::features::line_faults::line_fault;
 use crate::features::moving::shifted;
 use crate::features::on_text::object_text;
 use crate::features::reader::feature;
@@ -42,7 +42,9 @@ fn plain_line(
         (option_map (λ place. placed_text place bytes.now text.new) given)) }
     ensures refusal { IfErr result (λ fault. RefusesFeatureLine shift fault bytes.now) }
 {
-    check_line(alloc, bytes, shift)?;
+    if let Some(fault) = line_fault(alloc, bytes, shift) {
+        return Err(fault);
+    }
     let moved = moved_feature(alloc, bytes, shift)?;
     if !selects(choice, &moved) {
         return Ok(None);

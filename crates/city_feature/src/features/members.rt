@@ -5,7 +5,7 @@ ghost use Rattle.city_json.specs.Compact.{quoted};
 ghost use Rattle.city_json.specs.Members.{first_named};
 ghost use Rattle.city_json.specs.Parts.{AreParts};
 ghost use Rattle.city_json.specs.Tree.{Tree, MemberTrees, object};
-ghost use Rattle.city_feature.specs.Texts.{IsCompactOf};
+ghost use Rattle.city_json.specs.CompactTexts.{IsCompactOf};
 
 use city_json::{MemberPlace, between, part_named};
 

@@ -1,8 +1,9 @@
 //! The compact text of an object, which stays where it was read where it is compact already.
-ghost use Rattle.std.specs.Prelude.{◌≡◌, ◌≤◌, [], Err, length, IfErr, IfNone, IfOk, IfSome, IsUtf8, OnOk};
+ghost use Rattle.std.specs.Prelude.{◌≡◌, ◌≤◌, ℕ, List, [], Err, length, IfErr, IfNone, IfOk, IfSome, IsUtf8, OnOk};
 ghost use Rattle.city_json.specs.Compacting.{shown};
 ghost use Rattle.city_json.specs.Depth.{IsDeep};
 ghost use Rattle.city_json.specs.ListedNames.{names_in};
+ghost use Rattle.city_json.specs.ObjectTexts.{SpellsThere};
 ghost use Rattle.city_json.specs.Refusals.{RefusesText};
 ghost use Rattle.city_json.specs.SpelledObjects.{SpellsObject, SpellsOther};
 ghost use Rattle.city_json.specs.TextPlace.{placed_text};
@@ -13,6 +14,7 @@ use super::floor::told_object;
 use super::parts::members;
 use super::places::{MemberPlace, Span};
 use super::workspace::Workspace;
+use crate::object_text::ObjectText;
 use byte_streams::limits::MAX_DEPTH;
 use byte_streams::{Fault, Line};
 use std::alloc::{AllocError, Global};
@@ -76,6 +78,21 @@ pub struct CompactObject {
     pub triples: Span,
 }
 
+impl CompactObject {
+    /// The compact text with its members; `read` is the text that was read, and `buffer` that of the workspace.
+    pub fn text<'a>(&'a self, read: &'a [u8], buffer: &'a Line) -> ObjectText<'a>
+        requires { (spelled : List ℕ)
+            × SpellsObject spelled (placed_text self.now.place read.now buffer.now) self.now.parts.items }
+        ensures is { result
+            ≡ record { text = placed_text self.now.place read.now buffer.now; parts = self.now.parts.items } }
+        ensures spelled { (spelled : List ℕ)
+            → SpellsObject spelled (placed_text self.now.place read.now buffer.now) self.now.parts.items
+            → SpellsThere spelled result }
+    {
+        ObjectText::new(self.place.bytes(read, buffer), &self.parts)
+    }
+}
+
 /// The compact text of the object that a text spells; none where it spells a value that is no object. The text stays where
 /// it was read where white space stands at its end alone, no name in it has an escape, and each escape in another string is
 /// a letter's, in the one spelling; else it stands in the buffer of the workspace, which is taken for all its memory. The
@@ -83,8 +100,9 @@ pub struct CompactObject {
 ///
 /// # Errors
 ///
-/// Those of [`read`](crate::read), in the same order. [`Fault::NotUtf8`] and [`Fault::TooDeep`] come before any memory is
-/// asked for that the workspace does not have; [`Fault::Memory`] may stand in place of the others, and of an answer.
+/// Those of [`read`](crate::read), in the same order. [`Fault::NotUtf8`] and [`Fault::TooDeep`] come whatever memory there
+/// is, though room may be asked for before they are told; [`Fault::Memory`] may stand in place of the others, and of an
+/// answer.
 pub fn compact_object(
     alloc: Global,
     text: &[u8],

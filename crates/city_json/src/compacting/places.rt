@@ -1,6 +1,6 @@
 //! Places in a compact text: where members of an object lie, and which texts stand there.
-ghost use Rattle.std.specs.Prelude.{◌≡◌, ◌<◌, ◌≤◌, [], slice_range, IfSome, IsTrue};
-ghost use Rattle.city_json.specs.Parts.{IsPartNamed};
+ghost use Rattle.std.specs.Prelude.{◌≡◌, ◌<◌, ◌≤◌, [], length, slice_range, IfNone, IfSome, IsTrue};
+ghost use Rattle.city_json.specs.Parts.{IsPartNamed, NotNamed};
 
 use std::alloc::Global;
 
@@ -37,13 +37,15 @@ impl Span {
 pub fn between(text: &[u8], from: usize, to: usize) -> Option<&[u8]>
     ensures some { IfSome result (λ found. found.now ≡ slice_range text.now from to) }
     ensures ordered { IfSome result (λ found. from ≤ to) }
+    ensures none { IfNone result (from ≤ to → to ≤ length text.now → ⊥) }
 {
     text.get(from..to)
 }
 
-/// Whether this text stands between two places.
-pub fn is_between(text: &[u8], from: usize, to: usize, other: &[u8]) -> bool
-    ensures { IsTrue result → slice_range text.now from to ≡ other.now }
+/// Whether this text stands between two places of the text.
+fn stands_between(text: &[u8], from: usize, to: usize, other: &[u8]) -> bool
+    ensures yes { IsTrue result → slice_range text.now from to ≡ other.now }
+    ensures no { from ≤ to → to ≤ length text.now → slice_range text.now from to ≡ other.now → IsTrue result }
 {
     let Some(found) = between(text, from, to) else {
         return false;
@@ -51,16 +53,32 @@ pub fn is_between(text: &[u8], from: usize, to: usize, other: &[u8]) -> bool
     found == other
 }
 
-/// The first part of a name, which is given as it stands in the text, with its marks and its colon.
-pub fn part_named(text: &[u8], parts: &[MemberPlace], name: &[u8]) -> Option<MemberPlace>
-    ensures { IfSome result (λ part. IsPartNamed text.now parts.now name.now part) }
+/// The same; *no* says nothing.
+pub fn is_between(text: &[u8], from: usize, to: usize, other: &[u8]) -> bool
+    ensures { IsTrue result → slice_range text.now from to ≡ other.now }
+{
+    stands_between(text, from, to, other)
+}
+
+/// A part of a name, which is given as it stands in the text, with its marks and its colon; none where no part within the
+/// text has the name.
+pub(crate) fn place_named(text: &[u8], parts: &[MemberPlace], name: &[u8]) -> Option<MemberPlace>
+    ensures some { IfSome result (λ part. IsPartNamed text.now parts.now name.now part) }
+    ensures none { IfNone result (NotNamed text.now parts.now name.now (length parts.now)) }
 {
     for part in parts {
-        if is_between(text, part.at, part.value, name) {
+        if stands_between(text, part.at, part.value, name) {
             return Some(*part);
         }
     }
     None
+}
+
+/// The same; *none* says nothing.
+pub fn part_named(text: &[u8], parts: &[MemberPlace], name: &[u8]) -> Option<MemberPlace>
+    ensures { IfSome result (λ part. IsPartNamed text.now parts.now name.now part) }
+{
+    place_named(text, parts, name)
 }
 
 /// No parts, with room for some.

@@ -1,7 +1,7 @@
 use Rattle.std.proofs.Common.{subst, sym}
 use Rattle.city_json.specs.Parts.{AreParts}
 use Rattle.city_json.specs.Tree.{object}
-use Rattle.city_feature.specs.Texts.{IsCompactOf}
+use Rattle.city_json.specs.CompactTexts.{IsCompactOf}
 use Rattle.city_cut_tests.proofs.answers.compacted_cut.Goals as goal
 
 pub cut_compacted_triples-requires-clause-members : goal.cut_compacted_triples-requires-clause-members

@@ -8,7 +8,7 @@ ghost use Rattle.city_json.specs.Tree.{Tree, MemberTrees, null, object, string, 
 ghost use Rattle.city_feature.specs.Choice.{HasType};
 ghost use Rattle.city_feature.specs.Quick.{AreLetters, IsLetter, IsLine};
 ghost use Rattle.city_feature.specs.Shapes.{IsText, IsThere, member_in};
-ghost use Rattle.city_feature.specs.Texts.{IsCompactOf};
+ghost use Rattle.city_json.specs.CompactTexts.{IsCompactOf};
 
 use crate::choices::types::Types;
 use crate::features::members::member_or;

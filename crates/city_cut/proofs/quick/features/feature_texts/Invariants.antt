@@ -10,7 +10,7 @@ use Rattle.city_cut.specs.Families.{AreRelated, IsMarkedSoFar}
 use Rattle.city_cut.specs.FeatureText.{tail_text}
 use Rattle.city_cut.specs.HeldTexts.{pieces}
 use Rattle.city_cut.specs.Lines.{texts_of}
-use Rattle.city_feature.specs.Texts.{IsCompactOf}
+use Rattle.city_json.specs.CompactTexts.{IsCompactOf}
 use Rattle.city_cut.specs.VertexTexts.{StandAt}
 use Rattle.city_grid.specs.Axes.{Triple}
 use Rattle.city_cut.proofs.FeatureList.{BoundedFrom}

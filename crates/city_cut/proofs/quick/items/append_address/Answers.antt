@@ -1,7 +1,7 @@
 use Rattle.std.proofs.Common.{sym, subst, refl, codes}
 use Rattle.city_json.specs.Parts.{AreParts}
 use Rattle.city_json.specs.Tree.{object}
-use Rattle.city_feature.specs.Texts.{IsCompactOf}
+use Rattle.city_json.specs.CompactTexts.{IsCompactOf}
 use Rattle.city_cut.proofs.CopiedTexts.{not_both}
 use Rattle.city_cut.proofs.QuickAddresses.{AddressMade, address_absent, address_bare, address_made, address_no_object}
 use Rattle.city_cut.proofs.QuickTexts.{on_some_more}

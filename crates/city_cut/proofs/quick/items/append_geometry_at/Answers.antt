@@ -1,5 +1,5 @@
 use Rattle.std.proofs.Common.{◌≡◌, ◌∙◌, ◌+◌, ◌-◌, ap, arith, drop, length, refl, subst, sym, take}
-use Rattle.city_feature.specs.Texts.{IsCompactOf}
+use Rattle.city_json.specs.CompactTexts.{IsCompactOf}
 use Rattle.city_json.proofs.FrontMembers.{object_leaves}
 use Rattle.city_json.proofs.Places.{slice_back}
 use Rattle.city_cut.proofs.quick.items.append_geometry_at.Goals as goal

@@ -1,6 +1,6 @@
 use Rattle.std.proofs.Common.{◌≡◌, ◌-◌, length, drop}
 use Rattle.city_json.specs.Tree.{ItemTrees, array}
-use Rattle.city_feature.specs.Texts.{IsCompactOf}
+use Rattle.city_json.specs.CompactTexts.{IsCompactOf}
 use Rattle.city_cut.proofs.QuickCopies.{ItemsMade}
 use Rattle.city_cut.proofs.quick.items.append_items.Given as goal
 

@@ -1,6 +1,6 @@
 use Rattle.std.proofs.Common.{sym, subst, refl, codes}
 use Rattle.city_json.specs.Tree.{object}
-use Rattle.city_feature.specs.Texts.{IsCompactOf}
+use Rattle.city_json.specs.CompactTexts.{IsCompactOf}
 use Rattle.city_cut.proofs.QuickGeometries.{GeometryMade, geometry_absent, geometry_made}
 use Rattle.city_cut.proofs.QuickTexts.{on_some_more}
 use Rattle.city_cut.proofs.quick.items.append_listed.Goals as goal

@@ -2,7 +2,7 @@ use Rattle.std.proofs.Common.{subst, sym, refl, codes}
 use Rattle.city_json.specs.Tree.{array, no_items, object}
 use Rattle.city_feature.proofs.QuickLines.{utf8}
 use Rattle.city_cut.specs.Kin.{HasChildrenText}
-use Rattle.city_feature.specs.Texts.{IsCompactOf}
+use Rattle.city_json.specs.CompactTexts.{IsCompactOf}
 use Rattle.city_cut.proofs.QuickDocuments.{empty_array}
 use Rattle.city_cut.proofs.QuickTexts.{if_some_more}
 use Rattle.city_cut.proofs.quick.kin.children_text.Goals as goal

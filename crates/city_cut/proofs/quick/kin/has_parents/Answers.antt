@@ -1,7 +1,7 @@
 use Rattle.std.proofs.Common.{subst, refl, codes, rules}
 use Rattle.city_json.specs.Tree.{array, no_items, object}
 use Rattle.city_feature.proofs.QuickLines.{utf8}
-use Rattle.city_feature.specs.Texts.{IsCompactOf}
+use Rattle.city_json.specs.CompactTexts.{IsCompactOf}
 use Rattle.city_cut.proofs.QuickDocuments.{empty_array}
 use Rattle.city_cut.proofs.QuickNames.{parents_said}
 use Rattle.city_cut.proofs.quick.kin.has_parents.Goals as goal

@@ -1,6 +1,6 @@
 use Rattle.std.proofs.Common.{◌∙◌, codes, refl}
 use Rattle.city_feature.proofs.NamedTexts.{if_some_more}
-use Rattle.city_feature.proofs.features.LineVertices.{compact_of, compacted_here}
+use Rattle.city_json.proofs.ObjectTexts.{compact_of, compacted_here}
 use Rattle.city_feature.proofs.features.ended.closed_text.Goals as goal
 
 pub returns : goal.returns

@@ -1,7 +1,7 @@
 use Rattle.std.proofs.Common.{◌≡◌, ◌∙◌, ap, arith, length}
 use Rattle.std.proofs.lemmas.Bool.Decides.{nat_tests}
 use Rattle.city_feature.proofs.features.EndedTexts.{alone_there}
-use Rattle.city_feature.proofs.features.LineVertices.{compacted_here}
+use Rattle.city_json.proofs.ObjectTexts.{compacted_here}
 use Rattle.city_feature.proofs.features.ended.is_appearance_alone.Goals as goal
 
 pub returns : goal.returns

@@ -1,4 +1,4 @@
-use Rattle.city_feature.proofs.NamedTexts.{NotNamed}
+use Rattle.city_json.specs.Parts.{NotNamed}
 use Rattle.city_feature.proofs.features.members.is_absent.Given as goal
 
 abbrev pub invariant-loop-part : goal.invariant-loop-part

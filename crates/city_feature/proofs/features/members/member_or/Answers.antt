@@ -1,5 +1,5 @@
 use Rattle.std.proofs.Common.{subst, sym, unwrap_or}
-use Rattle.city_feature.specs.Texts.{IsCompactOf}
+use Rattle.city_json.specs.CompactTexts.{IsCompactOf}
 use Rattle.city_feature.proofs.NamedTexts.{if_some_more, value_or}
 use Rattle.city_feature.proofs.features.members.member_or.Goals as goal
 

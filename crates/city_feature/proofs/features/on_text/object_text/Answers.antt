@@ -5,7 +5,8 @@ use Rattle.city_feature.specs.Choice.{IsChosen}
 use Rattle.city_feature.specs.Feature.{vertices_tree}
 use Rattle.city_feature.specs.FeatureLine.{GivesFeature}
 use Rattle.city_feature.specs.LineVertices.{text_with}
-use Rattle.city_feature.proofs.features.LineVertices.{compacted_here, given_text}
+use Rattle.city_json.proofs.ObjectTexts.{compacted_here}
+use Rattle.city_feature.proofs.features.LineVertices.{given_text}
 use Rattle.city_feature.proofs.features.on_text.object_text.Goals as goal
 
 pub returns-in_default : goal.returns-in_default

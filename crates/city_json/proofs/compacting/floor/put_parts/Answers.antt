@@ -1,4 +1,4 @@
-use Rattle.std.proofs.Common.{◌≡◌, ◌∙◌, ◌+◌, ◌-◌, [], ◌∷◌, length, map, take, drop, ap, subst, sym, append-nil}
+use Rattle.std.proofs.Common.{◌∙◌, ◌+◌, ◌-◌, ◌∷◌, length, map, take, drop, ap, subst, sym, append-nil}
 use Rattle.std.proofs.lemmas.List.{drop_all, drop_more}
 use Rattle.city_json.specs.Tree.{named_tree}
 use Rattle.city_json.proofs.PrintedParts.{GoesOn, PrintsOn, first_and_others, goes_end, goes_first, goes_next, prints_first, prints_next}

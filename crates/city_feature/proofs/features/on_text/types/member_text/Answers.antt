@@ -2,7 +2,7 @@ use Rattle.std.proofs.Common.{codes, subst, sym, unwrap_or}
 use Rattle.city_json.specs.Members.{member_of}
 use Rattle.city_json.specs.Parts.{AreParts}
 use Rattle.city_json.specs.Tree.{null, object}
-use Rattle.city_feature.specs.Texts.{IsCompactOf}
+use Rattle.city_json.specs.CompactTexts.{IsCompactOf}
 use Rattle.city_feature.proofs.NamedTexts.{if_some_more, no_member, null_text}
 use Rattle.city_feature.proofs.features.LineVertices.{not_both}
 use Rattle.city_feature.proofs.features.on_text.types.member_text.Goals as goal

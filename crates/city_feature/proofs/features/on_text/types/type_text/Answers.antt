@@ -1,7 +1,7 @@
 use Rattle.std.proofs.Common.{◌∙◌, codes, refl, subst, unwrap_or}
 use Rattle.city_json.specs.Members.{first_named}
 use Rattle.city_json.specs.Tree.{null, object}
-use Rattle.city_feature.specs.Texts.{IsCompactOf}
+use Rattle.city_json.specs.CompactTexts.{IsCompactOf}
 use Rattle.city_feature.proofs.NamedTexts.{if_some_more, null_text}
 use Rattle.city_feature.proofs.QuickLines.{utf8}
 use Rattle.city_feature.proofs.features.QuickTypes.{in_members}

@@ -1,0 +1,50 @@
+//! A document cut on its compact text, with an answer always: on the text, or, where that is silent, by its value.
+ghost use Rattle.std.specs.Prelude.{◌≡◌, IfErr, IfOk};
+ghost use Rattle.city_json.specs.Fits.{IsDistinct};
+ghost use Rattle.city_json.specs.ObjectTexts.{object_of};
+ghost use Rattle.city_json.specs.Tree.{tree};
+ghost use Rattle.city_json.specs.Triples.{HasTriples};
+ghost use Rattle.city_feature.specs.Values.{header_value};
+ghost use Rattle.city_cut.specs.CutTexts.{CutsInto, RefusesRead};
+ghost use Rattle.city_cut.specs.HeldTexts.{texts_in};
+
+use crate::cuts::CutTexts;
+use crate::cutting::cut_texts;
+use crate::quick::cut_compacted_triples;
+use crate::quick::faults::cut_fault;
+use byte_streams::Fault;
+use city_json::{Json, ObjectText, Span, read};
+use std::alloc::Global;
+
+/// Cuts the document whose compact text this is, in which triples of whole numbers may be known to stand, both as
+/// [`city_json::compact_object`] gives them (CityJSON 2.0, Text sequences and streaming with CityJSONFeature).
+///
+/// # Errors
+///
+/// Those of [`cut`](crate::cut), in the same order. [`Fault::Memory`] may come in place of each, and of a cut.
+pub fn cut_text(alloc: Global, document: &ObjectText<'_>, triples: Span) -> Result<CutTexts, Fault>
+    requires { HasTriples document.now.text triples }
+    ensures ok { IfOk result (λ cut.
+        CutsInto (object_of document.now) (header_value cut.header) (texts_in cut.texts)) }
+    ensures refused { IfErr result (λ fault. RefusesRead fault (object_of document.now)) }
+{
+    let line = document.text();
+    let parts = document.parts();
+    if let Some(cut) = cut_compacted_triples(alloc, line, parts, triples) {
+        return Ok(cut);
+    }
+    if let Some(fault) = cut_fault(alloc, line, parts) {
+        return Err(fault);
+    }
+    let value = read_again(alloc, document)?;
+    cut_texts(alloc, value)
+}
+
+/// The value of the document. The only fault is [`Fault::Memory`].
+fn read_again(alloc: Global, document: &ObjectText<'_>) -> Result<Json, Fault>
+    ensures value { IfOk result (λ value. tree value ≡ object_of document.now) }
+    ensures distinct { IfOk result (λ value. IsDistinct (tree value)) }
+    ensures fault { IfErr result (λ fault. fault ≡ Fault.Memory) }
+{
+    read(alloc, document.text())
+}

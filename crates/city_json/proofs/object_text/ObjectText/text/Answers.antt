@@ -1,0 +1,4 @@
+use Rattle.city_json.proofs.object_text.ObjectText.text.Goals as goal
+
+pub returns-clause-of : goal.returns-clause-of
+returns-clause-of c = rw (← c.self.view_is) c.self.invariant.of
