@@ -2,12 +2,10 @@
 use Rattle.std.proofs.Common.{◌≡◌, ◌∙◌, ◌++◌, ℕ, List, [], ◌∷◌, Option, Some, None, length, unwrap_or, slice_range, refl, sym, ap, subst, codes, append-nil, append_assoc, arith}
 use Rattle.std.specs.List.{Contains}
 use Rattle.city_json.proofs.CompactLaws.{compact-tells}
-use Rattle.city_json.proofs.SpelledWritable.{spelled_writable}
 use Rattle.city_json.specs.Bytes.{colon, comma, open_brace, close_brace, open_bracket, close_bracket}
 use Rattle.city_json.specs.Compact.{compact, quoted}
 use Rattle.city_json.specs.CompactMembers.{HasParts}
-use Rattle.city_json.specs.Fits.{Fits, IsDistinct}
-use Rattle.city_json.specs.Grammar.{Spells}
+use Rattle.city_json.specs.Fits.{IsDistinct}
 use Rattle.city_json.specs.Members.{first_named, member_of}
 use Rattle.city_json.specs.Parts.{AreParts, IsPartNamed}
 use Rattle.city_json.specs.Tree.{Tree, array, object, ItemTrees, no_items, item, MemberTrees, no_members, member, member_trees}
@@ -183,12 +181,3 @@ empty_array = record { is = refl; writable = tt; distinct = tt; within = omega a
 
 pub no_objects : IsCompactOf (open_brace ∷ close_brace ∷ []) (object no_members)
 no_objects = record { is = refl; writable = tt; distinct = (tt, tt); within = omega arith }
-
-pub compact_of : (text line given : List ℕ) (members : MemberTrees) → Spells text (object members)
-    → Fits (object members) → line ≡ compact (object members) → given ≡ line → IsCompactOf given (object members)
-compact_of text line given members spells fits written same = record {
-  is = same ∙ written;
-  writable = spelled_writable text (object members) spells;
-  distinct = fits.1;
-  within = fits.0;
-}

@@ -1,26 +1,20 @@
 -- The texts of members, found by their names in the compact text of an object.
-use Rattle.std.proofs.Common.{◌≡◌, ◌++◌, ◌<◌, ◌+◌, ℕ, List, [], ◌∷◌, Some, None, IsUtf8, length, unwrap_or, get_or, slice_range, refl, sym, ap, subst, arith}
+use Rattle.std.proofs.Common.{◌≡◌, ◌++◌, ◌∙◌, ◌<◌, ◌≤◌, ℕ, List, [], ◌∷◌, Some, None, IsUtf8, length, unwrap_or, get_or, slice_range, refl, sym, ap, subst, arith}
+use Rattle.city_json.proofs.CompactLaws.{compact-tells}
 use Rattle.city_json.proofs.NamedMembers.{value_there}
+use Rattle.city_json.proofs.ObjectTexts.{lies_inside, placed, value_found}
 pub use Rattle.city_json.proofs.ObjectTexts.{if_some_more}
 use Rattle.city_json.specs.Bytes.{colon, open_brace}
 use Rattle.city_json.specs.Compact.{quoted, compact}
+use Rattle.city_json.specs.CompactMembers.{HasParts}
 use Rattle.city_json.specs.Members.{first_named, member_of}
+use Rattle.city_json.specs.ObjectTexts.{HasNone, IsPlacedObject, PlacedObject, object_of}
 use Rattle.city_json.specs.Parts.{AreParts, with_value, IsPartNamed}
-use Rattle.city_json.specs.Tree.{Tree, null, boolean, number, string, array, object, MemberTrees, member}
+use Rattle.city_json.specs.Tree.{Tree, null, boolean, number, string, array, object, MemberTrees}
 use Rattle.city_json.specs.declared.compacting.places.MemberPlace.{MemberPlace}
 use Rattle.city_feature.proofs.QuickLines.{found_at}
 use Rattle.city_feature.specs.Changes.{with_named}
-use Rattle.city_feature.specs.Quick.{IsLine}
 use Rattle.city_json.specs.CompactTexts.{IsCompactOf}
-
-pub line_there : (text : List ℕ) (parts : List MemberPlace) (members : MemberTrees) → IsCompactOf text (object members)
-    → AreParts 1 parts members → IsLine text parts members
-line_there text parts members of are = record {
-  written = of.is;
-  are_parts = are;
-  names_differ = of.distinct.0;
-  writable = of.writable;
-}
 
 -- the value of the member of this name, whose text is given
 pub record IsMember (text : List ℕ) (members : MemberTrees) (name : List ℕ) (part : MemberPlace) (given : List ℕ) : Type 0
@@ -35,7 +29,7 @@ pub member_there : (text : List ℕ) (parts : List MemberPlace) (members : Membe
     → IsPartNamed text parts (quoted name ++ colon ∷ []) part → given ≡ slice_range text part.value part.end
     → IsMember text members name part given
 member_there text parts members name part given utf8 of are here lies =
-    let found = found_at text parts members name part utf8 (line_there text parts members of are) here in
+    let found = found_at text parts members name part utf8 of are here in
     let has = value_there text parts members name part given utf8 of are here lies in
     record { value = has.value; is = has.is; of = has.of; exchanged = found.exchanged }
 
@@ -62,3 +56,47 @@ no_member text (boolean b) name other is = refl
 no_member text (number n) name other is = refl
 no_member text (string s) name other is = refl
 no_member text (array items) name other is = refl
+
+-- what is no object has no members
+pub no_object : (text : List ℕ) (value : Tree) (name : List ℕ) → ((members : MemberTrees) → ¬ IsCompactOf text (object members))
+    → IsCompactOf text value → member_of name value ≡ None
+no_object text (object members) name none of = absurd (none members of)
+no_object text null name none of = refl
+no_object text (boolean b) name none of = refl
+no_object text (number n) name none of = refl
+no_object text (string s) name none of = refl
+no_object text (array items) name none of = refl
+
+-- the members of the value whose compact text this is, where their parts are known
+module _ (text : List ℕ) (parts : List MemberPlace) (has : HasParts text parts) (value : Tree) (of : IsCompactOf text value)
+  where
+    abbrev there : PlacedObject
+    there = record { text = text; parts = parts }
+
+    pub object_there : (members : MemberTrees) × IsCompactOf text (object members) × AreParts 1 parts members
+    object_there =
+        let (members, is, are) = has value of.writable of.within of.is in
+        (members, subst (IsCompactOf text) is of, are)
+
+    is_placed : IsPlacedObject there
+    is_placed = let (members, is, are) = object_there in placed text parts members is are
+
+    same_value : object_of there ≡ value
+    same_value = compact-tells (object_of there) value is_placed.of.writable of.writable (sym is_placed.of.is ∙ of.is)
+
+    pub none_there : (given name : List ℕ) → HasNone given there → given ≡ quoted name ++ colon ∷ []
+        → member_of name value ≡ None
+    none_there given name none named = subst (λ v. member_of name v ≡ None) same_value (none name named)
+
+    pub inside_there : (given : List ℕ) (part : MemberPlace) → IsPartNamed text parts given part
+        → (part.value ≤ part.end) × (part.end ≤ length text)
+    inside_there given part here = lies_inside there is_placed given part here
+
+    pub value_there_or : (given name : List ℕ) (part : MemberPlace) → IsPartNamed text parts given part → IsUtf8 name
+        → given ≡ quoted name ++ colon ∷ []
+        → IsCompactOf (slice_range text part.value part.end) (unwrap_or (member_of name value) null)
+    value_there_or given name part here utf8 named =
+        let (found, is, here_of) = value_found there is_placed given part here (slice_range text part.value part.end) refl
+        name utf8 named in
+        subst (λ v. IsCompactOf (slice_range text part.value part.end) (unwrap_or (member_of name v) null)) same_value
+        (subst (λ o. IsCompactOf (slice_range text part.value part.end) (unwrap_or o null)) (sym is) here_of)

@@ -1,20 +1,21 @@
 -- A feature that is found on the compact text of its line.
-use Rattle.std.proofs.Common.{◌≡◌, ◌∙◌, ◌++◌, ◌-◌, ◌<◌, ◌≤◌, ℕ, zero, suc, sym, ap, refl, subst, Bool, true, false, if◌then◌else◌, List, [], ◌∷◌, length, take, drop, get_or, slice_range, map, All, Some, codes, IsUtf8, arith, inl, inr, ⊎_elim, cond, nat_lt}
+use Rattle.std.proofs.Common.{◌≡◌, ◌∙◌, ◌++◌, ◌<◌, ◌≤◌, ℕ, zero, suc, sym, ap, refl, subst, Bool, true, false, if◌then◌else◌, List, [], ◌∷◌, get_or, slice_range, map, All, Some, codes, IsUtf8, arith, inl, inr, ⊎_elim, cond, nat_lt}
 use Rattle.std.proofs.lemmas.Bool.Decides.{nat_tests}
 use Rattle.std.proofs.lemmas.List.Elements.{All-tail}
 use Rattle.std.proofs.lemmas.Str.{IsUtf8-from_ascii}
 use Rattle.city_json.proofs.CompactLaws.{compact-tells}
 use Rattle.city_json.proofs.MemberPlaces.{member_in_part}
-use Rattle.city_json.proofs.Places.{drop_one}
 use Rattle.city_json.proofs.Replacing.{replaced_text}
 use Rattle.city_json.proofs.NamedMembers.{equal_names, first_at, new_name, other_names, same_name, writable_at}
-use Rattle.city_json.specs.Bytes.{colon, minus, quotation_mark, open_bracket, open_brace, close_brace}
+use Rattle.city_json.specs.Bytes.{colon, minus, open_brace, close_brace}
 use Rattle.city_json.specs.Compact.{quoted, compact}
+use Rattle.city_json.specs.CompactTexts.{IsCompactOf}
 use Rattle.city_json.specs.Fits.{HasDistinctNames}
 use Rattle.city_json.specs.Members.{first_named, member_of}
 use Rattle.city_json.specs.Number.{IsMinus, IsNumber, IsWhole}
-use Rattle.city_json.specs.Parts.{HasMember, IsMemberText, replaced, with_value, IsPartNamed}
-use Rattle.city_json.specs.Tree.{Tree, null, boolean, number, string, array, object, item_trees, MemberTrees, no_members, member}
+use Rattle.city_json.specs.ObjectTexts.{IsPlacedObject, PlacedObject, members_of, object_of}
+use Rattle.city_json.specs.Parts.{AreParts, HasMember, IsMemberText, replaced, with_value, IsPartNamed}
+use Rattle.city_json.specs.Tree.{Tree, array, object, item_trees, MemberTrees, no_members, member}
 use Rattle.city_json.specs.Writable.{IsWritable, AreWritableItems}
 use Rattle.city_json.specs.declared.compacting.places.MemberPlace.{MemberPlace}
 use Rattle.city_grid.proofs.VertexLaws.{vertex_is_read, vertex_is_writable}
@@ -22,8 +23,7 @@ use Rattle.city_grid.specs.Axes.{Triple, IsInRange}
 use Rattle.city_grid.specs.Vertex.{vertex_tree}
 use Rattle.city_feature.specs.Changes.{with_named}
 use Rattle.city_feature.specs.Feature.{AreReadAgain, HasFeatureShape, IsFeature, vertices_tree}
-use Rattle.city_feature.specs.Quick.{HasOtherMembers, IsLine, IsPlaceOf, SpellsVertices}
-use Rattle.city_feature.specs.Shapes.{IsArray, IsObject, IsText, IsThere}
+use Rattle.city_feature.specs.Quick.{IsPlaceOf, SpellsVertices}
 
 pub replaced_at : (k : ℕ) (name : List ℕ) (value new : Tree) (members : MemberTrees) → HasDistinctNames members
     → HasMember k name value members → replaced k new members ≡ with_named name new members
@@ -45,28 +45,28 @@ pub record IsFound (line : List ℕ) (members : MemberTrees) (name : List ℕ) (
   pub exchanged : (new : Tree) → compact (object (with_named name new members)) ≡ with_value line part (compact new)
 
 pub found_at : (line : List ℕ) (parts : List MemberPlace) (members : MemberTrees) (name : List ℕ) (part : MemberPlace) → IsUtf8 name
-    → IsLine line parts members → IsPartNamed line parts (quoted name ++ colon ∷ []) part
-    → IsFound line members name part
-found_at line parts members name part utf8 is here =
+    → IsCompactOf line (object members) → AreParts 1 parts members
+    → IsPartNamed line parts (quoted name ++ colon ∷ []) part → IsFound line members name part
+found_at line parts members name part utf8 of are here =
     let k = here.place in
-    let at = member_in_part members (open_brace ∷ []) (close_brace ∷ []) parts k part is.are_parts here.within in
+    let at = member_in_part members (open_brace ∷ []) (close_brace ∷ []) parts k part are here.within in
     let text = compact (object members) in
     let lies : IsMemberText text part k members = subst (λ p. IsMemberText text p k members) here.is at in
-    let can = writable_at k lies.name lies.value members is.writable lies.has in
+    let can = writable_at k lies.name lies.value members of.writable lies.has in
     let named : quoted lies.name ++ colon ∷ [] ≡ quoted name ++ colon ∷ [] = sym lies.named
-    ∙ ap (λ l. slice_range l part.at part.value) (sym is.written) ∙ here.named in
+    ∙ ap (λ l. slice_range l part.at part.value) (sym of.is) ∙ here.named in
     let same = same_name lies.name name can.0 utf8 named in
     let has : HasMember k name lies.value members = subst (λ n. HasMember k n lies.value members) same lies.has in
     record {
       value = lies.value;
-      is = first_at k name lies.value members is.names_differ has;
+      is = first_at k name lies.value members of.distinct.0 has;
       writable = can.1;
-      valued = ap (λ l. slice_range l part.value part.end) is.written ∙ lies.valued;
+      valued = ap (λ l. slice_range l part.value part.end) of.is ∙ lies.valued;
       exchanged = λ new.
-          ap (λ m. compact (object m)) (sym (replaced_at k name lies.value new members is.names_differ has))
-          ∙ sym (replaced_text members (open_brace ∷ []) (close_brace ∷ []) parts k part new is.are_parts here.within)
+          ap (λ m. compact (object m)) (sym (replaced_at k name lies.value new members of.distinct.0 has))
+          ∙ sym (replaced_text members (open_brace ∷ []) (close_brace ∷ []) parts k part new are here.within)
           ∙ ap (λ p. with_value text p (compact new)) here.is
-          ∙ ap (λ l. with_value l part (compact new)) (sym is.written);
+          ∙ ap (λ l. with_value l part (compact new)) (sym of.is);
     }
 
 -- what the value of a member is, by its text
@@ -75,18 +75,6 @@ pub says_at : (line : List ℕ) (all : MemberTrees) (name : List ℕ) (part : Me
     → first_named name all ≡ Some value
 says_at line all name part value writable found written =
     found.is ∙ ap Some (compact-tells found.value value found.writable writable (sym found.valued ∙ written))
-
-front_of : (n : ℕ) (xs : List ℕ) (c : ℕ) (rest : List ℕ) → take n xs ≡ c ∷ rest → get_or xs 0 0 ≡ c
-front_of zero xs c rest is = absurd (omega (arith, ap length is))
-front_of (suc n) [] c rest is = absurd (omega (arith, ap length is))
-front_of (suc n) (x ∷ xs) c rest is = ap (λ l. get_or l 0 0) is
-
--- the first byte between two places
-first_byte : (line : List ℕ) (from to c mark : ℕ) (rest : List ℕ) → from < length line → get_or line from 0 ≡ mark
-    → slice_range line from to ≡ c ∷ rest → c ≡ mark
-first_byte line from to c mark rest within marked is =
-    sym (front_of (to - from) (drop from line) c rest is)
-    ∙ ap (λ l. get_or l 0 0) (drop_one line from mark within marked)
 
 pub number_begins : (text : List ℕ) → IsNumber text → (c : ℕ) × (rest : List ℕ) × (text ≡ c ∷ rest) × (45 ≤ c)
     × (c ≤ 57)
@@ -109,59 +97,6 @@ number_begins text n = told n.minus_sign n.whole n.is_minus n.is_whole n.spelled
       omega arith,
       omega arith,
     )
-
-module _ (line : List ℕ) (from to mark : ℕ) (within : from < length line) (marked : get_or line from 0 ≡ mark) where
-  text_here : mark ≡ quotation_mark → (value : Tree) → IsWritable value → slice_range line from to ≡ compact value
-      → IsText value
-  text_here is null writable written =
-      absurd (omega (arith, first_byte line from to 110 mark _ within marked written, is))
-  text_here is (boolean true) writable written =
-      absurd (omega (arith, first_byte line from to 116 mark _ within marked written, is))
-  text_here is (boolean false) writable written =
-      absurd (omega (arith, first_byte line from to 102 mark _ within marked written, is))
-  text_here is (number text) writable written =
-      let begins = number_begins text writable in
-      absurd (number_is_none begins.0 begins.1 (written ∙ begins.2) begins.3 begins.4)
-    where
-      number_is_none : (c : ℕ) (rest : List ℕ) → slice_range line from to ≡ c ∷ rest → 45 ≤ c → c ≤ 57 → ⊥
-      number_is_none c rest here low high =
-          omega (arith, first_byte line from to c mark rest within marked here, is, low, high)
-  text_here is (string text) writable written = tt
-  text_here is (array items) writable written =
-      absurd (omega (arith, first_byte line from to open_bracket mark _ within marked written, is))
-  text_here is (object all) writable written =
-      absurd (omega (arith, first_byte line from to open_brace mark _ within marked written, is))
-
-  object_here : mark ≡ open_brace → (value : Tree) → IsWritable value → slice_range line from to ≡ compact value
-      → IsObject value
-  object_here is null writable written =
-      absurd (omega (arith, first_byte line from to 110 mark _ within marked written, is))
-  object_here is (boolean true) writable written =
-      absurd (omega (arith, first_byte line from to 116 mark _ within marked written, is))
-  object_here is (boolean false) writable written =
-      absurd (omega (arith, first_byte line from to 102 mark _ within marked written, is))
-  object_here is (number text) writable written =
-      let begins = number_begins text writable in
-      absurd (number_is_none begins.0 begins.1 (written ∙ begins.2) begins.3 begins.4)
-    where
-      number_is_none : (c : ℕ) (rest : List ℕ) → slice_range line from to ≡ c ∷ rest → 45 ≤ c → c ≤ 57 → ⊥
-      number_is_none c rest here low high =
-          omega (arith, first_byte line from to c mark rest within marked here, is, low, high)
-  object_here is (string text) writable written =
-      absurd (omega (arith, first_byte line from to quotation_mark mark _ within marked written, is))
-  object_here is (array items) writable written =
-      absurd (omega (arith, first_byte line from to open_bracket mark _ within marked written, is))
-  object_here is (object all) writable written = tt
-
-module _ (line : List ℕ) (members : MemberTrees) (name : List ℕ) (part : MemberPlace) (within : part.value < length line)
-    (found : IsFound line members name part) where
-  pub text_at : get_or line part.value 0 ≡ quotation_mark → IsThere IsText (first_named name members)
-  text_at marked = subst (IsThere IsText) (sym found.is)
-      (text_here line part.value part.end quotation_mark within marked refl found.value found.writable found.valued)
-
-  pub object_at : get_or line part.value 0 ≡ open_brace → IsThere IsObject (first_named name members)
-  object_at marked = subst (IsThere IsObject) (sym found.is)
-      (object_here line part.value part.end open_brace within marked refl found.value found.writable found.valued)
 
 -- names and texts of ASCII
 abbrev pub are_small : List ℕ → Bool
@@ -200,16 +135,15 @@ pub written_vertices : (text : List ℕ) (ps : List Triple) → text ≡ compact
 written_vertices text ps written range =
     (item_trees (map vertex_tree ps), written, are_writable ps range, are_vertices ps range)
 
-pub feature_at : (line : List ℕ) (parts : List MemberPlace) (members : MemberTrees) (part : MemberPlace) (ps : List Triple)
-    → IsLine line parts members → HasOtherMembers (object members)
-    → IsPartNamed line parts (quoted (codes "vertices") ++ colon ∷ []) part
-    → SpellsVertices (slice_range line part.value part.end) ps
-    → IsFeature (object members) ps × IsPlaceOf (codes "vertices") members line part
-feature_at line parts members part ps is others named (items, written, writable, vertices) =
+pub feature_at : (there : PlacedObject) (part : MemberPlace) (ps : List Triple) → IsPlacedObject there
+    → HasFeatureShape (object_of there)
+    → IsPartNamed there.text there.parts (quoted (codes "vertices") ++ colon ∷ []) part
+    → SpellsVertices (slice_range there.text part.value part.end) ps
+    → IsFeature (object_of there) ps × IsPlaceOf (codes "vertices") (members_of there) there.text part
+feature_at there part ps is shape named (items, written, writable, vertices) =
     let name = codes "vertices" in
-    let found = found_at line parts members name part (utf8 name refl) is named in
+    let members = members_of there in
+    let found = found_at there.text there.parts members name part (utf8 name refl) is.of is.are named in
     let here : member_of name (object members) ≡ Some (array items) =
-    says_at line members name part (array items) writable found written in
-    let shape : HasFeatureShape (object members) =
-    (others.0, others.1, others.2, subst (IsThere IsArray) (sym here) tt) in
+    says_at there.text members name part (array items) writable found written in
     ((shape, (items, here, vertices)), found.exchanged)

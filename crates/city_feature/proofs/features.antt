@@ -1,6 +1,5 @@
 pub mod FeatureVertices
 pub mod InPlace
-pub mod MovedLines
 pub mod StillFeature
 pub mod TextVertices
 pub mod QuickTypes

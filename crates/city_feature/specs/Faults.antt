@@ -1,16 +1,16 @@
 -- Why the compact text of a feature's line is refused.
-use Rattle.std.specs.Prelude.{◌≡◌, ◌≢◌, ◌++◌, ◌≤◌, ◌⊎◌, ℕ, List, [], ◌∷◌, drop, All}
+use Rattle.std.specs.Prelude.{◌≡◌, ◌++◌, ◌≤◌, ◌⊎◌, ℕ, List, [], ◌∷◌, drop, All}
 use Rattle.byte_streams.specs.Limits.{max_depth}
 use Rattle.byte_streams.specs.declared.fault.Fault.{Fault}
 use Rattle.byte_streams.specs.declared.fault.Fault.TheVariants.{VertexRange, Memory}
 use Rattle.city_json.specs.Bytes.{close_bracket}
 use Rattle.city_json.specs.Compact.{compact_items, compact_more_items}
+use Rattle.city_json.specs.CompactTexts.{IsCompactOf}
 use Rattle.city_json.specs.Fits.{items_depth}
-use Rattle.city_json.specs.Tree.{Tree, number, ItemTrees, item}
+use Rattle.city_json.specs.Tree.{Tree, array, number, ItemTrees, item}
 use Rattle.city_json.specs.Writable.{AreWritableItems}
 use Rattle.city_grid.specs.Axes.{IsInRange, Texts, Triple, three}
-use Rattle.city_feature.specs.Feature.{IsFeature, RefusesFeature, moved_vertices}
-use Rattle.city_feature.specs.Quick.{SpellsVertices}
+use Rattle.city_feature.specs.Feature.{IsFeature, RefusesFeature, RefusesFirst, moved_vertices}
 
 -- an array of three numbers, however they are written
 abbrev pub AreThreeNumbers : Tree → Type 0
@@ -39,13 +39,17 @@ IsNoNumberBefore text at mark =
     (n : List ℕ) (others : ItemTrees) (rest : List ℕ) → AreItemsAt text at (item (number n) others)
     → after_item others ≡ mark ∷ rest → ⊥
 
--- why a value is no feature, or one that cannot be moved by k; it is not that memory is wanted
+-- why a value is no feature, or one that cannot be moved by k
 abbrev pub RefusesMoved : Triple → Fault → Tree → Type 0
 RefusesMoved k fault value =
-    (fault ≢ Memory)
-    × (RefusesFeature fault value
-    ⊎ ((fault ≡ VertexRange) × ((ps : List Triple) × IsFeature value ps × ¬ All IsInRange (moved_vertices ps k))))
+    RefusesFeature fault value
+    ⊎ ((fault ≡ VertexRange) × ((ps : List Triple) × IsFeature value ps × ¬ All IsInRange (moved_vertices ps k)))
 
--- the text spells vertices, and one of them leaves the range when it is moved by k
-abbrev pub SpellsLeaving : Triple → List ℕ → Type 0
-SpellsLeaving k text = (ps : List Triple) × SpellsVertices text ps × ¬ All IsInRange (moved_vertices ps k)
+-- why the items of the array that a compact text spells are no vertices
+abbrev pub RefusesVertices : Fault → List ℕ → Type 0
+RefusesVertices fault text = (fault ≡ Memory)
+    ⊎ ((items : ItemTrees) → IsCompactOf text (array items) → RefusesFirst fault items)
+
+-- the text is the compact text of an array
+abbrev pub IsArrayText : List ℕ → Type 0
+IsArrayText text = (items : ItemTrees) × IsCompactOf text (array items)

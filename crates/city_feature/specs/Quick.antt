@@ -1,39 +1,20 @@
 -- What is found on the compact text of a feature's line, whose members lie in known parts.
-use Rattle.std.specs.Prelude.{◌≡◌, ◌≢◌, ◌≤◌, ℕ, List, [], ◌∷◌, codes, pos, All}
+use Rattle.std.specs.Prelude.{◌≡◌, ◌≢◌, ◌≤◌, ℕ, List, [], ◌∷◌, pos, All}
 use Rattle.city_json.specs.Bytes.{backslash, plus}
 use Rattle.city_json.specs.Compact.{compact}
-use Rattle.city_json.specs.Depth.{IsDeep}
-use Rattle.city_json.specs.Fits.{Fits, HasDistinctNames}
-use Rattle.city_json.specs.Grammar.{Spells}
-use Rattle.city_json.specs.Members.{member_of}
-use Rattle.city_json.specs.Parts.{AreParts, with_value}
+use Rattle.city_json.specs.Parts.{with_value}
 use Rattle.city_json.specs.Tree.{Tree, array, ItemTrees, MemberTrees, object}
-use Rattle.city_json.specs.Writable.{AreWritableItems, IsWritable}
+use Rattle.city_json.specs.Writable.{AreWritableItems}
 use Rattle.city_json.specs.declared.compacting.places.MemberPlace.{MemberPlace}
 use Rattle.city_grid.specs.Axes.{Triple, triple, IsInRange}
 use Rattle.city_feature.specs.Changes.{with_member}
 use Rattle.city_feature.specs.Feature.{AreVertices, vertices_tree}
-use Rattle.city_feature.specs.Shapes.{IsObject, IsText, IsThere, Says}
-
--- the compact text of an object of these members, which lie in these parts
-pub record IsLine (line : List ℕ) (parts : List MemberPlace) (members : MemberTrees) : Type 0 where
-  pub written : line ≡ compact (object members)
-  pub are_parts : AreParts 1 parts members
-  pub names_differ : HasDistinctNames members
-  pub writable : IsWritable (object members)
 
 -- the value of the member of this name stands in this part of the line: with another text there, the line is the
 -- text of an object with another value
 abbrev pub IsPlaceOf : List ℕ → MemberTrees → List ℕ → MemberPlace → Type 0
 IsPlaceOf name members line part =
     (new : Tree) → compact (with_member name new (object members)) ≡ with_value line part (compact new)
-
--- what a feature has beside its vertices
-abbrev pub HasOtherMembers : Tree → Type 0
-HasOtherMembers value =
-    Says (codes "type") (codes "CityJSONFeature") value
-    × IsThere IsText (member_of (codes "id") value)
-    × IsThere IsObject (member_of (codes "CityObjects") value)
 
 -- the shift after which all vertices stand where they stood
 abbrev pub no_steps : Triple

@@ -4,6 +4,7 @@ use Rattle.byte_streams.specs.Limits.{max_depth}
 use Rattle.city_json.specs.Bytes.{colon, quotation_mark}
 use Rattle.city_json.specs.Compact.{quoted, compact, written}
 use Rattle.city_json.specs.CompactEnds.{IsStopped, LeavesString, LeavesValue}
+use Rattle.city_json.specs.CompactMembers.{HasNoMember, HasNoString, HasNoValue}
 use Rattle.city_json.specs.Fits.{depth}
 use Rattle.city_json.specs.Tree.{Tree}
 use Rattle.city_json.specs.Writable.{IsWritable}
@@ -53,3 +54,37 @@ member_leaves text at colon_at end inside inside₂ within named_so leaves name 
     let lie = places text (quoted name) (compact value) rest at colon_at end colon inside inside₂ within is named
     valued in
     ((refl, lie.0, lie.1), valued)
+
+-- nothing is left at the end of the text
+nothing_left : (text rest : List ℕ) (end : ℕ) → length text ≤ end → drop end text ≡ rest → 0 < length rest → ⊥
+nothing_left text rest end all is some = omega (arith, all, ap length is, length-drop end text, some)
+
+pub no_string : (text b : List ℕ) (end : ℕ) → length text ≤ end → LeavesString b (drop end text) → HasNoString b
+no_string text b end all leaves content rest some is = nothing_left text rest end all (leaves content rest is) some
+
+pub no_value : (text b : List ℕ) (end : ℕ) → length text ≤ end → LeavesValue 128 b (drop end text) → HasNoValue b
+no_value text b end all leaves value rest w shallow stopped some is =
+    nothing_left text rest end all (leaves value rest w shallow stopped is) some
+
+module _ (text : List ℕ) (at : ℕ) where
+  some_member : (name value rest : List ℕ) → drop at text ≡ (quoted name ++ colon ∷ value) ++ rest → at < length text
+  some_member name value rest is = omega (arith, ap length is, length-drop at text)
+
+  after_mark : (name value rest : List ℕ) → drop at text ≡ (quoted name ++ colon ∷ value) ++ rest
+      → drop (at + 1) text ≡ flat_map written name ++ quotation_mark ∷ (colon ∷ (value ++ rest))
+  after_mark name value rest is =
+      others_same _ _ _ _ (sym (drop_one text at (get_or text at 0) (some_member name value rest is) refl)
+      ∙ (is ∙ split_name name value rest))
+
+  pub no_name : (at < length text → HasNoString (drop (at + 1) text)) → HasNoMember (drop at text)
+  no_name none name value rest w shallow stopped some is =
+      none (some_member name (compact value) rest is) name (colon ∷ (compact value ++ rest)) (omega arith)
+      (after_mark name (compact value) rest is)
+
+  pub no_named_value : (colon_at : ℕ) → colon_at < length text
+      → LeavesString (drop (at + 1) text) (drop colon_at text) → HasNoValue (drop (colon_at + 1) text)
+      → HasNoMember (drop at text)
+  no_named_value colon_at inside named_so none name value rest w shallow stopped some is =
+      none value rest w shallow stopped some
+      (others_same _ _ _ _ (sym (drop_one text colon_at (get_or text colon_at 0) inside refl)
+      ∙ named_so name (colon ∷ (compact value ++ rest)) (after_mark name (compact value) rest is)))

@@ -1,5 +1,5 @@
 -- The members of an object that stands in front of other bytes.
-use Rattle.std.proofs.Common.{◌≡◌, ◌≢◌, ◌++◌, ◌∙◌, ◌≤◌, ◌<◌, ◌+◌, ◌-◌, ℕ, List, [], ◌∷◌, length, take, drop, get_or, slice_range, refl, ap, sym, subst, arith, append_assoc, append-nil, true, false}
+use Rattle.std.proofs.Common.{◌≡◌, ◌≢◌, ◌++◌, ◌∙◌, ◌≤◌, ◌<◌, ◌+◌, ◌-◌, ℕ, List, [], ◌∷◌, length, take, drop, get_or, slice_range, refl, ap, sym, subst, arith, append_assoc, append-nil, length-append, true, false}
 use Rattle.std.proofs.lemmas.List.{drop-drop, take-append-drop}
 use Rattle.byte_streams.specs.Limits.{max_depth}
 use Rattle.city_json.proofs.CompactEnds.{number_other, other_head}
@@ -10,13 +10,14 @@ use Rattle.city_json.proofs.Places.{drop_one}
 use Rattle.city_json.specs.Bytes.{colon, comma, open_brace, close_brace, quotation_mark}
 use Rattle.city_json.specs.Compact.{quoted, compact, compact_members, compact_more_members}
 use Rattle.city_json.specs.CompactEnds.{LeavesValue}
-use Rattle.city_json.specs.CompactMembers.{HasParts, LeavesMember}
+use Rattle.city_json.specs.CompactMembers.{HasNoMember, HasParts, LeavesMember}
+use Rattle.city_json.specs.CompactTexts.{IsCompactOf}
 use Rattle.city_json.specs.Fits.{depth, members_depth}
 use Rattle.city_json.specs.Parts.{IsPart, AreParts}
 use Rattle.city_json.specs.Tree.{Tree, null, boolean, number, string, array, object, MemberTrees, no_members, member}
 use Rattle.city_json.specs.Writable.{IsWritable, AreWritableMembers}
 use Rattle.city_json.specs.declared.compacting.places.MemberPlace.{MemberPlace}
-use Rattle.city_json.specs.FrontMembers.{EndsAfter, GoesOn, GoneTo, HasFrontParts, AllLieIn, MembersLeft}
+use Rattle.city_json.specs.FrontMembers.{EndsAfter, GoesOn, GoneTo, HasFrontParts, HasNoObject, AllLieIn, MembersLeft}
 
 after_brace : (text rest : List ℕ) (all : MemberTrees) → text ≡ compact (object all) ++ rest
     → drop 1 text ≡ compact_members all ++ close_brace ∷ rest
@@ -161,6 +162,34 @@ pub whole_parts : (text : List ℕ) (parts : List MemberPlace) (end : ℕ) → H
 whole_parts text parts end has = λ value w within is.
     let (members, is_object, are, left) = has value [] w within (is ∙ sym (append-nil (compact value))) in
     (members, is_object, are)
+
+-- ---- no object
+pub too_short : (text : List ℕ) → length text < 2 → HasNoObject text
+too_short text short all rest w within is =
+    omega (
+      arith,
+      short,
+      ap length is,
+      length-append (compact (object all)) rest,
+      length-append (compact_members all) (close_brace ∷ []),
+    )
+
+pub other_front : (text : List ℕ) → 0 < length text → get_or text 0 0 ≢ open_brace → HasNoObject text
+other_front text some other all rest w within is = other (ap (λ l. get_or l 0 0) is)
+
+pub no_next_member : (text : List ℕ) (at : ℕ) (parts : List MemberPlace) → GoesOn at text parts
+    → HasNoMember (drop at text) → HasNoObject text
+no_next_member text at parts on none all rest w within is =
+    let left = on all rest w within is in
+    none left.name left.first (compact_more_members left.others ++ close_brace ∷ rest) left.writable.1
+    (omega (arith, left.within)) (more_members_stopped left.others rest)
+    (omega (arith, length-append (compact_more_members left.others) (close_brace ∷ rest)))
+    (left.is ∙ append_assoc (quoted left.name ++ colon ∷ compact left.first) (compact_more_members left.others)
+    (close_brace ∷ rest))
+
+pub no_whole_object : (text : List ℕ) → HasNoObject text → (members : MemberTrees) → ¬ IsCompactOf text (object members)
+no_whole_object text none members = λ of.
+    none members [] of.writable (omega (arith, of.within)) (of.is ∙ sym (append-nil (compact (object members))))
 
 -- ---- from one member to the next
 pub gone_stop : (text : List ℕ) (parts : List MemberPlace) (end : ℕ) → GoneTo text parts end → end < length text

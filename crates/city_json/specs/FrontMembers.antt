@@ -18,6 +18,11 @@ HasFrontParts text parts end = (value : Tree) (rest : List ℕ) → IsWritable v
     → text ≡ compact value ++ rest
     → (members : MemberTrees) × (value ≡ object members) × AreParts 1 parts members × (drop end text ≡ rest)
 
+-- no object stands in front in its compact text
+abbrev pub HasNoObject : List ℕ → Type 0
+HasNoObject text = (all : MemberTrees) (rest : List ℕ) → AreWritableMembers all → members_depth all ≤ max_depth
+    → text ≡ compact (object all) ++ rest → ⊥
+
 -- some members are left, and where they lie in some parts, all do in these after those that were found
 pub record MembersLeft (front : ℕ) (b rest : List ℕ) (parts : List MemberPlace) (all : MemberTrees) : Type 0 where
   pub name : List ℕ

@@ -1,11 +1,11 @@
 //! The compact text of an object with its members, by their names.
 ghost use Rattle.std.specs.Prelude.{◌≡◌, IfNone, IfSome};
 ghost use Rattle.city_json.specs.CompactTexts.{IsCompactOf};
-ghost use Rattle.city_json.specs.ObjectTexts.{HasNone, IsValueOf, IsValueOr, members_of, object_of};
+ghost use Rattle.city_json.specs.ObjectTexts.{HasNone, IsPlacedObject, IsValueOf, IsValueOr, members_of, object_of};
 ghost use Rattle.city_json.specs.Parts.{AreParts, IsPartNamed};
 ghost use Rattle.city_json.specs.Tree.{MemberTrees, object};
 
-use crate::compacting::{MemberPlace, between, place_named};
+use crate::compacting::{MemberPlace, between, is_between, place_named};
 use std::marker::Model;
 
 /// The compact text of an object that fits (RFC 8259, section 4; at most 128 levels, no name twice), and where each of its
@@ -27,6 +27,7 @@ impl<'a> Model for ObjectText<'a> {
 }
 
 impl<'a> ObjectText<'a> {
+    /// This text, with the parts of its members.
     pub fn new(text: &'a [u8], parts: &'a [MemberPlace]) -> ObjectText<'a>
         requires { (members : MemberTrees) × IsCompactOf text.now (object members) × AreParts 1 parts.now members }
         ensures { result ≡ record { text = text.now; parts = parts.now } }
@@ -38,6 +39,7 @@ impl<'a> ObjectText<'a> {
     pub fn text(&self) -> &'a [u8]
         ensures is { result.now ≡ self.now.text }
         ensures of { IsCompactOf result.now (object_of self.now) }
+        ensures placed { IsPlacedObject self.now }
     {
         self.text
     }
@@ -68,7 +70,44 @@ impl<'a> ObjectText<'a> {
         between(self.text, part.value, part.end)
     }
 
+    /// Where the member of this name lies, as [`part`](ObjectText::part). It is looked for first at this place among the
+    /// members, counted from 0, where most writers put it.
+    #[inline(always)]
+    pub fn usual_part(&self, place: usize, name: &[u8]) -> Option<MemberPlace>
+        ensures some { IfSome result (IsPartNamed self.now.text self.now.parts name.now) }
+        ensures none { IfNone result (HasNone name.now self.now) }
+    {
+        if place < self.parts.len() {
+            let part = self.parts[place];
+            if is_between(self.text, part.at, part.value, name) {
+                return Some(part);
+            }
+        }
+        self.part(name)
+    }
+
+    /// The compact text of the value of that member.
+    #[inline(always)]
+    pub fn usual_value(&self, place: usize, name: &[u8]) -> Option<&'a [u8]>
+        ensures some { IfSome result (λ found. IsValueOf name.now self.now found.now) }
+        ensures none { IfNone result (HasNone name.now self.now) }
+    {
+        let part = self.usual_part(place, name)?;
+        between(self.text, part.value, part.end)
+    }
+
     /// The same, or another text where there is no member of the name.
+    #[inline(always)]
+    pub fn usual_value_or<'b>(&'b self, place: usize, name: &[u8], other: &'b [u8]) -> &'b [u8]
+        ensures { IsValueOr name.now self.now other.now result.now }
+    {
+        match self.usual_value(place, name) {
+            Some(value) => value,
+            None => other,
+        }
+    }
+
+    /// [`value`](ObjectText::value), or another text where there is no member of the name.
     pub fn value_or<'b>(&'b self, name: &[u8], other: &'b [u8]) -> &'b [u8]
         ensures { IsValueOr name.now self.now other.now result.now }
     {

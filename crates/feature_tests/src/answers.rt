@@ -3,8 +3,7 @@
 use crate::texts::{filled, is_named, split};
 use byte_streams::{Fault, Line};
 use city_feature::{
-    Choice, Feature, area, feature, feature_line, feature_text, feature_text_in, line, selects,
-    shifted, types,
+    Choice, Feature, area, feature, feature_line, feature_text, line, selects, shifted, types,
 };
 use city_grid::Shift;
 use city_json::{TextPlace, Workspace, read};
@@ -77,14 +76,13 @@ fn is_answered_alone(
     added: &[u8],
     fault: Option<Fault>,
 ) -> bool {
-    let (Ok(mut compact), Ok(mut text)) = (front(alloc), front(alloc)) else {
+    let (Ok(compact), Ok(mut text)) = (front(alloc), front(alloc)) else {
         return false;
     };
-    let answer = feature_text(alloc, bytes, shift, choice, &mut compact, &mut text);
-    let mut is_so = is_answer(answer, place_bytes(answer, bytes, &text), added, fault);
+    let mut is_so = true;
     let mut workspace = Workspace::new(alloc, compact);
-    for _ in 0..2 {
-        let answer = feature_text_in(alloc, bytes, shift, choice, &mut workspace, &mut text);
+    for _ in 0..3 {
+        let answer = feature_text(alloc, bytes, shift, choice, &mut workspace, &mut text);
         is_so &= is_answer(answer, place_bytes(answer, bytes, &text), added, fault);
         workspace.trim();
     }
@@ -211,10 +209,10 @@ fn stays_in_place(alloc: Global, line: &str, choice: &Choice) -> bool {
     let Ok(room) = Vec::with_capacity(alloc, ROOM) else {
         return false;
     };
-    let mut compact = Line::from_vec(room);
+    let mut workspace = Workspace::new(alloc, Line::from_vec(room));
     let mut text = Line::new(alloc);
     let (bytes, still) = (line.as_bytes(), Shift::zero());
-    match feature_text(alloc, bytes, still, choice, &mut compact, &mut text) {
+    match feature_text(alloc, bytes, still, choice, &mut workspace, &mut text) {
         Ok(Some(TextPlace::Read(_))) => true,
         Ok(Some(TextPlace::Written)) => text.into_vec().capacity() >= ROOM,
         _ => false,
@@ -240,10 +238,11 @@ pub(crate) fn takes_memory_over(alloc: Global, line: &str, names: &str) -> bool 
 pub(crate) fn place_of(alloc: Global, line: &str, asked: &str) -> Result<&'static str, Fault> {
     let shift = asked_shift(asked).ok_or(Fault::ShiftRange)?;
     let choice = asked_choice(alloc, asked)?;
-    let (mut compact, mut text) = (Line::new(alloc), Line::new(alloc));
+    let mut workspace = Workspace::new(alloc, Line::new(alloc));
+    let mut text = Line::new(alloc);
     let bytes = line.as_bytes();
     Ok(
-        match feature_text(alloc, bytes, shift, &choice, &mut compact, &mut text)? {
+        match feature_text(alloc, bytes, shift, &choice, &mut workspace, &mut text)? {
             Some(TextPlace::Read(end)) if end == line.trim().len() => "read",
             Some(TextPlace::Read(_)) => "elsewhere",
             Some(TextPlace::Written) => "written",
@@ -281,8 +280,9 @@ pub(crate) fn holds(
 /// Whether the text has room for a quarter more than the line that it is written from: it is asked for at once where no
 /// value is built, and vertices are written anew.
 fn has_room_for_more(alloc: Global, line: &[u8], shift: Shift, choice: &Choice) -> bool {
-    let (mut compact, mut text) = (Line::new(alloc), Line::new(alloc));
-    let answer = feature_text(alloc, line, shift, choice, &mut compact, &mut text);
+    let mut workspace = Workspace::new(alloc, Line::new(alloc));
+    let mut text = Line::new(alloc);
+    let answer = feature_text(alloc, line, shift, choice, &mut workspace, &mut text);
     answer == Ok(Some(TextPlace::Written))
         && text.into_vec().capacity() == line.len() + line.len() / 4
 }

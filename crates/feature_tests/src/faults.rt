@@ -1,9 +1,8 @@
-//! Faults are found in the compact text, with no value built: else a refused line would take many times its memory. A row
-//! tells a text, and its fault, or `none`.
-use crate::answers::{is_answered, shift_of};
+//! The faults of vertices and of lines. A row tells a text, and its fault, or `none`.
+use crate::answers::{answer_of_value, is_answered, shift_of};
 use crate::texts::{below, filled, is_named, repeated, split};
-use byte_streams::Fault;
-use city_feature::{Choice, line_fault, vertices_fault};
+use byte_streams::{Fault, Line};
+use city_feature::{Choice, feature_line, vertices_fault};
 use std::alloc::{AllocError, AllocGlobal, Global};
 use std::process::Abort;
 
@@ -137,15 +136,16 @@ fn it_is_told_among_many(rt: HostRuntime) -> Result<(), AllocError> {
     Ok(())
 }
 
-/// Whether the fault of a line is told of its compact text, and answered for it.
+/// Whether this is the fault of a line, by its value, too.
 fn is_told(alloc: Global, line: &str, moved: &str, wanted: &str) -> bool {
     let Some(shift) = shift_of(moved) else {
         return false;
     };
-    let fault = line_fault(alloc, line.as_bytes(), shift);
-    let choice = Choice::new(None, None, false);
+    let (bytes, choice) = (line.as_bytes(), Choice::new(None, None, false));
+    let fault = feature_line(alloc, bytes, shift, &choice, &mut Line::new(alloc)).err();
     is_meant(alloc, fault, wanted)
-        && (fault.is_none() || is_answered(alloc, line.as_bytes(), (shift, &choice), b"", fault))
+        && answer_of_value(alloc, bytes, shift, &choice).err() == fault
+        && (fault.is_none() || is_answered(alloc, bytes, (shift, &choice), b"", fault))
 }
 
 fn is_row_told(alloc: Global, form: &str, row: &str) -> Result<bool, AllocError> {
@@ -201,11 +201,11 @@ all => {"\u0074ype":"CityJSON\u0046eatures","id":"","CityObjects":{},"vertices":
 all => {"type":"CityJSONFeature","id":"a","CityObjects":{},"Vertices":[[1,2]],"vertices":[]} => none
 all => {"type":"CityJSONFeature","id":"a","CityObjects":{"a":{"vertices":[[1,2]]}},"x":[[1,2]],"vertices":[[1,2,3]]} => none
 all => {"type":"CityJSONFeature","id":"a","CityObjects":{},"x":[[1,2,3]],"vertices":[[1,2,3],[1,2]]} => VertexShape
-all => {"type":"CityJSONFeature","id":"a","CityObjects":{},"vertices":[],"id":"b"} => none
-all => {"type":"CityJSONFeature","id":"a","CityObjects":{},"vertices":[] => none
-all => [] => none
-all => "CityJSONFeature" => none
-all =>  => none
+all => {"type":"CityJSONFeature","id":"a","CityObjects":{},"vertices":[],"id":"b"} => DuplicateName
+all => {"type":"CityJSONFeature","id":"a","CityObjects":{},"vertices":[] => Syntax
+all => [] => NotAFeature
+all => "CityJSONFeature" => NotAFeature
+all =>  => Syntax
 "#;
 
 /// A feature, and the same with white space and with escapes, so that it is not lent.

@@ -1,7 +1,7 @@
 //! Generated lines: what is answered is what the value gives, whether one is built or not.
 use crate::answers::{answer_of_value, choice_of, is_answered, shift_of, takes_memory_over};
 use byte_streams::Fault;
-use city_feature::{Choice, line_fault};
+use city_feature::Choice;
 use city_grid::Shift;
 use std::alloc::{AllocError, Global};
 
@@ -92,23 +92,11 @@ fn drawn_choice(alloc: Global, draws: &mut Draws, names: &str) -> Result<Choice,
     choice_of(alloc, names, corners, !exclude)
 }
 
-/// Whether this is the fault of the line, and told with no value built where the line spells one.
-fn is_fault_told(alloc: Global, line: &[u8], shift: Shift, fault: Option<Fault>) -> bool {
-    let told = line_fault(alloc, line, shift);
-    told == fault || (told.is_none() && fault == Some(Fault::Syntax))
-}
-
 /// Whether the line is answered as its value is.
 fn has_one_answer(alloc: Global, line: &[u8], shift: Shift, choice: &Choice) -> bool {
     match answer_of_value(alloc, line, shift, choice) {
-        Ok(text) => {
-            is_fault_told(alloc, line, shift, None)
-                && is_answered(alloc, line, (shift, choice), text.items(), None)
-        }
-        Err(fault) => {
-            is_fault_told(alloc, line, shift, Some(fault))
-                && is_answered(alloc, line, (shift, choice), b"", Some(fault))
-        }
+        Ok(text) => is_answered(alloc, line, (shift, choice), text.items(), None),
+        Err(fault) => is_answered(alloc, line, (shift, choice), b"", Some(fault)),
     }
 }
 

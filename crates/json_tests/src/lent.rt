@@ -61,6 +61,17 @@ const NONE: [&[u8]; 8] = [
     b"{\"a\":\"\xff\"}",
 ];
 
+/// Compact texts of other values.
+const OTHERS: [&[u8]; 7] = [
+    b"null",
+    b"true",
+    b"0",
+    b"-1.5e3",
+    b"\"{}\"",
+    b"[]",
+    b"[{\"a\":1}]",
+];
+
 /// A line that holds something, to be taken for its memory.
 fn old_line(alloc: Global) -> Result<Line, AllocError> {
     Ok(Line::from_vec(b"an old line".to_vec(alloc)?))
@@ -87,8 +98,8 @@ fn has_same_object(alloc: Global, text: &[u8]) -> bool {
         return false;
     };
     match members_of_compact(alloc, object.place.bytes(text, &buffer)) {
-        Some(parts) => object.parts.as_slice() == parts.as_slice(),
-        None => false,
+        Ok(Some(parts)) => object.parts.as_slice() == parts.as_slice(),
+        Ok(None) | Err(_) => false,
     }
 }
 
@@ -155,6 +166,14 @@ fn another_text_is_written(rt: HostRuntime) {
 fn of_no_object_nothing_is_told(rt: HostRuntime) {
     for text in NONE.iter() {
         expect(&rt, told(rt.alloc(), text).is_none(), text);
+    }
+}
+
+#[test]
+fn another_value_has_no_members(rt: HostRuntime) {
+    for text in OTHERS.iter() {
+        let members = members_of_compact(rt.alloc(), text);
+        expect(&rt, matches!(members, Ok(None)), text);
     }
 }
 

@@ -22,7 +22,7 @@ use crate::tile_reader::held::{Held, texts_of};
 pub use crate::tile_reader::ready::ReadyTexts;
 use byte_streams::{Fault, Line, LineFault, Source};
 use city_cut::FeatureTexts;
-use city_feature::{Choice, feature_text_in};
+use city_feature::{Choice, feature_text};
 use city_grid::Shift;
 use city_json::Workspace;
 use std::alloc::Global;
@@ -268,7 +268,7 @@ fn passed_line(
         × GivesFeature (IsChosen choice.now) shift line.now None) }
     ensures refusal { IfErr result (λ fault. RefusesFeatureLine shift fault line.now) }
 {
-    let Some(place) = feature_text_in(alloc, line, shift, choice, workspace, &mut text)? else {
+    let Some(place) = feature_text(alloc, line, shift, choice, workspace, &mut text)? else {
         text.truncate(0);
         return Ok(Passed {
             is_chosen: false,

@@ -116,7 +116,9 @@ fn append_address<L: Labels>(
         return append_text(text, &mut draft.line);
     }
     append_front(text, &part, &mut draft.line)?;
-    let members = members_of_compact(alloc, location)?;
+    let Ok(Some(members)) = members_of_compact(alloc, location) else {
+        return None;
+    };
     append_listed(location, &members, labels, draft)?;
     append_back(text, &part, &mut draft.line)
 }

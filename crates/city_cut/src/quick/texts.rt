@@ -14,7 +14,10 @@ pub(super) fn parts_of(alloc: Global, text: &[u8]) -> Option<Vec<MemberPlace>>
     ensures { IfSome result (λ parts. (value : Tree) → IsCompactOf text.now value
         → (members : MemberTrees) × (value ≡ object members) × AreParts 1 parts.items members) }
 {
-    members_of_compact(alloc, text)
+    let Ok(found) = members_of_compact(alloc, text) else {
+        return None;
+    };
+    found
 }
 
 /// Appends a text.

@@ -5,8 +5,8 @@ use byte_streams::{Fault, Line};
 use city_cut::{CutTexts, FeatureTexts, cut, cut_compacted_triples, cut_texts};
 use city_feature::{
     Base, Choice, Feature, Header, HeaderFault, Joined, area, feature, feature_line, feature_text,
-    header, is_appearance_end, join_headers, line, line_fault, own_text, selects, set_member,
-    shifted, types, vertices_fault,
+    header, is_appearance_end, join_headers, line, own_text, selects, set_member, shifted, types,
+    vertices_fault,
 };
 use city_grid::{Shift, Vertex, append_vertex, vertex_json, write_vertex};
 use city_json::{Json, Workspace, compact_object, read};
@@ -384,8 +384,9 @@ fn gives(
 ) -> Result<bool, Fault> {
     let choice = choice_of(rt.alloc())?;
     let shift = shift.ok_or(Fault::ShiftRange)?;
-    let (mut compact, mut text) = (Line::new(rt.alloc()), Line::new(rt.alloc()));
-    match feature_text(rt.alloc(), bytes, shift, &choice, &mut compact, &mut text) {
+    let mut workspace = Workspace::new(rt.alloc(), Line::new(rt.alloc()));
+    let mut text = Line::new(rt.alloc());
+    match feature_text(rt.alloc(), bytes, shift, &choice, &mut workspace, &mut text) {
         Ok(Some(place)) => Ok(place.bytes(bytes, &text) == moved),
         Ok(None) => Ok(false),
         Err(fault) => refused(rt, Call("feature_text"), fault),
@@ -399,15 +400,7 @@ fn texts_stay_or_are_written(rt: &(impl AllocGlobal + Eprint)) -> Result<bool, F
     Ok(is_refused && stays && gives(rt, SPACED, Shift::new(10, 20, 30), MOVED)?)
 }
 
-/// Its fault is told with no value read, unless memory is wanted.
-fn line_fault_is_told(rt: &(impl AllocGlobal + Eprint)) -> Result<bool, Fault> {
-    match line_fault(rt.alloc(), FAULTY, Shift::zero()) {
-        Some(fault) => Ok(fault == Fault::VertexNotInteger),
-        None => refused(rt, Call("line_fault"), Fault::Memory),
-    }
-}
-
-/// The same of vertices.
+/// The fault of vertices is told with no value of them all read, unless memory is wanted.
 fn vertices_fault_is_told(rt: &(impl AllocGlobal + Eprint)) -> Result<bool, Fault> {
     let vertices = b"[[1,2,3],[7,8,123456789012345678901234567890]]";
     match vertices_fault(rt.alloc(), vertices) {
@@ -635,7 +628,6 @@ fn vertices_headers_features_and_documents(rt: HostRuntime) -> Result<(), Fault>
     expect!(rt; features_are_refused(&rt));
     expect!(rt; lines_are_chosen(&rt));
     expect!(rt; texts_stay_or_are_written(&rt));
-    expect!(rt; line_fault_is_told(&rt));
     expect!(rt; vertices_fault_is_told(&rt));
     expect!(rt; end_is_told(&rt));
     expect!(rt; own_part_is_given(&rt));

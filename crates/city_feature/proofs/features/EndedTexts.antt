@@ -10,13 +10,12 @@ use Rattle.city_json.specs.Compact.{quoted, compact, compact_members, compact_mo
 use Rattle.city_json.specs.Fits.{AreDistinctMembers, Fits, HasDistinctNames, IsDistinct, IsNewName, depth, members_depth}
 use Rattle.city_json.specs.Grammar.{Spells}
 use Rattle.city_json.specs.Members.{first_named, member_of}
-use Rattle.city_json.specs.Parts.{AreParts, IsPartNamed}
+use Rattle.city_json.specs.Parts.{AreParts}
 use Rattle.city_json.specs.Tree.{Tree, object, string, MemberTrees, no_members, member}
 use Rattle.city_json.specs.Writable.{AreWritableMembers, IsWritable}
 use Rattle.city_json.specs.declared.compacting.places.MemberPlace.{MemberPlace}
 use Rattle.city_grid.specs.Axes.{Triple}
-use Rattle.city_feature.proofs.QuickLines.{found_at, utf8}
-use Rattle.city_feature.proofs.features.LineVertices.{line_of}
+use Rattle.city_feature.proofs.QuickLines.{utf8}
 use Rattle.city_feature.proofs.features.StillFeature.{other_member}
 use Rattle.city_feature.specs.Area.{Meets}
 use Rattle.city_feature.specs.Changes.{with_named}
@@ -25,7 +24,8 @@ use Rattle.city_feature.specs.declared.choices.Choice.{Choice}
 use Rattle.city_feature.specs.Ended.{IsAppearanceEnd, appearance_alone}
 use Rattle.city_feature.specs.Feature.{FeatureValue, IsFeature, moved, moved_vertices, vertices_tree}
 use Rattle.city_feature.specs.FeatureLine.{GivesFeature, SpellsFeature, SpellsMoved}
-use Rattle.city_json.specs.SpelledObjects.{SpellsObject}
+use Rattle.city_json.specs.CompactTexts.{IsCompactOf}
+use Rattle.city_json.specs.ObjectTexts.{IsPlacedObject, PlacedObject, members_of}
 use Rattle.city_feature.specs.Shapes.{IsArray, IsObject, IsText, IsThere, member_in}
 
 -- ---- a member that comes last
@@ -355,16 +355,11 @@ end_there end rest text a begins opened is writable fits = record {
   fits = fits;
 }
 
-pub alone_there : (text line : List ℕ) (parts : List MemberPlace) (part : MemberPlace) → SpellsObject text line parts
-    → length parts ≡ 1 → IsPartNamed line parts (quoted (codes "appearance") ++ colon ∷ []) part → text ≡ line
+pub alone_there : (text : List ℕ) (there : PlacedObject) → IsPlacedObject there → length there.parts ≡ 1
+    → (value : Tree) → first_named (codes "appearance") (members_of there) ≡ Some value → text ≡ there.text
     → (a : Tree) × (text ≡ compact (object (appearance_alone a))) × IsWritable a × Fits (object (appearance_alone a))
-alone_there text line parts part given one named same =
-    let is = line_of text line parts given in
-    let found = found_at line parts given.0 (codes "appearance") part (utf8 (codes "appearance") refl) is named in
-    let (a, here) = alone given.0 parts 1 found.value given.5 one found.is in
-    let can : AreWritableMembers (appearance_alone a) = subst AreWritableMembers here is.writable in (
-      a,
-      same ∙ (given.4 ∙ ap (λ m. compact (object m)) here),
-      can.1,
-      subst (λ m. Fits (object m)) here given.2,
-    )
+alone_there text there is one value named same =
+    let (a, all) = alone (members_of there) there.parts 1 value is.are one named in
+    let of : IsCompactOf there.text (object (appearance_alone a)) =
+    subst (λ members. IsCompactOf there.text (object members)) all is.of in
+    (a, same ∙ of.is, of.writable.1, (of.within, of.distinct))

@@ -1,8 +1,9 @@
 -- The first vertex that is at fault, found in the compact text of its array.
-use Rattle.std.proofs.Common.{◌≡◌, ◌∙◌, ◌++◌, ◌+◌, ◌-◌, ◌<◌, ◌≤◌, ℕ, List, [], ◌∷◌, Result, Ok, Err, IfOk, IfErr, length, take, drop, get_or, slice_range, ap, sym, subst, inl, inr, arith, append_assoc, length-append, length-drop}
+use Rattle.std.proofs.Common.{◌≡◌, ◌⊎◌, ◌∙◌, ◌++◌, ◌+◌, ◌-◌, ◌<◌, ◌≤◌, ℕ, zero, suc, All, List, [], ◌∷◌, Result, Ok, Err, IfOk, IfErr, length, take, drop, get_or, slice_range, ap, sym, subst, inl, inr, arith, append_assoc, length-append, length-drop}
 use Rattle.std.proofs.lemmas.List.{take_all}
 use Rattle.std.proofs.Math.Seq.{take-append_seam}
 use Rattle.byte_streams.specs.declared.fault.Fault.{Fault}
+use Rattle.byte_streams.specs.declared.fault.Fault.TheVariants.{Memory}
 use Rattle.city_json.proofs.CompactEnds.{item_left, other_head}
 use Rattle.city_json.proofs.CompactLaws.{compact-tells}
 use Rattle.city_json.proofs.Places.{drop_one}
@@ -17,8 +18,9 @@ use Rattle.byte_streams.specs.Limits.{max_depth}
 use Rattle.city_grid.proofs.VertexLaws.{three_are_writable}
 use Rattle.city_grid.specs.Axes.{Triple, IsInRange, three}
 use Rattle.city_grid.specs.Vertex.{IsVertex, RefusesVertex, SpellsVertex}
-use Rattle.city_feature.specs.Faults.{after_item}
-use Rattle.city_feature.specs.Feature.{RefusesFirst}
+use Rattle.city_feature.specs.Faults.{RefusesVertices, after_item}
+use Rattle.city_feature.specs.Feature.{AreVertices, RefusesFirst}
+use Rattle.city_feature.specs.Quick.{SpellsVertices}
 use Rattle.city_json.specs.CompactTexts.{IsCompactOf}
 
 -- what is known of an answer, where it is known which it is
@@ -138,3 +140,33 @@ faults_go_on text at end p onward inside marked leaves on vertex range items of 
     more_left text end items left.first left.others left.writable left.distinct left.within left.refuses p
     (vertex left.first (first_of text at end onward within leaves items left)) range
     (after text at end onward within leaves items left) inside marked
+
+-- ---- vertices that are read by their values
+pub are_in_range : (items : ItemTrees) (ps : List Triple) → AreVertices items ps → All IsInRange ps
+are_in_range no_items [] are k d within = absurd (omega arith)
+are_in_range no_items (p ∷ ps) are k d within = absurd are
+are_in_range (item value others) [] are k d within = absurd are
+are_in_range (item value others) (p ∷ ps) are zero d within = are.1
+are_in_range (item value others) (p ∷ ps) are (suc k) d within =
+    are_in_range others ps are.2 k d (omega (arith, within))
+
+same_items : (items found : ItemTrees) → array items ≡ array found → items ≡ found
+same_items items found same = ap content same
+  where
+    content : Tree → ItemTrees
+    content (array all) = all
+    content other = no_items
+
+module _ (text : List ℕ) (items found : ItemTrees) where
+  pub vertices_read : (ps : List Triple) → IsCompactOf text (array items) → array items ≡ array found
+      → AreVertices found ps → SpellsVertices text ps
+  vertices_read ps of same are =
+      (items, of.is, of.writable, subst (λ all. AreVertices all ps) (sym (same_items items found same)) are)
+
+  pub first_of_read : (fault : Fault) → IsCompactOf text (array items) → array items ≡ array found
+      → (fault ≡ Memory) ⊎ RefusesFirst fault found → RefusesVertices fault text
+  first_of_read fault of same (inl memory) = inl memory
+  first_of_read fault of same (inr refused) = inr (λ others here.
+      let again : others ≡ items = same_items others items
+      (compact-tells (array others) (array items) here.writable of.writable (sym here.is ∙ of.is)) in
+      subst (RefusesFirst fault) (sym (again ∙ same_items items found same)) refused)

@@ -1,5 +1,5 @@
 -- The type of a feature whose city object stands first among its objects, and its type first in it.
-use Rattle.std.proofs.Common.{◌≡◌, ◌∙◌, ◌++◌, ◌+◌, ◌<◌, ℕ, zero, suc, true, false, if◌then◌else◌, List, [], ◌∷◌, Option, Some, None, IsUtf8, codes, length, take, drop, get_or, slice_range, refl, sym, ap, subst, arith, append_assoc, append-nil}
+use Rattle.std.proofs.Common.{◌≡◌, ◌∙◌, ◌++◌, ◌+◌, ◌<◌, ℕ, zero, suc, true, false, if◌then◌else◌, List, [], ◌∷◌, Option, Some, None, IsUtf8, codes, length, take, drop, get_or, refl, sym, ap, subst, arith, append_assoc, append-nil}
 use Rattle.std.proofs.lemmas.Bool.Decides.{nat_tests}
 use Rattle.std.proofs.lemmas.List.{take_more}
 use Rattle.std.proofs.lemmas.Str.{IsUtf8-from_ascii}
@@ -10,16 +10,15 @@ use Rattle.city_json.proofs.Places.{drop_one}
 use Rattle.city_json.proofs.ReadString.{decoded-run, decoded-quote, string_at-some, checked-some}
 use Rattle.city_json.proofs.SpelledString.{string_at-complete}
 use Rattle.city_json.specs.Bytes.{colon, quotation_mark, open_brace, close_brace}
+use Rattle.city_json.specs.CompactTexts.{IsCompactOf}
 use Rattle.city_json.specs.Compact.{quoted, written, compact, compact_members, compact_more_members}
 use Rattle.city_json.specs.Members.{first_named, member_of}
 use Rattle.city_json.specs.ReadString.{is_plain, prepend, string_at}
 use Rattle.city_json.specs.Tree.{Tree, null, boolean, number, string, array, object, MemberTrees, no_members, member}
 use Rattle.city_json.specs.Writable.{IsWritable, AreWritableMembers}
-use Rattle.city_json.specs.declared.compacting.places.MemberPlace.{MemberPlace}
 use Rattle.city_json.proofs.NamedMembers.{equal_names}
-use Rattle.city_feature.proofs.QuickLines.{found_at, number_begins, utf8}
-use Rattle.city_feature.specs.Quick.{AreLetters, IsLetter, IsLine}
-use Rattle.city_json.specs.Parts.{IsPartNamed}
+use Rattle.city_feature.proofs.QuickLines.{number_begins, utf8}
+use Rattle.city_feature.specs.Quick.{AreLetters, IsLetter}
 use Rattle.city_feature.specs.Shapes.{member_in}
 
 abbrev head_of : List ℕ → ℕ
@@ -157,25 +156,23 @@ type_in_text value id name more writable is letters begins =
     ∙ first_is (codes "type") type_tree further
     ∙ ap Some (type_tree_is ∙ ap string same)
 
-pub type_at : (line : List ℕ) (parts : List MemberPlace) (all : MemberTrees) (part : MemberPlace)
-    (id name objects first object_text value more : List ℕ) → IsLine line parts all
-    → IsPartNamed line parts (quoted (codes "CityObjects") ++ colon ∷ []) part → IsUtf8 id → AreLetters name
-    → objects ≡ slice_range line part.value part.end → objects ≡ open_brace ∷ first → first ≡ quoted id ++ object_text
+pub type_at : (all : MemberTrees) (id name objects first object_text value more : List ℕ)
+    → (found : Tree) × (first_named (codes "CityObjects") all ≡ Some found) × IsCompactOf objects found
+    → IsUtf8 id → AreLetters name → objects ≡ open_brace ∷ first → first ≡ quoted id ++ object_text
     → object_text ≡ colon ∷ (open_brace ∷ (quoted (codes "type") ++ (colon ∷ (quotation_mark ∷ value))))
     → value ≡ name ++ quotation_mark ∷ more
     → member_in (codes "type") (member_in id (first_named (codes "CityObjects") all)) ≡ Some (string name)
-type_at line parts all part id name objects first object_text value more is here id_utf8 letters lies first_is_it id_is
-    object_is value_is =
-    let found = found_at line parts all (codes "CityObjects") part (utf8 (codes "CityObjects") refl) is here in
-    let begins : compact found.value ≡ open_brace
+type_at all id name objects first object_text value more (found, is, of) id_utf8 letters first_is_it id_is object_is
+    value_is =
+    let begins : compact found ≡ open_brace
     ∷ (quoted id ++ (colon ∷ (open_brace
     ∷ (quoted (codes "type") ++ (colon ∷ (quotation_mark ∷ (name ++ quotation_mark ∷ more))))))) =
-    sym found.valued ∙ sym lies ∙ first_is_it
+    sym of.is ∙ first_is_it
     ∙ ap (λ l. open_brace ∷ l) (id_is
     ∙ ap (λ l. quoted id ++ l) (object_is
     ∙ ap (λ l. colon ∷ (open_brace ∷ (quoted (codes "type") ++ (colon ∷ (quotation_mark ∷ l))))) value_is)) in
-    ap (λ o. member_in (codes "type") (member_in id o)) found.is
-    ∙ type_in_text found.value id name more found.writable id_utf8 letters begins
+    ap (λ o. member_in (codes "type") (member_in id o)) is
+    ∙ type_in_text found id name more of.writable id_utf8 letters begins
 
 -- letters between the marks of a text
 pub letters_spelled : (text name more : List ℕ) (value : Tree) → IsWritable value → text ≡ compact value

@@ -1,26 +1,25 @@
 -- Why a feature's line is refused, by the texts of its members.
-use Rattle.std.proofs.Common.{◌≡◌, ◌≢◌, ◌⊎◌, ◌∙◌, ◌↔◌, ◌<◌, ℕ, Bool, List, false, Option, Some, None, IsTrue, All, codes, length, get_or, unwrap_or, ap, sym, subst, refl, inl, inr}
+use Rattle.std.proofs.Common.{◌≡◌, ◌⊎◌, ◌∙◌, ◌↔◌, ◌++◌, ◌∷◌, [], ℕ, Bool, List, false, Option, Some, None, IsTrue, codes, slice_range, unwrap_or, ap, sym, subst, refl, inl, inr}
 use Rattle.byte_streams.specs.declared.fault.Fault.{Fault}
-use Rattle.byte_streams.specs.declared.fault.Fault.TheVariants.{VertexRange, Memory}
+use Rattle.byte_streams.specs.declared.fault.Fault.TheVariants.{Memory}
 use Rattle.city_json.proofs.CompactLaws.{compact-tells}
+use Rattle.city_json.proofs.ObjectTexts.{value_found}
+use Rattle.city_json.specs.Bytes.{colon}
 use Rattle.city_json.specs.Compact.{compact, quoted}
+use Rattle.city_json.specs.CompactTexts.{IsCompactOf}
 use Rattle.city_json.specs.Members.{first_named}
-use Rattle.city_json.specs.ObjectTexts.{PlacedObject, SpellsThere, object_of}
-use Rattle.city_json.specs.Tree.{Tree, null, string, array, object, ItemTrees, no_items, item, MemberTrees}
-use Rattle.city_grid.specs.Axes.{IsInRange, Triple}
-use Rattle.city_grid.specs.Vertex.{RefusesVertex}
-use Rattle.city_feature.specs.Faults.{RefusesMoved, SpellsLeaving}
-use Rattle.city_feature.specs.Feature.{HasFeatureShape, IsFeature, RefusesFeature, RefusesFirst, moved_vertices}
+use Rattle.city_json.specs.ObjectTexts.{IsPlacedObject, PlacedObject, SpellsThere, members_of, object_of}
+use Rattle.city_json.specs.Parts.{IsPartNamed}
+use Rattle.city_json.specs.Tree.{Tree, null, string, array, object, ItemTrees, MemberTrees}
+use Rattle.city_json.specs.declared.compacting.places.MemberPlace.{MemberPlace}
+use Rattle.city_grid.specs.Axes.{Triple}
+use Rattle.city_feature.specs.Faults.{IsArrayText, RefusesMoved, RefusesVertices}
+use Rattle.city_feature.specs.Feature.{HasFeatureShape, RefusesFirst}
 use Rattle.city_feature.specs.FeatureLine.{RefusesFeatureLine}
 use Rattle.city_feature.specs.Shapes.{IsArray, IsObject, IsText, IsThere}
-use Rattle.city_json.specs.CompactTexts.{IsCompactOf}
 use Rattle.city_feature.proofs.QuickLines.{utf8}
 use Rattle.city_feature.proofs.features.FeatureVertices.{feature_refused}
 use Rattle.city_feature.proofs.features.LineVertices.{not_both}
-
--- this byte stands first
-abbrev Begins : List ℕ → ℕ → Type 0
-Begins text mark = (0 < length text) × (get_or text 0 0 ≡ mark)
 
 -- the type of a feature, by its text
 pub is_type_here : (text : List ℕ) (value : Tree) → IsCompactOf text value
@@ -83,49 +82,40 @@ array_there (Some (array items)) is = (items, refl)
 array_there other is = absurd is
 
 -- ---- the vertices
-no_memory_first : (fault : Fault) (items : ItemTrees) → RefusesFirst fault items → fault ≢ Memory
-no_memory_first fault no_items refused same = refused
-no_memory_first fault (item value others) (inl refused) same = subst (λ f. RefusesVertex f value) same refused
-no_memory_first fault (item value others) (inr later) same = no_memory_first fault others later.3 same
+some_same : {a b : Tree} → Some a ≡ Some b → a ≡ b
+some_same same = cc
 
-range_is_no_memory : VertexRange ≡ Memory → ⊥
-range_is_no_memory same = cc
+module _ (there : PlacedObject) (placed : IsPlacedObject there) (shape : HasFeatureShape (object_of there))
+    (part : MemberPlace) (here : IsPartNamed there.text there.parts (quoted (codes "vertices") ++ colon ∷ []) part) where
+  abbrev text : List ℕ
+  text = slice_range there.text part.value part.end
 
-module _ (members : MemberTrees) (text : List ℕ) (shape : HasFeatureShape (object members))
-    (of : IsCompactOf text (value_of (codes "vertices") members)) where
-  array_here : (items : ItemTrees) × (first_named (codes "vertices") members ≡ Some (array items))
+  items_here : (items : ItemTrees) × (first_named (codes "vertices") (members_of there) ≡ Some (array items))
       × IsCompactOf text (array items)
-  array_here =
-      let (items, is) = array_there (first_named (codes "vertices") members) shape.3 in
-      (items, is, subst (λ o. IsCompactOf text (unwrap_or o null)) is of)
+  items_here =
+      let name = codes "vertices" in
+      let (value, is, of) = value_found there placed (quoted name ++ colon ∷ []) part here text refl name
+      (utf8 name refl) refl in
+      let (items, first) = array_there (first_named name (members_of there)) shape.3 in
+      (items, first, subst (IsCompactOf text) (some_same (sym is ∙ first)) of)
 
-  pub refuses_vertex : (k : Triple) (fault : Fault)
-      → ((items : ItemTrees) → IsCompactOf text (array items) → RefusesFirst fault items)
-      → RefusesMoved k fault (object members)
-  refuses_vertex k fault refused =
-      let (items, is, here) = array_here in
-      let first = refused items here in
-      (no_memory_first fault items first, inl (feature_refused (object members) items fault shape is (inr first)))
+  pub array_text : IsArrayText text
+  array_text = let (items, first, of) = items_here in (items, of)
 
-  pub refuses_move : (k : Triple) (fault : Fault) → (fault ≡ VertexRange) × SpellsLeaving k text
-      → RefusesMoved k fault (object members)
-  refuses_move k fault (same, (ps, (found, written, writable, vertices), leaves)) =
-      let (items, is, here) = array_here in
-      let all : array items ≡ array found = compact-tells (array items) (array found) here.writable writable
-      (sym here.is ∙ written) in (
-        λ memory. range_is_no_memory (sym same ∙ memory),
-        inr (same, (ps, (shape, (found, is ∙ ap Some all, vertices)), leaves)),
-      )
+  pub vertices_refused : (k : Triple) (fault : Fault) → RefusesVertices fault text
+      → RefusesMoved k fault (object_of there)
+  vertices_refused k fault refused =
+      let (items, first, of) = items_here in
+      inl (feature_refused (object_of there) items fault shape first (first_refused items of refused))
+    where
+      first_refused : (items : ItemTrees) → IsCompactOf text (array items) → RefusesVertices fault text
+          → (fault ≡ Memory) ⊎ RefusesFirst fault items
+      first_refused items of (inl memory) = inl memory
+      first_refused items of (inr refused) = inr (refused items of)
 
 -- ---- the line
-module _ (k : Triple) (fault : Fault) (bytes : List ℕ) (there : PlacedObject) (spells : SpellsThere bytes there)
-    (refused : RefusesMoved k fault (object_of there)) where
-  pub refuses_line : RefusesFeatureLine k fault bytes
-  refuses_line = told refused.1
-    where
-      told : RefusesFeature fault (object_of there) ⊎ ((fault ≡ VertexRange)
-          × ((ps : List Triple) × IsFeature (object_of there) ps × ¬ All IsInRange (moved_vertices ps k)))
-          → RefusesFeatureLine k fault bytes
-      told (inl no_feature) = inr (inl (object_of there, spells.0, spells.1, no_feature))
-      told (inr (same, (ps, is, leaves))) =
-          inr (inr (same, (record { value = object_of there; vertices = ps }, (spells.0, spells.1, is), leaves)))
+module _ (k : Triple) (fault : Fault) (bytes : List ℕ) (there : PlacedObject) (spells : SpellsThere bytes there) where
+  pub refuses_line : RefusesMoved k fault (object_of there) → RefusesFeatureLine k fault bytes
+  refuses_line (inl no_feature) = inr (inl (object_of there, spells.0, spells.1, no_feature))
+  refuses_line (inr (same, (ps, is, leaves))) =
+      inr (inr (same, (record { value = object_of there; vertices = ps }, (spells.0, spells.1, is), leaves)))

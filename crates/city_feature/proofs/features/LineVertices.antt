@@ -2,15 +2,12 @@
 use Rattle.std.proofs.Common.{◌≡◌, ◌∙◌, ◌++◌, ◌-◌, ◌≤◌, ◌↔◌, ℕ, pos, ◌+ℤ◌, sym, ap, refl, subst, Bool, false, List, [], ◌∷◌, take, drop, slice_range, All, Option, Some, None, codes, arith, option_map, IsTrue, IfSome}
 use Rattle.std.proofs.Math.IntN.{+ℤ_idr}
 use Rattle.std.proofs.lemmas.List.{drop-drop, take-append-drop}
-use Rattle.city_json.proofs.ObjectTexts.{compact_of}
 use Rattle.city_json.specs.Compact.{compact}
-use Rattle.city_json.specs.Fits.{Fits}
 use Rattle.city_json.specs.Members.{first_named}
 use Rattle.city_json.specs.Parts.{with_value}
-use Rattle.city_json.specs.Tree.{Tree, MemberTrees, object}
+use Rattle.city_json.specs.Tree.{Tree}
 use Rattle.city_json.specs.declared.compacting.places.MemberPlace.{MemberPlace}
 use Rattle.city_grid.specs.Axes.{Triple, triple, IsInRange, sum}
-use Rattle.city_feature.proofs.NamedTexts.{line_there}
 use Rattle.city_feature.proofs.features.QuickTypes.{moved_types}
 use Rattle.city_feature.specs.Area.{Meets}
 use Rattle.city_feature.specs.Choice.{HasType, IsChosen}
@@ -21,17 +18,12 @@ use Rattle.city_feature.specs.declared.features.on_text.Vertices.TheVariants.{St
 use Rattle.city_feature.specs.Feature.{FeatureValue, IsFeature, moved, moved_vertices, vertices_tree}
 use Rattle.city_feature.specs.FeatureLine.{GivesFeature, SpellsMoved}
 use Rattle.city_feature.specs.LineVertices.{AreKnown, BecomeOf, text_with}
-use Rattle.city_feature.specs.Quick.{IsLine, IsPlaceOf, no_steps}
-use Rattle.city_json.specs.SpelledObjects.{SpellsObject}
+use Rattle.city_feature.specs.Quick.{IsPlaceOf, no_steps}
+use Rattle.city_json.specs.ObjectTexts.{PlacedObject, SpellsThere, members_of, object_of}
 use Rattle.city_feature.specs.Shapes.{IsText, IsThere}
 
 pub not_both : (b : Bool) → b ≡ false → ¬ IsTrue b
 not_both b is_not = λ is. cc
-
-pub line_of : (bytes line : List ℕ) (parts : List MemberPlace) (is : SpellsObject bytes line parts)
-    → IsLine line parts is.0
-line_of bytes line parts is =
-    line_there line parts is.0 (compact_of bytes line parts is) is.5
 
 -- what lies in a part, put there again
 pub kept : (line value : List ℕ) (part : MemberPlace) → part.value ≤ part.end → slice_range line part.value part.end ≡ value
@@ -56,54 +48,51 @@ unmoved [] = refl
 unmoved (p ∷ ps) = ap (λ q. q ∷ moved_vertices ps no_steps) (unmoved_one p) ∙ ap (λ qs. p ∷ qs) (unmoved ps)
 
 -- vertices that stay as they stand
-pub stay_there : (area : Option Area) (k : Triple) (line : List ℕ) (parts : List MemberPlace) (part : MemberPlace) (ps : List Triple)
+pub stay_there : (area : Option Area) (k : Triple) (there : PlacedObject) (part : MemberPlace) (ps : List Triple)
     (meets : Bool) → k ≡ no_steps
-    → ((members : MemberTrees) → IsLine line parts members
-    → IsFeature (object members) ps × IsPlaceOf (codes "vertices") members line part)
-    → All IsInRange ps → part.value ≤ part.end → slice_range line part.value part.end ≡ compact (vertices_tree ps)
-    → IsTrue meets ↔ IfSome area (λ one. Meets one ps) → BecomeOf area k line parts (Stay meets)
-stay_there area k line parts part ps meets still placed range ordered lies met =
+    → IsFeature (object_of there) ps × IsPlaceOf (codes "vertices") (members_of there) there.text part
+    → All IsInRange ps → part.value ≤ part.end
+    → slice_range there.text part.value part.end ≡ compact (vertices_tree ps)
+    → IsTrue meets ↔ IfSome area (λ one. Meets one ps) → BecomeOf area k there (Stay meets)
+stay_there area k there part ps meets still (is, placed) range ordered lies met =
     let same : ps ≡ moved_vertices ps k = sym (ap (moved_vertices ps) still ∙ unmoved ps) in
     record {
       part = part;
       ps = ps;
+      is = is;
       placed = placed;
       range = subst (All IsInRange) same range;
-      text = sym (kept line (compact (vertices_tree ps)) part ordered lies)
-          ∙ ap (λ vs. with_value line part (compact (vertices_tree vs))) same;
+      text = sym (kept there.text (compact (vertices_tree ps)) part ordered lies)
+          ∙ ap (λ vs. with_value there.text part (compact (vertices_tree vs))) same;
       known = subst (λ vs. IsTrue meets ↔ IfSome area (λ one. Meets one vs)) same met;
     }
 
 -- what becomes of the vertices, and whether the feature is chosen
-module _ (choice : Choice) (k : Triple) (bytes line : List ℕ) (parts : List MemberPlace) (vertices : Vertices)
-    (has chosen : Bool) (found : BecomeOf choice.area k line parts vertices)
-    (typed : (members : MemberTrees) → Fits (object members) → IsLine line parts members
-    → IsThere IsText (first_named (codes "id") members)
-    → IsTrue has ↔ IfSome choice.types (λ types. HasType types (object members)))
+module _ (choice : Choice) (k : Triple) (bytes : List ℕ) (there : PlacedObject) (vertices : Vertices)
+    (has chosen : Bool) (found : BecomeOf choice.area k there vertices)
+    (typed : IsThere IsText (first_named (codes "id") (members_of there))
+    → IsTrue has ↔ IfSome choice.types (λ types. HasType types (object_of there)))
     (selects : (value : Tree) (ps : List Triple) → IsTrue has ↔ IfSome choice.types (λ types. HasType types value)
     → AreKnown choice.area ps vertices
     → IsTrue chosen ↔ IsChosen choice (record { value = value; vertices = ps }))
-    (is : SpellsObject bytes line parts) where
-  abbrev of_line : IsLine line parts is.0
-  of_line = line_of bytes line parts is
-
+    (is : SpellsThere bytes there) where
   abbrev feature : FeatureValue
-  feature = record { value = object is.0; vertices = found.ps }
+  feature = record { value = object_of there; vertices = found.ps }
 
   spells : SpellsMoved k bytes (moved feature k)
-  spells = (feature, (is.1, is.2, (found.placed is.0 of_line).0), found.range, refl)
+  spells = (feature, (is.0, is.1, found.is), found.range, refl)
 
   wanted : IsTrue chosen ↔ IsChosen choice (moved feature k)
   wanted =
       let vertices = moved_vertices found.ps k in
-      selects (moved feature k).value vertices (moved_types choice.types has (vertices_tree vertices) is.0
-      (typed is.0 is.2 of_line (found.placed is.0 of_line).0.0.1)) found.known
+      selects (moved feature k).value vertices (moved_types choice.types has (vertices_tree vertices) (members_of there)
+      (typed found.is.0.1)) found.known
 
-  pub chosen_text : IsTrue chosen → GivesFeature (IsChosen choice) k bytes (Some (text_with vertices line))
+  pub chosen_text : IsTrue chosen → GivesFeature (IsChosen choice) k bytes (Some (text_with vertices there.text))
   chosen_text chosen_is = (
     moved feature k,
     spells,
-    (wanted.0 chosen_is, found.text ∙ sym ((found.placed is.0 of_line).1 (vertices_tree (moved_vertices found.ps k)))),
+    (wanted.0 chosen_is, found.text ∙ sym (found.placed (vertices_tree (moved_vertices found.ps k)))),
   )
 
   pub chosen_none : chosen ≡ false → GivesFeature (IsChosen choice) k bytes None

@@ -1,31 +1,43 @@
 -- The type of a feature that is found on the compact text of its line.
-use Rattle.std.proofs.Common.{◌≡◌, ◌∙◌, ◌++◌, ◌<◌, ◌↔◌, ℕ, sym, ap, subst, List, [], ◌∷◌, slice_range, Bool, Option, Some, None, Contains, codes, IsTrue, IfSome, IsUtf8, refl, length, get_or, unwrap_or, arith}
-use Rattle.city_json.specs.Bytes.{colon, quotation_mark}
+use Rattle.std.proofs.Common.{◌≡◌, ◌∙◌, ◌<◌, ◌↔◌, ℕ, sym, ap, subst, List, [], Bool, Option, Some, None, Contains, codes, IsTrue, IfSome, IsUtf8, refl, length, get_or, unwrap_or, arith}
+use Rattle.city_json.specs.Bytes.{quotation_mark}
 use Rattle.city_json.specs.Compact.{quoted, compact}
 use Rattle.city_json.specs.Members.{first_named, member_of}
 use Rattle.city_json.specs.Tree.{Tree, null, string, object, MemberTrees}
 use Rattle.city_json.specs.Writable.{IsWritable}
-use Rattle.city_json.specs.declared.compacting.places.MemberPlace.{MemberPlace}
-use Rattle.city_feature.proofs.QuickLines.{found_at}
 use Rattle.city_feature.proofs.features.StillFeature.{other_member}
 use Rattle.city_feature.specs.Changes.{with_member}
 use Rattle.city_feature.specs.Choice.{HasType}
-use Rattle.city_feature.specs.Quick.{IsLine}
-use Rattle.city_json.specs.Parts.{IsPartNamed}
 use Rattle.city_feature.specs.Shapes.{IsText, IsThere, member_in}
 use Rattle.city_json.specs.CompactTexts.{IsCompactOf}
 
 -- the text of a member that is a text
-pub text_there : (line : List ℕ) (parts : List MemberPlace) (all : MemberTrees) (name text : List ℕ) (part : MemberPlace)
-    → IsUtf8 name → IsLine line parts all → IsPartNamed line parts (quoted name ++ colon ∷ []) part
-    → first_named name all ≡ Some (string text) → IsUtf8 text × (slice_range line part.value part.end ≡ quoted text)
-text_there line parts all name text part utf8 is here says =
-    let found = found_at line parts all name part utf8 is here in
-    let same : found.value ≡ string text = some_same (sym found.is ∙ says) in
-    (subst IsWritable same found.writable, found.valued ∙ ap compact same)
+pub text_there : (members : MemberTrees) (name text found : List ℕ)
+    → (value : Tree) × (first_named name members ≡ Some value) × IsCompactOf found value
+    → first_named name members ≡ Some (string text) → IsUtf8 text × (found ≡ quoted text)
+text_there members name text found (value, is, of) says =
+    let same : value ≡ string text = some_same (sym is ∙ says) in
+    (subst IsWritable same of.writable, of.is ∙ ap compact same)
   where
     some_same : {a b : Tree} → Some a ≡ Some b → a ≡ b
     some_same same = cc
+
+-- the same where `null` stands for one that is not there
+pub text_or_there : (members : MemberTrees) (name text found : List ℕ)
+    → IsCompactOf found (unwrap_or (first_named name members) null)
+    → first_named name members ≡ Some (string text) → IsUtf8 text × (found ≡ quoted text)
+text_or_there members name text found of says =
+    text_there members name text found (
+      string text,
+      says,
+      subst (λ o. IsCompactOf found (unwrap_or o null)) says of,
+    ) says
+
+-- a text that is there
+pub id_there : (o : Option Tree) → IsThere IsText o → (id : List ℕ) × (o ≡ Some (string id))
+id_there None there = absurd there
+id_there (Some (string id)) there = (id, refl)
+id_there (Some other) there = absurd there
 
 -- from a value to its member, and from there to a member of that
 pub in_members : (outer inner : List ℕ) (o : Option Tree)
@@ -72,11 +84,6 @@ typed_there names all text has of told there = (
   λ typed. back typed,
 )
   where
-    id_there : (o : Option Tree) → IsThere IsText o → (id : List ℕ) × (o ≡ Some (string id))
-    id_there None there = absurd there
-    id_there (Some (string id)) there = (id, refl)
-    id_there (Some other) there = absurd there
-
     said : (o : Option Tree) (name : List ℕ) → unwrap_or o null ≡ string name → o ≡ Some (string name)
     said None name same = cc
     said (Some v) name same = ap Some same

@@ -13,11 +13,10 @@ ghost use Rattle.city_feature.specs.Ended.{IsAppearanceEnd, appearance_alone};
 ghost use Rattle.city_feature.specs.FeatureLine.{GivesFeature};
 
 use crate::choices::Choice;
-use crate::features::members::is_absent;
 use crate::features::on_text::object_text;
 use byte_streams::Line;
 use city_grid::Shift;
-use city_json::{TextPlace, Workspace, compact_object, part_named};
+use city_json::{TextPlace, Workspace, compact_object};
 use std::alloc::Global;
 
 fn are_same(text: &[u8], other: &[u8]) -> bool
@@ -49,14 +48,14 @@ fn is_appearance_alone(alloc: Global, text: &[u8]) -> bool
     let Ok(Some(object)) = compact_object(alloc, text, &mut workspace) else {
         return false;
     };
-    if object.parts.len() != 1 {
+    let found = object.text(text, &workspace.line);
+    if found.parts().len() != 1 {
         return false;
     }
-    let line = object.place.bytes(text, &workspace.line);
-    let Some(_part) = part_named(line, &object.parts, b"\"appearance\":") else {
+    let Some(_value) = found.value(b"\"appearance\":") else {
         return false;
     };
-    are_same(text, line)
+    are_same(text, found.text())
 }
 
 /// Whether this may come after the vertices of a feature, up to its end: a comma, a member `appearance` and the brace that
@@ -90,19 +89,18 @@ fn closed_text(
     let Ok(Some(object)) = compact_object(alloc, line, &mut workspace) else {
         return None;
     };
-    let found = object.place.bytes(line, &workspace.line);
-    if !are_same(line, found) || !is_absent(found, &object.parts, b"\"appearance\":") {
+    let found = object.text(line, &workspace.line);
+    if !are_same(line, found.text()) {
         return None;
     }
-    object_text(
-        alloc,
-        line,
-        &object,
-        shift,
-        choice,
-        &mut workspace.line,
-        text,
-    )
+    if let Some(_value) = found.value(b"\"appearance\":") {
+        return None;
+    }
+    let compact = &mut workspace.line;
+    let Ok(given) = object_text(alloc, line, &object, shift, choice, compact, text) else {
+        return None;
+    };
+    Some(given)
 }
 
 /// Makes of a feature's own part the text of an object.

@@ -1,15 +1,17 @@
 //! Why the vertices of a feature are refused, found in their compact text.
-ghost use Rattle.std.specs.Prelude.{◌≤◌, length, IfOk, IfErr, IfNone, IfSome, IsTrue};
-ghost use Rattle.city_json.specs.Tree.{ItemTrees, Tree, array};
+ghost use Rattle.std.specs.Prelude.{◌≡◌, ◌≤◌, length, All, IfOk, IfErr, IfNone, IfSome, IsTrue};
+ghost use Rattle.city_json.specs.Tree.{ItemTrees, Tree, array, items_tree, tree};
 ghost use Rattle.city_grid.specs.Axes.{IsInRange};
 ghost use Rattle.city_grid.specs.Vertex.{IsVertex, RefusesVertex};
-ghost use Rattle.city_feature.specs.Faults.{AreThreeNumbers, IsNoNumberBefore, IsNumberBefore};
+ghost use Rattle.city_feature.specs.Faults.{AreThreeNumbers, IsArrayText, IsNoNumberBefore, IsNumberBefore, RefusesVertices};
 ghost use Rattle.city_feature.specs.Feature.{RefusesFirst};
+ghost use Rattle.city_feature.specs.Quick.{SpellsVertices};
 ghost use Rattle.city_json.specs.CompactTexts.{IsCompactOf};
 
+use crate::features::reader::read_vertices;
 use byte_streams::Fault;
 use city_grid::{Vertex, byte_is, spelled_vertex_at, vertex};
-use city_json::{read, value_end};
+use city_json::{Json, read, value_end};
 use std::alloc::Global;
 
 /// Where the next item begins after the number at `at` and this byte after it; `None`: they do not stand there.
@@ -97,4 +99,34 @@ pub fn vertices_fault(alloc: Global, text: &[u8]) -> Option<Fault>
         }
         at = end + 1;
     }
+}
+
+/// The items of a value, where it is an array.
+fn items_of(value: &Json) -> Option<&[Json]>
+    ensures some { IfSome result (λ items. tree value.now ≡ array (items_tree items.now)) }
+    ensures none { IfNone result ((items : ItemTrees) → ¬ (tree value.now ≡ array items)) }
+{
+    match value {
+        Json::List(items) => Some(items),
+        Json::Null | Json::Bool(_) | Json::Num(_) | Json::Text(_) | Json::Map(_) => None,
+    }
+}
+
+/// The vertices of the array whose compact text this is, where [`vertices_of`](super::texts::vertices_of) is silent: the
+/// fault of the first that is at fault is told with no value held; else they are those of the array's value.
+#[inline(never)]
+pub(super) fn told_vertices(alloc: Global, text: &[u8]) -> Result<Vec<Vertex>, Fault>
+    requires { IsArrayText text.now }
+    ensures spelled { IfOk result (λ vertices. SpellsVertices text.now vertices.items) }
+    ensures range { IfOk result (λ vertices. All IsInRange vertices.items) }
+    ensures refused { IfErr result (λ fault. RefusesVertices fault text.now) }
+{
+    if let Some(fault) = vertices_fault(alloc, text) {
+        return Err(fault);
+    }
+    let json = read(alloc, text)?;
+    let Some(items) = items_of(&json) else {
+        unreachable!();
+    };
+    read_vertices(alloc, items)
 }

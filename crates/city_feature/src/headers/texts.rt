@@ -6,7 +6,7 @@ ghost use Rattle.city_feature.specs.Header.{HoldsCity};
 ghost use Rattle.city_feature.specs.Shapes.{IsFilledArray, IsFilledObject};
 ghost use Rattle.city_json.specs.CompactTexts.{IsCompactOf};
 
-use crate::features::line_faults::{is_array, is_object};
+use crate::features::shape::{is_array, is_object};
 use city_json::ObjectText;
 
 /// Whether the value whose compact text this is is an object with a member.

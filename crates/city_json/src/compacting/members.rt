@@ -1,15 +1,16 @@
 //! Where the members of an object lie in its compact text, of one that stands in front of other bytes, too.
 //!
 //! As the ends of values, this knows that the text is compact, and checks nothing of it.
-ghost use Rattle.std.specs.Prelude.{◌≡◌, ◌++◌, ◌∷◌, [], ◌+◌, ◌<◌, ◌≤◌, length, drop, slice_range, IfSome, OnSome};
+ghost use Rattle.std.specs.Prelude.{◌≡◌, ◌++◌, ◌∷◌, [], ◌+◌, ◌<◌, ◌≤◌, length, drop, slice_range, IfNone, IfOk, IfSome, OnSome};
 ghost use Rattle.city_json.specs.CompactEnds.{LeavesString, LeavesValue};
-ghost use Rattle.city_json.specs.CompactMembers.{HasParts, LeavesMember};
-ghost use Rattle.city_json.specs.FrontMembers.{EndsAfter, HasFrontParts, IsValuePlace};
+ghost use Rattle.city_json.specs.CompactMembers.{HasNoMember, HasNoString, HasNoValue, HasParts, LeavesMember};
+ghost use Rattle.city_json.specs.CompactTexts.{IsCompactOf};
+ghost use Rattle.city_json.specs.FrontMembers.{EndsAfter, HasFrontParts, HasNoObject, IsValuePlace};
+ghost use Rattle.city_json.specs.Tree.{MemberTrees, object};
 
 use super::ends::{string_end, value_end};
-use super::places::{MemberPlace, is_between, no_parts};
-use byte_streams::push;
-use std::alloc::Global;
+use super::places::{COMMON_PARTS, MemberPlace, is_between};
+use std::alloc::{AllocError, Global};
 
 /// The members of an object, and where it ends.
 #[derive(Drop)]
@@ -25,6 +26,7 @@ pub fn colon_after(text: &[u8], at: usize) -> Option<usize>
     ensures onward { IfSome result (λ colon. at < colon) }
     ensures within { IfSome result (λ colon. colon < length text.now) }
     ensures is { IfSome result (λ colon. LeavesString (drop (at + 1) text.now) (drop colon text.now)) }
+    ensures none { IfNone result (at < length text.now → HasNoString (drop (at + 1) text.now)) }
 {
     if at >= text.len() {
         return None;
@@ -45,6 +47,7 @@ fn member_from(text: &[u8], at: usize, colon: usize) -> Option<MemberPlace>
     ensures onward { IfSome result (λ part. at < part.end) }
     ensures within { IfSome result (λ part. part.end < length text.now) }
     ensures is { IfSome result (λ part. LeavesMember at part (drop at text.now) (drop part.end text.now)) }
+    ensures none { IfNone result (HasNoValue (drop (colon + 1) text.now)) }
 {
     let end = value_end(text, colon + 1);
     if end == text.len() {
@@ -63,48 +66,57 @@ fn member_at(text: &[u8], at: usize) -> Option<MemberPlace>
     ensures onward { IfSome result (λ part. at < part.end) }
     ensures within { IfSome result (λ part. part.end < length text.now) }
     ensures is { IfSome result (λ part. LeavesMember at part (drop at text.now) (drop part.end text.now)) }
+    ensures none { IfNone result (HasNoMember (drop at text.now)) }
 {
     let colon = colon_after(text, at)?;
     member_from(text, at, colon)
 }
 
-/// The members of the object that stands in front.
-fn front_members(alloc: Global, text: &[u8]) -> Option<PlacedMembers>
-    ensures within { IfSome result (λ found. found.end ≤ length text.now) }
-    ensures is { IfSome result (λ found. HasFrontParts text.now found.parts.items found.end) }
+/// The members of the object that stands in front, in compact text; none where none does.
+fn front_members(alloc: Global, text: &[u8]) -> Result<Option<PlacedMembers>, AllocError>
+    ensures within { IfOk result (λ found. IfSome found (λ found. found.end ≤ length text.now)) }
+    ensures is { IfOk result (λ found. IfSome found (λ found. HasFrontParts text.now found.parts.items found.end)) }
+    ensures none { IfOk result (λ found. IfNone found (HasNoObject text.now)) }
 {
     if text.len() < 2 {
-        return None;
+        return Ok(None);
     }
     if text[0] != b'{' {
-        return None;
+        return Ok(None);
     }
-    let mut parts = no_parts(alloc)?;
+    let mut parts = Vec::with_capacity(alloc, COMMON_PARTS)?;
     if text[1] == b'}' {
-        return Some(PlacedMembers { parts, end: 2 });
+        return Ok(Some(PlacedMembers { parts, end: 2 }));
     }
     let mut at = 1usize;
     'members: loop {
-        let part = member_at(text, at)?;
-        push(part, &mut parts)?;
+        let Some(part) = member_at(text, at) else {
+            return Ok(None);
+        };
+        parts.push(part)?;
         if text[part.end] == b'}' {
-            return Some(PlacedMembers {
+            return Ok(Some(PlacedMembers {
                 parts,
                 end: part.end + 1,
-            });
+            }));
         }
         at = part.end + 1;
     }
 }
 
-/// Where the members lie of the object whose compact text this is, in their order.
-///
-/// `None`: undecided, or out of memory.
-pub fn members_of_compact(alloc: Global, text: &[u8]) -> Option<Vec<MemberPlace>>
-    ensures { IfSome result (λ parts. HasParts text.now parts.items) }
+/// Where the members lie of the object whose compact text this is, in their order; none exactly where the value whose
+/// compact text this is is no object.
+pub fn members_of_compact(
+    alloc: Global,
+    text: &[u8],
+) -> Result<Option<Vec<MemberPlace>>, AllocError>
+    ensures some { IfOk result (λ parts. IfSome parts (λ parts. HasParts text.now parts.items)) }
+    ensures none { IfOk result (λ parts. IfNone parts ((members : MemberTrees) → ¬ IsCompactOf text.now (object members))) }
 {
-    let found = front_members(alloc, text)?;
-    Some(found.parts)
+    let Some(found) = front_members(alloc, text)? else {
+        return Ok(None);
+    };
+    Ok(Some(found.parts))
 }
 
 /// The members of the object that begins at `at`.
@@ -115,7 +127,9 @@ pub fn members_at(alloc: Global, text: &[u8], at: usize) -> Option<PlacedMembers
     ensures leaves { IfSome result (λ found. LeavesValue 128 (drop at text.now) (drop found.end text.now)) }
     ensures parts { IfSome result (λ found. HasParts (slice_range text.now at found.end) found.parts.items) }
 {
-    let found = front_members(alloc, &text[at..])?;
+    let Ok(Some(found)) = front_members(alloc, &text[at..]) else {
+        return None;
+    };
     Some(PlacedMembers {
         parts: found.parts,
         end: at + found.end,

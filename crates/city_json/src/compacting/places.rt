@@ -1,8 +1,6 @@
 //! Places in a compact text: where members of an object lie, and which texts stand there.
-ghost use Rattle.std.specs.Prelude.{◌≡◌, ◌<◌, ◌≤◌, [], length, slice_range, IfNone, IfSome, IsTrue};
+ghost use Rattle.std.specs.Prelude.{◌≡◌, ◌<◌, ◌≤◌, length, slice_range, IfNone, IfSome, IsTrue};
 ghost use Rattle.city_json.specs.Parts.{IsPartNamed, NotNamed};
-
-use std::alloc::Global;
 
 /// Most objects, and most features, have no more members.
 pub(super) const COMMON_PARTS: usize = 8;
@@ -79,11 +77,4 @@ pub fn part_named(text: &[u8], parts: &[MemberPlace], name: &[u8]) -> Option<Mem
     ensures { IfSome result (λ part. IsPartNamed text.now parts.now name.now part) }
 {
     place_named(text, parts, name)
-}
-
-/// No parts, with room for some.
-pub(super) fn no_parts(alloc: Global) -> Option<Vec<MemberPlace>>
-    ensures { IfSome result (λ parts. parts.items ≡ []) }
-{
-    Vec::with_capacity(alloc, COMMON_PARTS).ok()
 }

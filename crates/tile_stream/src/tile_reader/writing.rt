@@ -11,7 +11,7 @@ ghost use Rattle.tile_stream.specs.Unread.{has_failed, most_left};
 use crate::tile_reader::TileReader;
 use crate::writing::write_text;
 use byte_streams::{Fault, Line, MergeFault, Sink, Source};
-use city_feature::{Choice, feature_text_in};
+use city_feature::{Choice, feature_text};
 use city_grid::Shift;
 use city_json::TextPlace;
 use std::alloc::Global;
@@ -88,7 +88,7 @@ pub(crate) fn write_next<R: Source, W: Sink>(
         Err(at) => return Err(MergeFault::of_line(at.line, at.fault)),
     };
     let line = tile.lines.front(count);
-    let given = match feature_text_in(alloc, line, shift, choice, &mut tile.workspace, text) {
+    let given = match feature_text(alloc, line, shift, choice, &mut tile.workspace, text) {
         Ok(given) => given,
         Err(fault) => {
             let number = tile.lines.leave_line(count);

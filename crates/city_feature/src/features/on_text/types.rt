@@ -1,65 +1,72 @@
 //! The type of a feature, found on the compact text of its line.
-ghost use Rattle.std.specs.Prelude.{◌≡◌, ◌≤◌, ◌++◌, ◌∷◌, [], ◌↔◌, List, ℕ, length, take, Contains, Some, codes, unwrap_or, IsUtf8, IfSome, IsTrue};
+ghost use Rattle.std.specs.Prelude.{◌≡◌, ◌≤◌, ◌++◌, ◌∷◌, [], ◌↔◌, List, ℕ, length, slice_range, take, Contains, Some, codes, unwrap_or, IsUtf8, IfErr, IfOk, IfSome, IsTrue};
 ghost use Rattle.city_json.specs.Bytes.{colon, quotation_mark};
 ghost use Rattle.city_json.specs.Compact.{quoted};
-ghost use Rattle.city_json.specs.Fits.{Fits};
 ghost use Rattle.city_json.specs.Members.{first_named, member_of};
-ghost use Rattle.city_json.specs.Tree.{Tree, MemberTrees, null, object, string, tree};
+ghost use Rattle.city_json.specs.ObjectTexts.{members_of, object_of};
+ghost use Rattle.city_json.specs.Tree.{Tree, null, string, tree};
 ghost use Rattle.city_feature.specs.Choice.{HasType};
-ghost use Rattle.city_feature.specs.Quick.{AreLetters, IsLetter, IsLine};
+ghost use Rattle.city_feature.specs.Quick.{AreLetters, IsLetter};
 ghost use Rattle.city_feature.specs.Shapes.{IsText, IsThere, member_in};
 ghost use Rattle.city_json.specs.CompactTexts.{IsCompactOf};
 
 use crate::choices::types::Types;
-use crate::features::members::member_or;
-use byte_streams::Line;
+use byte_streams::{Fault, Line};
 use city_grid::byte_is;
-use city_json::{Json, MemberPlace, between, members_of_compact, part_named, read};
-use std::alloc::Global;
+use city_json::{Json, MemberPlace, ObjectText, members_of_compact, read};
+use std::alloc::{AllocError, Global};
+
+/// What stands in the part of a member after its name.
+fn value_in(text: &[u8], part: MemberPlace) -> &[u8]
+    requires ordered { part.value ≤ part.end }
+    requires within { part.end ≤ length text.now }
+    ensures { result.now ≡ slice_range text.now part.value part.end }
+{
+    &text[part.value..part.end]
+}
 
 /// The compact text of a member of the value whose compact text this is; that of `null`, where there is none. The name is
 /// given as it stands in the text, with its marks and its colon.
-fn member_text<'a>(alloc: Global, text: &'a [u8], name: &[u8]) -> Option<&'a [u8]>
-    ensures { IfSome result (λ found. (value : Tree) → IsCompactOf text.now value
+fn member_text<'a>(alloc: Global, text: &'a [u8], name: &[u8]) -> Result<&'a [u8], AllocError>
+    requires { (value : Tree) × IsCompactOf text.now value }
+    ensures { IfOk result (λ found. (value : Tree) → IsCompactOf text.now value
         → (named : List ℕ) → IsUtf8 named → name.now ≡ quoted named ++ colon ∷ []
         → IsCompactOf found.now (unwrap_or (member_of named value) null)) }
 {
-    if !byte_is(text, 0, b'{') {
-        return Some(b"null");
-    }
-    let parts = members_of_compact(alloc, text)?;
-    member_or(text, &parts, name, b"null")
+    let Some(parts) = members_of_compact(alloc, text)? else {
+        return Ok(b"null");
+    };
+    let Some(part) = ObjectText::new(text, &parts).part(name) else {
+        return Ok(b"null");
+    };
+    Ok(value_in(text, part))
 }
 
 /// The text that is the line's `id`, with its marks, and a colon after it.
-fn id_and_colon(alloc: Global, line: &[u8], parts: &[MemberPlace]) -> Option<Line>
-    ensures { IfSome result (λ name. (all : MemberTrees) → IsLine line.now parts.now all
-        → (id : List ℕ) → first_named (codes "id") all ≡ Some (string id)
+fn id_and_colon(alloc: Global, line: &ObjectText<'_>) -> Result<Line, AllocError>
+    ensures { IfOk result (λ name.
+        (id : List ℕ) → first_named (codes "id") (members_of line.now) ≡ Some (string id)
         → IsUtf8 id × (name ≡ quoted id ++ colon ∷ [])) }
 {
-    let part = part_named(line, parts, b"\"id\":")?;
-    let id = between(line, part.value, part.end)?;
     let mut name = Line::new(alloc);
-    let Ok(_) = name.append(id) else {
-        return None;
-    };
-    let Ok(_) = name.append(b":") else {
-        return None;
-    };
-    Some(name)
+    name.append(line.value_or(b"\"id\":", b"null"))?;
+    name.append(b":")?;
+    Ok(name)
 }
 
 /// The compact text of the member `type` of the city object that the line's `id` names; that of `null`, where there is
 /// none.
 #[inline(never)]
-fn type_text<'a>(alloc: Global, line: &'a [u8], parts: &[MemberPlace]) -> Option<&'a [u8]>
-    ensures { IfSome result (λ found. (all : MemberTrees) → Fits (object all) → IsLine line.now parts.now all
-        → (id : List ℕ) → first_named (codes "id") all ≡ Some (string id)
+fn type_text<'a>(alloc: Global, line: &ObjectText<'a>) -> Result<&'a [u8], AllocError>
+    requires { IsThere IsText (first_named (codes "id") (members_of line.now)) }
+    ensures { IfOk result (λ found. (id : List ℕ) → first_named (codes "id") (members_of line.now) ≡ Some (string id)
         → IsCompactOf found.now (unwrap_or
-        (member_in (codes "type") (member_in id (first_named (codes "CityObjects") all))) null)) }
+        (member_in (codes "type") (member_in id (first_named (codes "CityObjects") (members_of line.now)))) null)) }
 {
-    let id = id_and_colon(alloc, line, parts)?;
-    let objects = member_or(line, parts, b"\"CityObjects\":", b"null")?;
+    let id = id_and_colon(alloc, line)?;
+    let Some(objects) = line.value(b"\"CityObjects\":") else {
+        return Ok(b"null");
+    };
     let object = member_text(alloc, objects, id.items())?;
     member_text(alloc, object, b"\"type\":")
 }
@@ -108,16 +115,14 @@ fn letters_of(text: &[u8]) -> Option<&[u8]>
 }
 
 /// The text of that type, where the city object stands first among the objects and its type first in it.
-fn first_type<'a>(line: &'a [u8], parts: &[MemberPlace]) -> Option<&'a [u8]>
-    ensures { IfSome result (λ name. (all : MemberTrees) → IsLine line.now parts.now all
-        → (id : List ℕ) → first_named (codes "id") all ≡ Some (string id)
-        → member_in (codes "type") (member_in id (first_named (codes "CityObjects") all))
+fn first_type<'a>(line: &ObjectText<'a>) -> Option<&'a [u8]>
+    ensures { IfSome result (λ name.
+        (id : List ℕ) → first_named (codes "id") (members_of line.now) ≡ Some (string id)
+        → member_in (codes "type") (member_in id (first_named (codes "CityObjects") (members_of line.now)))
         ≡ Some (string name.now)) }
 {
-    let id_part = part_named(line, parts, b"\"id\":")?;
-    let id = between(line, id_part.value, id_part.end)?;
-    let objects_part = part_named(line, parts, b"\"CityObjects\":")?;
-    let objects = between(line, objects_part.value, objects_part.end)?;
+    let id = line.value(b"\"id\":")?;
+    let objects = line.value(b"\"CityObjects\":")?;
     let first = after_front(objects, b"{")?;
     let object = after_front(first, id)?;
     let value = after_front(object, b":{\"type\":\"")?;
@@ -134,53 +139,52 @@ fn is_one_of(types: &Types, name: &[u8]) -> bool
         .any(|each| each.as_str().as_bytes() == name)
 }
 
-/// Whether a text is one of the types. `None`: the value is no text.
-fn is_text_of(types: &Types, value: &Json) -> Option<bool>
-    ensures { IfSome result (λ is. (name : List ℕ) × (tree value.now ≡ string name)
-        × (IsTrue is ↔ Contains types.now name)) }
+/// Whether a value is a text that is one of the types.
+fn is_text_of(types: &Types, value: &Json) -> bool
+    ensures { IsTrue result ↔ ((name : List ℕ) × (tree value.now ≡ string name) × Contains types.now name) }
 {
     let Json::Text(name) = value else {
-        return None;
+        return false;
     };
-    Some(is_one_of(types, name.as_str().as_bytes()))
+    is_one_of(types, name.as_str().as_bytes())
 }
 
-/// Whether the value whose compact text this is is one of the types; one that is no text is none. `None`: undecided.
+/// Whether the value whose compact text this is is one of the types; one that is no text is none. The only fault is
+/// [`Fault::Memory`].
 #[inline(never)]
-fn spells_one_of(alloc: Global, types: &Types, text: &[u8]) -> Option<bool>
-    ensures { IfSome result (λ is. (value : Tree) → IsCompactOf text.now value
+fn spells_one_of(alloc: Global, types: &Types, text: &[u8]) -> Result<bool, Fault>
+    requires { (value : Tree) × IsCompactOf text.now value }
+    ensures ok { IfOk result (λ is. (value : Tree) → IsCompactOf text.now value
         → (IsTrue is ↔ ((name : List ℕ) × (value ≡ string name) × Contains types.now name))) }
+    ensures fault { IfErr result (λ fault. fault ≡ Fault.Memory) }
 {
     if !byte_is(text, 0, b'"') {
-        return Some(false);
+        return Ok(false);
     }
     if let Some(name) = letters_of(&text[1..]) {
-        return Some(is_one_of(types, name));
+        return Ok(is_one_of(types, name));
     }
-    let Ok(value) = read(alloc, text) else {
-        return None;
-    };
-    is_text_of(types, &value)
+    let value = read(alloc, text)?;
+    Ok(is_text_of(types, &value))
 }
 
-/// Whether the feature of a line has one of the types, where there are any. `None`: undecided, which a line that fits is
-/// only where memory ran out.
+/// Whether the feature of a line has one of the types, where there are any. The only fault is [`Fault::Memory`].
 pub fn has_given_type(
     alloc: Global,
     types: &Option<Types>,
-    line: &[u8],
-    parts: &[MemberPlace],
-) -> Option<bool>
-    ensures { IfSome result (λ has. (all : MemberTrees) → Fits (object all) → IsLine line.now parts.now all
-        → IsThere IsText (first_named (codes "id") all)
-        → (IsTrue has ↔ IfSome types.now (λ types. HasType types (object all)))) }
+    line: &ObjectText<'_>,
+) -> Result<bool, Fault>
+    requires { IsThere IsText (first_named (codes "id") (members_of line.now)) }
+    ensures ok { IfOk result (λ has.
+        (IsTrue has ↔ IfSome types.now (λ types. HasType types (object_of line.now)))) }
+    ensures fault { IfErr result (λ fault. fault ≡ Fault.Memory) }
 {
     let Some(types) = types else {
-        return Some(true);
+        return Ok(true);
     };
-    if let Some(name) = first_type(line, parts) {
-        return Some(is_one_of(types, name));
+    if let Some(name) = first_type(line) {
+        return Ok(is_one_of(types, name));
     }
-    let text = type_text(alloc, line, parts)?;
+    let text = type_text(alloc, line)?;
     spells_one_of(alloc, types, text)
 }

@@ -1,4 +1,5 @@
-use Rattle.std.proofs.Common.{length, refl}
+use Rattle.std.proofs.Common.{IfSome, length, refl, slice_range, subst}
+use Rattle.city_json.specs.FrontMembers.{HasFrontParts}
 use Rattle.city_json.proofs.FrontMembers.{object_has_parts, object_leaves}
 use Rattle.city_json.proofs.Places.{slice_back}
 use Rattle.city_json.proofs.compacting.members.members_at.Goals as goal
@@ -7,10 +8,14 @@ pub returns-clause-leaves : goal.returns-clause-leaves
 returns-clause-leaves c =
     let text = c.args.text.now in
     object_leaves text _ _ c.args.at _ (slice_back text c.args.at (length text) refl c.requires)
-    c.in_ok-found.ensures.is
+    (subst (λ found. IfSome found (λ found.
+    HasFrontParts (slice_range text c.args.at (length text)) found.parts.items found.end))
+    c.in-Ok-Some.field-0-is c.in-Ok-Some.ensures.is)
 
 pub returns-clause-parts : goal.returns-clause-parts
 returns-clause-parts c =
     let text = c.args.text.now in
     object_has_parts text _ _ c.args.at _ (slice_back text c.args.at (length text) refl c.requires)
-    c.in_ok-found.ensures.is
+    (subst (λ found. IfSome found (λ found.
+    HasFrontParts (slice_range text c.args.at (length text)) found.parts.items found.end))
+    c.in-Ok-Some.field-0-is c.in-Ok-Some.ensures.is)

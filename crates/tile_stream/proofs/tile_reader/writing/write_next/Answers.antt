@@ -27,23 +27,23 @@ returns-in-Err-clause-some g c =
     lines_come g.R.Source.gives (IsChosen c.args.choice.now) c.args.shift g.met.R.Source.gives_something
     c.next_len.new.self c.next_len.ensures.ended
 
-pub returns-in-Err-feature_text_in-clause-refused : goal.returns-in-Err-feature_text_in-clause-refused
-returns-in-Err-feature_text_in-clause-refused g c =
+pub returns-in-Err-feature_text-clause-refused : goal.returns-in-Err-feature_text-clause-refused
+returns-in-Err-feature_text-clause-refused g c =
     let lines = c.tile.inside.lines in
     let next = rw c.in-Ok-Some.field-0-is at c.in-Ok-Some.ensures.line in
     let bytes = take c.in-Ok-Some.count c.next_len.new.self.ahead.held in
     let left = c.leave_line-number.ensures in
-    let refused = rw c.front-line.ensures at c.in-Err-feature_text_in.ensures.refusal in
-    let fault = c.in-Err-feature_text_in.fault in
+    let refused = rw c.front-line.ensures at c.in-Err-feature_text.ensures.refusal in
+    let fault = c.in-Err-feature_text.fault in
     let some = something_left g.R.Source.gives g.met.R.Source.gives_something c.leave_line-number.new.self left.ended in
-    rw (← c.tile.view_is, c.of_line-in-Err-feature_text_in.ensures) (line_refused
+    rw (← c.tile.view_is, c.of_line-in-Err-feature_text.ensures) (line_refused
     (LinesMayComeTo g.R.Source.gives (IsChosen c.args.choice.now) c.args.shift lines) c.leave_line-number.result
     (g.W.Sink.taken c.args.output.now) fault (no_failed_write c.args.shift bytes fault refused)
     (refusal_comes g.R.Source.gives (IsChosen c.args.choice.now) c.args.shift lines c.leave_line-number.new.self
     c.leave_line-number.result bytes (left.line lines next) some.0 some.1 fault refused))
 
-pub returns-in-Err-feature_text_in-clause-some : goal.returns-in-Err-feature_text_in-clause-some
-returns-in-Err-feature_text_in-clause-some g c =
+pub returns-in-Err-feature_text-clause-some : goal.returns-in-Err-feature_text-clause-some
+returns-in-Err-feature_text-clause-some g c =
     lines_come g.R.Source.gives (IsChosen c.args.choice.now) c.args.shift g.met.R.Source.gives_something
     c.leave_line-number.new.self c.leave_line-number.ensures.ended
 
@@ -52,7 +52,7 @@ returns-in-Ok-written-clause-step g c =
     let lines = c.tile.inside.lines in
     let next = rw c.in-Ok-Some.field-0-is at c.in-Ok-Some.ensures.line in
     let bytes = take c.in-Ok-Some.count c.next_len.new.self.ahead.held in
-    let given = option_map (λ place. placed_text place bytes c.feature_text_in.new.text) c.in-Ok.given in
+    let given = option_map (λ place. placed_text place bytes c.feature_text.new.text) c.in-Ok.given in
     let feature = rw c.front-line.ensures at c.in-Ok.ensures.ok in
     let wrote = rw c.front-line.ensures at c.in-Ok-written.ensures.all in
     let comes = LinesMayComeTo g.R.Source.gives (IsChosen c.args.choice.now) c.args.shift in
@@ -72,7 +72,7 @@ returns-in-Err-written-clause-refused g c =
     let next = rw c.in-Ok-Some.field-0-is at c.in-Ok-Some.ensures.line in
     let bytes = take c.in-Ok-Some.count c.next_len.new.self.ahead.held in
     let left = c.leave_line.ensures in
-    let given = option_map (λ place. placed_text place bytes c.feature_text_in.new.text) c.in-Ok.given in
+    let given = option_map (λ place. placed_text place bytes c.feature_text.new.text) c.in-Ok.given in
     let feature = rw c.front-line.ensures at c.in-Ok.ensures.ok in
     let begun = rw c.front-line.ensures at c.in-Err-written.ensures.some in
     let comes = LinesMayComeTo g.R.Source.gives (IsChosen c.args.choice.now) c.args.shift in

@@ -1,7 +1,7 @@
 use Rattle.std.proofs.Common.{◌∙◌, sym}
 use Rattle.std.proofs.lemmas.Slice.Eq.{bytes_eq-Decides}
 use Rattle.city_feature.proofs.features.LineFaults.{is_type_here}
-use Rattle.city_feature.proofs.features.line_faults.is_feature_type.Goals as goal
+use Rattle.city_feature.proofs.features.shape.is_feature_type.Goals as goal
 
 pub returns : goal.returns
 returns c = λ value of.
