@@ -1,14 +1,33 @@
 -- A document that is read again from its compact text, and cut by its value.
-use Rattle.std.proofs.Common.{◌≡◌, List, ℕ, Result, Ok, Err, MatchResult, IfOk, IfErr, OnOk, inr, subst}
+use Rattle.std.proofs.Common.{◌≡◌, ◌<◌, ◌^◌, ◌⊎◌, ◌∷◌, [], codes, length, List, ℕ, Result, Ok, Err, MatchResult, IfOk, IfErr, OnOk, inr, subst, sym}
 use Rattle.byte_streams.specs.declared.fault.Fault.{Fault}
 use Rattle.byte_streams.specs.declared.fault.Fault.TheVariants.{Memory}
+use Rattle.city_json.proofs.CompactLaws.{compact-spells}
+use Rattle.city_json.specs.Bytes.{close_brace}
+use Rattle.city_json.specs.CompactTexts.{IsCompactOf}
+use Rattle.city_json.specs.Grammar.{Spells}
+use Rattle.city_json.specs.Members.{member_of}
 use Rattle.city_json.specs.Tree.{Tree, tree}
 use Rattle.city_json.specs.declared.json.Json.{Json}
 use Rattle.city_feature.specs.Feature.{FeatureValue}
 use Rattle.city_feature.specs.Header.{HeaderValue}
 use Rattle.city_cut.specs.Cut.{IsCut, IsCuttable, RefusesCut}
 use Rattle.city_cut.specs.CutTexts.{CutsInto, RefusesRead}
+use Rattle.city_cut.specs.FeatureText.{tail_text}
+use Rattle.city_cut.specs.HeldTexts.{AreOwnParts, HeldTexts, texts_in}
 use Rattle.city_cut.specs.Lines.{texts_of}
+use Rattle.city_cut.proofs.SpelledFeatures.{own_parts}
+
+-- what is cut of a document has its own parts
+pub own_of : (text : List ℕ) (document : Tree) → IsCompactOf text document → length text < 2 ^ 64
+    → (header : HeaderValue) (features : List FeatureValue) (held : HeldTexts) → IsCut document header features
+    → texts_in held ≡ texts_of features
+    → (held.common ≡ tail_text (member_of (codes "appearance") document)) ⊎ (held.common ≡ close_brace ∷ [])
+    → AreOwnParts held
+own_of text document of short header features held cut texts ends =
+    own_parts text document header features held short
+    (subst (λ l. Spells l document) (sym of.is) (compact-spells document of.writable)) (of.within, of.distinct) cut texts
+    ends
 
 -- a value that is the document was cut
 module _ {X : Type 0} (found document : Tree) (same : found ≡ document) where
@@ -19,6 +38,16 @@ module _ {X : Type 0} (found document : Tree) (same : found ≡ document) where
   again_given (Ok cut) header texts made cuttable =
       subst (λ (t : Tree). CutsInto t (header cut) (texts cut)) same (cuttable, made.0, made.1, made.2)
   again_given (Err fault) header texts made cuttable = tt
+
+  pub again_own : (text : List ℕ) → IsCompactOf text document → length text < 2 ^ 64 → (answer : Result X Fault)
+      (header : X → HeaderValue) (held : X → HeldTexts)
+      → IfOk answer (λ cut. (features : List FeatureValue) × IsCut found (header cut) features
+      × (texts_in (held cut) ≡ texts_of features)) → IfOk answer (λ cut. (held cut).common ≡ close_brace ∷ [])
+      → IfOk answer (λ cut. AreOwnParts (held cut))
+  again_own text of short (Ok cut) header held made ends =
+      own_of text document of short (header cut) made.0 (held cut)
+      (subst (λ t. IsCut t (header cut) made.0) same made.1) made.2 (inr ends)
+  again_own text of short (Err fault) header held made ends = tt
 
   pub again_refused : (answer : Result X Fault) → IfErr answer (λ fault. RefusesCut fault found)
       → IfErr answer (λ fault. RefusesRead fault document)

@@ -13,7 +13,7 @@ use Rattle.city_feature.specs.Shapes.{IsArray, IsText}
 use Rattle.city_json.specs.CompactTexts.{IsCompactOf}
 use Rattle.city_cut.specs.CityObjects.{AllTexts, AreTexts}
 use Rattle.city_cut.proofs.CopiedTexts.{not_both}
-use Rattle.city_cut.proofs.QuickNames.{TextTaken, text_said, text_taken}
+use Rattle.city_cut.proofs.TextNames.{TextTaken, text_said, text_taken}
 
 -- ---- of a value that is no array, and of one that is
 pub no_texts : (text : List ℕ) (is : Bool) → ((value : Tree) → IsCompactOf text value → IsTrue is ↔ IsArray value)

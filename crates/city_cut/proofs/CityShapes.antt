@@ -11,8 +11,8 @@ use Rattle.city_cut.specs.Chosen.{named_at}
 use Rattle.city_cut.specs.CityObjects.{AreCityObjects, AreTexts, IsCityObject}
 use Rattle.city_cut.specs.Faults.{HoldsCityObjects}
 use Rattle.city_cut.proofs.CopiedTexts.{not_both}
-use Rattle.city_cut.proofs.QuickDocuments.{listed_there}
-use Rattle.city_cut.proofs.QuickFeatures.{as_many_parts, value_there}
+use Rattle.city_cut.proofs.TextDocuments.{listed_there}
+use Rattle.city_cut.proofs.TextFeatures.{as_many_parts, value_there}
 
 -- ---- one city object
 texts_or : (there : Option Tree) → AreTexts (unwrap_or there (array no_items)) ↔ WhereThere AreTexts there

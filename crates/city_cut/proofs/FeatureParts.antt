@@ -1,5 +1,5 @@
 -- A feature put together is the one that its family begins.
-use Rattle.std.proofs.Common.{◌≡◌, ◌<◌, inl, inr, ℕ, zero, suc, ℤ, List, [], ◌∷◌, Option, Some, length, map, sym, refl, ap, subst, ◌∙◌, arith}
+use Rattle.std.proofs.Common.{◌≡◌, ◌<◌, ℕ, zero, suc, List, [], ◌∷◌, Option, Some, length, map, sym, refl, ap, subst, ◌∙◌, arith}
 use Rattle.std.proofs.Math.ListN.{get_or-map}
 use Rattle.std.proofs.lemmas.List.{get_or_default, length-map}
 use Rattle.std.proofs.lemmas.List.Elements.{All-from_recursion}
@@ -7,14 +7,15 @@ use Rattle.std.specs.List.{All, AllByRecursion, Contains}
 use Rattle.std.specs.Prelude.{codes}
 use Rattle.city_json.specs.Fits.{AreDistinctMembers, IsDistinct}
 use Rattle.city_json.specs.Members.{member_of, names}
-use Rattle.city_json.specs.Tree.{Tree, null, array, object, ItemTrees, no_items, item, item_trees, member_trees, members_tree, named_tree, tree}
+use Rattle.city_json.specs.Tree.{Tree, null, object, item_trees, member_trees, members_tree, named_tree, tree}
 use Rattle.byte_streams.specs.declared.fault.Fault.{Fault}
-use Rattle.byte_streams.specs.declared.fault.Fault.TheVariants.{NotAFeature, VertexShape, VertexNotInteger, VertexRange, Memory}
+use Rattle.byte_streams.specs.declared.fault.Fault.TheVariants.{Memory}
 use Rattle.city_json.specs.declared.json.Json.{Json}
 use Rattle.city_json.specs.declared.json.Member.{Member}
-use Rattle.city_grid.specs.Axes.{Each, IsInRange, Texts, Triple, three}
-use Rattle.city_grid.specs.Vertex.{IsInteger, IsVertex, RefusesVertex, vertex_tree}
-use Rattle.city_feature.specs.Feature.{AreReadAgain, AreVertices, HasFeatureShape, IsFeature, RefusesFeature, RefusesFirst, vertices_tree}
+use Rattle.city_grid.specs.Axes.{Triple}
+use Rattle.city_grid.specs.Vertex.{vertex_tree}
+use Rattle.city_feature.proofs.OneFeature.{feature_taken, vertices_of_value}
+use Rattle.city_feature.specs.Feature.{AreReadAgain, HasFeatureShape, IsFeature, RefusesFeature, vertices_tree}
 use Rattle.city_feature.specs.Values.{FeatureJson, feature_value}
 use Rattle.city_cut.specs.Assembled.{IsAssembled}
 use Rattle.city_cut.specs.Chosen.{named_tree_at, named_at}
@@ -26,69 +27,7 @@ use Rattle.city_cut.specs.Points.{SamePoints}
 use Rattle.city_cut.proofs.Choosing.{rises_from, those}
 use Rattle.city_cut.proofs.Kinship.{names_pairs}
 
--- ---- a value is one vertex at most
-same_integer : (text : List ℕ) (x y : ℤ) → IsInteger text x → IsInteger text y → x ≡ y
-same_integer text x y is_x is_y = is_x.3 ∙ sym is_y.3
-
-same_x : (a b : Texts) → three a ≡ three b → a.x ≡ b.x
-same_x a b e = cc
-
-same_y : (a b : Texts) → three a ≡ three b → a.y ≡ b.y
-same_y a b e = cc
-
-same_z : (a b : Texts) → three a ≡ three b → a.z ≡ b.z
-same_z a b e = cc
-
-same_texts : (a b : Texts) → three a ≡ three b → a ≡ b
-same_texts a b e =
-    let texts : List ℕ → List ℕ → List ℕ → Texts = λ x y z. record { x = x; y = y; z = z } in
-    ap (λ x. texts x a.y a.z) (same_x a b e) ∙ ap (λ y. texts b.x y a.z) (same_y a b e)
-    ∙ ap (λ z. texts b.x b.y z) (same_z a b e)
-
-same_triple : (p q : Triple) → p.x ≡ q.x → p.y ≡ q.y → p.z ≡ q.z → p ≡ q
-same_triple p q x y z =
-    let triple : ℤ → ℤ → ℤ → Triple = λ a b c. record { x = a; y = b; z = c } in
-    ap (λ a. triple a p.y p.z) x ∙ ap (λ b. triple q.x b p.z) y ∙ ap (λ c. triple q.x q.y c) z
-
-pub same_vertex : (value : Tree) (p q : Triple) → IsVertex value p → IsVertex value q → p ≡ q
-same_vertex value p q is_p is_q =
-    let texts : is_q.0 ≡ is_p.0 = same_texts is_q.0 is_p.0 (sym is_q.1 ∙ is_p.1) in
-    let each : Each IsInteger is_p.0 q = subst (λ t. Each IsInteger t q) texts is_q.2 in
-    same_triple p q (same_integer is_p.0.x p.x q.x is_p.2.0 each.0) (same_integer is_p.0.y p.y q.y is_p.2.1 each.1)
-    (same_integer is_p.0.z p.z q.z is_p.2.2 each.2)
-
-pub same_vertices : (items : ItemTrees) (ps qs : List Triple) → AreVertices items ps → AreVertices items qs → ps ≡ qs
-same_vertices no_items [] [] is_ps is_qs = refl
-same_vertices no_items [] (q ∷ qs) is_ps is_qs = absurd is_qs
-same_vertices no_items (p ∷ ps) qs is_ps is_qs = absurd is_ps
-same_vertices (item value others) [] qs is_ps is_qs = absurd is_ps
-same_vertices (item value others) (p ∷ ps) [] is_ps is_qs = absurd is_qs
-same_vertices (item value others) (p ∷ ps) (q ∷ qs) is_ps is_qs =
-    let first : p ≡ q = same_vertex value p q is_ps.0 is_qs.0 in
-    let rest : ps ≡ qs = same_vertices others ps qs is_ps.2 is_qs.2 in
-    cc
-
--- a vertex in range is not refused
-taken : (fault : Fault) (value : Tree) (p : Triple) → IsVertex value p → IsInRange p → RefusesVertex fault value → ⊥
-taken VertexShape value p is range refused = refused is.0 is.1
-taken VertexNotInteger value p is range refused =
-    let texts : is.0 ≡ refused.0 = same_texts is.0 refused.0 (sym is.1 ∙ refused.1) in
-    refused.2 p (subst (λ t. Each IsInteger t p) texts is.2)
-taken VertexRange value p is range refused =
-    refused.2 (subst IsInRange (same_vertex value p refused.0 is refused.1) range)
-taken other value p is range refused = absurd refused
-
-pub none_first : (fault : Fault) (items : ItemTrees) (ps : List Triple) → AreVertices items ps
-    → RefusesFirst fault items → ⊥
-none_first fault no_items ps are refused = absurd refused
-none_first fault (item value others) [] are refused = absurd are
-none_first fault (item value others) (p ∷ ps) are (inl here) = taken fault value p are.0 are.1 here
-none_first fault (item value others) (p ∷ ps) are (inr later) = none_first fault others ps are.2 later.3
-
 -- ---- the value of a feature
-pub same_array : (xs ys : ItemTrees) → Some (array xs) ≡ Some (array ys) → xs ≡ ys
-same_array xs ys e = cc
-
 module _ (json : Tree) (id : List ℕ) (objects : List (List ℕ × Tree)) (vertices : Tree) (appearance : Option Tree)
     (own : List Triple) (is : json ≡ feature_tree id objects vertices appearance)
     (written : vertices ≡ vertices_tree own) (again : AreReadAgain own) where
@@ -98,23 +37,14 @@ module _ (json : Tree) (id : List ℕ) (objects : List (List ℕ × Tree)) (vert
   shape : HasFeatureShape json
   shape = subst HasFeatureShape (sym (is ∙ ap (λ v. feature_tree id objects v appearance) written)) (refl, tt, tt, tt)
 
+  is_feature : IsFeature json own
+  is_feature = (shape, (item_trees (map vertex_tree own), at_vertices, again))
+
   pub own_vertices : (ps : List Triple) → IsFeature json ps → ps ≡ own
-  own_vertices ps feature =
-      let has = feature.1 in
-      let items : has.0 ≡ item_trees (map vertex_tree own) = same_array has.0 _ (sym has.1 ∙ at_vertices) in
-      same_vertices (item_trees (map vertex_tree own)) ps own (subst (λ t. AreVertices t ps) items has.2) again
+  own_vertices ps feature = vertices_of_value json ps own feature is_feature
 
   pub only_memory : (fault : Fault) → RefusesFeature fault json → fault ≡ Memory
-  only_memory Memory refused = refl
-  only_memory NotAFeature refused = absurd (refused shape)
-  only_memory VertexShape refused = absurd (none_first VertexShape _ own again
-      (subst (RefusesFirst VertexShape) (same_array refused.0 _ (sym refused.2 ∙ at_vertices)) refused.3))
-  only_memory VertexNotInteger refused = absurd
-      (none_first VertexNotInteger _ own again
-      (subst (RefusesFirst VertexNotInteger) (same_array refused.0 _ (sym refused.2 ∙ at_vertices)) refused.3))
-  only_memory VertexRange refused = absurd (none_first VertexRange _ own again
-      (subst (RefusesFirst VertexRange) (same_array refused.0 _ (sym refused.2 ∙ at_vertices)) refused.3))
-  only_memory other refused = absurd refused
+  only_memory fault refused = feature_taken json own is_feature fault refused
 
 -- ---- the objects of a family
 pub object_name : (objects : List (List ℕ × Tree)) (k : ℕ) → k < length objects

@@ -28,20 +28,20 @@ pub mod Numbers
 pub mod Pieces
 pub mod FirstUses
 pub mod MadeFeatures
-mod QuickAddresses
-mod QuickBounds
-mod QuickCopies
-mod QuickDocuments
-mod QuickFaults
-mod QuickFeatures
-mod QuickGeometries
-mod QuickHeaders
-mod QuickGraphs
-mod QuickNames
-mod QuickObjects
-mod QuickOverviews
-mod QuickPoints
-mod QuickTexts
+mod TextAddresses
+mod TextBounds
+mod TextCopies
+mod TextDocuments
+mod TextFaults
+mod TextFeatures
+mod TextGeometries
+mod TextHeaders
+mod TextGraphs
+mod TextNames
+mod TextObjects
+mod TextOverviews
+mod TextPoints
+mod TextMembers
 pub mod OwnVertices
 pub mod Passes
 pub mod Renumbering

@@ -37,7 +37,7 @@ use Rattle.city_cut.proofs.FirstUses.{counts_up, first_within, place_of_use}
 use Rattle.city_cut.proofs.Kinship.{graph_in_range, names_pairs, reached_at}
 use Rattle.city_cut.proofs.Passes.{family_reached, family_rises, family_within}
 use Rattle.city_cut.proofs.Pieces.{texts_push}
-use Rattle.city_cut.proofs.QuickFeatures.{feature_text}
+use Rattle.city_cut.proofs.TextFeatures.{feature_text}
 use Rattle.city_cut.proofs.Seeking.{parted_here, root_more, root_same, zip_push}
 
 -- ---- the family of an object

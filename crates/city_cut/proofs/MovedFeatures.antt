@@ -15,7 +15,7 @@ use Rattle.city_json.specs.Tree.{Tree, MemberTrees, no_members, member, item_tre
 use Rattle.city_json.specs.Writable.{AreWritableMembers, IsWritable}
 use Rattle.city_grid.specs.Axes.{IsInRange, Triple, sum, triple}
 use Rattle.city_grid.specs.Vertex.{vertex_tree}
-use Rattle.city_feature.proofs.QuickLines.{utf8}
+use Rattle.city_feature.proofs.LineTexts.{utf8}
 use Rattle.city_feature.specs.Changes.{with_member}
 use Rattle.city_feature.specs.Feature.{AreVertices, FeatureValue, IsMovable, moved, moved_vertices, vertices_tree}
 use Rattle.city_feature.specs.FeatureLine.{SpellsFeature}
@@ -31,9 +31,10 @@ use Rattle.city_cut.specs.Places.{IsFamily, name_at}
 use Rattle.city_cut.specs.Skeletons.{AreSkeletons}
 use Rattle.city_cut.specs.VertexTexts.{StandAt}
 use Rattle.city_cut.proofs.Copies.{decimal_is_number}
-use Rattle.city_cut.proofs.FeatureParts.{chosen_are_those, same_array, same_vertices}
+use Rattle.city_cut.proofs.FeatureParts.{chosen_are_those}
+use Rattle.city_feature.proofs.OneFeature.{same_array, same_vertices}
 use Rattle.city_cut.proofs.OwnVertices.{labels_below, no_more}
-use Rattle.city_cut.proofs.QuickFeatures.{feature_text}
+use Rattle.city_cut.proofs.TextFeatures.{feature_text}
 use Rattle.city_cut.proofs.SpelledFeatures.{are_vertices, vertex_items_good}
 use Rattle.city_cut.proofs.Unspoilt.{objects_relabelled, those_kept}
 use Rattle.city_cut.proofs.MadeFeatures as made

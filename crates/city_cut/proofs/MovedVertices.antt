@@ -15,8 +15,8 @@ use Rattle.city_grid.specs.Vertex.{IsVertex, vertex_tree}
 use Rattle.city_cut.specs.Chosen.{point_at}
 use Rattle.city_cut.specs.Moved.{moved_or_same}
 use Rattle.city_cut.specs.VertexTexts.{StandAt}
-use Rattle.city_cut.proofs.FeatureParts.{same_vertex}
-use Rattle.city_cut.proofs.QuickPoints.{stand_more, stand_none}
+use Rattle.city_feature.proofs.OneFeature.{same_vertex}
+use Rattle.city_cut.proofs.TextPoints.{stand_more, stand_none}
 
 -- the text of a vertex in range tells the vertex
 pub same_point : (p q : Triple) → IsInRange p → IsInRange q → compact (vertex_tree p) ≡ compact (vertex_tree q) → p ≡ q

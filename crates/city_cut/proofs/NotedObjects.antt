@@ -15,13 +15,13 @@ use Rattle.city_cut.specs.Leaves.{leaves}
 use Rattle.city_cut.specs.Skeletons.{LeafPlace}
 use Rattle.city_cut.specs.Sketches.{IsNoted, LeafNoted}
 use Rattle.city_cut.specs.Walks.{Labelling}
-use Rattle.city_cut.specs.declared.quick.holders.Holder.{Holder}
-use Rattle.city_cut.specs.declared.quick.holders.Holder.TheVariants.{Geometry, Address}
-use Rattle.city_cut.specs.declared.quick.notes.NotedLeaves.{NotedLeaves}
+use Rattle.city_cut.specs.declared.on_text.holders.Holder.{Holder}
+use Rattle.city_cut.specs.declared.on_text.holders.Holder.TheVariants.{Geometry, Address}
+use Rattle.city_cut.specs.declared.on_text.notes.NotedLeaves.{NotedLeaves}
 use Rattle.city_cut.proofs.NoteWalks.{Notes, noted_apart, noted_in_order, noted_so, walk_notes}
-use Rattle.city_cut.proofs.QuickCopies.{HeldMade, ObjectWalked}
-use Rattle.city_cut.proofs.QuickObjects.{both_bounded, both_uses, either, name_utf8, some_same, two_made}
-use Rattle.city_cut.proofs.QuickTexts.{member_there}
+use Rattle.city_cut.proofs.TextCopies.{HeldMade, ObjectWalked}
+use Rattle.city_cut.proofs.TextObjects.{both_bounded, both_uses, either, name_utf8, some_same, two_made}
+use Rattle.city_cut.proofs.TextMembers.{member_there}
 
 abbrev pub NoteLabelled : Labelling NotedLeaves
 NoteLabelled notes line notes' line' vertex = LeafNoted notes.leaves.items line notes'.leaves.items line' vertex

@@ -1,12 +1,13 @@
 -- Pieces of bytes, and the texts that are held so.
-use Rattle.std.proofs.Common.{◌≡◌, ◌∙◌, ◌++◌, ◌<◌, ◌≤◌, ◌-◌, ℕ, zero, suc, List, [], ◌∷◌, map, length, take, drop, take_all, get_or, slice_range, refl, sym, ap, arith, append-nil}
+use Rattle.std.proofs.Common.{◌≡◌, ◌∙◌, ◌++◌, ◌<◌, ◌≤◌, ◌-◌, ℕ, zero, suc, List, [], ◌∷◌, map, length, take, drop, take_all, get_or, slice_range, refl, sym, ap, arith}
 use Rattle.std.proofs.lemmas.List.{drop-append-le, length-append, length-drop, map-append, take-append-le}
 use Rattle.std.proofs.Math.Seq.{drop-append_seam}
+use Rattle.city_json.specs.Bytes.{close_brace}
 use Rattle.city_json.specs.Compact.{compact}
 use Rattle.city_json.specs.OpenNames.{AreEnds}
 use Rattle.city_json.proofs.EndedNames.{ends_more, ends_onward}
 use Rattle.city_feature.specs.Feature.{FeatureValue}
-use Rattle.city_cut.specs.HeldTexts.{HasGrown, pieces}
+use Rattle.city_cut.specs.HeldTexts.{HasGrown, pieces, with_end}
 use Rattle.city_cut.specs.Lines.{texts_of}
 
 pub long_pieces : (bytes : List ℕ) (from : ℕ) (ends : List ℕ) → length (pieces bytes from ends) ≡ length ends
@@ -79,17 +80,11 @@ with_tail_more line line' tail ends ends' features feature so_far are noted grow
     ∙ (ap (λ t. texts_of features ++ t ∷ []) grown.2
     ∙ sym (texts_push features feature))))
 
-pub with_none : (texts : List (List ℕ)) → map (λ own. own ++ []) texts ≡ texts
-with_none [] = refl
-with_none (t ∷ ts) = ap (λ l. l ∷ map (λ own. own ++ []) ts) (append-nil t) ∙ ap (λ l. t ∷ l) (with_none ts)
-
-pub kept_more : (line line' text : List ℕ) (ends ends' : List ℕ) (features : List FeatureValue) (feature : FeatureValue)
-    → line' ≡ line ++ text → text ≡ compact feature.value → ends' ≡ ends ++ length line' ∷ []
-    → AreEnds 0 ends (length line) × (pieces line 0 ends ≡ texts_of features)
-    → AreEnds 0 ends' (length line') × (pieces line' 0 ends' ≡ texts_of (features ++ feature ∷ []))
-kept_more line line' text ends ends' features feature grown is noted kept = (
-  next_ends line line' text ends ends' grown noted kept.0,
-  pieces_more line line' text ends ends' grown noted kept.0
-      ∙ (ap (λ l. l ++ text ∷ []) kept.1 ∙ (ap (λ t. texts_of features ++ t ∷ []) is
-      ∙ sym (texts_push features feature))),
+pub kept_more : (line line' : List ℕ) (ends ends' : List ℕ) (features : List FeatureValue) (feature : FeatureValue)
+    → HasGrown line line' (close_brace ∷ []) (compact feature.value) → ends' ≡ ends ++ length line' ∷ []
+    → AreEnds 0 ends (length line) × (with_end (close_brace ∷ []) (pieces line 0 ends) ≡ texts_of features)
+    → AreEnds 0 ends' (length line') × (with_end (close_brace ∷ []) (pieces line' 0 ends') ≡ texts_of (features ++ feature ∷ []))
+kept_more line line' ends ends' features feature grown noted kept = (
+  next_ends line line' grown.0 ends ends' grown.1 noted kept.0,
+  with_tail_more line line' (close_brace ∷ []) ends ends' features feature kept.1 kept.0 noted grown,
 )

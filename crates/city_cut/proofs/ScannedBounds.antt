@@ -28,8 +28,8 @@ use Rattle.city_cut.specs.Bounds.{AreBounds}
 use Rattle.city_cut.specs.Holders.{AreHeld, IsHeld}
 use Rattle.city_cut.specs.Items.{item_list}
 use Rattle.city_cut.specs.Leaves.{AreNested, IsBoundary, IsNested}
-use Rattle.city_cut.specs.declared.quick.holders.Holder.{Holder}
-use Rattle.city_cut.proofs.QuickTexts.{member_there, slice_first}
+use Rattle.city_cut.specs.declared.on_text.holders.Holder.{Holder}
+use Rattle.city_cut.proofs.TextMembers.{member_there, slice_first}
 
 -- ---- a nested array
 after_more : (value : ℕ) (ds : List ℕ) → value ≤ digits_value_after 10 value ds

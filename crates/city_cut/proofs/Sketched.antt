@@ -17,7 +17,7 @@ use Rattle.city_cut.specs.Leaves.{leaves}
 use Rattle.city_cut.specs.Skeletons.{AreSkeletons, IsSkeleton, LeafPlace, SkeletonPlace, SkeletonTexts, no_place, place_at, woven}
 use Rattle.city_cut.specs.Sketches.{ArePlaced, IsNoted, IsSketch, vertices_of}
 use Rattle.city_cut.proofs.NoteWalks.{noted_after, noted_so}
-use Rattle.city_cut.proofs.QuickFeatures.{as_many_parts, value_there}
+use Rattle.city_cut.proofs.TextFeatures.{as_many_parts, value_there}
 use Rattle.city_cut.proofs.Woven.{slice_end, slice_front, slice_middle, woven_front}
 
 -- ---- one object

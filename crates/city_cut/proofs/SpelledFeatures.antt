@@ -1,13 +1,15 @@
--- The compact text of each feature of a cut spells that feature.
-use Rattle.std.proofs.Common.{◌≡◌, ◌≢◌, ◌≤◌, ◌<◌, ◌^◌, ℕ, suc, max, Bool, true, false, List, [], ◌∷◌, Option, Some, None, bytes_eq, if◌then◌else◌, length, map, refl, sym, subst, ◌∙◌, arith}
+-- The compact text of each feature of a cut spells that feature, and what it has before its end is a feature's own part.
+use Rattle.std.proofs.Common.{◌≡◌, ◌≢◌, ◌⊎◌, ◌++◌, ◌≤◌, ◌<◌, ◌^◌, inl, inr, ap, ℕ, suc, max, Bool, true, false, List, [], ◌∷◌, Option, Some, None, bytes_eq, if◌then◌else◌, length, map, refl, sym, subst, ◌∙◌, arith}
 use Rattle.std.proofs.Math.Nat.{le-max_left, le-max_right, max-le}
+use Rattle.std.proofs.lemmas.List.{append_cancel_right}
 use Rattle.std.proofs.lemmas.List.Elements.{All-tail}
 use Rattle.std.proofs.lemmas.Slice.Eq.{bytes_eq-Decides}
 use Rattle.std.specs.List.{All, AllByRecursion, AllZip}
 use Rattle.std.specs.Prelude.{IsUtf8, codes}
 use Rattle.city_json.proofs.CompactLaws.{compact-spells}
 use Rattle.city_json.proofs.SpelledWritable.{spelled_writable}
-use Rattle.city_json.specs.Compact.{compact}
+use Rattle.city_json.specs.Bytes.{close_brace, open_brace}
+use Rattle.city_json.specs.Compact.{compact, compact_members}
 use Rattle.city_json.specs.Fits.{AreDistinctItems, AreDistinctMembers, Fits, HasDistinctNames, IsDistinct, depth, items_depth, members_depth}
 use Rattle.city_json.specs.Grammar.{Spells}
 use Rattle.city_json.specs.Members.{first_named, member_of}
@@ -16,13 +18,17 @@ use Rattle.city_json.specs.Writable.{AreWritableItems, AreWritableMembers, IsWri
 use Rattle.city_grid.proofs.VertexLaws.{vertex_is_read, vertex_is_writable}
 use Rattle.city_grid.specs.Axes.{IsInRange, Triple}
 use Rattle.city_grid.specs.Vertex.{vertex_tree}
-use Rattle.city_feature.proofs.QuickLines.{utf8}
+use Rattle.city_feature.proofs.LineTexts.{utf8}
+use Rattle.city_feature.proofs.EndedTexts.{last_text}
+use Rattle.city_feature.specs.Ended.{IsAppearanceEnd, IsOwnPart}
 use Rattle.city_feature.specs.Feature.{AreReadAgain, AreVertices, FeatureValue, IsFeature, item_count, vertices_tree}
 use Rattle.city_feature.specs.FeatureLine.{SpellsFeature}
 use Rattle.city_feature.specs.Header.{HeaderValue}
 use Rattle.city_cut.specs.Boundaries.{relabelled_objects}
 use Rattle.city_cut.specs.CityObjects.{IsReached, has_parents, objects_of, roots, vertices_of}
-use Rattle.city_cut.specs.Cut.{IsCut, IsFeatureOf, feature_tree}
+use Rattle.city_cut.specs.Cut.{IsCut, IsFeatureOf, feature_tree, last_members}
+use Rattle.city_cut.specs.FeatureText.{tail_text}
+use Rattle.city_cut.specs.HeldTexts.{AreOwnParts, HeldTexts, texts_in, with_end}
 use Rattle.city_cut.specs.Items.{items_in, members_in}
 use Rattle.city_cut.specs.Leaves.{renumbered}
 use Rattle.city_cut.specs.Lines.{texts_of}
@@ -121,6 +127,12 @@ max_of a b c k first second third =
     (max_within 0 (max a (max b c)) k (omega arith) three) in
     omega (arith, all)
 
+first_same : (x y : List ℕ) (xs ys : List (List ℕ)) → x ∷ xs ≡ y ∷ ys → x ≡ y
+first_same x y xs ys same = cc
+
+others_same : (x y : List ℕ) (xs ys : List (List ℕ)) → x ∷ xs ≡ y ∷ ys → xs ≡ ys
+others_same x y xs ys same = cc
+
 apart : (m n : List ℕ) → bytes_eq m n ≡ false → m ≢ n
 apart m n differ same = cc (sym ((bytes_eq-Decides m n).1 same) ∙ differ)
 
@@ -176,53 +188,119 @@ module _ (document : Tree) (writable : IsWritable document) (fits : Fits documen
   objects_good = members_good (member_of (codes "CityObjects") document) 126
       (λ w is. member_good (codes "CityObjects") document w (suc 126) (writable, fits.1, omega (arith, fits.0)) is)
 
-  one : (id : List ℕ) (feature : FeatureValue) → IsUtf8 id
-      → IsFeatureOf (objects_of document) (member_of (codes "appearance") document) points id feature
-      → SpellsFeature (compact feature.value) feature
-  one id feature id_is is =
-      subst (λ value. Spells (compact value) value × Fits value × IsFeature value feature.vertices) (sym is.is) (
-        compact-spells tree good.0,
-        (omega (arith, good.2), good.1),
-        (
-          (refl, tt, tt, tt),
+  appearance_good : (w : Tree) → member_of (codes "appearance") document ≡ Some w → IsGood (suc 126) w
+  appearance_good w there =
+      member_good (codes "appearance") document w (suc 126) (writable, fits.1, omega (arith, fits.0)) there
+
+  module _ (id : List ℕ) (feature : FeatureValue) (id_is : IsUtf8 id)
+      (is : IsFeatureOf (objects_of document) (member_of (codes "appearance") document) points id feature) where
+    range : All IsInRange feature.vertices
+    range = own_in_range points feature.vertices is.chosen is.objects is.same_points (vertices_of document) are
+
+    more : length feature.vertices ≤ length points
+    more = no_more points feature.vertices is.chosen is.objects is.same_points
+
+    chosen : AreGood 126 (member_trees is.chosen)
+    chosen =
+        let kept = those_kept (IsReached (objects_of document) id) (objects_of document) is.chosen is.reached
+        objects_good.1 in
+        (kept.0 objects_good.0, kept.1, omega (arith, kept.2, objects_good.2))
+
+    relabelled : AreGood 126 (member_trees (relabelled_objects (renumbered is.same_points.label) is.chosen))
+    relabelled =
+        let kept = objects_relabelled is.same_points.label is.chosen
+        (λ k c. let below = labels_below points feature.vertices is.chosen is.objects is.same_points k c in
+        decimal_is_number (is.same_points.label k) (omega (arith, below, more, few))) chosen.1 in
+        (kept.0 chosen.0, kept.1, omega (arith, kept.2, chosen.2))
+
+    objects : AreGood 126 (member_trees is.objects)
+    objects = subst (λ l. AreGood 126 (member_trees l)) (sym is.same_points.but_leaves) relabelled
+
+    abbrev parts : Option Tree → MemberTrees
+    parts appearance =
+        member (codes "type") (string (codes "CityJSONFeature"))
+        (member (codes "id") (string id)
+        (member (codes "CityObjects") (object (member_trees is.objects))
+        (member (codes "vertices") (vertices_tree feature.vertices)
+        (last_members appearance))))
+
+    -- the feature with this appearance
+    abbrev with_its : Option Tree → FeatureValue
+    with_its appearance = record { value = object (parts appearance); vertices = feature.vertices }
+
+    spelled : (appearance : Option Tree) → ((w : Tree) → appearance ≡ Some w → IsGood (suc 126) w)
+        → SpellsFeature (compact (with_its appearance).value) (with_its appearance)
+    spelled appearance appearance_is =
+        let good = feature_good id is.objects (vertices_tree feature.vertices) 126 id_is objects
+        (vertices_good feature.vertices (suc 126) range (omega arith)) appearance appearance_is in (
+          compact-spells (object (parts appearance)) good.0,
+          (omega (arith, good.2), good.1),
           (
-            item_trees (map vertex_tree feature.vertices),
-            refl,
-            are_vertices feature.vertices range,
+            (refl, tt, tt, tt),
+            (
+              item_trees (map vertex_tree feature.vertices),
+              refl,
+              are_vertices feature.vertices range,
+            ),
           ),
-        ),
-      )
-    where
-      range : All IsInRange feature.vertices
-      range = own_in_range points feature.vertices is.chosen is.objects is.same_points (vertices_of document) are
+        )
 
-      more : length feature.vertices ≤ length points
-      more = no_more points feature.vertices is.chosen is.objects is.same_points
+    one : SpellsFeature (compact feature.value) feature
+    one = subst (λ value. Spells (compact value) value × Fits value × IsFeature value feature.vertices) (sym is.is)
+        (spelled (member_of (codes "appearance") document) appearance_good)
 
-      chosen : AreGood 126 (member_trees is.chosen)
-      chosen =
-          let kept = those_kept (IsReached (objects_of document) id) (objects_of document) is.chosen is.reached
-          objects_good.1 in
-          (kept.0 objects_good.0, kept.1, omega (arith, kept.2, objects_good.2))
+    -- what its text has before an end
+    closed : (appearance : Option Tree) → ((w : Tree) → appearance ≡ Some w → IsGood (suc 126) w) → (own end : List ℕ)
+        → own ++ close_brace ∷ [] ≡ compact (object (parts appearance))
+        → (end ≡ close_brace ∷ [])
+        ⊎ (IsAppearanceEnd end × (first_named (codes "appearance") (parts appearance) ≡ None)) → IsOwnPart own end
+    closed appearance appearance_is own end text ends = record {
+      members = parts appearance;
+      vertices = feature.vertices;
+      spelled = subst (λ line. SpellsFeature line (with_its appearance)) (sym text) (spelled appearance appearance_is);
+      written = text;
+      ends = ends;
+    }
 
-      relabelled : AreGood 126 (member_trees (relabelled_objects (renumbered is.same_points.label) is.chosen))
-      relabelled =
-          let kept = objects_relabelled is.same_points.label is.chosen
-          (λ k c. let below = labels_below points feature.vertices is.chosen is.objects is.same_points k c in
-          decimal_is_number (is.same_points.label k) (omega (arith, below, more, few))) chosen.1 in
-          (kept.0 chosen.0, kept.1, omega (arith, kept.2, chosen.2))
+    abbrev front : List ℕ
+    front = open_brace ∷ compact_members (parts None)
 
-      objects : AreGood 126 (member_trees is.objects)
-      objects = subst (λ l. AreGood 126 (member_trees l)) (sym is.same_points.but_leaves) relabelled
+    whole_text : (a : Tree) → front ++ tail_text (Some a) ≡ compact (object (parts (Some a)))
+    whole_text a = last_text (codes "appearance") a (parts None) front (codes "type") (string (codes "CityJSONFeature")) refl
+        refl refl
 
-      tree : Tree
-      tree = feature_tree id is.objects (vertices_tree feature.vertices) (member_of (codes "appearance") document)
+    own_part : (own end : List ℕ) → own ++ end ≡ compact feature.value
+        → (end ≡ tail_text (member_of (codes "appearance") document)) ⊎ (end ≡ close_brace ∷ []) → IsOwnPart own end
+    own_part own end text ends = by (member_of (codes "appearance") document) refl ends
+      where
+        value : (a : Option Tree) → member_of (codes "appearance") document ≡ a
+            → own ++ end ≡ compact (object (parts a))
+        value a e = text ∙ (ap compact is.is ∙ ap (λ o. compact (object (parts o))) e)
 
-      good : IsGood (suc (suc 126)) tree
-      good = feature_good id is.objects (vertices_tree feature.vertices) 126 id_is objects
-          (vertices_good feature.vertices (suc 126) range (omega arith)) (member_of (codes "appearance") document)
-          (λ w there. member_good (codes "appearance") document w (suc 126) (writable, fits.1, omega (arith, fits.0))
-          there)
+        by_brace : (a : Option Tree) → member_of (codes "appearance") document ≡ a → end ≡ close_brace ∷ []
+            → IsOwnPart own end
+        by_brace a e brace = closed a (λ w there. appearance_good w (e ∙ there)) own end
+            (subst (λ l. own ++ l ≡ compact (object (parts a))) brace (value a e)) (inl brace)
+
+        by : (a : Option Tree) → member_of (codes "appearance") document ≡ a
+            → (end ≡ tail_text a) ⊎ (end ≡ close_brace ∷ []) → IsOwnPart own end
+        by None e (inl tail) = by_brace None e tail
+        by None e (inr brace) = by_brace None e brace
+        by (Some a) e (inr brace) = by_brace (Some a) e brace
+        by (Some a) e (inl tail) =
+            let good = appearance_good a e in
+            let same : own ≡ front = append_cancel_right own front (tail_text (Some a))
+            (ap (λ l. own ++ l) (sym tail) ∙ (value (Some a) e ∙ sym (whole_text a))) in
+            closed None (λ w there. cc there) own end (ap (λ l. l ++ close_brace ∷ []) same)
+            (inr (
+              record {
+                appearance = a;
+                is = tail;
+                writable = good.0;
+                fits = (omega (arith, good.2), ((tt, tt), (good.1, tt)));
+              },
+              refl,
+            ))
 
   each : (ids : List (List ℕ)) (features : List FeatureValue) → AllByRecursion IsUtf8 ids
       → AllZip (IsFeatureOf (objects_of document) (member_of (codes "appearance") document) points) ids features
@@ -231,6 +309,20 @@ module _ (document : Tree) (writable : IsWritable document) (fits : Fits documen
   each [] (f ∷ fs) all zip = absurd zip
   each (id ∷ ids) [] all zip = absurd zip
   each (id ∷ ids) (f ∷ fs) all zip = (one id f all.0 zip.0, each ids fs all.1 zip.1)
+
+  module _ (end : List ℕ)
+      (ends : (end ≡ tail_text (member_of (codes "appearance") document)) ⊎ (end ≡ close_brace ∷ [])) where
+    each_part : (ids : List (List ℕ)) (features : List FeatureValue) (own : List (List ℕ)) → AllByRecursion IsUtf8 ids
+        → AllZip (IsFeatureOf (objects_of document) (member_of (codes "appearance") document) points) ids features
+        → with_end end own ≡ texts_of features → AllByRecursion (λ o. IsOwnPart o end) own
+    each_part ids features [] all zip texts = tt
+    each_part [] [] (o ∷ os) all zip texts = cc texts
+    each_part [] (f ∷ fs) (o ∷ os) all zip texts = absurd zip
+    each_part (id ∷ ids) [] (o ∷ os) all zip texts = absurd zip
+    each_part (id ∷ ids) (f ∷ fs) (o ∷ os) all zip texts = (
+      own_part id f all.0 zip.0 o end (first_same _ _ _ _ texts) ends,
+      each_part ids fs os all.1 zip.1 (others_same _ _ _ _ texts),
+    )
 
 points_few : (text : List ℕ) (there : Option Tree) (points : List Triple) → length text < 2 ^ 64
     → ((items : ItemTrees) → there ≡ Some (array items) → item_count items ≤ length text)
@@ -254,3 +346,17 @@ texts_spell text document header features short spells fits cut =
     (λ items is. spelled_within (codes "vertices") items document text spells is) has.1 in
     each document writable fits has.0 has.1 few (roots (objects_of document)) features
     (roots_utf8 (objects_of document) (objects_good document writable fits has.0 has.1 few).0) has.2
+
+-- what the texts of a document have of their own, before the end of the document's features or the brace alone
+pub own_parts : (text : List ℕ) (document : Tree) (header : HeaderValue) (features : List FeatureValue)
+    (held : HeldTexts) → length text < 2 ^ 64 → Spells text document → Fits document → IsCut document header features
+    → texts_in held ≡ texts_of features
+    → (held.common ≡ tail_text (member_of (codes "appearance") document)) ⊎ (held.common ≡ close_brace ∷ [])
+    → AreOwnParts held
+own_parts text document header features held short spells fits cut texts ends =
+    let has = cut.0.0 in
+    let writable = spelled_writable text document spells in
+    let few = points_few text (member_of (codes "vertices") document) has.0 short
+    (λ items is. spelled_within (codes "vertices") items document text spells is) has.1 in
+    each_part document writable fits has.0 has.1 few held.common ends (roots (objects_of document)) features held.own
+    (roots_utf8 (objects_of document) (objects_good document writable fits has.0 has.1 few).0) has.2 texts

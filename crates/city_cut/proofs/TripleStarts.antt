@@ -25,7 +25,7 @@ use Rattle.city_feature.specs.Feature.{vertices_tree}
 use Rattle.city_cut.specs.Chosen.{point_at}
 use Rattle.city_cut.specs.TripleStarts.{IsTriplesArray, is_close, starts_behind}
 use Rattle.city_cut.specs.VertexTexts.{StandAt}
-use Rattle.city_cut.proofs.QuickPoints.{trees_of}
+use Rattle.city_cut.proofs.TextPoints.{trees_of}
 
 -- ---- the first closing bracket of a block
 abbrev open_len : List ℕ → ℕ

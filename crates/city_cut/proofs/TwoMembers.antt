@@ -16,10 +16,10 @@ use Rattle.city_json.specs.Tree.{Tree, MemberTrees, no_members, member, object, 
 use Rattle.city_json.specs.Writable.{AreWritableMembers}
 use Rattle.city_json.specs.declared.compacting.places.MemberPlace.{MemberPlace}
 use Rattle.city_json.proofs.NamedMembers.{first_at}
-use Rattle.city_feature.proofs.QuickLines.{replaced_at}
+use Rattle.city_feature.proofs.LineTexts.{replaced_at}
 use Rattle.city_cut.specs.Boundaries.{changed_members}
 use Rattle.city_json.specs.CompactTexts.{IsCompactOf}
-use Rattle.city_cut.proofs.QuickTexts.{changed_with, same_place}
+use Rattle.city_cut.proofs.TextMembers.{changed_with, same_place}
 use Rattle.city_cut.proofs.Renumbering.{distinct_kept}
 
 -- ---- the parts of members of which one has another value

@@ -1,5 +1,7 @@
 -- Texts that are held with what all of them end in once.
 use Rattle.std.specs.Prelude.{◌≡◌, ◌++◌, ℕ, Bool, List, [], ◌∷◌, map, slice_range}
+use Rattle.std.specs.List.{AllByRecursion}
+use Rattle.city_feature.specs.Ended.{IsOwnPart}
 
 -- texts: what each begins with, what all of them end in, and whether the former is made when it is asked for
 pub record HeldTexts : Type 0 where
@@ -14,6 +16,10 @@ with_end common own = map (λ one. one ++ common) own
 -- the texts themselves
 abbrev pub texts_in : HeldTexts → List (List ℕ)
 texts_in held = with_end held.common held.own
+
+-- what each begins with is what a feature has of its own before that end
+abbrev pub AreOwnParts : HeldTexts → Type 0
+AreOwnParts held = AllByRecursion (λ own. IsOwnPart own held.common) held.own
 
 -- the pieces of bytes that end at these places, the first from `from` on
 abbrev pub pieces : List ℕ → ℕ → List ℕ → List (List ℕ)

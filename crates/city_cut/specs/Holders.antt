@@ -9,8 +9,8 @@ use Rattle.city_feature.specs.Shapes.{IsArray}
 use Rattle.city_cut.specs.Boundaries.{IsAddress, IsGeometry, address_boundary, in_items, in_member, own_boundary, relabelled_boundary}
 use Rattle.city_cut.specs.Items.{items_of}
 use Rattle.city_cut.specs.Leaves.{leaves}
-use Rattle.city_cut.specs.declared.quick.holders.Holder.{Holder}
-use Rattle.city_cut.specs.declared.quick.holders.Holder.TheVariants.{Geometry, Address}
+use Rattle.city_cut.specs.declared.on_text.holders.Holder.{Holder}
+use Rattle.city_cut.specs.declared.on_text.holders.Holder.TheVariants.{Geometry, Address}
 
 abbrev pub name_of : Holder → List ℕ
 name_of Geometry = codes "geometry"

@@ -11,9 +11,9 @@ use Rattle.city_json.specs.declared.compacting.places.MemberPlace.{MemberPlace}
 use Rattle.city_cut.specs.Holders.{name_of}
 use Rattle.city_cut.specs.Kin.{HasChildrenText, HasParents}
 use Rattle.city_json.specs.CompactTexts.{IsCompactOf}
-use Rattle.city_cut.specs.declared.quick.holders.Holder.{Holder}
-use Rattle.city_cut.specs.declared.quick.holders.Holder.TheVariants.{Geometry, Address}
-use Rattle.city_cut.specs.declared.quick.holders.HeldParts.{HeldParts}
+use Rattle.city_cut.specs.declared.on_text.holders.Holder.{Holder}
+use Rattle.city_cut.specs.declared.on_text.holders.Holder.TheVariants.{Geometry, Address}
+use Rattle.city_cut.specs.declared.on_text.holders.HeldParts.{HeldParts}
 
 -- no object with this text and these parts has such a member
 abbrev pub IsNowhere : Holder → List ℕ → List MemberPlace → Type 0

@@ -6,12 +6,12 @@ ghost use Rattle.city_json.specs.Tree.{tree};
 ghost use Rattle.city_json.specs.Triples.{HasTriples};
 ghost use Rattle.city_feature.specs.Values.{header_value};
 ghost use Rattle.city_cut.specs.CutTexts.{CutsInto, RefusesRead};
-ghost use Rattle.city_cut.specs.HeldTexts.{texts_in};
+ghost use Rattle.city_cut.specs.HeldTexts.{AreOwnParts, texts_in};
 
 use crate::cuts::CutTexts;
 use crate::cutting::cut_texts;
-use crate::quick::cut_compacted_triples;
-use crate::quick::faults::cut_fault;
+use crate::on_text::cut_compacted_triples;
+use crate::on_text::faults::cut_fault;
 use byte_streams::Fault;
 use city_json::{Json, ObjectText, Span, read};
 use std::alloc::Global;
@@ -26,6 +26,7 @@ pub fn cut_text(alloc: Global, document: &ObjectText<'_>, triples: Span) -> Resu
     requires { HasTriples document.now.text triples }
     ensures ok { IfOk result (λ cut.
         CutsInto (object_of document.now) (header_value cut.header) (texts_in cut.texts)) }
+    ensures own { IfOk result (λ cut. AreOwnParts cut.texts) }
     ensures refused { IfErr result (λ fault. RefusesRead fault (object_of document.now)) }
 {
     let line = document.text();

@@ -1,5 +1,6 @@
 //! A document cut by its value.
-ghost use Rattle.std.specs.Prelude.{◌≡◌, [], List, IfOk, IfErr, OnOk, length, map};
+ghost use Rattle.std.specs.Prelude.{◌≡◌, [], ◌∷◌, List, IfOk, IfErr, OnOk, length, map};
+ghost use Rattle.city_json.specs.Bytes.{close_brace};
 ghost use Rattle.city_json.specs.Fits.{IsDistinct};
 ghost use Rattle.city_json.specs.Tree.{tree};
 ghost use Rattle.city_feature.specs.Feature.{FeatureValue};
@@ -19,7 +20,7 @@ use crate::keeping::{Keep, OpenTexts};
 use crate::values::{items_named, members_named};
 use byte_streams::{Fault, Line, Sequence};
 use city_json::Json;
-use std::alloc::Global;
+use std::alloc::{AllocError, Global};
 
 /// Keeps the features of a document, once nothing of it is refused.
 fn keep_document<K: Keep>(alloc: Global, document: &Json, kept: &mut K) -> Result<(), Fault>
@@ -68,8 +69,17 @@ pub fn cut(alloc: Global, document: Json) -> Result<Cut, Fault>
     Ok(Cut { header, features })
 }
 
+/// The end that texts have in common where each has its appearance before it.
+fn brace(alloc: Global) -> Result<Line, AllocError>
+    ensures { IfOk result (λ line. line ≡ close_brace ∷ []) }
+{
+    let mut line = Line::new(alloc);
+    line.append(b"}")?;
+    Ok(line)
+}
+
 /// Cuts a document as [`cut`] does, and writes each feature out once it is made, so that no more than one
-/// is held as a value.
+/// is held as a value. The texts end in a brace in common.
 ///
 /// # Errors
 ///
@@ -79,6 +89,7 @@ pub fn cut_texts(alloc: Global, document: Json) -> Result<CutTexts, Fault>
     ensures ok { IfOk result (λ cut. (features : List FeatureValue)
         × IsCut (tree document) (header_value cut.header) features
         × (texts_in cut.texts ≡ texts_of features)) }
+    ensures ends { IfOk result (λ cut. cut.texts.common ≡ close_brace ∷ []) }
     ensures cuttable { OnOk result (IsCuttable (tree document)) }
     ensures refusal { IfErr result (λ fault. RefusesCut fault (tree document)) }
 {
@@ -86,6 +97,6 @@ pub fn cut_texts(alloc: Global, document: Json) -> Result<CutTexts, Fault>
     keep_document(alloc, &document, &mut open)?;
     let header = document_header(alloc, document)?;
     let own = Pieces::new(open.own, open.ends);
-    let texts = FeatureTexts::new(own, Line::new(alloc));
+    let texts = FeatureTexts::new(own, brace(alloc)?);
     Ok(CutTexts { header, texts })
 }

@@ -1,6 +1,6 @@
 //! The texts of a document's features. What each has of its own is held, or made when it is asked for; what all of them
 //! end in is held once.
-ghost use Rattle.std.specs.Prelude.{◌≡◌, ◌<◌, ◌≤◌, ◌^◌, ◌++◌, ◌∷◌, [], ℕ, List, Err, true, false, length, map, get_or, slice_range, take, IfErr, IfSome, IsOk, OnErr, OnOk};
+ghost use Rattle.std.specs.Prelude.{◌≡◌, ◌<◌, ◌≤◌, ◌^◌, ◌++◌, ◌∷◌, [], ℕ, List, Err, true, false, length, map, get_or, slice_range, take, IfErr, IsOk, OnErr, OnOk};
 ghost use Rattle.std.specs.Io.KnownBytes.{Appends};
 ghost use Rattle.std.specs.List.{AllByRecursion, AllZip};
 ghost use Rattle.byte_streams.specs.Failures.{after_call};
@@ -8,14 +8,14 @@ ghost use Rattle.city_feature.specs.Feature.{FeatureValue, IsMovable, moved};
 ghost use Rattle.city_feature.specs.FeatureLine.{SpellsFeature};
 ghost use Rattle.city_cut.specs.FeatureText.{IsTail};
 ghost use Rattle.city_json.specs.OpenNames.{AreEnds};
-ghost use Rattle.city_cut.specs.HeldTexts.{pieces, texts_in, with_end};
+ghost use Rattle.city_cut.specs.HeldTexts.{AreOwnParts, pieces, texts_in, with_end};
 ghost use Rattle.city_cut.specs.Lines.{texts_of};
 ghost use Rattle.city_cut.specs.Moved.{chosen_of};
 ghost use Rattle.city_cut.specs.OwnTexts.{EndIn, are_made, own_texts};
 
 mod line_sink;
 
-use crate::quick::made::MadeTexts;
+use crate::on_text::made::MadeTexts;
 use byte_streams::{Fault, Line, Sink, write_all};
 use city_grid::Shift;
 use line_sink::LineSink;
@@ -171,17 +171,6 @@ impl OwnTexts {
         }
     }
 
-    /// The text at a place, where it is held.
-    fn held(&self, at: usize) -> Option<&[u8]>
-        requires { at < length (own_texts self.now) }
-        ensures { IfSome result (λ text. text.now ≡ get_or (own_texts self.now) at []) }
-    {
-        match self {
-            OwnTexts::Held(texts) => Some(texts.text(at)),
-            OwnTexts::Made(_) => None,
-        }
-    }
-
     /// Writes the text at a place.
     fn write<W: Sink>(&mut self, at: usize, output: &mut W) -> Result<(), Fault>
         requires { at < length (own_texts self.old) }
@@ -308,7 +297,8 @@ impl FeatureTexts {
 
     /// No texts.
     pub fn none(alloc: Global) -> FeatureTexts
-        ensures { texts_in result ≡ [] }
+        ensures texts { texts_in result ≡ [] }
+        ensures own { AreOwnParts result }
     {
         let own = Pieces::new(Line::new(alloc), Vec::new(alloc));
         FeatureTexts::new(own, Line::new(alloc))
@@ -369,14 +359,6 @@ impl FeatureTexts {
         ensures fault { IfErr result (λ fault. fault ≡ Fault.Memory) }
     {
         self.own.keep(chosen)
-    }
-
-    /// What the text at a place has of its own, where that is held. What all of them end in comes after it.
-    pub fn held(&self, at: usize) -> Option<&[u8]>
-        requires { at < length self.now.own }
-        ensures { IfSome result (λ own. own.now ≡ get_or self.now.own at []) }
-    {
-        self.own.held(at)
     }
 
     /// What all texts end in.

@@ -1,11 +1,13 @@
+pub mod EndedTexts
 pub mod FirstLeast
 pub mod Forward
 pub mod JoinedMembers
 pub mod JoinedTiles
 pub mod LentMembers
+pub mod LineTexts
 pub mod MemberPieces
 pub mod NamedMembers
 pub mod NamedTexts
 pub mod NoObjects
-pub mod QuickLines
+pub mod OneFeature
 pub mod TriplesAreVertices

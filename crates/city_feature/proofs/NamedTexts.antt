@@ -1,19 +1,21 @@
 -- The texts of members, found by their names in the compact text of an object.
-use Rattle.std.proofs.Common.{◌≡◌, ◌++◌, ◌∙◌, ◌<◌, ◌≤◌, ℕ, List, [], ◌∷◌, Some, None, IsUtf8, length, unwrap_or, get_or, slice_range, refl, sym, ap, subst, arith}
+use Rattle.std.proofs.Common.{◌≡◌, ◌++◌, ◌∙◌, ◌≤◌, ℕ, List, [], ◌∷◌, Some, None, IsUtf8, length, unwrap_or, slice_range, refl, sym, subst, arith}
 use Rattle.city_json.proofs.CompactLaws.{compact-tells}
 use Rattle.city_json.proofs.NamedMembers.{value_there}
 use Rattle.city_json.proofs.ObjectTexts.{lies_inside, placed, value_found}
 pub use Rattle.city_json.proofs.ObjectTexts.{if_some_more}
-use Rattle.city_json.specs.Bytes.{colon, open_brace}
+use Rattle.city_json.specs.Bytes.{colon}
 use Rattle.city_json.specs.Compact.{quoted, compact}
 use Rattle.city_json.specs.CompactMembers.{HasParts}
 use Rattle.city_json.specs.Members.{first_named, member_of}
 use Rattle.city_json.specs.ObjectTexts.{HasNone, IsPlacedObject, PlacedObject, object_of}
 use Rattle.city_json.specs.Parts.{AreParts, with_value, IsPartNamed}
-use Rattle.city_json.specs.Tree.{Tree, null, boolean, number, string, array, object, MemberTrees}
+use Rattle.city_json.specs.Tree.{Tree, null, object, MemberTrees}
 use Rattle.city_json.specs.declared.compacting.places.MemberPlace.{MemberPlace}
-use Rattle.city_feature.proofs.QuickLines.{found_at}
+use Rattle.city_feature.proofs.NoObjects.{no_member}
+use Rattle.city_feature.proofs.LineTexts.{found_at}
 use Rattle.city_feature.specs.Changes.{with_named}
+use Rattle.city_feature.specs.Shapes.{IsObject}
 use Rattle.city_json.specs.CompactTexts.{IsCompactOf}
 
 -- the value of the member of this name, whose text is given
@@ -47,25 +49,14 @@ value_or text given marked name parts part members other of are utf8 is named li
 pub null_text : IsCompactOf (compact null) null
 null_text = record { is = refl; writable = tt; distinct = tt; within = omega arith }
 
-pub no_member : (text : List ℕ) (value : Tree) (name : List ℕ) → (0 < length text → get_or text 0 0 ≡ open_brace → ⊥)
-    → text ≡ compact value → member_of name value ≡ None
-no_member text (object members) name other is =
-    absurd (other (omega (arith, ap length is)) (ap (λ l. get_or l 0 0) is))
-no_member text null name other is = refl
-no_member text (boolean b) name other is = refl
-no_member text (number n) name other is = refl
-no_member text (string s) name other is = refl
-no_member text (array items) name other is = refl
-
 -- what is no object has no members
 pub no_object : (text : List ℕ) (value : Tree) (name : List ℕ) → ((members : MemberTrees) → ¬ IsCompactOf text (object members))
     → IsCompactOf text value → member_of name value ≡ None
-no_object text (object members) name none of = absurd (none members of)
-no_object text null name none of = refl
-no_object text (boolean b) name none of = refl
-no_object text (number n) name none of = refl
-no_object text (string s) name none of = refl
-no_object text (array items) name none of = refl
+no_object text value name none of = no_member value name (apart value of)
+  where
+    apart : (value : Tree) → IsCompactOf text value → ¬ IsObject value
+    apart (object members) of = λ is. none members of
+    apart other of = λ is. is
 
 -- the members of the value whose compact text this is, where their parts are known
 module _ (text : List ℕ) (parts : List MemberPlace) (has : HasParts text parts) (value : Tree) (of : IsCompactOf text value)

@@ -17,7 +17,7 @@ is_no_object bytes (number n) spells none = λ is. is
 is_no_object bytes (string text) spells none = λ is. is
 is_no_object bytes (array items) spells none = λ is. is
 
-no_member : (value : Tree) (name : List ℕ) → ¬ IsObject value → member_of name value ≡ None
+pub no_member : (value : Tree) (name : List ℕ) → ¬ IsObject value → member_of name value ≡ None
 no_member (object all) name other = absurd (other tt)
 no_member null name other = refl
 no_member (boolean b) name other = refl

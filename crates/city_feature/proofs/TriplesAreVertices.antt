@@ -7,7 +7,7 @@ use Rattle.city_json.specs.Triples.{AreTriples, IsTriple, IsTriplesText, three_n
 use Rattle.city_grid.specs.Axes.{Triple, triple, IsInRange}
 use Rattle.city_grid.specs.Vertex.{vertex_tree}
 use Rattle.city_grid.proofs.ShortIntegers.{integer}
-use Rattle.city_feature.specs.Quick.{IsVerticesText}
+use Rattle.city_feature.specs.LineTexts.{IsVerticesText}
 
 record IsPrintedVertex (value : Tree) : Type 0 where
   vertex : Triple

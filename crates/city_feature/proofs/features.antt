@@ -2,11 +2,10 @@ pub mod FeatureVertices
 pub mod InPlace
 pub mod StillFeature
 pub mod TextVertices
-pub mod QuickTypes
+pub mod TypeTexts
 pub mod LineVertices
 pub mod FirstTypes
 pub mod TripleVertices
-pub mod EndedTexts
 pub mod ThreeNumbers
 pub mod FirstFaults
 pub mod LineFaults

@@ -47,8 +47,8 @@ RefusesMoved k fault value =
 
 -- why the items of the array that a compact text spells are no vertices
 abbrev pub RefusesVertices : Fault → List ℕ → Type 0
-RefusesVertices fault text = (fault ≡ Memory)
-    ⊎ ((items : ItemTrees) → IsCompactOf text (array items) → RefusesFirst fault items)
+RefusesVertices fault text =
+    (items : ItemTrees) → IsCompactOf text (array items) → (fault ≡ Memory) ⊎ RefusesFirst fault items
 
 -- the text is the compact text of an array
 abbrev pub IsArrayText : List ℕ → Type 0

@@ -12,6 +12,6 @@ pub mod JoinedMembers
 pub mod LineVertices
 pub mod Origin
 pub mod Pieces
-pub mod Quick
+pub mod LineTexts
 pub mod Shapes
 pub mod Values

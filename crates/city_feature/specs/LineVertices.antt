@@ -7,7 +7,7 @@ use Rattle.city_json.specs.declared.compacting.places.MemberPlace.{MemberPlace}
 use Rattle.city_grid.specs.Axes.{Triple, IsInRange}
 use Rattle.city_feature.specs.Area.{Meets}
 use Rattle.city_feature.specs.Feature.{IsFeature, moved_vertices, vertices_tree}
-use Rattle.city_feature.specs.Quick.{IsPlaceOf}
+use Rattle.city_feature.specs.LineTexts.{IsPlaceOf}
 use Rattle.city_feature.specs.declared.choices.area.Area.{Area}
 use Rattle.city_feature.specs.declared.features.on_text.Vertices.{Vertices}
 use Rattle.city_feature.specs.declared.features.on_text.Vertices.TheVariants.{Stay, Move}

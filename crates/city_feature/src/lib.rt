@@ -1,8 +1,8 @@
 //! Headers and features of CityJSONSeq (CityJSON 2.0, Text sequences and streaming with
 //! CityJSONFeature): what they are ([`header`], [`feature`]), how the headers of tiles join
 //! ([`join_headers`]), how a feature is moved onto the shared grid ([`shifted`]) and chosen
-//! ([`selects`]), and the one step from a feature's line to its text ([`feature_line`],
-//! [`feature_text`]), or where many end in one appearance, to what it has before that ([`own_text`]).
+//! ([`selects`]), and the one step from a feature's line to its text ([`feature_text`]), or where many
+//! end in the same, to what it has before that ([`own_text`]).
 #![tactic(auto)]
 
 mod base;
@@ -21,9 +21,9 @@ pub use choices::area::reader::area;
 pub use choices::selecting::selects;
 pub use choices::types::{Types, types};
 pub use features::Feature;
-pub use features::ended::{is_appearance_end, own_text};
+pub use features::ended::{OwnBuffers, own_text};
 pub use features::faults::vertices_fault;
-pub use features::lines::{feature_line, feature_text};
+pub use features::lines::feature_text;
 pub use features::members::{is_absent, member_or};
 pub use features::moving::shifted;
 pub use features::on_text::unread::triples_meet;

@@ -2,9 +2,7 @@
 //! and the text of its feature, `chosen` for any text, `none` where the feature is not chosen, or the fault.
 use crate::texts::{filled, is_named, split};
 use byte_streams::{Fault, Line};
-use city_feature::{
-    Choice, Feature, area, feature, feature_line, feature_text, line, selects, shifted, types,
-};
+use city_feature::{Choice, Feature, area, feature, feature_text, line, selects, shifted, types};
 use city_grid::Shift;
 use city_json::{TextPlace, Workspace, read};
 use std::alloc::{AllocError, Global};
@@ -39,37 +37,16 @@ pub(crate) fn choice_of(
     Ok(Choice::new(types(alloc, names)?, area(corners), exclude))
 }
 
-/// What stands in the text before a feature is added to it.
+/// What a buffer holds before it is used.
 const FRONT: &[u8] = b"front ";
 
 fn front(alloc: Global) -> Result<Line, AllocError> {
     Ok(Line::from_vec(FRONT.to_vec(alloc)?))
 }
 
-/// Whether the line is answered with this fault, or with this text, which is empty where its feature is not chosen, and
-/// what stands in the text stays.
+/// Whether the line is answered with this fault, or with this text, which is empty where its feature is not chosen, in
+/// buffers that hold other lines.
 pub(crate) fn is_answered(
-    alloc: Global,
-    bytes: &[u8],
-    (shift, choice): (Shift, &Choice),
-    added: &[u8],
-    fault: Option<Fault>,
-) -> bool {
-    let Ok(mut text) = front(alloc) else {
-        return false;
-    };
-    let answer = feature_line(alloc, bytes, shift, choice, &mut text);
-    let is_told = match answer {
-        Ok(is_chosen) => fault.is_none() && is_chosen != added.is_empty(),
-        Err(found) => fault == Some(found),
-    };
-    is_told
-        && text.items().strip_prefix(FRONT) == Some(added)
-        && is_answered_alone(alloc, bytes, (shift, choice), added, fault)
-}
-
-/// The same of the line's text by itself, in buffers that hold other lines.
-fn is_answered_alone(
     alloc: Global,
     bytes: &[u8],
     (shift, choice): (Shift, &Choice),

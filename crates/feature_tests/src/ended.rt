@@ -1,75 +1,69 @@
-//! What the text of a feature has of its own, before an appearance that ends it. A row tells which features are asked for;
-//! what stands before the appearance; and what is given of it, `none` where the feature is not chosen, or `undecided`.
-use crate::answers::{asked_choice, asked_shift, is_answered};
-use crate::texts::{below, repeated, split};
+//! What the text of a feature has of its own, before an end that others share. A row tells which features are asked for; what
+//! stands before the end; and what is given of it, `none` where the feature is not chosen, or the fault.
+use crate::answers::{asked_choice, asked_shift, gives};
+use crate::texts::{is_named, split};
 use byte_streams::{Fault, Line};
-use city_feature::{Choice, is_appearance_end, own_text};
+use city_feature::{Choice, OwnBuffers, own_text};
 use city_grid::Shift;
 use std::alloc::{AllocError, AllocGlobal, Global};
 use std::process::Abort;
 
-const END: &str = r#","appearance":{"materials":[{"name":"brick"}]}}"#;
+/// The ends: an appearance, or none.
+const ENDS: [&str; 2] = [r#","appearance":{"materials":[{"name":"brick"}]}}"#, "}"];
 
-/// Whether this is given, or it is undecided, as it is told.
-fn is_given(
-    alloc: Global,
-    own: &str,
-    shift: Shift,
-    choice: &Choice,
-    wanted: &str,
-) -> Result<bool, AllocError> {
-    let mut buffer = Line::from_vec(b"front".to_vec(alloc)?);
-    Ok(
-        match own_text(alloc, own.as_bytes(), shift, choice, &mut buffer) {
-            Some(Some(text)) => text.items() == wanted.as_bytes(),
-            Some(None) => wanted == "none",
-            None => wanted == "undecided",
-        },
-    )
-}
+/// What stands in the buffers before.
+const OTHER: &str =
+    r#"{"type":"CityJSONFeature","id":"other","CityObjects":{"other":{"type":"Bridge"}},"vertices":[[ 7, 8, 9], [10, 11, 12]]"#;
 
-/// The whole text that is wanted, which is empty where the feature is not chosen.
-fn whole_text(alloc: Global, wanted: &str) -> Result<String, AllocError> {
-    if wanted == "none" {
-        return Ok(String::new(alloc));
+fn is_answer(alloc: Global, answer: Result<Option<Line>, Fault>, wanted: &str) -> bool {
+    match answer {
+        Ok(Some(text)) => text.items() == wanted.as_bytes(),
+        Ok(None) => wanted == "none",
+        Err(fault) => is_named(alloc, fault, wanted),
     }
-    format!(in alloc; "{wanted}{END}")
 }
 
-/// Whether the whole line, with the end, is answered so too, where it is told what is given.
-fn is_whole(
-    alloc: Global,
-    own: &str,
-    shift: Shift,
-    choice: &Choice,
-    wanted: &str,
-) -> Result<bool, AllocError> {
-    let line = format!(in alloc; "{own}{END}")?;
-    let text = whole_text(alloc, wanted)?;
-    Ok(
-        wanted == "undecided"
-            || is_answered(
-                alloc,
-                line.as_bytes(),
-                (shift, choice),
-                text.as_bytes(),
-                None,
-            ),
-    )
+/// Whether this is given, in buffers that hold other texts.
+fn is_given(alloc: Global, own: &str, shift: Shift, choice: &Choice, wanted: &str) -> bool {
+    let mut buffers = OwnBuffers::new(alloc);
+    let mut is_so = true;
+    for _ in 0..2 {
+        let answer = own_text(alloc, own.as_bytes(), shift, choice, &mut buffers);
+        is_so &= is_answer(alloc, answer, wanted);
+        is_so &= own_text(alloc, OTHER.as_bytes(), shift, choice, &mut buffers).is_ok();
+    }
+    is_so
 }
 
-/// Whether the row holds.
-fn holds(alloc: Global, row: &str) -> Result<bool, Fault> {
+/// The whole text that is wanted; `none` and a fault stand for themselves.
+fn whole_text(alloc: Global, wanted: &str, end: &str) -> Result<String, AllocError> {
+    if wanted.starts_with('{') {
+        return format!(in alloc; "{wanted}{end}");
+    }
+    format!(in alloc; "{wanted}")
+}
+
+/// Whether the row holds, and the whole line with this end is answered so, too.
+fn holds(alloc: Global, row: &str, end: &str) -> Result<bool, Fault> {
     let (asked, texts) = split(row);
     let (own, wanted) = split(texts);
     let Some(shift) = asked_shift(asked) else {
         return Ok(false);
     };
     let choice = asked_choice(alloc, asked)?;
+    let line = format!(in alloc; "{own}{end}")?;
+    let whole = whole_text(alloc, wanted, end)?;
     Ok(
-        is_given(alloc, own, shift, &choice, wanted)?
-            && is_whole(alloc, own, shift, &choice, wanted)?,
+        is_given(alloc, own, shift, &choice, wanted)
+            && gives(alloc, line.as_bytes(), shift, &choice, &whole),
     )
+}
+
+fn expect_rows(rt: &(impl Abort + AllocGlobal), table: &str, end: &str) {
+    for row in table.lines() {
+        let answer = holds(rt.alloc(), row, end);
+        assert!(rt; row.is_empty() || answer == Ok(true), "{row}");
+    }
 }
 
 const OWN: &str = r#"
@@ -90,96 +84,32 @@ all;;0,0,10,10 => {"type":"CityJSONFeature","id":"a","CityObjects":{},"vertices"
 1,0,0;;11,0,11,10;others => {"type":"CityJSONFeature","id":"a","CityObjects":{},"vertices":[[10,10,3]] => none
 all;Building;0,0,10,10 => {"type":"CityJSONFeature","id":"a","CityObjects":{"a":{"type":"Building"}},"vertices":[[5,5,5]] => {"type":"CityJSONFeature","id":"a","CityObjects":{"a":{"type":"Building"}},"vertices":[[5,5,5]]
 all;Building;0,0,10,10;others => {"type":"CityJSONFeature","id":"a","CityObjects":{"a":{"type":"Building"}},"vertices":[[5,5,5]] => none
+1,0,0 => {"type":"CityJSONFeature","id":"a","CityObjects":{},"vertices":[[9007199254740991,0,0]] => VertexRange
+0,0,-1 => {"type":"CityJSONFeature","id":"a","CityObjects":{},"vertices":[[0,0,0],[0,0,-9007199254740991]] => VertexRange
 "#;
 
-/// A text with an appearance of its own, which is then there twice; texts that are not compact; and those that come to no
-/// feature.
-const UNDECIDED: &str = r#"
-all => {"type":"CityJSONFeature","id":"a","CityObjects":{},"vertices":[],"appearance":{} => undecided
-all => {"appearance":{},"type":"CityJSONFeature","id":"a","CityObjects":{},"vertices":[] => undecided
-all => {"type":"CityJSONFeature", "id":"a","CityObjects":{},"vertices":[] => undecided
-all => {"type":"CityJSONFeature","id":"a","CityObjects":{},"vertices":[ ] => undecided
-all => {"type":"CityJSONFeature","id":"\u0061","CityObjects":{},"vertices":[] => undecided
-all => {"type":"CityJSONFeature","id":"a","CityObjects":{},"vertices":[]} => undecided
-all => {"type":"CityJSONFeature","id":"a","CityObjects":{},"vertices":[[1,2]] => undecided
-all => {"type":"CityJSONFeature","id":"a","CityObjects":{},"vertices":[[1,2,3.5]] => undecided
-1,0,0 => {"type":"CityJSONFeature","id":"a","CityObjects":{},"vertices":[[9007199254740991,0,0]] => undecided
-all => {"type":"CityJSON","id":"a","CityObjects":{},"vertices":[] => undecided
-all => {"type":"CityJSONFeature","id":"a","vertices":[] => undecided
-all => {"id":"a" => undecided
-all => { => undecided
-all =>  => undecided
+/// With no appearance after them: texts that have one of their own, that are not compact, and those that come to no feature.
+const CLOSED: &str = r#"
+all => {"type":"CityJSONFeature","id":"a","CityObjects":{},"vertices":[],"appearance":{} => {"type":"CityJSONFeature","id":"a","CityObjects":{},"vertices":[],"appearance":{}
+1,1,1 => {"appearance":{},"type":"CityJSONFeature","id":"a","CityObjects":{},"vertices":[[1,2,3]] => {"appearance":{},"type":"CityJSONFeature","id":"a","CityObjects":{},"vertices":[[2,3,4]]
+all => {"type":"CityJSONFeature", "id":"a","CityObjects":{},"vertices":[] => {"type":"CityJSONFeature","id":"a","CityObjects":{},"vertices":[]
+all => {"type":"CityJSONFeature","id":"a","CityObjects":{},"vertices":[ ] => {"type":"CityJSONFeature","id":"a","CityObjects":{},"vertices":[]
+all => {"type":"CityJSONFeature","id":"\u0061","CityObjects":{},"vertices":[] => {"type":"CityJSONFeature","id":"a","CityObjects":{},"vertices":[]
+all => {"type":"CityJSONFeature","id":"a","CityObjects":{},"vertices":[],"appearance":{},"appearance":{} => DuplicateName
+all => {"type":"CityJSONFeature","id":"a","CityObjects":{},"vertices":[]} => Syntax
+all => {"type":"CityJSONFeature","id":"a","CityObjects":{},"vertices":[[1,2]] => VertexShape
+all => {"type":"CityJSONFeature","id":"a","CityObjects":{},"vertices":[[1,2,3.5]] => VertexNotInteger
+all => {"type":"CityJSON","id":"a","CityObjects":{},"vertices":[] => NotAFeature
+all => {"type":"CityJSONFeature","id":"a","vertices":[] => NotAFeature
+all => {"id":"a" => NotAFeature
+all => { => NotAFeature
+all =>  => Syntax
 "#;
 
 #[test]
 fn own_parts_are_moved_and_chosen(rt: HostRuntime) {
-    for row in OWN.lines() {
-        let answer = holds(rt.alloc(), row);
-        assert!(rt; row.is_empty() || answer == Ok(true), "{row}");
+    for end in ENDS.iter() {
+        expect_rows(&rt, OWN, end);
     }
-    for row in UNDECIDED.lines() {
-        let answer = holds(rt.alloc(), row);
-        assert!(rt; row.is_empty() || answer == Ok(true), "{row}");
-    }
-}
-
-const ENDS: &str = r#"
-,"appearance":{}}
-,"appearance":null}
-,"appearance":{"materials":[{"name":"brick"}],"default-theme-material":"a\"b"}}
-,"appearance":[[1.50e+3,-0,true]]}
-"#;
-
-const OTHER_ENDS: &str = r#"
-}
-,}
-,"appearance":{}
-,"appearance":{}},
-"appearance":{}}
-{"appearance":{}}
- ,"appearance":{}}
-,"appearance":{} }
-,"appearance": {}}
-,"appearance":{}}}
-,"Appearance":{}}
-,"appearance":}
-,"appearance":01}
-,"\u0061ppearance":{}}
-,"appearance":"\u0061"}
-,"appearance":{},"x":1}
-,"x":1,"appearance":{}}
-,"appearance":{},"appearance":{}}
-,"appearance":{"a":1,"a":2}}
-"#;
-
-/// An end whose arrays nest this deep, in the object that it closes.
-fn nested(alloc: Global, depth: u32) -> Result<bool, AllocError> {
-    let opened = repeated(
-        alloc,
-        r#","appearance":ROW1"#,
-        "ROW",
-        ("[", ""),
-        below(depth),
-    )?;
-    let closed = repeated(alloc, "ROW}", "ROW", ("]", ""), below(depth))?;
-    let end = format!(in alloc; "{opened}{closed}")?;
-    Ok(is_appearance_end(alloc, end.as_bytes()))
-}
-
-#[test]
-fn ends_are_told(rt: HostRuntime) {
-    let alloc = rt.alloc();
-    assert!(rt; is_appearance_end(alloc, END.as_bytes()));
-    assert!(rt; !is_appearance_end(alloc, b""));
-    for end in ENDS.lines() {
-        assert!(rt;
-            end.is_empty() || is_appearance_end(alloc, end.as_bytes()),
-            "{end}"
-        );
-    }
-    for end in OTHER_ENDS.lines() {
-        assert!(rt; !is_appearance_end(alloc, end.as_bytes()), "{end}");
-    }
-    assert!(rt; nested(alloc, 127) == Ok(true));
-    assert!(rt; nested(alloc, 128) == Ok(false));
+    expect_rows(&rt, CLOSED, "}");
 }

@@ -1,8 +1,8 @@
 //! The faults of vertices and of lines. A row tells a text, and its fault, or `none`.
-use crate::answers::{answer_of_value, is_answered, shift_of};
+use crate::answers::{gives, shift_of};
 use crate::texts::{below, filled, is_named, repeated, split};
-use byte_streams::{Fault, Line};
-use city_feature::{Choice, feature_line, vertices_fault};
+use byte_streams::Fault;
+use city_feature::{Choice, vertices_fault};
 use std::alloc::{AllocError, AllocGlobal, Global};
 use std::process::Abort;
 
@@ -141,11 +141,9 @@ fn is_told(alloc: Global, line: &str, moved: &str, wanted: &str) -> bool {
     let Some(shift) = shift_of(moved) else {
         return false;
     };
-    let (bytes, choice) = (line.as_bytes(), Choice::new(None, None, false));
-    let fault = feature_line(alloc, bytes, shift, &choice, &mut Line::new(alloc)).err();
-    is_meant(alloc, fault, wanted)
-        && answer_of_value(alloc, bytes, shift, &choice).err() == fault
-        && (fault.is_none() || is_answered(alloc, bytes, (shift, &choice), b"", fault))
+    let wanted = if wanted == "none" { "chosen" } else { wanted };
+    let choice = Choice::new(None, None, false);
+    gives(alloc, line.as_bytes(), shift, &choice, wanted)
 }
 
 fn is_row_told(alloc: Global, form: &str, row: &str) -> Result<bool, AllocError> {

@@ -11,7 +11,7 @@ use Rattle.city_feature.specs.Feature.{FeatureValue}
 use Rattle.city_feature.specs.Header.{HeaderValue}
 use Rattle.tile_stream.specs.Coming.{MayComeTo, SomethingComes}
 use Rattle.tile_stream.specs.Filtered.{CountsReads, FiltersTo, PassedOn, ToldAfter, WroteStream, StoppedAt, WrotePart, IsRefusedFilter, failures_after_write}
-use Rattle.city_feature.specs.Quick.{no_steps}
+use Rattle.city_feature.specs.LineTexts.{no_steps}
 use Rattle.tile_stream.specs.Head.{HasNoHead, SomeTile, GivesHeld}
 use Rattle.tile_stream.specs.Progress.{WroteTexts, IsRefusedAfter}
 use Rattle.tile_stream.specs.Stream.{stream, with_newline}

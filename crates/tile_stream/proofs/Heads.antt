@@ -6,7 +6,7 @@ use Rattle.city_json.specs.Fits.{Fits}
 use Rattle.city_json.specs.Grammar.{Spells}
 use Rattle.city_json.specs.ObjectTexts.{PlacedObject, SpellsThere, object_of}
 use Rattle.city_json.specs.Refusals.{RefusesText}
-use Rattle.city_json.specs.Tree.{Tree, object, tree}
+use Rattle.city_json.specs.Tree.{Tree, tree}
 use Rattle.city_json.specs.declared.json.Json.{Json}
 use Rattle.byte_streams.specs.declared.fault.Fault.{Fault}
 use Rattle.byte_streams.specs.declared.fault.Fault.TheVariants.{NoHeader, Memory, Write}

@@ -78,12 +78,6 @@ text_there held at within =
     get_or_default (texts_in held) at [] ([] ++ held.common) (omega (arith, within, texts_long held))
     ∙ get_or-map (λ own. own ++ held.common) held.own at []
 
-pub text_held : (held : HeldTexts) (at : ℕ) → at < length held.own → (old line shown : List ℕ) → old ≡ []
-    → line ≡ old ++ (get_or held.own at [] ++ held.common) → shown ≡ line → get_or (texts_in held) at [] ≡ shown
-text_held held at within old line shown empty appended same =
-    text_there held at within
-    ∙ sym (same ∙ (appended ∙ ap (λ front. front ++ (get_or held.own at [] ++ held.common)) empty))
-
 -- one more, where there is one
 pub more_mapped : {A B : Type 0} (f : A → B) (xs : List A) (given : Option A)
     → map f (xs ++ option_to_list given) ≡ map f xs ++ option_to_list (option_map f given)

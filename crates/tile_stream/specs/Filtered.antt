@@ -7,7 +7,7 @@ use Rattle.byte_streams.specs.declared.fault.Fault.{Fault}
 use Rattle.byte_streams.specs.declared.fault.Fault.TheVariants.{Write}
 use Rattle.city_feature.specs.Feature.{FeatureValue}
 use Rattle.city_feature.specs.Header.{HeaderValue}
-use Rattle.city_feature.specs.Quick.{no_steps}
+use Rattle.city_feature.specs.LineTexts.{no_steps}
 use Rattle.tile_stream.specs.Head.{HasHead, HasNoHead, SomeTile}
 use Rattle.tile_stream.specs.Held.{Held, TileComesTo}
 use Rattle.tile_stream.specs.Stream.{stream}

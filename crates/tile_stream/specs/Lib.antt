@@ -6,8 +6,6 @@ pub mod Head
 pub mod Held
 pub mod Parts
 pub mod Progress
-pub mod Ready
-pub mod Shared
 pub mod Stream
 pub mod TapeLines
 pub mod Texts

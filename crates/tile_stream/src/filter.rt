@@ -8,7 +8,7 @@ ghost use Rattle.city_feature.specs.Header.{HeaderValue};
 ghost use Rattle.city_feature.specs.Values.{header_value};
 ghost use Rattle.tile_stream.specs.Coming.{LinesMayComeTo, MayComeTo, MayLeave};
 ghost use Rattle.tile_stream.specs.Filtered.{WroteStream, IsRefusedFilter, CountsReads, PassedOn, ToldAfter, failures_after_filter, failed_reads_after_filter};
-ghost use Rattle.city_feature.specs.Quick.{no_steps};
+ghost use Rattle.city_feature.specs.LineTexts.{no_steps};
 ghost use Rattle.tile_stream.specs.Head.{HasNoHead, SomeTile, GivesHeld};
 ghost use Rattle.tile_stream.specs.Progress.{SoFar, WroteTexts, IsRefusedAfter};
 ghost use Rattle.tile_stream.specs.Stream.{with_newline};

@@ -59,7 +59,7 @@ pub struct Passed {
 
 impl<R> Model for TileReader<R> {
     ghost use Rattle.std.specs.Coded.{codes};
-    ghost use Rattle.city_cut.specs.HeldTexts.{texts_in};
+    ghost use Rattle.city_cut.specs.HeldTexts.{AreOwnParts, texts_in};
     ghost use Rattle.city_cut.specs.contracts.held.FeatureTexts as texts_type;
     ghost use Rattle.tile_stream.specs.TileState.{TileState};
     ghost use Rattle.tile_stream.specs.Unread.{EndsFrom};
@@ -73,7 +73,7 @@ impl<R> Model for TileReader<R> {
       lines = tile.lines;
     } };
 
-    ghost invariant = { λ tile. EndsFrom tile.lines.number tile.lines.ended };
+    ghost invariant = { λ tile. EndsFrom tile.lines.number tile.lines.ended × AreOwnParts tile.held.texts };
 }
 
 impl<R: Source> TileReader<R> {

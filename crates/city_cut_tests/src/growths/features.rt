@@ -4,9 +4,8 @@ use crate::growths::values::{is_after, is_printed};
 use byte_streams::{Fault, Line};
 use city_cut::{CutTexts, FeatureTexts, cut, cut_compacted_triples, cut_texts};
 use city_feature::{
-    Base, Choice, Feature, Header, HeaderFault, Joined, area, feature, feature_line, feature_text,
-    header, is_appearance_end, join_headers, line, own_text, selects, set_member, shifted, types,
-    vertices_fault,
+    Base, Choice, Feature, Header, HeaderFault, Joined, OwnBuffers, area, feature, feature_text,
+    header, join_headers, line, own_text, selects, set_member, shifted, types, vertices_fault,
 };
 use city_grid::{Shift, Vertex, append_vertex, vertex_json, write_vertex};
 use city_json::{Json, Workspace, compact_object, read};
@@ -319,61 +318,9 @@ fn choice_of(alloc: Global) -> Result<Choice, Fault> {
     Choice::new(names, area("0,0,20,30"), false).copy(alloc)
 }
 
-/// Whether a line is chosen, whose text is then appended to what stands there.
-fn is_taken(alloc: Global, bytes: &[u8], choice: &Choice, text: &mut Line) -> Result<bool, Fault> {
-    let shift = Shift::new(10, 20, 30).ok_or(Fault::ShiftRange)?;
-    feature_line(alloc, bytes, shift, choice, text)
-}
-
-/// The same; what stands there is as before where memory is wanted, or the line is at fault.
-fn is_chosen(
-    rt: &(impl AllocGlobal + Eprint),
-    bytes: &[u8],
-    choice: &Choice,
-    text: &mut Line,
-) -> Result<bool, Fault> {
-    let first = is_taken(rt.alloc(), bytes, choice, text);
-    if first.is_ok() {
-        return first;
-    }
-    if text.items() != b"front ".as_slice() {
-        return Ok(false);
-    }
-    if first == Err(Fault::Memory) {
-        wanted(rt, Call("feature_line"));
-        return is_taken(rt.alloc(), bytes, choice, text);
-    }
-    first
-}
-
-fn appends_line(
-    rt: &(impl AllocGlobal + Eprint),
-    bytes: &[u8],
-    choice: &Choice,
-    text: &mut Line,
-    moved: &[u8],
-) -> Result<bool, Fault> {
-    Ok(is_chosen(rt, bytes, choice, text)? && is_after(b"front ", moved, text.items()))
-}
-
-fn line_is_appended(
-    rt: &(impl AllocGlobal + Eprint),
-    bytes: &[u8],
-    moved: &[u8],
-) -> Result<bool, Fault> {
-    let choice = choice_of(rt.alloc())?;
-    let mut text = Line::from_vec(b"front ".to_vec(rt.alloc())?);
-    appends_line(rt, bytes, &choice, &mut text, moved)
-}
-
 /// Its last vertex is at fault, which its compact text says, or the reading of its value.
 const FAULTY: &[u8] =
     br#"{ "type": "CityJSONFeature", "id": "a", "CityObjects": {"a": {"type": "Road"}}, "vertices": [[1, 2, 3], [-4, -5, -6], [7, 8, 9], [1.0, 0, 0]] }"#;
-
-fn lines_are_chosen(rt: &(impl AllocGlobal + Eprint)) -> Result<bool, Fault> {
-    let is_refused = is_fault(line_is_appended(rt, FAULTY, b""), Fault::VertexNotInteger)?;
-    Ok(is_refused && line_is_appended(rt, SPACED, MOVED)?)
-}
 
 /// Whether a line is chosen when it is moved by the shift, with this text, wherever it stands.
 fn gives(
@@ -409,27 +356,19 @@ fn vertices_fault_is_told(rt: &(impl AllocGlobal + Eprint)) -> Result<bool, Faul
     }
 }
 
-/// An end that features share, which is told unless memory is wanted.
-fn end_is_told(rt: &(impl AllocGlobal + Eprint)) -> Result<bool, Fault> {
-    if is_appearance_end(rt.alloc(), br#","appearance":{"materials":[]}}"#) {
-        return Ok(true);
-    }
-    refused(rt, Call("is_appearance_end"), Fault::Memory)
-}
-
-/// What a feature has before such an end is moved and given; it is undecided where memory is wanted.
+/// What a feature has before an end that others share is moved and given.
 fn own_part_is_given(rt: &(impl AllocGlobal + Eprint)) -> Result<bool, Fault> {
     let choice = choice_of(rt.alloc())?;
     let shift = Shift::new(10, 20, 30).ok_or(Fault::ShiftRange)?;
-    let mut buffer = Line::new(rt.alloc());
+    let mut buffers = OwnBuffers::new(rt.alloc());
     let own =
         br#"{"type":"CityJSONFeature","id":"a","CityObjects":{"a":{"type":"Road"}},"vertices":[[1,2,3]]"#;
     let moved =
         br#"{"type":"CityJSONFeature","id":"a","CityObjects":{"a":{"type":"Road"}},"vertices":[[11,22,33]]"#;
-    match own_text(rt.alloc(), own, shift, &choice, &mut buffer) {
-        Some(Some(text)) => Ok(text.items() == moved.as_slice()),
-        Some(None) => Ok(false),
-        None => refused(rt, Call("own_text"), Fault::Memory),
+    match own_text(rt.alloc(), own, shift, &choice, &mut buffers) {
+        Ok(Some(text)) => Ok(text.items() == moved.as_slice()),
+        Ok(None) => Ok(false),
+        Err(fault) => refused(rt, Call("own_text"), fault),
     }
 }
 
@@ -626,10 +565,8 @@ fn vertices_headers_features_and_documents(rt: HostRuntime) -> Result<(), Fault>
     expect!(rt; headers_are_not_joined(&rt));
     expect!(rt; features_are_moved(&rt));
     expect!(rt; features_are_refused(&rt));
-    expect!(rt; lines_are_chosen(&rt));
     expect!(rt; texts_stay_or_are_written(&rt));
     expect!(rt; vertices_fault_is_told(&rt));
-    expect!(rt; end_is_told(&rt));
     expect!(rt; own_part_is_given(&rt));
     expect!(rt; types_are_read(&rt));
     expect!(rt; choices_are_copied(&rt));

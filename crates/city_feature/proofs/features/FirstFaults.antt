@@ -1,5 +1,5 @@
 -- The first vertex that is at fault, found in the compact text of its array.
-use Rattle.std.proofs.Common.{◌≡◌, ◌⊎◌, ◌∙◌, ◌++◌, ◌+◌, ◌-◌, ◌<◌, ◌≤◌, ℕ, zero, suc, All, List, [], ◌∷◌, Result, Ok, Err, IfOk, IfErr, length, take, drop, get_or, slice_range, ap, sym, subst, inl, inr, arith, append_assoc, length-append, length-drop}
+use Rattle.std.proofs.Common.{◌≡◌, ◌⊎◌, ◌∙◌, ◌++◌, ◌+◌, ◌-◌, ◌<◌, ◌≤◌, ℕ, zero, suc, All, List, [], ◌∷◌, Result, Ok, Err, IfOk, IfErr, length, take, drop, get_or, slice_range, ap, sym, subst, refl, inl, inr, arith, append_assoc, length-append, length-drop}
 use Rattle.std.proofs.lemmas.List.{take_all}
 use Rattle.std.proofs.Math.Seq.{take-append_seam}
 use Rattle.byte_streams.specs.declared.fault.Fault.{Fault}
@@ -8,7 +8,7 @@ use Rattle.city_json.proofs.CompactEnds.{item_left, other_head}
 use Rattle.city_json.proofs.CompactLaws.{compact-tells}
 use Rattle.city_json.proofs.Places.{drop_one}
 use Rattle.city_json.proofs.StringEnds.{others_same}
-use Rattle.city_json.specs.Bytes.{comma, close_bracket}
+use Rattle.city_json.specs.Bytes.{comma, open_bracket, close_bracket}
 use Rattle.city_json.specs.Compact.{compact, compact_items, compact_more_items}
 use Rattle.city_json.specs.CompactEnds.{LeavesValue}
 use Rattle.city_json.specs.Fits.{AreDistinctItems, items_depth}
@@ -20,7 +20,6 @@ use Rattle.city_grid.specs.Axes.{Triple, IsInRange, three}
 use Rattle.city_grid.specs.Vertex.{IsVertex, RefusesVertex, SpellsVertex}
 use Rattle.city_feature.specs.Faults.{RefusesVertices, after_item}
 use Rattle.city_feature.specs.Feature.{AreVertices, RefusesFirst}
-use Rattle.city_feature.specs.Quick.{SpellsVertices}
 use Rattle.city_json.specs.CompactTexts.{IsCompactOf}
 
 -- what is known of an answer, where it is known which it is
@@ -42,8 +41,15 @@ vertex_there text end p all (texts, written, each) value of =
       each,
     )
 
--- items are left, and a fault of theirs is the first one
-pub record VerticesLeft (text : List ℕ) (at : ℕ) (items : ItemTrees) : Type 0 where
+same_items : (items found : ItemTrees) → array items ≡ array found → items ≡ found
+same_items items found same = ap content same
+  where
+    content : Tree → ItemTrees
+    content (array all) = all
+    content other = no_items
+
+-- items are left, those before them were taken, and a fault of theirs is the first one
+pub record VerticesLeft (Has : List Triple → Type 0) (text : List ℕ) (at : ℕ) (items : ItemTrees) : Type 0 where
   pub first : Tree
   pub others : ItemTrees
   pub writable : AreWritableItems (item first others)
@@ -51,15 +57,30 @@ pub record VerticesLeft (text : List ℕ) (at : ℕ) (items : ItemTrees) : Type 
   pub within : items_depth (item first others) < max_depth
   pub is : drop at text ≡ compact_items (item first others) ++ close_bracket ∷ []
   pub refuses : (fault : Fault) → RefusesFirst fault (item first others) → RefusesFirst fault items
+  pub taken : List Triple
+  pub has : Has taken
+  pub takes : (more : List Triple) → AreVertices (item first others) more → AreVertices items (taken ++ more)
 
 -- the same of whatever array has this text
-abbrev pub FaultsOn : List ℕ → ℕ → Type 0
-FaultsOn text at = (items : ItemTrees) → IsCompactOf text (array items) → VerticesLeft text at items
+abbrev pub TakesOn : (List Triple → Type 0) → List ℕ → ℕ → Type 0
+TakesOn Has text at = (items : ItemTrees) → IsCompactOf text (array items) → VerticesLeft Has text at items
 
-pub faults_begin : (text : List ℕ) → (1 < length text → get_or text 1 0 ≡ close_bracket → ⊥) → FaultsOn text 1
-faults_begin text other no_items of =
-    absurd (other (omega (arith, ap length of.is)) (ap (λ l. get_or l 1 0) of.is))
-faults_begin text other (item first others) of = record {
+-- all of them were taken
+abbrev pub AllTaken : (List Triple → Type 0) → List ℕ → Type 0
+AllTaken Has text = (items : ItemTrees) → IsCompactOf text (array items)
+    → (taken : List Triple) × Has taken × AreVertices items taken
+
+pub none_taken : (Has : List Triple → Type 0) (text : List ℕ) → Has [] → text ≡ open_bracket ∷ close_bracket ∷ []
+    → AllTaken Has text
+none_taken Has text none is items of =
+    let empty : items ≡ no_items = same_items items no_items
+    (compact-tells (array items) (array no_items) of.writable tt (sym of.is ∙ is)) in
+    ([], none, subst (λ all. AreVertices all []) (sym empty) tt)
+
+pub takes_begin : (Has : List Triple → Type 0) (text : List ℕ) → Has []
+    → (text ≡ open_bracket ∷ close_bracket ∷ [] → ⊥) → TakesOn Has text 1
+takes_begin Has text none other no_items of = absurd (other of.is)
+takes_begin Has text none other (item first others) of = record {
   first = first;
   others = others;
   writable = of.writable;
@@ -67,7 +88,23 @@ faults_begin text other (item first others) of = record {
   within = omega (arith, of.within);
   is = ap (drop 1) of.is;
   refuses = λ fault refused. refused;
+  taken = [];
+  has = none;
+  takes = λ more are. are;
 }
+
+-- items are left, so the text goes on
+pub text_left : (Has : List Triple → Type 0) (text : List ℕ) (at : ℕ) → length text ≤ at → TakesOn Has text at
+    → (items : ItemTrees) → IsCompactOf text (array items) → ⊥
+text_left Has text at past on items of =
+    let left = on items of in
+    omega (
+      arith,
+      past,
+      ap length left.is,
+      length-drop at text,
+      length-append (compact_items (item left.first left.others)) (close_bracket ∷ []),
+    )
 
 slice_front : (text x : List ℕ) (at end : ℕ) → at ≤ end → end ≤ length text → drop at text ≡ x ++ drop end text
     → slice_range text at end ≡ x
@@ -78,8 +115,8 @@ slice_front text x at end onward within is =
 
 -- the next item's text lies up to where the next value ends
 module _ (text : List ℕ) (at end : ℕ) (onward : at ≤ end) (within : end ≤ length text)
-    (leaves : LeavesValue 128 (drop at text) (drop end text)) (items : ItemTrees)
-    (left : VerticesLeft text at items) where
+    (leaves : LeavesValue 128 (drop at text) (drop end text)) (Has : List Triple → Type 0) (items : ItemTrees)
+    (left : VerticesLeft Has text at items) where
   after : drop end text ≡ after_item left.others
   after = item_left 128 (drop at text) (drop end text) [] (record {
     first = left.first;
@@ -104,44 +141,80 @@ module _ (text : List ℕ) (at end : ℕ) (onward : at ≤ end) (within : end �
     within = omega (arith, left.within);
   }
 
-pub fault_found : (text : List ℕ) (at end : ℕ) (fault : Fault) → at ≤ end → end ≤ length text
-    → LeavesValue 128 (drop at text) (drop end text) → FaultsOn text at
-    → ((value : Tree) → IsCompactOf (slice_range text at end) value → RefusesVertex fault value) → (items : ItemTrees)
-    → IsCompactOf text (array items) → RefusesFirst fault items
-fault_found text at end fault onward within leaves on refused items of =
-    let left = on items of in
-    left.refuses fault (inl (refused left.first (first_of text at end onward within leaves items left)))
+first_dropped : (text : List ℕ) (end c : ℕ) {rest : List ℕ} → drop end text ≡ c ∷ rest → get_or text end 0 ≡ c
+first_dropped [] zero c is = cc is
+first_dropped [] (suc end) c is = cc is
+first_dropped (b ∷ text) zero c is = ap (λ l. get_or l 0 0) is
+first_dropped (b ∷ text) (suc end) c is = first_dropped text end c is
 
-more_left : (text : List ℕ) (end : ℕ) (items : ItemTrees) (first : Tree) (others : ItemTrees)
-    → AreWritableItems (item first others) → AreDistinctItems (item first others)
-    → items_depth (item first others) < max_depth
-    → ((fault : Fault) → RefusesFirst fault (item first others) → RefusesFirst fault items) → (p : Triple)
-    → IsVertex first p → IsInRange p → drop end text ≡ after_item others → end < length text
-    → get_or text end 0 ≡ comma → VerticesLeft text (end + 1) items
-more_left text end items first no_items w d deep refuses p vertex range after inside marked =
-    absurd (other_head close_bracket comma _ _ (omega arith) (sym after ∙ drop_one text end comma inside marked))
-more_left text end items first (item next others) w d deep refuses p vertex range after inside marked = record {
-  first = next;
-  others = others;
-  writable = w.1;
-  distinct = d.1;
-  within = omega (arith, deep);
-  is = others_same _ _ _ _ (sym (drop_one text end comma inside marked) ∙ after);
-  refuses = λ fault refused. refuses fault (inr (p, vertex, range, refused));
-}
+module _ (Has : List Triple → Type 0) (text : List ℕ) (at end : ℕ) (onward : at ≤ end)
+    (leaves : LeavesValue 128 (drop at text) (drop end text)) (on : TakesOn Has text at) where
+  pub fault_found : (fault : Fault) → end ≤ length text
+      → ((value : Tree) → IsCompactOf (slice_range text at end) value → (fault ≡ Memory) ⊎ RefusesVertex fault value)
+      → RefusesVertices fault text
+  fault_found fault within refused items of =
+      let left = on items of in
+      told left (refused left.first (first_of text at end onward within leaves Has items left))
+    where
+      told : (left : VerticesLeft Has text at items) → (fault ≡ Memory) ⊎ RefusesVertex fault left.first
+          → (fault ≡ Memory) ⊎ RefusesFirst fault items
+      told left (inl memory) = inl memory
+      told left (inr no_vertex) = inr (left.refuses fault (inl no_vertex))
 
-pub faults_go_on : (text : List ℕ) (at end : ℕ) (p : Triple) → at ≤ end → end < length text
-    → get_or text end 0 ≡ comma → LeavesValue 128 (drop at text) (drop end text) → FaultsOn text at
-    → ((value : Tree) → IsCompactOf (slice_range text at end) value → IsVertex value p) → IsInRange p
-    → FaultsOn text (end + 1)
-faults_go_on text at end p onward inside marked leaves on vertex range items of =
-    let left = on items of in
-    let within : end ≤ length text = omega (arith, inside) in
-    more_left text end items left.first left.others left.writable left.distinct left.within left.refuses p
-    (vertex left.first (first_of text at end onward within leaves items left)) range
-    (after text at end onward within leaves items left) inside marked
+  module _ (New : List Triple → Type 0) (p : Triple) (take : (taken : List Triple) → Has taken → New (taken ++ p ∷ []))
+      (within : end ≤ length text)
+      (vertex : (value : Tree) → IsCompactOf (slice_range text at end) value → IsVertex value p) (range : IsInRange p) where
+    more_left : end < length text → get_or text end 0 ≡ comma → (items : ItemTrees) (left : VerticesLeft Has text at items)
+        → (others : ItemTrees) → left.others ≡ others → VerticesLeft New text (end + 1) items
+    more_left inside marked items left no_items is =
+        absurd (other_head close_bracket comma _ _ (omega arith)
+        (sym (after text at end onward within leaves Has items left ∙ ap after_item is)
+        ∙ drop_one text end comma inside marked))
+    more_left inside marked items left (item next others) is =
+        let writable = subst (λ all. AreWritableItems (item left.first all)) is left.writable in
+        let distinct = subst (λ all. AreDistinctItems (item left.first all)) is left.distinct in
+        let deep = subst (λ all. items_depth (item left.first all) < max_depth) is left.within in
+        let one = vertex left.first (first_of text at end onward within leaves Has items left) in record {
+          first = next;
+          others = others;
+          writable = writable.1;
+          distinct = distinct.1;
+          within = omega (arith, deep);
+          is = others_same _ _ _ _ (sym (drop_one text end comma inside marked)
+              ∙ (after text at end onward within leaves Has items left ∙ ap after_item is));
+          refuses = λ fault refused.
+              left.refuses fault (inr (p, one, range, subst (RefusesFirst fault) (sym is) refused));
+          taken = left.taken ++ p ∷ [];
+          has = take left.taken left.has;
+          takes = λ more are. subst (AreVertices items) (sym (append_assoc left.taken (p ∷ []) more))
+              (left.takes (p ∷ more) (one, range, subst (λ all. AreVertices all more) (sym is) are));
+        }
 
--- ---- vertices that are read by their values
+    pub takes_go_on : end < length text → get_or text end 0 ≡ comma → TakesOn New text (end + 1)
+    takes_go_on inside marked items of =
+        let left = on items of in more_left inside marked items left left.others refl
+
+    all_left : (end < length text → get_or text end 0 ≡ comma → ⊥) → (items : ItemTrees)
+        (left : VerticesLeft Has text at items) → (others : ItemTrees) → left.others ≡ others
+        → (taken : List Triple) × New taken × AreVertices items taken
+    all_left other items left no_items is =
+        let one = vertex left.first (first_of text at end onward within leaves Has items left) in (
+          left.taken ++ p ∷ [],
+          take left.taken left.has,
+          left.takes (p ∷ []) (one, range, subst (λ all. AreVertices all []) (sym is) tt),
+        )
+    all_left other items left (item next others) is =
+        let here = after text at end onward within leaves Has items left ∙ ap after_item is in
+        absurd (other (omega (arith, ap length here, length-drop end text)) (first_byte here))
+      where
+        first_byte : {rest : List ℕ} → drop end text ≡ comma ∷ rest → get_or text end 0 ≡ comma
+        first_byte here = first_dropped text end comma here
+
+    pub takes_end : (end < length text → get_or text end 0 ≡ comma → ⊥) → AllTaken New text
+    takes_end other items of =
+        let left = on items of in all_left other items left left.others refl
+
+-- ---- vertices are in range
 pub are_in_range : (items : ItemTrees) (ps : List Triple) → AreVertices items ps → All IsInRange ps
 are_in_range no_items [] are k d within = absurd (omega arith)
 are_in_range no_items (p ∷ ps) are k d within = absurd are
@@ -149,24 +222,3 @@ are_in_range (item value others) [] are k d within = absurd are
 are_in_range (item value others) (p ∷ ps) are zero d within = are.1
 are_in_range (item value others) (p ∷ ps) are (suc k) d within =
     are_in_range others ps are.2 k d (omega (arith, within))
-
-same_items : (items found : ItemTrees) → array items ≡ array found → items ≡ found
-same_items items found same = ap content same
-  where
-    content : Tree → ItemTrees
-    content (array all) = all
-    content other = no_items
-
-module _ (text : List ℕ) (items found : ItemTrees) where
-  pub vertices_read : (ps : List Triple) → IsCompactOf text (array items) → array items ≡ array found
-      → AreVertices found ps → SpellsVertices text ps
-  vertices_read ps of same are =
-      (items, of.is, of.writable, subst (λ all. AreVertices all ps) (sym (same_items items found same)) are)
-
-  pub first_of_read : (fault : Fault) → IsCompactOf text (array items) → array items ≡ array found
-      → (fault ≡ Memory) ⊎ RefusesFirst fault found → RefusesVertices fault text
-  first_of_read fault of same (inl memory) = inl memory
-  first_of_read fault of same (inr refused) = inr (λ others here.
-      let again : others ≡ items = same_items others items
-      (compact-tells (array others) (array items) here.writable of.writable (sym here.is ∙ of.is)) in
-      subst (RefusesFirst fault) (sym (again ∙ same_items items found same)) refused)

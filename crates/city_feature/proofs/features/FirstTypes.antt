@@ -17,8 +17,8 @@ use Rattle.city_json.specs.ReadString.{is_plain, prepend, string_at}
 use Rattle.city_json.specs.Tree.{Tree, null, boolean, number, string, array, object, MemberTrees, no_members, member}
 use Rattle.city_json.specs.Writable.{IsWritable, AreWritableMembers}
 use Rattle.city_json.proofs.NamedMembers.{equal_names}
-use Rattle.city_feature.proofs.QuickLines.{number_begins, utf8}
-use Rattle.city_feature.specs.Quick.{AreLetters, IsLetter}
+use Rattle.city_feature.proofs.LineTexts.{number_begins, utf8}
+use Rattle.city_feature.specs.LineTexts.{AreLetters, IsLetter}
 use Rattle.city_feature.specs.Shapes.{member_in}
 
 abbrev head_of : List ℕ → ℕ

@@ -1,23 +1,22 @@
 -- Why a feature's line is refused, by the texts of its members.
-use Rattle.std.proofs.Common.{◌≡◌, ◌⊎◌, ◌∙◌, ◌↔◌, ◌++◌, ◌∷◌, [], ℕ, Bool, List, false, Option, Some, None, IsTrue, codes, slice_range, unwrap_or, ap, sym, subst, refl, inl, inr}
+use Rattle.std.proofs.Common.{◌≡◌, ◌∙◌, ◌↔◌, ◌++◌, ◌∷◌, [], ℕ, Bool, List, false, Option, Some, None, IsTrue, codes, slice_range, unwrap_or, ap, sym, subst, refl, inl, inr}
 use Rattle.byte_streams.specs.declared.fault.Fault.{Fault}
-use Rattle.byte_streams.specs.declared.fault.Fault.TheVariants.{Memory}
 use Rattle.city_json.proofs.CompactLaws.{compact-tells}
 use Rattle.city_json.proofs.ObjectTexts.{value_found}
 use Rattle.city_json.specs.Bytes.{colon}
 use Rattle.city_json.specs.Compact.{compact, quoted}
 use Rattle.city_json.specs.CompactTexts.{IsCompactOf}
 use Rattle.city_json.specs.Members.{first_named}
-use Rattle.city_json.specs.ObjectTexts.{IsPlacedObject, PlacedObject, SpellsThere, members_of, object_of}
+use Rattle.city_json.specs.ObjectTexts.{HasNone, IsPlacedObject, PlacedObject, SpellsThere, members_of, object_of}
 use Rattle.city_json.specs.Parts.{IsPartNamed}
 use Rattle.city_json.specs.Tree.{Tree, null, string, array, object, ItemTrees, MemberTrees}
 use Rattle.city_json.specs.declared.compacting.places.MemberPlace.{MemberPlace}
 use Rattle.city_grid.specs.Axes.{Triple}
 use Rattle.city_feature.specs.Faults.{IsArrayText, RefusesMoved, RefusesVertices}
-use Rattle.city_feature.specs.Feature.{HasFeatureShape, RefusesFirst}
+use Rattle.city_feature.specs.Feature.{HasFeatureShape}
 use Rattle.city_feature.specs.FeatureLine.{RefusesFeatureLine}
 use Rattle.city_feature.specs.Shapes.{IsArray, IsObject, IsText, IsThere}
-use Rattle.city_feature.proofs.QuickLines.{utf8}
+use Rattle.city_feature.proofs.LineTexts.{utf8}
 use Rattle.city_feature.proofs.features.FeatureVertices.{feature_refused}
 use Rattle.city_feature.proofs.features.LineVertices.{not_both}
 
@@ -73,9 +72,32 @@ module _ (members : MemberTrees) where
 
 -- what a feature has is wanting
 pub unshaped : (members : MemberTrees) (P : Type 0) (b : Bool) → b ≡ false → IsTrue b ↔ P
-    → (HasFeatureShape (object members) → P) → IsTrue false ↔ HasFeatureShape (object members)
-unshaped all P b is_false test part =
-    (λ never. absurd (not_both false refl never), λ shape. absurd (not_both b is_false (test.1 (part shape))))
+    → (HasFeatureShape (object members) → P) → ¬ HasFeatureShape (object members)
+unshaped all P b is_false test part = λ shape. not_both b is_false (test.1 (part shape))
+
+pub no_vertices_there : (there : PlacedObject) → HasNone (quoted (codes "vertices") ++ colon ∷ []) there
+    → ¬ HasFeatureShape (object_of there)
+no_vertices_there there none = λ shape. subst (IsThere IsArray) (none (codes "vertices") refl) shape.3
+
+-- what stands in the part of the vertices
+module _ (there : PlacedObject) (placed : IsPlacedObject there) (part : MemberPlace)
+    (here : IsPartNamed there.text there.parts (quoted (codes "vertices") ++ colon ∷ []) part) (given : List ℕ)
+    (lies : given ≡ slice_range there.text part.value part.end) (b : Bool)
+    (test : (value : Tree) → IsCompactOf given value → IsTrue b ↔ IsArray value) where
+  vertices_value : (value : Tree) × (first_named (codes "vertices") (members_of there) ≡ Some value)
+      × IsCompactOf given value
+  vertices_value = value_found there placed (quoted (codes "vertices") ++ colon ∷ []) part here given lies
+      (codes "vertices") (utf8 (codes "vertices") refl) refl
+
+  pub other_vertices : b ≡ false → ¬ HasFeatureShape (object_of there)
+  other_vertices is_false = λ shape.
+      let (value, is, of) = vertices_value in
+      not_both b is_false ((test value of).1 (subst (IsThere IsArray) is shape.3))
+
+  pub array_value : IsTrue b → IsArray (value_of (codes "vertices") (members_of there))
+  array_value holds =
+      let (value, is, of) = vertices_value in
+      subst (λ o. IsArray (unwrap_or o null)) (sym is) ((test value of).0 holds)
 
 array_there : (there : Option Tree) → IsThere IsArray there → (items : ItemTrees) × (there ≡ Some (array items))
 array_there (Some (array items)) is = (items, refl)
@@ -102,16 +124,10 @@ module _ (there : PlacedObject) (placed : IsPlacedObject there) (shape : HasFeat
   pub array_text : IsArrayText text
   array_text = let (items, first, of) = items_here in (items, of)
 
-  pub vertices_refused : (k : Triple) (fault : Fault) → RefusesVertices fault text
-      → RefusesMoved k fault (object_of there)
+  pub vertices_refused : (k : Triple) (fault : Fault) → RefusesVertices fault text → RefusesMoved k fault (object_of there)
   vertices_refused k fault refused =
       let (items, first, of) = items_here in
-      inl (feature_refused (object_of there) items fault shape first (first_refused items of refused))
-    where
-      first_refused : (items : ItemTrees) → IsCompactOf text (array items) → RefusesVertices fault text
-          → (fault ≡ Memory) ⊎ RefusesFirst fault items
-      first_refused items of (inl memory) = inl memory
-      first_refused items of (inr refused) = inr (refused items of)
+      inl (feature_refused (object_of there) items fault shape first (refused items of))
 
 -- ---- the line
 module _ (k : Triple) (fault : Fault) (bytes : List ℕ) (there : PlacedObject) (spells : SpellsThere bytes there) where

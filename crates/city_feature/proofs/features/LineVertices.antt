@@ -8,7 +8,7 @@ use Rattle.city_json.specs.Parts.{with_value}
 use Rattle.city_json.specs.Tree.{Tree}
 use Rattle.city_json.specs.declared.compacting.places.MemberPlace.{MemberPlace}
 use Rattle.city_grid.specs.Axes.{Triple, triple, IsInRange, sum}
-use Rattle.city_feature.proofs.features.QuickTypes.{moved_types}
+use Rattle.city_feature.proofs.features.TypeTexts.{moved_types}
 use Rattle.city_feature.specs.Area.{Meets}
 use Rattle.city_feature.specs.Choice.{HasType, IsChosen}
 use Rattle.city_feature.specs.declared.choices.area.Area.{Area}
@@ -18,7 +18,7 @@ use Rattle.city_feature.specs.declared.features.on_text.Vertices.TheVariants.{St
 use Rattle.city_feature.specs.Feature.{FeatureValue, IsFeature, moved, moved_vertices, vertices_tree}
 use Rattle.city_feature.specs.FeatureLine.{GivesFeature, SpellsMoved}
 use Rattle.city_feature.specs.LineVertices.{AreKnown, BecomeOf, text_with}
-use Rattle.city_feature.specs.Quick.{IsPlaceOf, no_steps}
+use Rattle.city_feature.specs.LineTexts.{IsPlaceOf, no_steps}
 use Rattle.city_json.specs.ObjectTexts.{PlacedObject, SpellsThere, members_of, object_of}
 use Rattle.city_feature.specs.Shapes.{IsText, IsThere}
 

@@ -11,7 +11,7 @@ use Rattle.city_grid.proofs.VertexLaws.{three_are_writable}
 use Rattle.city_grid.specs.Axes.{Triple, IsInRange, three}
 use Rattle.city_grid.specs.Vertex.{SpellsVertex, vertex_tree}
 use Rattle.city_feature.specs.Feature.{AreVertices, vertices_tree}
-use Rattle.city_feature.specs.Quick.{SpellsVertices}
+use Rattle.city_feature.specs.LineTexts.{SpellsVertices}
 
 abbrev trees : List Triple → ItemTrees
 trees ps = item_trees (map vertex_tree ps)

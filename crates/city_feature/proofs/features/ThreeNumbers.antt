@@ -11,7 +11,7 @@ use Rattle.city_json.specs.Writable.{IsWritable}
 use Rattle.city_grid.specs.Axes.{three}
 use Rattle.city_feature.specs.Faults.{AreItemsAt, AreThreeNumbers, IsNoNumberBefore, IsNumberBefore, after_item}
 use Rattle.city_json.specs.CompactTexts.{IsCompactOf}
-use Rattle.city_feature.proofs.QuickLines.{number_begins}
+use Rattle.city_feature.proofs.LineTexts.{number_begins}
 
 -- ---- one number
 number_here : (value : Tree) (rest tail : List ℕ) (c : ℕ) → IsWritable value → compact value ++ rest ≡ c ∷ tail

@@ -1,18 +1,18 @@
 //! Why the vertices of a feature are refused, found in their compact text.
-ghost use Rattle.std.specs.Prelude.{◌≡◌, ◌≤◌, length, All, IfOk, IfErr, IfNone, IfSome, IsTrue};
-ghost use Rattle.city_json.specs.Tree.{ItemTrees, Tree, array, items_tree, tree};
-ghost use Rattle.city_grid.specs.Axes.{IsInRange};
+ghost use Rattle.std.specs.Prelude.{◌≡◌, ◌≤◌, ◌⊎◌, ◌++◌, ◌∷◌, [], List, length, All, IfOk, IfErr, IfNone, IfSome, IsTrue, OnOk};
+ghost use Rattle.city_json.specs.Tree.{ItemTrees, Tree, array};
+ghost use Rattle.city_grid.specs.Axes.{IsInRange, Triple};
 ghost use Rattle.city_grid.specs.Vertex.{IsVertex, RefusesVertex};
 ghost use Rattle.city_feature.specs.Faults.{AreThreeNumbers, IsArrayText, IsNoNumberBefore, IsNumberBefore, RefusesVertices};
-ghost use Rattle.city_feature.specs.Feature.{RefusesFirst};
-ghost use Rattle.city_feature.specs.Quick.{SpellsVertices};
+ghost use Rattle.city_feature.specs.Feature.{AreVertices, RefusesFirst};
+ghost use Rattle.city_feature.specs.LineTexts.{SpellsVertices};
 ghost use Rattle.city_json.specs.CompactTexts.{IsCompactOf};
 
-use crate::features::reader::read_vertices;
+use crate::features::shape::is_array;
 use byte_streams::Fault;
 use city_grid::{Vertex, byte_is, spelled_vertex_at, vertex};
-use city_json::{Json, read, value_end};
-use std::alloc::Global;
+use city_json::{read, value_end};
+use std::alloc::{AllocError, Global};
 
 /// Where the next item begins after the number at `at` and this byte after it; `None`: they do not stand there.
 fn after_number(text: &[u8], at: usize, mark: u8) -> Option<usize>
@@ -53,67 +53,106 @@ fn is_three_numbers(text: &[u8]) -> bool
     true
 }
 
-/// The vertex whose compact text this is, or why it is none. `None`: undecided.
-fn vertex_of(alloc: Global, text: &[u8]) -> Option<Result<Vertex, Fault>>
-    ensures vertex { IfSome result (λ found. IfOk found (λ vertex.
-        (value : Tree) → IsCompactOf text.now value → IsVertex value vertex)) }
-    ensures range { IfSome result (λ found. IfOk found IsInRange) }
-    ensures refusal { IfSome result (λ found. IfErr found (λ fault.
-        (value : Tree) → IsCompactOf text.now value → RefusesVertex fault value)) }
+/// The vertex whose compact text this is. The only fault of a vertex in range is [`Fault::Memory`].
+fn vertex_of(alloc: Global, text: &[u8]) -> Result<Vertex, Fault>
+    ensures vertex { IfOk result (λ vertex. (value : Tree) → IsCompactOf text.now value → IsVertex value vertex) }
+    ensures range { IfOk result IsInRange }
+    ensures refusal { IfErr result (λ fault. (value : Tree) → IsCompactOf text.now value
+        → (fault ≡ Fault.Memory) ⊎ RefusesVertex fault value) }
 {
     if let Some(found) = spelled_vertex_at(text, 0) {
         if found.end == text.len() {
-            return Some(Ok(found.vertex));
+            return Ok(found.vertex);
         }
     }
     if !is_three_numbers(text) {
-        return Some(Err(Fault::VertexShape));
+        return Err(Fault::VertexShape);
     }
-    let Ok(json) = read(alloc, text) else {
-        return None;
-    };
-    Some(vertex(&json))
+    let json = read(alloc, text)?;
+    vertex(&json)
+}
+
+/// What is done with the vertices of an array, one after another.
+trait TakeVertex {
+    // These were taken.
+    ghost has: { Self → List Triple → Type 0 };
+
+    /// Takes the next one.
+    fn take(&mut self, vertex: Vertex) -> Result<(), AllocError>
+        ensures { OnOk result ((taken : List Triple) → has self.old taken → has self.new (taken ++ vertex ∷ [])) };
+}
+
+/// They are listed.
+impl TakeVertex for Vec<Vertex> {
+    ghost has = { λ vertices taken. vertices.items ≡ taken };
+
+    fn take(&mut self, vertex: Vertex) -> Result<(), AllocError> {
+        self.push(vertex)?;
+        Ok(())
+    }
+}
+
+/// They are looked at alone.
+#[derive(Drop)]
+struct Unlisted;
+
+impl TakeVertex for Unlisted {
+    ghost has = { λ unlisted taken. Unit {0} };
+
+    fn take(&mut self, _vertex: Vertex) -> Result<(), AllocError> {
+        Ok(())
+    }
+}
+
+/// Takes the vertices of the array whose compact text this is, up to the first that is at fault.
+///
+/// # Errors
+///
+/// Its fault, [`Fault::VertexShape`], [`Fault::VertexNotInteger`] or [`Fault::VertexRange`], or [`Fault::Memory`].
+fn take_vertices<T: TakeVertex>(alloc: Global, text: &[u8], to: &mut T) -> Result<(), Fault>
+    requires { T.has to.old [] }
+    ensures taken { OnOk result ((items : ItemTrees) → IsCompactOf text.now (array items)
+        → (taken : List Triple) × T.has to.new taken × AreVertices items taken) }
+    ensures refused { IfErr result (λ fault. RefusesVertices fault text.now) }
+{
+    if text == b"[]".as_slice() {
+        return Ok(());
+    }
+    let mut at = 1usize;
+    'vertices: while at < text.len() {
+        let end = value_end(text, at);
+        to.take(vertex_of(alloc, &text[at..end])?)?;
+        if !byte_is(text, end, b',') {
+            return Ok(());
+        }
+        at = end + 1;
+    }
+    Ok(())
 }
 
 /// The fault of the first vertex that is at fault in the array whose compact text this is: [`Fault::VertexShape`],
-/// [`Fault::VertexNotInteger`] or [`Fault::VertexRange`]. `None`: none is, or undecided.
+/// [`Fault::VertexNotInteger`] or [`Fault::VertexRange`]. `None`: none is, it is no array, or out of memory.
 pub fn vertices_fault(alloc: Global, text: &[u8]) -> Option<Fault>
     ensures { IfSome result (λ fault.
         (items : ItemTrees) → IsCompactOf text.now (array items) → RefusesFirst fault items) }
 {
-    if !byte_is(text, 0, b'[') {
+    if !is_array(text) {
         return None;
     }
-    if byte_is(text, 1, b']') {
+    let Err(fault) = take_vertices(alloc, text, &mut Unlisted) else {
+        return None;
+    };
+    if fault == Fault::Memory {
         return None;
     }
-    let mut at = 1usize;
-    'vertices: loop {
-        let end = value_end(text, at);
-        match vertex_of(alloc, &text[at..end])? {
-            Ok(_) => {}
-            Err(fault) => return Some(fault),
-        }
-        if !byte_is(text, end, b',') {
-            return None;
-        }
-        at = end + 1;
-    }
+    Some(fault)
 }
 
-/// The items of a value, where it is an array.
-fn items_of(value: &Json) -> Option<&[Json]>
-    ensures some { IfSome result (λ items. tree value.now ≡ array (items_tree items.now)) }
-    ensures none { IfNone result ((items : ItemTrees) → ¬ (tree value.now ≡ array items)) }
-{
-    match value {
-        Json::List(items) => Some(items),
-        Json::Null | Json::Bool(_) | Json::Num(_) | Json::Text(_) | Json::Map(_) => None,
-    }
-}
-
-/// The vertices of the array whose compact text this is, where [`vertices_of`](super::texts::vertices_of) is silent: the
-/// fault of the first that is at fault is told with no value held; else they are those of the array's value.
+/// The vertices of the array whose compact text this is, however their integers are written.
+///
+/// # Errors
+///
+/// Those of [`take_vertices`].
 #[inline(never)]
 pub(super) fn told_vertices(alloc: Global, text: &[u8]) -> Result<Vec<Vertex>, Fault>
     requires { IsArrayText text.now }
@@ -121,12 +160,7 @@ pub(super) fn told_vertices(alloc: Global, text: &[u8]) -> Result<Vec<Vertex>, F
     ensures range { IfOk result (λ vertices. All IsInRange vertices.items) }
     ensures refused { IfErr result (λ fault. RefusesVertices fault text.now) }
 {
-    if let Some(fault) = vertices_fault(alloc, text) {
-        return Err(fault);
-    }
-    let json = read(alloc, text)?;
-    let Some(items) = items_of(&json) else {
-        unreachable!();
-    };
-    read_vertices(alloc, items)
+    let mut vertices = Vec::new(alloc);
+    take_vertices(alloc, text, &mut vertices)?;
+    Ok(vertices)
 }

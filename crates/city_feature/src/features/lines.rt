@@ -1,5 +1,5 @@
 //! The line of a feature, from its bytes to its text.
-ghost use Rattle.std.specs.Prelude.{◌≡◌, ◌++◌, ℕ, List, [], Option, is_some, option_map, unwrap_or, OnErr, IfOk, IfErr};
+ghost use Rattle.std.specs.Prelude.{option_map, IfOk, IfErr};
 ghost use Rattle.city_json.specs.TextPlace.{placed_text};
 ghost use Rattle.city_feature.specs.Choice.{IsChosen};
 ghost use Rattle.city_feature.specs.FeatureLine.{GivesFeature, RefusesFeatureLine};
@@ -17,7 +17,11 @@ use std::alloc::Global;
 ///
 /// # Errors
 ///
-/// Those of [`feature_line`].
+/// That of reading the line, [`Fault::NotUtf8`], [`Fault::TooDeep`], [`Fault::Syntax`] or
+/// [`Fault::DuplicateName`], in this order; else [`Fault::NotAFeature`]; else that of the first faulty
+/// vertex, [`Fault::VertexShape`], [`Fault::VertexNotInteger`] or [`Fault::VertexRange`]; else
+/// [`Fault::VertexRange`] where a vertex leaves the range when it is moved. [`Fault::Memory`] may come
+/// in place of all but the first two.
 pub fn feature_text(
     alloc: Global,
     bytes: &[u8],
@@ -37,38 +41,4 @@ pub fn feature_text(
     let given = object_text(alloc, bytes, &object, shift, choice, compact, text);
     workspace.take_back(object.parts);
     given
-}
-
-/// Appends the compact text of the feature that a line spells, moved by the shift, where it is chosen
-/// then, and says whether it is. On a fault the text is as before.
-///
-/// # Errors
-///
-/// That of reading the line, [`Fault::NotUtf8`], [`Fault::TooDeep`], [`Fault::Syntax`] or
-/// [`Fault::DuplicateName`], in this order; else [`Fault::NotAFeature`]; else that of the first faulty
-/// vertex, [`Fault::VertexShape`], [`Fault::VertexNotInteger`] or [`Fault::VertexRange`]; else
-/// [`Fault::VertexRange`] where a vertex leaves the range when it is moved. [`Fault::Memory`] may come
-/// in place of all but the first two.
-pub fn feature_line(
-    alloc: Global,
-    bytes: &[u8],
-    shift: Shift,
-    choice: &Choice,
-    text: &mut Line,
-) -> Result<bool, Fault>
-    ensures ok { IfOk result (λ is_chosen. (given : Option (List ℕ))
-        × GivesFeature (IsChosen choice.now) shift bytes.now given
-        × (is_some given ≡ is_chosen)
-        × (text.new ≡ text.old ++ unwrap_or given [])) }
-    ensures err { OnErr result (text.new ≡ text.old) }
-    ensures refusal { IfErr result (λ fault. RefusesFeatureLine shift fault bytes.now) }
-{
-    let mut workspace = Workspace::new(alloc, Line::new(alloc));
-    let mut own = Line::new(alloc);
-    let given = feature_text(alloc, bytes, shift, choice, &mut workspace, &mut own)?;
-    let Some(place) = given else {
-        return Ok(false);
-    };
-    text.append(place.bytes(bytes, &own))?;
-    Ok(true)
 }

@@ -15,7 +15,7 @@ ghost use Rattle.city_feature.specs.Faults.{IsArrayText, RefusesMoved, RefusesVe
 ghost use Rattle.city_feature.specs.Feature.{moved_vertices, vertices_tree};
 ghost use Rattle.city_feature.specs.FeatureLine.{GivesFeature, RefusesFeatureLine};
 ghost use Rattle.city_feature.specs.LineVertices.{AreKnown, BecomeOf, LieIn, text_with};
-ghost use Rattle.city_feature.specs.Quick.{SpellsVertices, no_steps};
+ghost use Rattle.city_feature.specs.LineTexts.{SpellsVertices, no_steps};
 
 mod types;
 pub(crate) mod unread;
@@ -25,7 +25,7 @@ use crate::choices::area::Area;
 use crate::choices::selecting::meets_given_area;
 use crate::features::faults::told_vertices;
 use crate::features::moving::moved_all;
-use crate::features::shape::has_feature_shape;
+use crate::features::shape::placed_vertices;
 use crate::features::texts::{SpelledVertices, append_vertices, vertices_of, vertices_of_triples};
 use byte_streams::{Fault, Line};
 use city_grid::{Shift, Vertex};
@@ -115,11 +115,8 @@ fn line_vertices(
     ensures inside { IfOk result (LieIn line.now.text) }
     ensures refused { IfErr result (λ fault. RefusesMoved shift fault (object_of line.now)) }
 {
-    if !has_feature_shape(line) {
+    let Some(part) = placed_vertices(line) else {
         return Err(Fault::NotAFeature);
-    }
-    let Some(part) = line.usual_part(3, b"\"vertices\":") else {
-        unreachable!();
     };
     let text = line.text();
     let stay = is_still(shift);

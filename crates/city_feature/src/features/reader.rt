@@ -35,7 +35,7 @@ fn array_named<'a>(value: &'a Json, name: &str) -> Option<&'a [Json]>
 }
 
 /// The vertices that the items are, in order.
-pub(super) fn read_vertices(alloc: Global, items: &[Json]) -> Result<Vec<Vertex>, Fault>
+fn read_vertices(alloc: Global, items: &[Json]) -> Result<Vec<Vertex>, Fault>
     ensures ok { IfOk result (λ vertices. AreVertices (items_tree items.now) vertices.items) }
     ensures refusal { IfErr result (λ fault.
         (fault ≡ Fault.Memory) ⊎ RefusesFirst fault (items_tree items.now)) }

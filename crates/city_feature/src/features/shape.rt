@@ -1,13 +1,16 @@
 //! What a feature is, on the compact text of its line (CityJSON 2.0, CityJSONFeature).
-ghost use Rattle.std.specs.Prelude.{◌≡◌, codes, ◌↔◌, IsTrue};
+ghost use Rattle.std.specs.Prelude.{◌≡◌, ◌≤◌, ◌++◌, ◌∷◌, [], codes, length, slice_range, ◌↔◌, IfNone, IfSome, IsTrue};
+ghost use Rattle.city_json.specs.Bytes.{colon};
+ghost use Rattle.city_json.specs.Compact.{quoted};
 ghost use Rattle.city_json.specs.CompactTexts.{IsCompactOf};
 ghost use Rattle.city_json.specs.ObjectTexts.{object_of};
+ghost use Rattle.city_json.specs.Parts.{IsPartNamed};
 ghost use Rattle.city_json.specs.Tree.{Tree, string};
 ghost use Rattle.city_feature.specs.Feature.{HasFeatureShape};
 ghost use Rattle.city_feature.specs.Shapes.{IsArray, IsObject, IsText};
 
 use city_grid::byte_is;
-use city_json::ObjectText;
+use city_json::{MemberPlace, ObjectText};
 
 /// Whether the value whose compact text this is is the type of a feature.
 fn is_feature_type(text: &[u8]) -> bool
@@ -38,22 +41,36 @@ pub fn is_array(text: &[u8]) -> bool
     byte_is(text, 0, b'[')
 }
 
-/// Whether an object has what a feature has, whatever its vertices are.
-pub(super) fn has_feature_shape(line: &ObjectText<'_>) -> bool
-    ensures { IsTrue result ↔ HasFeatureShape (object_of line.now) }
+/// What stands in the part of a member after its name.
+pub(super) fn value_in(text: &[u8], part: MemberPlace) -> &[u8]
+    requires ordered { part.value ≤ part.end }
+    requires within { part.end ≤ length text.now }
+    ensures { result.now ≡ slice_range text.now part.value part.end }
+{
+    &text[part.value..part.end]
+}
+
+/// Where the vertices of an object lie that has what a feature has, whatever they are. None exactly where it has not.
+pub(super) fn placed_vertices(line: &ObjectText<'_>) -> Option<MemberPlace>
+    ensures shape { IfSome result (λ part. HasFeatureShape (object_of line.now)) }
+    ensures part { IfSome result (IsPartNamed line.now.text line.now.parts (quoted (codes "vertices") ++ colon ∷ [])) }
+    ensures none { IfNone result (¬ HasFeatureShape (object_of line.now)) }
 {
     let kind = line.usual_value_or(0, b"\"type\":", b"null");
     if !is_feature_type(kind) {
-        return false;
+        return None;
     }
     let id = line.usual_value_or(1, b"\"id\":", b"null");
     if !is_text(id) {
-        return false;
+        return None;
     }
     let objects = line.usual_value_or(2, b"\"CityObjects\":", b"null");
     if !is_object(objects) {
-        return false;
+        return None;
     }
-    let vertices = line.usual_value_or(3, b"\"vertices\":", b"null");
-    is_array(vertices)
+    let part = line.usual_part(3, b"\"vertices\":")?;
+    if !is_array(value_in(line.text(), part)) {
+        return None;
+    }
+    Some(part)
 }

@@ -4,7 +4,7 @@ ghost use Rattle.city_json.specs.Compact.{compact};
 ghost use Rattle.city_json.specs.Triples.{IsTriplesText};
 ghost use Rattle.city_grid.specs.Axes.{IsInRange};
 ghost use Rattle.city_feature.specs.Feature.{vertices_tree};
-ghost use Rattle.city_feature.specs.Quick.{IsVerticesText, SpellsVertices};
+ghost use Rattle.city_feature.specs.LineTexts.{IsVerticesText, SpellsVertices};
 
 use byte_streams::{Line, push};
 use city_grid::{Vertex, append_vertex, byte_is, spelled_vertex_at, triple_vertex_at, vertex_end};

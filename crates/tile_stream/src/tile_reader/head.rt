@@ -2,7 +2,7 @@
 ghost use Rattle.std.specs.Prelude.{◌≡◌, ◌⊎◌, List, IfOk, IfErr, IfNone, IfSome};
 ghost use Rattle.city_json.specs.ObjectTexts.{object_of};
 ghost use Rattle.city_json.specs.Triples.{HasTriples};
-ghost use Rattle.city_cut.specs.HeldTexts.{texts_in};
+ghost use Rattle.city_cut.specs.HeldTexts.{AreOwnParts, texts_in};
 ghost use Rattle.city_cut.specs.Lines.{texts_of};
 ghost use Rattle.city_feature.specs.Feature.{FeatureValue};
 ghost use Rattle.city_feature.specs.Header.{HoldsCity};
@@ -37,6 +37,7 @@ pub(crate) struct FirstLine {
 pub(crate) fn read_first_line(alloc: Global, bytes: &[u8]) -> Result<FirstLine, Fault>
     ensures ok { IfOk result (λ first.
         SpellsHeadOf bytes.now (header_value first.header) (texts_in first.texts)) }
+    ensures own { IfOk result (λ first. AreOwnParts first.texts) }
     ensures refused { IfErr result (λ fault. RefusesHead fault bytes.now) }
 {
     if let Some(first) = document_of(alloc, bytes)? {
@@ -49,6 +50,7 @@ pub(crate) fn read_first_line(alloc: Global, bytes: &[u8]) -> Result<FirstLine, 
 fn document_of(alloc: Global, bytes: &[u8]) -> Result<Option<FirstLine>, Fault>
     ensures ok { IfOk result (λ found. IfSome found (λ first.
         SpellsHeadOf bytes.now (header_value first.header) (texts_in first.texts))) }
+    ensures own { IfOk result (λ found. IfSome found (λ first. AreOwnParts first.texts)) }
     ensures none { IfOk result (λ found. IfNone found (SpellsNoCity bytes.now)) }
     ensures refused { IfErr result (λ fault. RefusesHead fault bytes.now) }
 {
@@ -69,6 +71,7 @@ fn document_line(
     ensures ok { IfOk result (λ found. IfSome found (λ first. (features : List FeatureValue)
         × HoldsHead (object_of line.now) (header_value first.header) features
         × (texts_in first.texts ≡ texts_of features))) }
+    ensures own { IfOk result (λ found. IfSome found (λ first. AreOwnParts first.texts)) }
     ensures none { IfOk result (λ found. IfNone found (¬ HoldsCity (object_of line.now))) }
     ensures refused { IfErr result (λ fault.
         (fault ≡ Fault.Memory) ⊎ RefusesHeadValue fault (object_of line.now)) }
@@ -87,6 +90,7 @@ fn header_line(alloc: Global, bytes: &[u8]) -> Result<FirstLine, Fault>
     requires { SpellsNoCity bytes.now }
     ensures ok { IfOk result (λ first.
         SpellsHeadOf bytes.now (header_value first.header) (texts_in first.texts)) }
+    ensures own { IfOk result (λ first. AreOwnParts first.texts) }
     ensures refused { IfErr result (λ fault. RefusesHead fault bytes.now) }
 {
     let value = read(alloc, bytes)?;

@@ -1,16 +1,14 @@
 //! The features that the first line of a tile holds, moved and chosen.
-ghost use Rattle.std.specs.Prelude.{◌≡◌, ◌≤◌, ◌<◌, ◌⊎◌, ◌++◌, [], ℕ, List, IfOk, IfErr, IfSome, IsTrue, OnOk, length, get_or, option_map, option_to_list};
-ghost use Rattle.city_cut.specs.HeldTexts.{texts_in};
+ghost use Rattle.std.specs.Prelude.{◌≡◌, ◌≤◌, ◌<◌, ◌⊎◌, ◌++◌, [], IfOk, IfErr, OnOk, length, get_or, option_map, option_to_list};
+ghost use Rattle.city_cut.specs.HeldTexts.{AreOwnParts, texts_in};
 ghost use Rattle.city_feature.specs.Choice.{IsChosen};
-ghost use Rattle.city_feature.specs.Ended.{IsAppearanceEnd};
 ghost use Rattle.city_feature.specs.FeatureLine.{GivesFeature, RefusesFeatureLine};
 ghost use Rattle.tile_stream.specs.Held.{LinesGive, RefusesLines, TellWanted};
-ghost use Rattle.tile_stream.specs.Shared.{text_ready};
 
-use crate::tile_reader::ready::{ReadyText, ReadyTexts, ready_text};
+use crate::tile_reader::ready::ReadyTexts;
 use byte_streams::{Fault, Line};
 use city_cut::FeatureTexts;
-use city_feature::{Choice, feature_line, is_appearance_end, own_text};
+use city_feature::{Choice, OwnBuffers, own_text};
 use city_grid::Shift;
 use std::alloc::Global;
 
@@ -34,6 +32,7 @@ pub(crate) fn texts_of(
     choice: &Choice,
 ) -> Result<ReadyTexts, Fault>
     requires some { 0 < length held.own }
+    requires own { AreOwnParts held }
     ensures ok { IfOk result (λ texts.
         LinesGive (IsChosen choice.now) shift (texts_in held) texts) }
     ensures fewer { IfOk result (λ texts. length texts ≤ length (texts_in held)) }
@@ -54,6 +53,7 @@ fn made_texts(
     choice: &Choice,
 ) -> Result<ReadyTexts, Fault>
     requires some { 0 < length held.own }
+    requires own { AreOwnParts held }
     ensures ok { IfOk result (λ texts.
         LinesGive (IsChosen choice.now) shift (texts_in held) texts) }
     ensures fewer { IfOk result (λ texts. length texts ≤ length (texts_in held)) }
@@ -74,17 +74,17 @@ fn wanted_of(
     choice: &Choice,
 ) -> Result<Vec<bool>, Fault>
     requires some { 0 < length held.old.own }
+    requires own { AreOwnParts held.old }
     ensures ok { IfOk result (λ wanted.
         TellWanted (IsChosen choice.now) shift (texts_in held.old) wanted.items) }
     ensures refused { IfErr result (λ fault. RefusesLines shift fault (texts_in held.old)) }
     ensures same { held.new ≡ held.old }
 {
-    let shares = is_appearance_end(alloc, held.common());
     let mut wanted = Vec::with_capacity(alloc, held.len())?;
     let mut buffers = Buffers::new(alloc);
     let mut at = 0usize;
     'held: while at < held.len() {
-        let text = text_at(alloc, held, at, shares, shift, choice, &mut buffers)?;
+        let text = text_at(alloc, held, at, shift, choice, &mut buffers)?;
         wanted.push(text.is_some())?;
         at += 1;
     }
@@ -99,17 +99,17 @@ fn stored_texts(
     choice: &Choice,
 ) -> Result<ReadyTexts, Fault>
     requires some { 0 < length held.old.own }
+    requires own { AreOwnParts held.old }
     ensures ok { IfOk result (λ texts.
         LinesGive (IsChosen choice.now) shift (texts_in held.old) texts) }
     ensures fewer { IfOk result (λ texts. length texts ≤ length (texts_in held.old)) }
     ensures refused { IfErr result (λ fault. RefusesLines shift fault (texts_in held.old)) }
 {
-    let shares = is_appearance_end(alloc, held.common());
     let mut texts = Vec::new(alloc);
     let mut buffers = Buffers::new(alloc);
     let mut at = 0usize;
     'held: while at < held.len() {
-        let given = text_at(alloc, held, at, shares, shift, choice, &mut buffers)?;
+        let given = text_at(alloc, held, at, shift, choice, &mut buffers)?;
         push_given(given, &mut texts)?;
         at += 1;
     }
@@ -118,7 +118,7 @@ fn stored_texts(
 }
 
 /// Puts a text, where there is one, after the others.
-fn push_given(given: Option<ReadyText>, texts: &mut Vec<ReadyText>) -> Result<(), Fault>
+fn push_given(given: Option<Line>, texts: &mut Vec<Line>) -> Result<(), Fault>
     ensures ok { OnOk result (texts.new.items ≡ texts.old.items ++ option_to_list given) }
     ensures fault { IfErr result (λ fault. fault ≡ Fault.Memory) }
 {
@@ -129,123 +129,49 @@ fn push_given(given: Option<ReadyText>, texts: &mut Vec<ReadyText>) -> Result<()
     Ok(())
 }
 
-/// The text of which this comes before the end that it shares, if there is one.
-fn sharing(own: Option<Line>) -> Option<ReadyText>
-    ensures { (common : List ℕ) → option_map (text_ready common) result ≡ option_map (λ front. front ++ common) own }
-{
-    let own = own?;
-    Some(ReadyText { own, shares: true })
-}
-
-/// Lines to reuse: what they hold is lost.
+/// Memory to reuse: what it holds is lost.
 #[derive(Drop)]
 struct Buffers {
-    /// For a text that is put together.
-    line: Line,
-    /// For what a text has of its own, where that is made.
+    /// For what a text has of its own.
     own: Line,
+    /// For what becomes of it.
+    given: OwnBuffers,
 }
 
 impl Buffers {
     fn new(alloc: Global) -> Buffers {
         Buffers {
-            line: Line::new(alloc),
             own: Line::new(alloc),
+            given: OwnBuffers::new(alloc),
         }
     }
 }
 
-/// What [`own_text`] gives of the text at a place up to the end that all share, which is an appearance.
-fn own_at(
-    alloc: Global,
-    held: &mut FeatureTexts,
-    at: usize,
-    shift: Shift,
-    choice: &Choice,
-    buffers: &mut Buffers,
-) -> Result<Option<Option<Line>>, Fault>
-    requires { at < length held.old.own }
-    ensures given { IfOk result (λ found. IfSome found (λ given. (end : List ℕ) → IsAppearanceEnd end
-        → GivesFeature (IsChosen choice.now) shift (get_or held.old.own at [] ++ end)
-        (option_map (λ front. front ++ end) given))) }
-    ensures fault { IfErr result (λ fault. fault ≡ Fault.Memory) }
-    ensures same { held.new ≡ held.old }
-{
-    if let Some(own) = held.held(at) {
-        return Ok(own_text(alloc, own, shift, choice, &mut buffers.line));
-    }
-    buffers.own.truncate(0);
-    held.append_own(alloc, at, &mut buffers.own)?;
-    Ok(own_text(alloc, buffers.own.items(), shift, choice, &mut buffers.line))
-}
-
-/// The text of the feature at a place, where it is chosen when it is moved by the shift. Where all end in an appearance, as
-/// `shares` says, it is mostly found with no look at that.
+/// What the text of the feature at a place has before the end that all share, where it is chosen when it is moved by the
+/// shift.
 fn text_at(
     alloc: Global,
     held: &mut FeatureTexts,
     at: usize,
-    shares: bool,
     shift: Shift,
     choice: &Choice,
     buffers: &mut Buffers,
-) -> Result<Option<ReadyText>, Fault>
+) -> Result<Option<Line>, Fault>
     requires within { at < length held.old.own }
-    requires shares { IsTrue shares → IsAppearanceEnd held.old.common }
+    requires own { AreOwnParts held.old }
     ensures ok { IfOk result (λ given. GivesFeature (IsChosen choice.now) shift (get_or (texts_in held.old) at [])
-        (option_map (text_ready held.old.common) given)) }
+        (option_map (λ front. front ++ held.old.common) given)) }
     ensures refused { IfErr result (λ fault. (fault ≡ Fault.Memory)
         ⊎ RefusesFeatureLine shift fault (get_or (texts_in held.old) at [])) }
     ensures same { held.new ≡ held.old }
 {
-    if !shares {
-        return whole_at(alloc, held, at, shift, choice, &mut buffers.line);
-    }
-    if let Some(own) = own_at(alloc, held, at, shift, choice, buffers)? {
-        return Ok(sharing(own));
-    }
-    whole_at(alloc, held, at, shift, choice, &mut buffers.line)
-}
-
-/// The same of the whole text, put together in the buffer.
-fn whole_at(
-    alloc: Global,
-    held: &mut FeatureTexts,
-    at: usize,
-    shift: Shift,
-    choice: &Choice,
-    buffer: &mut Line,
-) -> Result<Option<ReadyText>, Fault>
-    requires { at < length held.old.own }
-    ensures ok { IfOk result (λ given. GivesFeature (IsChosen choice.now) shift (get_or (texts_in held.old) at [])
-        (option_map (text_ready held.old.common) given)) }
-    ensures refused { IfErr result (λ fault. (fault ≡ Fault.Memory)
-        ⊎ RefusesFeatureLine shift fault (get_or (texts_in held.old) at [])) }
-    ensures same { held.new ≡ held.old }
-{
-    buffer.truncate(0);
-    held.append_to(alloc, at, buffer)?;
-    line_text(alloc, buffer.items(), shift, choice, held.common())
-}
-
-/// The text of the feature that a line spells, where it is chosen when it is moved by the shift. It may end in `common`.
-fn line_text(
-    alloc: Global,
-    line: &[u8],
-    shift: Shift,
-    choice: &Choice,
-    common: &[u8],
-) -> Result<Option<ReadyText>, Fault>
-    ensures ok { IfOk result (λ given. GivesFeature (IsChosen choice.now) shift line.now
-        (option_map (text_ready common.now) given)) }
-    ensures refused { IfErr result (λ fault. (fault ≡ Fault.Memory)
-        ⊎ RefusesFeatureLine shift fault line.now) }
-{
-    let mut text = Line::new(alloc);
-    let is_chosen = feature_line(alloc, line, shift, choice, &mut text)?;
-    if !is_chosen {
-        return Ok(None);
-    }
-    let one = ready_text(alloc, text, common)?;
-    Ok(Some(one))
+    buffers.own.truncate(0);
+    held.append_own(alloc, at, &mut buffers.own)?;
+    own_text(
+        alloc,
+        buffers.own.items(),
+        shift,
+        choice,
+        &mut buffers.given,
+    )
 }

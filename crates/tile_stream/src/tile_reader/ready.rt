@@ -1,11 +1,9 @@
 //! The texts of the features that a first line holds, moved and chosen, before they are given.
-ghost use Rattle.std.specs.Prelude.{◌≡◌, ◌<◌, ◌^◌, ◌++◌, [], ℕ, flat_map, get_or, length, map, take, IfOk, IfErr, IfSome, OnOk, OnErr};
+ghost use Rattle.std.specs.Prelude.{◌≡◌, ◌<◌, ◌^◌, ◌++◌, [], ℕ, flat_map, get_or, length, take, IfOk, IfErr, OnOk, OnErr};
 ghost use Rattle.std.specs.Io.KnownBytes.{Appends};
 ghost use Rattle.byte_streams.specs.Failures.{after_call};
-ghost use Rattle.city_cut.specs.HeldTexts.{texts_in};
+ghost use Rattle.city_cut.specs.HeldTexts.{texts_in, with_end};
 ghost use Rattle.tile_stream.specs.GivenTexts.{given_texts};
-ghost use Rattle.tile_stream.specs.Ready.{whole_text};
-ghost use Rattle.tile_stream.specs.Shared.{text_ready};
 ghost use Rattle.tile_stream.specs.Stream.{with_newline};
 
 use crate::writing::{write_parts, write_text};
@@ -14,27 +12,20 @@ use city_cut::FeatureTexts;
 use std::alloc::{AllocError, Global};
 use std::marker::Model;
 
-/// A text without the end that it shares with the others, or whole.
-#[derive(Debug, Drop)]
-pub(super) struct ReadyText {
-    pub(super) own: Line,
-    pub(super) shares: bool,
-}
-
 /// Texts that are held. The end that they have in common is held once.
 #[derive(Debug, Drop)]
 struct StoredTexts {
-    texts: Vec<ReadyText>,
+    own: Vec<Line>,
     common: Line,
 }
 
 impl Model for StoredTexts {
-    ghost use Rattle.std.specs.Prelude.{ℕ, List, map};
-    ghost use Rattle.tile_stream.specs.Ready.{whole_text};
+    ghost use Rattle.std.specs.Prelude.{ℕ, List};
+    ghost use Rattle.city_cut.specs.HeldTexts.{with_end};
 
     ghost Value = { List (List ℕ) };
 
-    ghost view = { λ ready. map (λ one. whole_text ready.common one.shares one.own) ready.texts.items };
+    ghost view = { λ ready. with_end ready.common ready.own.items };
 }
 
 impl StoredTexts {
@@ -42,7 +33,7 @@ impl StoredTexts {
         ensures count { result ≡ length self.now }
         ensures few { result < 2 ^ 63 }
     {
-        self.texts.len()
+        self.own.len()
     }
 
     /// What the text at a place has of its own, and what stands after that.
@@ -50,13 +41,7 @@ impl StoredTexts {
         requires { at < length self.now }
         ensures { get_or self.now at [] ≡ result.0.now ++ result.1.now }
     {
-        let text = &self.texts[at];
-        let end: &[u8] = if text.shares {
-            self.common.items()
-        } else {
-            b""
-        };
-        (text.own.items(), end)
+        (self.own[at].items(), self.common.items())
     }
 
     /// Writes the text at a place, and its newline.
@@ -126,49 +111,19 @@ fn copied(alloc: Global, bytes: &[u8]) -> Result<Line, AllocError>
     Ok(line)
 }
 
-/// The front of a text, where the end that it shares is the larger part: so a text that is held whole has no more than
-/// twice the bytes of its front.
-fn own_part<'a>(text: &'a [u8], common: &[u8]) -> Option<&'a [u8]>
-    ensures { IfSome result (λ own. text.now ≡ own.now ++ common.now) }
-{
-    if text.len() / 2 >= common.len() {
-        return None;
-    }
-    match text.strip_suffix(common) {
-        Some(own) => Some(own),
-        None => None,
-    }
-}
-
-/// The text, without the end that it shares, if it does.
-pub(super) fn ready_text(alloc: Global, text: Line, common: &[u8]) -> Result<ReadyText, AllocError>
-    ensures { IfOk result (λ one. whole_text common.now one.shares one.own ≡ text) }
-{
-    let Some(own) = own_part(text.items(), common) else {
-        return Ok(ReadyText {
-            own: text,
-            shares: false,
-        });
-    };
-    Ok(ReadyText {
-        own: copied(alloc, own)?,
-        shares: true,
-    })
-}
-
 impl ReadyTexts {
-    /// These texts, of which some leave out the end that they share.
+    /// The texts that begin so, and all end in the same.
     pub(super) fn that_end_in(
         alloc: Global,
-        texts: Vec<ReadyText>,
+        own: Vec<Line>,
         common: &[u8],
     ) -> Result<ReadyTexts, Fault>
-        ensures texts { IfOk result (λ ready. ready ≡ map (text_ready common.now) texts.items) }
+        ensures texts { IfOk result (λ ready. ready ≡ with_end common.now own.items) }
         ensures fault { IfErr result (λ fault. fault ≡ Fault.Memory) }
     {
         let common = copied(alloc, common)?;
         Ok(ReadyTexts {
-            texts: GivenTexts::Stored(StoredTexts { texts, common }),
+            texts: GivenTexts::Stored(StoredTexts { own, common }),
         })
     }
 
@@ -187,7 +142,7 @@ impl ReadyTexts {
     {
         ReadyTexts {
             texts: GivenTexts::Stored(StoredTexts {
-                texts: Vec::new(alloc),
+                own: Vec::new(alloc),
                 common: Line::new(alloc),
             }),
         }

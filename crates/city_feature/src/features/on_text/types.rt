@@ -1,29 +1,21 @@
 //! The type of a feature, found on the compact text of its line.
-ghost use Rattle.std.specs.Prelude.{◌≡◌, ◌≤◌, ◌++◌, ◌∷◌, [], ◌↔◌, List, ℕ, length, slice_range, take, Contains, Some, codes, unwrap_or, IsUtf8, IfErr, IfOk, IfSome, IsTrue};
+ghost use Rattle.std.specs.Prelude.{◌≡◌, ◌≤◌, ◌++◌, ◌∷◌, [], ◌↔◌, List, ℕ, length, take, Contains, Some, codes, unwrap_or, IsUtf8, IfErr, IfOk, IfSome, IsTrue};
 ghost use Rattle.city_json.specs.Bytes.{colon, quotation_mark};
 ghost use Rattle.city_json.specs.Compact.{quoted};
 ghost use Rattle.city_json.specs.Members.{first_named, member_of};
 ghost use Rattle.city_json.specs.ObjectTexts.{members_of, object_of};
 ghost use Rattle.city_json.specs.Tree.{Tree, null, string, tree};
 ghost use Rattle.city_feature.specs.Choice.{HasType};
-ghost use Rattle.city_feature.specs.Quick.{AreLetters, IsLetter};
+ghost use Rattle.city_feature.specs.LineTexts.{AreLetters, IsLetter};
 ghost use Rattle.city_feature.specs.Shapes.{IsText, IsThere, member_in};
 ghost use Rattle.city_json.specs.CompactTexts.{IsCompactOf};
 
 use crate::choices::types::Types;
+use crate::features::shape::value_in;
 use byte_streams::{Fault, Line};
 use city_grid::byte_is;
-use city_json::{Json, MemberPlace, ObjectText, members_of_compact, read};
+use city_json::{Json, ObjectText, members_of_compact, read};
 use std::alloc::{AllocError, Global};
-
-/// What stands in the part of a member after its name.
-fn value_in(text: &[u8], part: MemberPlace) -> &[u8]
-    requires ordered { part.value ≤ part.end }
-    requires within { part.end ≤ length text.now }
-    ensures { result.now ≡ slice_range text.now part.value part.end }
-{
-    &text[part.value..part.end]
-}
 
 /// The compact text of a member of the value whose compact text this is; that of `null`, where there is none. The name is
 /// given as it stands in the text, with its marks and its colon.

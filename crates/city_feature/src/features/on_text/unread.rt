@@ -7,7 +7,7 @@ ghost use Rattle.city_json.specs.Triples.{HasTriples, IsTriplesText};
 ghost use Rattle.city_feature.specs.Area.{Meets};
 ghost use Rattle.city_feature.specs.Extent.{IsExtent};
 ghost use Rattle.city_feature.specs.Feature.{vertices_tree};
-ghost use Rattle.city_feature.specs.Quick.{IsVerticesText};
+ghost use Rattle.city_feature.specs.LineTexts.{IsVerticesText};
 
 use crate::choices::area::Area;
 use crate::choices::extents::{Extent, extended, reaches};

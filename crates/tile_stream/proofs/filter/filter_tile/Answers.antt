@@ -1,6 +1,6 @@
 use Rattle.std.proofs.Common.{ap, ◌∙◌}
 use Rattle.city_feature.specs.Choice.{IsChosen}
-use Rattle.city_feature.specs.Quick.{no_steps}
+use Rattle.city_feature.specs.LineTexts.{no_steps}
 use Rattle.tile_stream.specs.Filtered.{failures_after_write}
 use Rattle.tile_stream.specs.Unread.{Leaves, failed_reads_after}
 use Rattle.tile_stream.proofs.HeldFirst.{something}

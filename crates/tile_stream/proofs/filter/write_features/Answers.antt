@@ -1,7 +1,7 @@
 use Rattle.std.proofs.Common.{◌+◌, ◌∙◌, refl, arith}
 use Rattle.city_feature.specs.Choice.{IsChosen}
 use Rattle.tile_stream.specs.Coming.{LinesMayComeTo, MayComeTo}
-use Rattle.city_feature.specs.Quick.{no_steps}
+use Rattle.city_feature.specs.LineTexts.{no_steps}
 use Rattle.tile_stream.proofs.Steps.{at_end, at_failed_flush, at_skipped, refused_more, so_far_more}
 use Rattle.tile_stream.proofs.filter.write_features.Goals as goal
 

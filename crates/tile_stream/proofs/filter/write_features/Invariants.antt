@@ -1,7 +1,7 @@
 use Rattle.std.proofs.Common.{◌≡◌, ◌≤◌, ◌+◌, false}
 use Rattle.city_feature.specs.Choice.{IsChosen}
 use Rattle.tile_stream.specs.Coming.{LinesMayComeTo, MayComeTo}
-use Rattle.city_feature.specs.Quick.{no_steps}
+use Rattle.city_feature.specs.LineTexts.{no_steps}
 use Rattle.tile_stream.specs.Progress.{SoFar}
 use Rattle.tile_stream.specs.TileState.{most_texts}
 use Rattle.tile_stream.specs.Unread.{has_failed, most_left}

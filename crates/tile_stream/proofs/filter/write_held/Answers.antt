@@ -1,6 +1,6 @@
 use Rattle.std.proofs.Common.{◌∙◌, ap, length, refl}
 use Rattle.city_feature.specs.Choice.{IsChosen}
-use Rattle.city_feature.specs.Quick.{no_steps}
+use Rattle.city_feature.specs.LineTexts.{no_steps}
 use Rattle.tile_stream.specs.Coming.{LinesMayComeTo, MayComeTo}
 use Rattle.tile_stream.proofs.FirstBytes.{all_given, some_given}
 use Rattle.tile_stream.proofs.Steps.{at_start, at_fault, at_skipped, at_failed_flush, of_line}

@@ -7,8 +7,8 @@ use Rattle.city_grid.specs.Axes.{IsInRange}
 use Rattle.city_feature.specs.Area.{Meets}
 use Rattle.city_feature.specs.Faults.{IsArrayText, RefusesVertices}
 use Rattle.city_feature.specs.Feature.{vertices_tree}
-use Rattle.city_feature.specs.Quick.{SpellsVertices}
-use Rattle.city_feature.proofs.QuickLines.{feature_at, written_vertices}
+use Rattle.city_feature.specs.LineTexts.{SpellsVertices}
+use Rattle.city_feature.proofs.LineTexts.{feature_at, written_vertices}
 use Rattle.city_feature.proofs.features.LineFaults.{array_text, vertices_refused}
 use Rattle.city_feature.proofs.features.LineVertices.{stay_there}
 use Rattle.city_feature.proofs.features.on_text.line_vertices.Goals as goal
@@ -21,24 +21,24 @@ returns-in-Some-unread_vertices_meet-clause-is c =
     let here = ap (λ l. slice_range l part.value part.end) (sym c.text-text.ensures.is) ∙ lies in
     stay_there c.args.area.now c.args.shift there part ps c.in-Some-unread_vertices_meet.meets
     (c.is_still-stay.ensures c.if-stay.true)
-    (feature_at there part ps c.text-text.ensures.placed (c.has_feature_shape.ensures.0 c.if-not-has_feature_shape.false)
-    c.in-Some.ensures.some (written_vertices _ ps here range)) range ordered here met
+    (feature_at there part ps c.text-text.ensures.placed c.in-Some.ensures.shape
+    c.in-Some.ensures.part (written_vertices _ ps here range)) range ordered here met
 
 pub spelled_vertices-requires-clause-ordered : goal.spelled_vertices-requires-clause-ordered
 spelled_vertices-requires-clause-ordered c =
-    (lies_inside c.args.line.now c.text-text.ensures.placed _ c.in-Some.part c.in-Some.ensures.some).0
+    (lies_inside c.args.line.now c.text-text.ensures.placed _ c.in-Some.part c.in-Some.ensures.part).0
 
 pub spelled_vertices-requires-clause-within : goal.spelled_vertices-requires-clause-within
 spelled_vertices-requires-clause-within c =
     subst (λ l. c.in-Some.part.end ≤ length l) (sym c.text-text.ensures.is)
-    (lies_inside c.args.line.now c.text-text.ensures.placed _ c.in-Some.part c.in-Some.ensures.some).1
+    (lies_inside c.args.line.now c.text-text.ensures.placed _ c.in-Some.part c.in-Some.ensures.part).1
 
 pub spelled_vertices-requires-clause-array : goal.spelled_vertices-requires-clause-array
 spelled_vertices-requires-clause-array c =
     let part = c.in-Some.part in
     subst (λ l. IsArrayText (slice_range l part.value part.end)) (sym c.text-text.ensures.is)
     (array_text c.args.line.now c.text-text.ensures.placed
-    (c.has_feature_shape.ensures.0 c.if-not-has_feature_shape.false) part c.in-Some.ensures.some)
+    c.in-Some.ensures.shape part c.in-Some.ensures.part)
 
 pub returns-in_err-found-clause-refused : goal.returns-in_err-found-clause-refused
 returns-in_err-found-clause-refused c =
@@ -46,7 +46,7 @@ returns-in_err-found-clause-refused c =
     let fault = c.in_err-found.field-0.0 in
     let e = err_from_is_err_and c.from_residual.result c.from_residual.ensures.1 in
     rw (e.1, e.2) (vertices_refused c.args.line.now c.text-text.ensures.placed
-    (c.has_feature_shape.ensures.0 c.if-not-has_feature_shape.false) part c.in-Some.ensures.some c.args.shift fault
+    c.in-Some.ensures.shape part c.in-Some.ensures.part c.args.shift fault
     (subst (λ l. RefusesVertices fault (slice_range l part.value part.end)) c.text-text.ensures.is
     c.in_err-found.ensures.refused))
 
@@ -59,10 +59,10 @@ returns-then-stay-2-clause-is c =
     let here = λ (l : List ℕ). slice_range l part.value part.end in
     stay_there c.args.area.now c.args.shift there part ps c.meets_given_area.result
     (c.is_still-stay.ensures c.if-stay-2.true)
-    (feature_at there part ps c.text-text.ensures.placed (c.has_feature_shape.ensures.0 c.if-not-has_feature_shape.false)
-    c.in-Some.ensures.some
+    (feature_at there part ps c.text-text.ensures.placed c.in-Some.ensures.shape
+    c.in-Some.ensures.part
     (subst (λ l. SpellsVertices (here l) ps) c.text-text.ensures.is found.ensures.spelled)) found.ensures.range
-    (lies_inside there c.text-text.ensures.placed _ part c.in-Some.ensures.some).0
+    (lies_inside there c.text-text.ensures.placed _ part c.in-Some.ensures.part).0
     (ap here (sym c.text-text.ensures.is) ∙ found.ensures.written c.if-found.true)
     (subst (λ vs. IsTrue c.meets_given_area.result ↔ IfSome c.args.area.now (λ one. Meets one vs)) c.deref.ensures.value
     c.meets_given_area.ensures)
@@ -76,7 +76,7 @@ returns-in_err-vertices-clause-refused c =
     let e = err_from_is_err_and c.from_residual-in_err-vertices.result c.from_residual-in_err-vertices.ensures.1 in
     let refused = c.in_err-vertices.ensures.refusal in
     let (is, placed) = feature_at there part ps c.text-text.ensures.placed
-    (c.has_feature_shape.ensures.0 c.if-not-has_feature_shape.false) c.in-Some.ensures.some
+    c.in-Some.ensures.shape c.in-Some.ensures.part
     (subst (λ l. SpellsVertices (slice_range l part.value part.end) ps) c.text-text.ensures.is found.ensures.spelled) in
     rw (e.1, e.2) (inr (refused.0, (ps, is, refused.1)))
 
@@ -88,7 +88,7 @@ returns-clause-is c =
     let ps = found.found.vertices.items in
     let (moved_is, range) = c.in_ok-vertices.ensures.ok found.ensures.range in
     let (is, placed) = feature_at there part ps c.text-text.ensures.placed
-    (c.has_feature_shape.ensures.0 c.if-not-has_feature_shape.false) c.in-Some.ensures.some
+    c.in-Some.ensures.shape c.in-Some.ensures.part
     (subst (λ l. SpellsVertices (slice_range l part.value part.end) ps) c.text-text.ensures.is found.ensures.spelled) in
     record {
       part = part;
@@ -101,4 +101,4 @@ returns-clause-is c =
     }
 
 pub returns-clause-inside : goal.returns-clause-inside
-returns-clause-inside c = lies_inside c.args.line.now c.text-text.ensures.placed _ c.in-Some.part c.in-Some.ensures.some
+returns-clause-inside c = lies_inside c.args.line.now c.text-text.ensures.placed _ c.in-Some.part c.in-Some.ensures.part

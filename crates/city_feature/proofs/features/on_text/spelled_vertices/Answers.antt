@@ -1,5 +1,5 @@
 use Rattle.std.proofs.Common.{◌≡◌, ◌∙◌, sym, slice_range}
-use Rattle.city_feature.proofs.QuickLines.{written_vertices}
+use Rattle.city_feature.proofs.LineTexts.{written_vertices}
 use Rattle.city_feature.proofs.features.on_text.spelled_vertices.Goals as goal
 
 pub returns-in-Some-clause-spelled : goal.returns-in-Some-clause-spelled

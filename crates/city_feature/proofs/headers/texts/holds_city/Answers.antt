@@ -3,7 +3,7 @@ use Rattle.city_json.specs.Members.{first_named}
 use Rattle.city_json.specs.ObjectTexts.{members_of}
 use Rattle.city_json.specs.Tree.{null}
 use Rattle.city_feature.proofs.NamedTexts.{null_text}
-use Rattle.city_feature.proofs.QuickLines.{utf8}
+use Rattle.city_feature.proofs.LineTexts.{utf8}
 use Rattle.city_feature.proofs.features.LineFaults.{there_or, value_of}
 use Rattle.city_feature.proofs.features.LineVertices.{not_both}
 use Rattle.city_feature.specs.Shapes.{IsFilledArray, IsFilledObject}

@@ -1,7 +1,7 @@
-use Rattle.std.proofs.Common.{[], Some, subst, arith}
+use Rattle.std.proofs.Common.{[], Some, subst, sym, arith}
 use Rattle.std.proofs.lemmas.Bool.Decides.{nat_tests}
 use Rattle.std.proofs.lemmas.List.{nil_from_length}
-use Rattle.city_cut.specs.HeldTexts.{texts_in}
+use Rattle.city_cut.specs.HeldTexts.{AreOwnParts, texts_in}
 use Rattle.city_feature.specs.Choice.{IsChosen}
 use Rattle.tile_stream.specs.Coming.{LinesMayComeTo, MayComeTo, GivesTexts}
 use Rattle.tile_stream.specs.TileState.{TileState}
@@ -25,7 +25,7 @@ returns-then-len-eq0-clause-texts g c =
 pub returns-then-len-eq0-clause-some : goal.returns-then-len-eq0-clause-some
 returns-then-len-eq0-clause-some g c =
     rw (← c.self.view_is) (lines_come g.R.Source.gives (IsChosen c.args.choice.now) c.args.shift
-    g.met.R.Source.gives_something c.self.inside.lines c.self.invariant)
+    g.met.R.Source.gives_something c.self.inside.lines c.self.invariant.0)
 
 pub returns-in-Ok-clause-texts : goal.returns-in-Ok-clause-texts
 returns-in-Ok-clause-texts g c =
@@ -44,7 +44,7 @@ returns-in-Ok-clause-texts g c =
 pub returns-in-Ok-clause-some : goal.returns-in-Ok-clause-some
 returns-in-Ok-clause-some g c =
     lines_come g.R.Source.gives (IsChosen c.args.choice.now) c.args.shift g.met.R.Source.gives_something
-    c.self.inside.lines c.self.invariant
+    c.self.inside.lines c.self.invariant.0
 
 pub returns-in-Err-clause-refused : goal.returns-in-Err-clause-refused
 returns-in-Err-clause-refused g c =
@@ -57,11 +57,14 @@ returns-in-Err-clause-refused g c =
     let Stops : TileState g.row.R.Denot → Type 0 =
     λ tile. MayComeTo g.R.Source.gives (IsChosen c.args.choice.now) c.args.shift tile []
     (Some (record { line = s.held.line; fault = c.in-Err.fault })) in
-    let some = something_left g.R.Source.gives g.met.R.Source.gives_something s.lines c.self.invariant in
+    let some = something_left g.R.Source.gives g.met.R.Source.gives_something s.lines c.self.invariant.0 in
     subst Stops c.self.view_is (held_stops g.R.Source.gives (IsChosen c.args.choice.now) c.args.shift before
     (some.0, (some.1, some.2)) c.in-Err.fault refused)
 
 pub returns-in-Err-clause-some : goal.returns-in-Err-clause-some
 returns-in-Err-clause-some g c =
     lines_come g.R.Source.gives (IsChosen c.args.choice.now) c.args.shift g.met.R.Source.gives_something
-    c.self.inside.lines c.self.invariant
+    c.self.inside.lines c.self.invariant.0
+
+pub texts_of-requires-clause-own : goal.texts_of-requires-clause-own
+texts_of-requires-clause-own g c = subst AreOwnParts (sym c.replace-held.ensures.value) c.self.invariant.1

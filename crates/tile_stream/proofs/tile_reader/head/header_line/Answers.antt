@@ -17,4 +17,4 @@ returns-clause-ok c =
     let value = c.in_ok-value.ensures.value in
     let none = c.requires (tree c.in_ok-value.value) value.0 in
     header_taken c.args.bytes.now c.in_ok-value.value value.0 value.1 none short c.in_ok-header.header
-    c.in_ok-header.ensures.ok _ c.none-texts.ensures
+    c.in_ok-header.ensures.ok _ c.none-texts.ensures.texts

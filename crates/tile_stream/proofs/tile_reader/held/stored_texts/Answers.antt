@@ -1,9 +1,8 @@
-use Rattle.std.proofs.Common.{◌<◌, ◌∙◌, ap, arith, length, map, option_map, subst}
+use Rattle.std.proofs.Common.{◌<◌, ◌∙◌, ◌++◌, ap, arith, length, option_map, sym, subst}
 use Rattle.std.proofs.lemmas.Bool.Decides.{nat_tests}
 use Rattle.std.proofs.lemmas.Result.{err_from_is_err_and}
-use Rattle.city_cut.specs.HeldTexts.{HeldTexts, texts_in}
+use Rattle.city_cut.specs.HeldTexts.{AreOwnParts, HeldTexts, texts_in, with_end}
 use Rattle.city_feature.specs.Choice.{IsChosen}
-use Rattle.tile_stream.specs.Shared.{text_ready}
 use Rattle.tile_stream.proofs.HeldTexts.{made_more, more_mapped, refuses_all, texts_long}
 use Rattle.tile_stream.proofs.tile_reader.held.stored_texts.Goals as goal
 
@@ -22,14 +21,17 @@ held-preserved c =
     grind (arith, nat_tests, c.held-test.true, c.len.ensures, texts_long c.held.held) in
     let within = subst (λ (held : HeldTexts). c.held.at < length (texts_in held)) c.held.invariant.same now in
     let common = c.args.held.now.common in
-    let given = option_map (text_ready common) c.in_ok-given.given in
+    let given = option_map (λ front. front ++ common) c.in_ok-given.given in
     record {
       same = c.in_ok-given.ensures.same ∙ c.held.invariant.same;
       within = omega (arith, within);
       made = made_more (IsChosen c.args.choice.now) c.args.shift (texts_in c.args.held.now) c.held.at
-          (map (text_ready common) c.held.texts.items) c.held.invariant.made within given
+          (with_end common c.held.texts.items) c.held.invariant.made within given
           (rw c.held.invariant.same at c.in_ok-given.ensures.ok)
-          (map (text_ready common) c.push_given.new.texts.items)
-          (ap (map (text_ready common)) c.in_ok-push_given.ensures.ok
-          ∙ more_mapped (text_ready common) c.held.texts.items c.in_ok-given.given);
+          (with_end common c.push_given.new.texts.items)
+          (ap (with_end common) c.in_ok-push_given.ensures.ok
+          ∙ more_mapped (λ front. front ++ common) c.held.texts.items c.in_ok-given.given);
     }
+
+pub text_at-requires-clause-own : goal.text_at-requires-clause-own
+text_at-requires-clause-own c = subst AreOwnParts (sym c.held.invariant.same) c.requires.own

@@ -1,7 +1,6 @@
-use Rattle.std.proofs.Common.{◌≡◌, ◌≤◌, ◌-◌, length, map, take}
-use Rattle.city_cut.specs.HeldTexts.{texts_in}
+use Rattle.std.proofs.Common.{◌≡◌, ◌≤◌, ◌-◌, length, take}
+use Rattle.city_cut.specs.HeldTexts.{texts_in, with_end}
 use Rattle.city_feature.specs.Choice.{IsChosen}
-use Rattle.tile_stream.specs.Shared.{text_ready}
 use Rattle.tile_stream.proofs.HeldTexts.{MadeSoFar}
 use Rattle.tile_stream.proofs.tile_reader.held.stored_texts.Given as goal
 
@@ -12,7 +11,7 @@ invariant-held l =
       same : l.held ≡ l.fn.held;
       within : l.at ≤ length (texts_in l.fn.held);
       made : MadeSoFar (IsChosen l.choice) l.shift (take l.at (texts_in l.fn.held))
-          (map (text_ready l.fn.held.common) l.texts.items);
+          (with_end l.fn.held.common l.texts.items);
     }
 
 abbrev pub decreases-held : goal.decreases-held

@@ -1,9 +1,8 @@
-use Rattle.std.proofs.Common.{◌<◌, ◌≤◌, ◌∙◌, length, arith, subst}
+use Rattle.std.proofs.Common.{◌<◌, ◌≤◌, ◌∙◌, ◌++◌, length, arith, sym, subst}
 use Rattle.std.proofs.lemmas.Bool.Decides.{nat_tests}
 use Rattle.std.proofs.lemmas.Result.{err_from_is_err_and}
-use Rattle.city_cut.specs.HeldTexts.{HeldTexts, texts_in}
+use Rattle.city_cut.specs.HeldTexts.{AreOwnParts, HeldTexts, texts_in}
 use Rattle.city_feature.specs.Choice.{IsChosen}
-use Rattle.tile_stream.specs.Shared.{text_ready}
 use Rattle.tile_stream.proofs.HeldTexts.{refuses_all, texts_long}
 use Rattle.tile_stream.proofs.WantedTexts.{all_told, told_more}
 use Rattle.tile_stream.proofs.tile_reader.held.wanted_of.Goals as goal
@@ -25,7 +24,7 @@ held-preserved c =
     record {
       same = c.in_ok-text.ensures.same ∙ c.held.invariant.same;
       within = omega (arith, within);
-      told = told_more (IsChosen c.args.choice.now) c.args.shift (text_ready c.args.held.now.common)
+      told = told_more (IsChosen c.args.choice.now) c.args.shift (λ front. front ++ c.args.held.now.common)
           (texts_in c.args.held.now) c.held.at c.held.wanted.items c.push.new.self.items within c.held.invariant.told
           c.in_ok-text.text c.is_some.result (rw c.held.invariant.same at c.in_ok-text.ensures.ok)
           c.is_some.ensures c.in_ok-push.ensures.items;
@@ -39,7 +38,7 @@ held-preserved-in_ok-push c =
     record {
       same = c.in_ok-text.ensures.same ∙ c.held.invariant.same;
       within = omega (arith, within);
-      told = told_more (IsChosen c.args.choice.now) c.args.shift (text_ready c.args.held.now.common)
+      told = told_more (IsChosen c.args.choice.now) c.args.shift (λ front. front ++ c.args.held.now.common)
           (texts_in c.args.held.now) c.held.at c.held.wanted.items c.push.new.self.items within c.held.invariant.told
           c.in_ok-text.text c.is_some.result (rw c.held.invariant.same at c.in_ok-text.ensures.ok)
           c.is_some.ensures c.in_ok-push.ensures.items;
@@ -52,3 +51,6 @@ returns-clause-ok c =
     let done = subst (λ (held : HeldTexts). length (texts_in held) ≤ c.held.at) c.held.invariant.same now in
     all_told (IsChosen c.args.choice.now) c.args.shift (texts_in c.args.held.now) c.held.at c.held.wanted.items done
     c.held.invariant.told
+
+pub text_at-requires-clause-own : goal.text_at-requires-clause-own
+text_at-requires-clause-own c = subst AreOwnParts (sym c.held.invariant.same) c.requires.own

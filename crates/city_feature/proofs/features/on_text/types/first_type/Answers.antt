@@ -1,8 +1,8 @@
 use Rattle.std.proofs.Common.{codes, refl, ◌∙◌, ap, ◌++◌}
 use Rattle.city_json.specs.ObjectTexts.{members_of}
 use Rattle.city_feature.proofs.features.FirstTypes.{type_at, if_some_type}
-use Rattle.city_feature.proofs.QuickLines.{utf8}
-use Rattle.city_feature.proofs.features.QuickTypes.{text_there}
+use Rattle.city_feature.proofs.LineTexts.{utf8}
+use Rattle.city_feature.proofs.features.TypeTexts.{text_there}
 use Rattle.city_feature.proofs.features.on_text.types.first_type.Goals as goal
 
 pub returns : goal.returns

@@ -2,7 +2,7 @@ use Rattle.std.proofs.Common.{◌↔◌, IfSome, IsTrue, subst, sym}
 use Rattle.std.proofs.lemmas.Result.{IfOk-weaker}
 use Rattle.city_json.specs.ObjectTexts.{members_of, object_of}
 use Rattle.city_feature.specs.Choice.{HasType}
-use Rattle.city_feature.proofs.features.QuickTypes.{typed_there}
+use Rattle.city_feature.proofs.features.TypeTexts.{typed_there}
 use Rattle.city_feature.proofs.features.on_text.types.has_given_type.Goals as goal
 
 pub returns-clause-ok : goal.returns-clause-ok

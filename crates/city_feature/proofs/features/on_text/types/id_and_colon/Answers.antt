@@ -3,8 +3,8 @@ use Rattle.city_json.specs.Bytes.{colon}
 use Rattle.city_json.specs.ObjectTexts.{members_of}
 use Rattle.city_json.specs.Tree.{null}
 use Rattle.city_feature.proofs.NamedTexts.{null_text}
-use Rattle.city_feature.proofs.QuickLines.{utf8}
-use Rattle.city_feature.proofs.features.QuickTypes.{text_or_there}
+use Rattle.city_feature.proofs.LineTexts.{utf8}
+use Rattle.city_feature.proofs.features.TypeTexts.{text_or_there}
 use Rattle.city_feature.proofs.features.on_text.types.id_and_colon.Goals as goal
 
 pub returns : goal.returns

@@ -1,5 +1,5 @@
 use Rattle.std.proofs.Common.{◌≤◌, ◌-◌, length, take}
-use Rattle.city_feature.specs.Quick.{AreLetters}
+use Rattle.city_feature.specs.LineTexts.{AreLetters}
 use Rattle.city_feature.proofs.features.on_text.types.letters_len.Given as goal
 
 abbrev pub invariant-loop-end : goal.invariant-loop-end

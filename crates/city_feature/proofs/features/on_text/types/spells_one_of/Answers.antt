@@ -2,7 +2,7 @@ use Rattle.std.proofs.Common.{◌∙◌, refl, sym}
 use Rattle.std.proofs.lemmas.List.{take_rest}
 use Rattle.city_feature.proofs.features.FirstTypes.{letters_spelled}
 use Rattle.city_feature.proofs.features.LineVertices.{not_both}
-use Rattle.city_feature.proofs.features.QuickTypes.{no_text, one_of}
+use Rattle.city_feature.proofs.features.TypeTexts.{no_text, one_of}
 use Rattle.city_feature.proofs.features.on_text.types.spells_one_of.Goals as goal
 
 pub returns-then-not-byte_is-clause-ok : goal.returns-then-not-byte_is-clause-ok

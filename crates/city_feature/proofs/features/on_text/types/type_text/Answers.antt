@@ -5,8 +5,8 @@ use Rattle.city_json.specs.Members.{first_named}
 use Rattle.city_json.specs.ObjectTexts.{members_of}
 use Rattle.city_json.specs.Tree.{null}
 use Rattle.city_feature.proofs.NamedTexts.{null_text}
-use Rattle.city_feature.proofs.QuickLines.{utf8}
-use Rattle.city_feature.proofs.features.QuickTypes.{id_there, in_members}
+use Rattle.city_feature.proofs.LineTexts.{utf8}
+use Rattle.city_feature.proofs.features.TypeTexts.{id_there, in_members}
 use Rattle.city_feature.specs.Shapes.{member_in}
 use Rattle.city_feature.proofs.features.on_text.types.type_text.Goals as goal
 

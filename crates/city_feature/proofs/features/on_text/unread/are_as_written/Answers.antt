@@ -1,5 +1,5 @@
 use Rattle.std.proofs.Common.{arith, subst, slice_range}
-use Rattle.city_feature.specs.Quick.{IsVerticesText}
+use Rattle.city_feature.specs.LineTexts.{IsVerticesText}
 use Rattle.city_feature.proofs.TriplesAreVertices.{vertices_text}
 use Rattle.city_feature.proofs.features.on_text.unread.are_as_written.Goals as goal
 
