@@ -42,12 +42,16 @@ other=$!
 prove . city_feature "$jobs" build/build.log
 here=$?
 wait "$other" && [ "$here" -eq 0 ] || exit 1
-prove_beside command_line city_json city_grid city_feature &
+prove . city_families "$jobs" build/build.log || exit 1
+{
+    prove_beside command_line city_json city_grid city_feature && prove_beside cut_by_value city_families
+} &
 other=$!
-prove . tile_stream "$jobs" build/build.log
+prove . cut_on_text "$jobs" build/build.log
 here=$?
 wait "$other" && [ "$here" -eq 0 ] || exit 1
-prove_beside document_stream city_cut tile_stream &
+prove . tile_stream "$jobs" build/build.log || exit 1
+prove_beside document_stream cut_on_text city_cut tile_stream &
 other=$!
 prove . tile_merge "$jobs" build/build.log
 here=$?

@@ -1,33 +1,18 @@
 -- A document that is read again from its compact text, and cut by its value.
-use Rattle.std.proofs.Common.{◌≡◌, ◌<◌, ◌^◌, ◌⊎◌, ◌∷◌, [], codes, length, List, ℕ, Result, Ok, Err, MatchResult, IfOk, IfErr, OnOk, inr, subst, sym}
+use Rattle.std.proofs.Common.{◌≡◌, ◌<◌, ◌^◌, ◌∷◌, [], length, List, ℕ, Result, Ok, Err, MatchResult, IfOk, IfErr, OnOk, inr, subst}
 use Rattle.byte_streams.specs.declared.fault.Fault.{Fault}
 use Rattle.byte_streams.specs.declared.fault.Fault.TheVariants.{Memory}
-use Rattle.city_json.proofs.CompactLaws.{compact-spells}
 use Rattle.city_json.specs.Bytes.{close_brace}
 use Rattle.city_json.specs.CompactTexts.{IsCompactOf}
-use Rattle.city_json.specs.Grammar.{Spells}
-use Rattle.city_json.specs.Members.{member_of}
 use Rattle.city_json.specs.Tree.{Tree, tree}
 use Rattle.city_json.specs.declared.json.Json.{Json}
 use Rattle.city_feature.specs.Feature.{FeatureValue}
 use Rattle.city_feature.specs.Header.{HeaderValue}
-use Rattle.city_cut.specs.Cut.{IsCut, IsCuttable, RefusesCut}
+use Rattle.city_families.specs.Cut.{IsCut, IsCuttable, RefusesCut}
 use Rattle.city_cut.specs.CutTexts.{CutsInto, RefusesRead}
-use Rattle.city_cut.specs.FeatureText.{tail_text}
-use Rattle.city_cut.specs.HeldTexts.{AreOwnParts, HeldTexts, texts_in}
-use Rattle.city_cut.specs.Lines.{texts_of}
-use Rattle.city_cut.proofs.SpelledFeatures.{own_parts}
-
--- what is cut of a document has its own parts
-pub own_of : (text : List ℕ) (document : Tree) → IsCompactOf text document → length text < 2 ^ 64
-    → (header : HeaderValue) (features : List FeatureValue) (held : HeldTexts) → IsCut document header features
-    → texts_in held ≡ texts_of features
-    → (held.common ≡ tail_text (member_of (codes "appearance") document)) ⊎ (held.common ≡ close_brace ∷ [])
-    → AreOwnParts held
-own_of text document of short header features held cut texts ends =
-    own_parts text document header features held short
-    (subst (λ l. Spells l document) (sym of.is) (compact-spells document of.writable)) (of.within, of.distinct) cut texts
-    ends
+use Rattle.city_families.specs.HeldTexts.{AreOwnParts, HeldTexts, texts_in}
+use Rattle.city_families.specs.Lines.{texts_of}
+use Rattle.cut_on_text.proofs.SpelledFeatures.{own_of}
 
 -- a value that is the document was cut
 module _ {X : Type 0} (found document : Tree) (same : found ≡ document) where
@@ -55,15 +40,14 @@ module _ {X : Type 0} (found document : Tree) (same : found ≡ document) where
   again_refused (Err fault) refused = inr (subst (RefusesCut fault) same refused)
 
 -- a compact text was read, or memory ran out
-module _ (value : Tree) where
-  pub read_value : (answer : Result Json Fault)
-      → MatchResult answer (λ again. tree again ≡ value) (λ fault. fault ≡ Memory)
-      → IfOk answer (λ again. tree again ≡ value)
-  read_value (Ok json) same = same
-  read_value (Err fault) same = tt
+pub read_value : (text : List ℕ) (answer : Result Json Fault)
+    → ((value : Tree) → IsCompactOf text value → MatchResult answer (λ again. tree again ≡ value) (λ fault. fault ≡ Memory))
+    → IfOk answer (λ again. (value : Tree) → IsCompactOf text value → tree again ≡ value)
+read_value text (Ok json) same = same
+read_value text (Err fault) same = tt
 
-  pub read_fault : (answer : Result Json Fault)
-      → MatchResult answer (λ again. tree again ≡ value) (λ fault. fault ≡ Memory)
-      → IfErr answer (λ fault. fault ≡ Memory)
-  read_fault (Ok json) memory = tt
-  read_fault (Err fault) memory = memory
+pub read_fault : (value : Tree) (answer : Result Json Fault)
+    → MatchResult answer (λ again. tree again ≡ value) (λ fault. fault ≡ Memory)
+    → IfErr answer (λ fault. fault ≡ Memory)
+read_fault value (Ok json) memory = tt
+read_fault value (Err fault) memory = memory

@@ -5,8 +5,8 @@ use Rattle.byte_streams.specs.declared.fault.Fault.TheVariants.{Memory}
 use Rattle.city_json.specs.Tree.{Tree}
 use Rattle.city_feature.specs.Feature.{FeatureValue}
 use Rattle.city_feature.specs.Header.{HeaderValue}
-use Rattle.city_cut.specs.Cut.{IsCut, IsCuttable, RefusesCut}
-use Rattle.city_cut.specs.Lines.{texts_of}
+use Rattle.city_families.specs.Cut.{IsCut, IsCuttable, RefusesCut}
+use Rattle.city_families.specs.Lines.{texts_of}
 
 -- nothing of the document is refused, and it is cut into this header and features of these texts
 abbrev pub CutsInto : Tree → HeaderValue → List (List ℕ) → Type 0

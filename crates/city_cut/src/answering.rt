@@ -1,19 +1,18 @@
 //! A document cut on its compact text, with an answer always: on the text, or, where that is silent, by its value.
 ghost use Rattle.std.specs.Prelude.{◌≡◌, IfErr, IfOk};
+ghost use Rattle.city_json.specs.CompactTexts.{IsCompactOf};
 ghost use Rattle.city_json.specs.Fits.{IsDistinct};
 ghost use Rattle.city_json.specs.ObjectTexts.{object_of};
-ghost use Rattle.city_json.specs.Tree.{tree};
+ghost use Rattle.city_json.specs.Tree.{Tree, tree};
 ghost use Rattle.city_json.specs.Triples.{HasTriples};
 ghost use Rattle.city_feature.specs.Values.{header_value};
 ghost use Rattle.city_cut.specs.CutTexts.{CutsInto, RefusesRead};
-ghost use Rattle.city_cut.specs.HeldTexts.{AreOwnParts, texts_in};
+ghost use Rattle.city_families.specs.HeldTexts.{AreOwnParts, texts_in};
 
-use crate::cuts::CutTexts;
 use crate::cutting::cut_texts;
-use crate::on_text::cut_compacted_triples;
-use crate::on_text::faults::cut_fault;
 use byte_streams::Fault;
 use city_json::{Json, ObjectText, Span, read};
+use cut_on_text::{CutTexts, cut_compacted_triples, cut_fault};
 use std::alloc::Global;
 
 /// Cuts the document whose compact text this is, in which triples of whole numbers may be known to stand, both as
@@ -29,23 +28,23 @@ pub fn cut_text(alloc: Global, document: &ObjectText<'_>, triples: Span) -> Resu
     ensures own { IfOk result (λ cut. AreOwnParts cut.texts) }
     ensures refused { IfErr result (λ fault. RefusesRead fault (object_of document.now)) }
 {
-    let line = document.text();
-    let parts = document.parts();
-    if let Some(cut) = cut_compacted_triples(alloc, line, parts, triples) {
+    if let Some(cut) = cut_compacted_triples(alloc, document, triples) {
         return Ok(cut);
     }
-    if let Some(fault) = cut_fault(alloc, line, parts) {
+    if let Some(fault) = cut_fault(alloc, document) {
         return Err(fault);
     }
-    let value = read_again(alloc, document)?;
+    let text = document.text();
+    let value = read_again(alloc, text)?;
     cut_texts(alloc, value)
 }
 
-/// The value of the document. The only fault is [`Fault::Memory`].
-fn read_again(alloc: Global, document: &ObjectText<'_>) -> Result<Json, Fault>
-    ensures value { IfOk result (λ value. tree value ≡ object_of document.now) }
+/// The value of the document whose compact text this is. The only fault is [`Fault::Memory`].
+fn read_again(alloc: Global, text: &[u8]) -> Result<Json, Fault>
+    requires { (document : Tree) × IsCompactOf text.now document }
+    ensures value { IfOk result (λ value. (document : Tree) → IsCompactOf text.now document → tree value ≡ document) }
     ensures distinct { IfOk result (λ value. IsDistinct (tree value)) }
     ensures fault { IfErr result (λ fault. fault ≡ Fault.Memory) }
 {
-    read(alloc, document.text())
+    read(alloc, text)
 }

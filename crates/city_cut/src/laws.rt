@@ -7,8 +7,8 @@ ghost use Rattle.city_json.specs.Tree.{Tree};
 ghost use Rattle.city_feature.specs.Feature.{FeatureValue};
 ghost use Rattle.city_feature.specs.FeatureLine.{SpellsFeature};
 ghost use Rattle.city_feature.specs.Header.{HeaderValue};
-ghost use Rattle.city_cut.specs.Cut.{IsCut};
-ghost use Rattle.city_cut.specs.Lines.{texts_of};
+ghost use Rattle.city_families.specs.Cut.{IsCut};
+ghost use Rattle.city_families.specs.Lines.{texts_of};
 
 /// The compact text of each feature of a cut spells that feature, where the document was read of a
 /// text that fits into memory.

@@ -8,7 +8,7 @@ ghost use Rattle.city_json.specs.CompactTexts.{IsCompactOf};
 use crate::texts::{expect, filled, put_texts, repeated, texts_are, with_repeated};
 use byte_streams::Line;
 use city_cut::{CutTexts, cut_compacted_triples, triples_text};
-use city_json::{MemberPlace, Span, Workspace, compact_object};
+use city_json::{MemberPlace, ObjectText, Span, Workspace, compact_object};
 use std::alloc::{AllocError, AllocGlobal, Global};
 use std::process::Abort;
 
@@ -58,25 +58,22 @@ pub(crate) fn quick_cut(alloc: Global, text: &[u8]) -> Option<CutTexts> {
     let Ok(Some(found)) = compact_object(alloc, text, &mut workspace) else {
         return None;
     };
-    let line = found.place.bytes(text, &workspace.line);
-    cut_compacted_triples(alloc, line, &found.parts, found.triples)
+    let document = found.text(text, &workspace.line);
+    cut_compacted_triples(alloc, &document, found.triples)
 }
 
 /// The document, cut where its compact text is known, and nothing of its triples.
 fn compacted_cut(alloc: Global, document: &str) -> Option<CutTexts> {
-    let feature = given(alloc, document)?;
-    cut_compacted_triples(
-        alloc,
-        feature.line.items(),
-        &feature.parts,
-        Span { from: 0, end: 0 },
-    )
+    let given = given(alloc, document)?;
+    let document = ObjectText::new(given.line.items(), &given.parts);
+    cut_compacted_triples(alloc, &document, Span { from: 0, end: 0 })
 }
 
 /// The document, cut where its triples are known.
 fn given_cut(alloc: Global, document: &str) -> Option<CutTexts> {
-    let feature = given(alloc, document)?;
-    cut_compacted_triples(alloc, feature.line.items(), &feature.parts, feature.triples)
+    let given = given(alloc, document)?;
+    let document = ObjectText::new(given.line.items(), &given.parts);
+    cut_compacted_triples(alloc, &document, given.triples)
 }
 
 fn is_some_plain(alloc: Global, answer: Option<CutTexts>, document: &str) -> bool {
@@ -374,8 +371,9 @@ const TRIPLES: &str = "[[1,2,3]]
 
 /// Whether the vertices of a document are told to be triples, and are this text.
 fn are_told(alloc: Global, document: &str, vertices: &str) -> Option<bool> {
-    let feature = given(alloc, document)?;
-    let found = triples_text(feature.line.items(), &feature.parts, feature.triples)?;
+    let given = given(alloc, document)?;
+    let document = ObjectText::new(given.line.items(), &given.parts);
+    let found = triples_text(&document, given.triples)?;
     Some(found == vertices.as_bytes())
 }
 

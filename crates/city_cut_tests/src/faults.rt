@@ -3,13 +3,14 @@ use crate::answers::given;
 use crate::texts::{expect, filled, with_repeated};
 use byte_streams::Fault;
 use city_cut::cut_fault;
+use city_json::ObjectText;
 use std::alloc::{AllocError, AllocGlobal, Global};
 use std::process::Abort;
 
 /// Why the document is refused, as its compact text tells.
 fn told(alloc: Global, document: &str) -> Option<Fault> {
-    let feature = given(alloc, document)?;
-    cut_fault(alloc, feature.line.items(), &feature.parts)
+    let given = given(alloc, document)?;
+    cut_fault(alloc, &ObjectText::new(given.line.items(), &given.parts))
 }
 
 /// Whether the fault of this name is told of the document, or `None`.

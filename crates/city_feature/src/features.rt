@@ -6,7 +6,6 @@ ghost use Rattle.city_feature.specs.Feature.{IsFeature};
 pub(crate) mod ended;
 pub(crate) mod faults;
 pub(crate) mod lines;
-pub(crate) mod members;
 pub(crate) mod moving;
 pub(crate) mod on_text;
 pub(crate) mod reader;

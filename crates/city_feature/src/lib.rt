@@ -24,7 +24,6 @@ pub use features::Feature;
 pub use features::ended::{OwnBuffers, own_text};
 pub use features::faults::vertices_fault;
 pub use features::lines::feature_text;
-pub use features::members::{is_absent, member_or};
 pub use features::moving::shifted;
 pub use features::on_text::unread::triples_meet;
 pub use features::reader::feature;
@@ -32,7 +31,9 @@ pub use features::shape::{is_array, is_object, is_text};
 pub use features::texts::{SpelledVertices, append_vertices, vertices_of};
 pub use features::writer::line;
 pub use headers::Header;
-pub use headers::reader::{header, is_city_json, is_document, is_version_2, transform_of};
+pub use headers::reader::{
+    header, header_transform, is_city_json, is_document, is_version_2, transform_of,
+};
 pub use headers::texts::holds_city;
 pub use joining::members::text_json;
 pub use joining::{HeaderFault, Joined, Shifts, join_headers};

@@ -22,9 +22,3 @@ vertex_is_writable p range = (is_number p.x range.0, (is_number p.y range.1, (is
 
 pub three_are_writable : (texts : Texts) (p : Triple) → Each IsInteger texts p → IsWritable (three texts)
 three_are_writable texts p each = (each.0.0, (each.1.0, (each.2.0, tt)))
-
--- what is written for a vertex spells it
-pub written_spells : (text : List ℕ) (p : Triple) → IsInRange p → text ≡ compact (vertex_tree p) → SpellsVertex text p
-written_spells text p range written =
-    let (texts, same, each) = vertex_is_read p range in
-    (texts, written ∙ ap compact same, each)

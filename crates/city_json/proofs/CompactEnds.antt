@@ -21,33 +21,6 @@ use Rattle.city_json.proofs.StringEnds.{first_same, others_same}
 
 -- a run of bytes that end nothing
 
-pub run_there : (text run rest : List ℕ) (i : ℕ) → i < length text → AllByRecursion (λ c. is_stop c ≡ false) run
-    → IsStopped rest → drop i text ≡ run ++ rest → is_stop (get_or text i 0) ≡ false
-    → (left : List ℕ) × AllByRecursion (λ c. is_stop c ≡ false) left × (drop (i + 1) text ≡ left ++ rest)
-run_there text [] [] i within all stopped is here = absurd (omega (arith, ap length is, length-drop i text))
-run_there text [] (c ∷ rest) i within all stopped is here =
-    let same : get_or text i 0 ≡ c = first_same _ _ _ _ (sym (drop_one text i (get_or text i 0) within refl) ∙ is) in
-    absurd (stop_apart c stopped (ap is_stop (sym same) ∙ here))
-  where
-    stop_apart : (c : ℕ) → (c ≡ comma) ⊎ ((c ≡ close_bracket) ⊎ (c ≡ close_brace)) → is_stop c ≡ false → ⊥
-    stop_apart c stopped here = grind (arith, nat_tests)
-run_there text (c ∷ run) rest i within all stopped is here =
-    (run, all.1, others_same _ _ _ _ (sym (drop_one text i (get_or text i 0) within refl) ∙ is))
-
-pub run_stop : (text run rest : List ℕ) (i : ℕ) → i < length text → AllByRecursion (λ c. is_stop c ≡ false) run
-    → drop i text ≡ run ++ rest → is_stop (get_or text i 0) ≡ true → drop i text ≡ rest
-run_stop text [] rest i within all is here = is
-run_stop text (c ∷ run) rest i within all is here =
-    let same : get_or text i 0 ≡ c = first_same _ _ _ _ (sym (drop_one text i (get_or text i 0) within refl) ∙ is) in
-    absurd (true_false (sym here ∙ (ap is_stop same ∙ all.0)))
-  where
-    true_false : true ≡ false → ⊥
-    true_false e = cc
-
-pub run_past : (text run rest : List ℕ) (i : ℕ) → length text ≤ i → drop i text ≡ run ++ rest → drop i text ≡ rest
-run_past text [] rest i past is = is
-run_past text (c ∷ run) rest i past is = absurd (omega (arith, ap length is, length-drop i text))
-
 -- how a value begins
 
 number_head : (text rest tail : List ℕ) (c : ℕ) → IsNumber text → text ++ rest ≡ c ∷ tail → is_number_byte c ≡ true
@@ -83,17 +56,6 @@ head_of (array items) rest tail c w is = literal_head open_bracket c _ tail
     (omega arith, omega arith, omega arith, omega arith) is
 head_of (object all) rest tail c w is = literal_head open_brace c _ tail
     (omega arith, omega arith, omega arith, omega arith) is
-
--- bytes of which a value is the front are some
-value_some : (value : Tree) (rest : List ℕ) → IsWritable value → 0 < length (compact value ++ rest)
-value_some null rest w = omega arith
-value_some (boolean true) rest w = omega arith
-value_some (boolean false) rest w = omega arith
-value_some (number []) rest w = absurd (number_starts [] w)
-value_some (number (c ∷ text)) rest w = omega arith
-value_some (string text) rest w = omega arith
-value_some (array items) rest w = omega arith
-value_some (object all) rest w = omega arith
 
 -- the values, by their first byte
 
@@ -210,11 +172,6 @@ scalar_leaves levels b tail after c begins mark bracket brace leaves (array item
     absurd (bracket (first_same _ _ _ _ (sym begins ∙ is)))
 scalar_leaves levels b tail after c begins mark bracket brace leaves (object all) rest w within stopped is =
     absurd (brace (first_same _ _ _ _ (sym begins ∙ is)))
-
-pub nothing_leaves : (levels : ℕ) (text after : List ℕ) (at : ℕ) → length text ≤ at
-    → LeavesValue levels (drop at text) after
-nothing_leaves levels text after at past value rest w within stopped is =
-    absurd (omega (arith, ap length is, value_some value rest w, length-drop at text))
 
 -- items
 

@@ -284,21 +284,6 @@ pub rest_is_short : (b rest : List ℕ) → Some rest ≡ past_number b → leng
 rest_is_short b rest e = let (front, split, number) = number-split b rest (sym e) in
     omega (arith, ap length split, length-append front rest)
 
--- The number is the first so many bytes.
-
-pub number_is_in_front : (b text rest : List ℕ) → Some (text, rest) ≡ number_at b → length text ≤ length b
-number_is_in_front b text rest e = let (split, number) = sound b text rest (sym e) in
-    omega (arith, ap length split, length-append text rest)
-
-pub copy_is_text : (b text rest copy : List ℕ) → Some (text, rest) ≡ number_at b → copy ≡ take (length text) b
-    → copy ≡ text
-copy_is_text b text rest copy e is = let (split, number) = sound b text rest (sym e) in is
-    ∙ (rw split (take-append_seam text rest))
-
-pub copy_is_number : (b text rest copy : List ℕ) → Some (text, rest) ≡ number_at b → copy ≡ take (length text) b
-    → IsNumber copy
-copy_is_number b text rest copy e is = rw (copy_is_text b text rest copy e is) ((sound b text rest (sym e)).1)
-
 -- Bytes are a number where nothing is left of them.
 
 number_alone : (b : List ℕ) → past_number b ≡ Some [] → IsNumber b
@@ -334,15 +319,6 @@ number_starts text number =
       | inr sign ↦ rw sign
     ] in
     rw number.spelled (goes number.minus_sign number.is_minus)
-
-front_starts : (text rest : List ℕ) → StartsNumber text → StartsNumber (text ++ rest)
-front_starts [] rest starts = absurd starts
-front_starts (c ∷ cs) rest starts = starts
-
-pub number_at-starts : (b text rest : List ℕ) → number_at b ≡ Some (text, rest) → StartsNumber b
-number_at-starts b text rest e =
-    let (split, number) = sound b text rest e in
-    rw split (front_starts text rest (number_starts text number))
 
 -- No other byte stands in a number.
 

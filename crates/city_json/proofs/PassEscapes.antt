@@ -24,13 +24,6 @@ pub record TakenPieces (b rest before after : List ℕ) : Type 0 where
   pub is_read : decoded b ≡ prepend content (decoded rest)
   pub is_shown : after ≡ before ++ flat_map written content
 
-pub no_pieces : (b before : List ℕ) → TakenPieces b b before before
-no_pieces b before = record {
-  content = [];
-  is_read = sym (prepend-nil (decoded b));
-  is_shown = sym (append-nil before);
-}
-
 -- the bytes between two places stand for themselves
 pub record PlainRun (text : List ℕ) (at stop : ℕ) : Type 0 where
   pub is_read : decoded (drop at text) ≡ prepend (slice_range text at stop) (decoded (drop stop text))

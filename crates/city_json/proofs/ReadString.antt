@@ -349,6 +349,3 @@ decoded-front (b ∷ bytes) =
 pub string_at-some : (bytes text rest : List ℕ) → decoded bytes ≡ Some (text, rest)
     → string_at bytes ≡ checked text rest
 string_at-some bytes text rest h = ap (option_and_then (λ (read : List ℕ × List ℕ). checked read.0 read.1)) h
-
-pub string_at-none : (bytes : List ℕ) → decoded bytes ≡ None → string_at bytes ≡ None
-string_at-none bytes h = ap (option_and_then (λ (read : List ℕ × List ℕ). checked read.0 read.1)) h

@@ -91,9 +91,6 @@ after_byte-some wanted (c ∷ b) rest is = elim (chosen (c == wanted) (Some b) N
   | inr p ↦ absurd (none-some rest p.1)
 ]
 
-pub after_byte-same : (wanted : ℕ) (rest : List ℕ) → after_byte wanted (wanted ∷ rest) ≡ Some rest
-after_byte-same wanted rest = rw (eq-eqb wanted wanted refl) refl
-
 pub starts_with-splits : (b word : List ℕ) → starts_with nat_eq b word ≡ true → b ≡ word ++ drop (length word) b
 starts_with-splits b [] is = refl
 starts_with-splits [] (w ∷ word) is = absurd (false≢true is)

@@ -1,5 +1,5 @@
 -- What reading the whole text tells of it.
-use Rattle.std.proofs.Common.{◌≡◌, ◌∙◌, ℕ, List, Some, None, Result, Ok, Err, refl, sym, subst, IfOk, IfErr, OnOk, MatchResult}
+use Rattle.std.proofs.Common.{◌≡◌, ◌∙◌, ℕ, List, Some, None, Result, Ok, Err, refl, sym, subst, IfOk, IfErr, MatchResult}
 use Rattle.std.proofs.lemmas.Option.{none-some}
 use Rattle.std.specs.Str.{IsUtf8}
 use Rattle.city_json.specs.Compact.{compact}
@@ -8,7 +8,7 @@ use Rattle.city_json.specs.Fits.{IsDistinct, Fits}
 use Rattle.city_json.specs.Gives.{Refuses}
 use Rattle.city_json.specs.Grammar.{Spells}
 use Rattle.city_json.specs.Reading.{text_at}
-use Rattle.city_json.specs.Refusals.{IsShallow, RefusesText, SpellsNone, SpellsRepeated}
+use Rattle.city_json.specs.Refusals.{RefusesText, SpellsNone, SpellsRepeated}
 use Rattle.city_json.specs.Tree.{Tree, tree}
 use Rattle.city_json.specs.Writable.{IsWritable}
 use Rattle.byte_streams.specs.declared.fault.Fault.{Fault}
@@ -43,39 +43,9 @@ pub text_repeats : (text : List ℕ) (value : Tree) → IsUtf8 text → text_at 
     → SpellsRepeated text
 text_repeats text value utf8 read repeated = (value, (utf8, (text_at-sound text value read).0), repeated)
 
--- What follows for an answer, from what it says of a text that is taken and of a refusal.
+-- The text is taken, and this is its value.
 abbrev pub IsTaken : List ℕ → Json → Type 0
 IsTaken text value = Spells text (tree value) × Fits (tree value) × (IsDeep text → ⊥)
-
-pub taken_shallow : (text : List ℕ) (answer : Result Json Fault) → IfOk answer (IsTaken text)
-    → OnOk answer (IsShallow text)
-taken_shallow text (Ok value) taken = (taken.0.0, taken.2)
-taken_shallow text (Err fault) taken = tt
-
-pub checked_shallow : {X : Type 0} (text : List ℕ) (answer : Result X Fault)
-    → OnOk answer ((value : Tree) × Spells text value × Fits value × (IsDeep text → ⊥)) → OnOk answer (IsShallow text)
-checked_shallow text (Ok done) taken = (taken.1.0, taken.3)
-checked_shallow text (Err fault) taken = tt
-
-pub answers_not_utf8 : {X : Type 0} (text : List ℕ) (answer : Result X Fault) → OnOk answer (IsShallow text)
-    → IfErr answer (λ fault. RefusesText fault text) → (IsUtf8 text → ⊥) → answer ≡ Err NotUtf8
-answers_not_utf8 text (Ok value) shallow refused bad = absurd (bad shallow.0)
-answers_not_utf8 text (Err NotUtf8) shallow refused bad = refl
-answers_not_utf8 text (Err TooDeep) shallow refused bad = absurd (bad refused.0)
-answers_not_utf8 text (Err Syntax) shallow refused bad = absurd (bad refused.0.0)
-answers_not_utf8 text (Err DuplicateName) shallow refused bad = absurd (bad refused.0.0)
-answers_not_utf8 text (Err Memory) shallow refused bad = absurd (bad refused.0)
-answers_not_utf8 text (Err _) shallow refused bad = absurd refused
-
-pub answers_too_deep : {X : Type 0} (text : List ℕ) (answer : Result X Fault) → OnOk answer (IsShallow text)
-    → IfErr answer (λ fault. RefusesText fault text) → IsUtf8 text → IsDeep text → answer ≡ Err TooDeep
-answers_too_deep text (Ok value) shallow refused utf8 deep = absurd (shallow.1 deep)
-answers_too_deep text (Err NotUtf8) shallow refused utf8 deep = absurd (refused utf8)
-answers_too_deep text (Err TooDeep) shallow refused utf8 deep = refl
-answers_too_deep text (Err Syntax) shallow refused utf8 deep = absurd (refused.0.1 deep)
-answers_too_deep text (Err DuplicateName) shallow refused utf8 deep = absurd (refused.0.1 deep)
-answers_too_deep text (Err Memory) shallow refused utf8 deep = absurd (refused.1 deep)
-answers_too_deep text (Err _) shallow refused utf8 deep = absurd refused
 
 -- What was printed of a value that fits is read again, unless memory is out.
 pub answers_printed : (text : List ℕ) (answer : Result Json Fault) → IfOk answer (IsTaken text)

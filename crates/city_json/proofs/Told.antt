@@ -1,32 +1,23 @@
--- What checking keeps of what reading gives.
-use Rattle.std.proofs.Common.{◌≡◌, ◌↔◌, ◌&&◌, ◌++◌, ◌∙◌, ℕ, zero, suc, Bool, true, false, List, [], ◌∷◌, Option, Some, None, codes, option_and_then, option_map, length, drop, refl, sym, ap, not}
+-- Whether names differ, as it is told, and whether they do.
+use Rattle.std.proofs.Common.{◌≡◌, ◌↔◌, ◌&&◌, ◌++◌, ◌∙◌, ℕ, Bool, true, false, List, [], ◌∷◌, Option, Some, None, Result, Ok, Err, Bor, codes, option_and_then, length, drop, if◌then◌else◌, refl, sym, ap, not}
 use Rattle.std.proofs.lemmas.Bool.{false≢true}
 use Rattle.std.proofs.lemmas.List.{append_assoc}
 use Rattle.std.proofs.lemmas.Slice.Eq.{bytes_eq-Decides}
-use Rattle.std.specs.Prelude.{bytes_eq, nat_eq, if◌then◌else◌}
-use Rattle.city_json.specs.Bytes.{close_bracket, close_brace}
-use Rattle.city_json.specs.Checking.{is_new_name, are_apart, is_distinct, are_distinct_items, are_distinct_members, left, value_told, items_told, member_told, members_told}
+use Rattle.std.specs.List.{starts_with}
+use Rattle.std.specs.Prelude.{bytes_eq, nat_eq}
+use Rattle.byte_streams.specs.declared.fault.Fault.{Fault}
+use Rattle.city_json.specs.Distinct.{is_new_name, are_apart, is_distinct, are_distinct_items, are_distinct_members}
 use Rattle.city_json.specs.Fits.{IsNewName, HasDistinctNames, IsDistinct, AreDistinctItems, AreDistinctMembers}
+use Rattle.city_json.specs.Makes.{Makes, IsToldOf, onto_items, onto_members}
 use Rattle.city_json.specs.Members.{names}
 use Rattle.city_json.specs.NumberAt.{number_at}
 use Rattle.city_json.specs.ReadString.{string_at}
-use Rattle.city_json.specs.Reading.{word_at, number_value_at, scalar_at, items_at, items_after, member_at, members_at, members_after, mark_at, after_white}
+use Rattle.city_json.specs.Reading.{word_at, scalar_at}
 use Rattle.city_json.specs.Tree.{Tree, null, boolean, number, string, array, object, ItemTrees, no_items, item, MemberTrees, no_members, member}
-use Rattle.city_json.specs.declared.reading.Mark.{Mark}
-use Rattle.city_json.specs.declared.reading.Mark.TheVariants as mark
 use Rattle.city_json.specs.declared.reading.Start.{Start}
 use Rattle.city_json.specs.declared.reading.Start.TheVariants as start
-use Rattle.std.specs.List.{starts_with}
 
 -- ---- both tests
-and_true : (a : Bool) → (a && true) ≡ a
-and_true true = refl
-and_true false = refl
-
-and_and : (a b c : Bool) → (a && (b && c)) ≡ ((a && b) && c)
-and_and true b c = refl
-and_and false b c = refl
-
 both : (a b : Bool) (A B : Type 0) → (a ≡ true) ↔ A → (b ≡ true) ↔ B → ((a && b) ≡ true) ↔ (A × B)
 both true true A B one other = (λ _. (one.0 refl, other.0 refl), λ _. refl)
 both true false A B one other = (λ not. absurd (false≢true not), λ all. absurd (false≢true (other.1 all.1)))
@@ -100,218 +91,103 @@ apart_as_members listed answer tells = by answer (are_apart listed) refl refl
     by false true e f = absurd (false≢true (sym e ∙ (tells members is).1 ((tells_apart members).0 (ap are_apart is
         ∙ f))))
 
--- ---- what was found, as it is told
+-- ---- whether names differ so far
+and_true : (a : Bool) → (a && true) ≡ a
+and_true true = refl
+and_true false = refl
+
+and_and : (a b c : Bool) → (a && (b && c)) ≡ ((a && b) && c)
+and_and true b c = refl
+and_and false b c = refl
+
+items_more : (before : Bool) (front : ItemTrees) (one : Tree)
+    → ((before && are_distinct_items front) && is_distinct one)
+    ≡ (before && are_distinct_items (onto_items front (item one no_items)))
+items_more true no_items one = sym (and_true (is_distinct one))
+items_more false no_items one = refl
+items_more before (item value front) one =
+    ap (λ b. b && is_distinct one) (and_and before (is_distinct value) (are_distinct_items front))
+    ∙ items_more (before && is_distinct value) front one
+    ∙ sym (and_and before (is_distinct value) (are_distinct_items (onto_items front (item one no_items))))
+
+pub items-told : (before so_far next : Bool) (front : ItemTrees) (one : Tree)
+    → so_far ≡ (before && are_distinct_items front) → next ≡ (so_far && is_distinct one)
+    → next ≡ (before && are_distinct_items (onto_items front (item one no_items)))
+items-told before so_far next front one told more =
+    more ∙ ap (λ b. b && is_distinct one) told ∙ items_more before front one
+
+members_more : (before : Bool) (front : MemberTrees) (one : List ℕ × Tree)
+    → ((before && are_distinct_members front) && is_distinct one.1)
+    ≡ (before && are_distinct_members (onto_members front (member one.0 one.1 no_members)))
+members_more true no_members one = sym (and_true (is_distinct one.1))
+members_more false no_members one = refl
+members_more before (member name value front) one =
+    ap (λ b. b && is_distinct one.1) (and_and before (is_distinct value) (are_distinct_members front))
+    ∙ members_more (before && is_distinct value) front one
+    ∙ sym (and_and before (is_distinct value)
+    (are_distinct_members (onto_members front (member one.0 one.1 no_members))))
+
+pub members-told : (before so_far next : Bool) (front : MemberTrees) (one : List ℕ × Tree)
+    → so_far ≡ (before && are_distinct_members front) → next ≡ (so_far && is_distinct one.1)
+    → next ≡ (before && are_distinct_members (onto_members front (member one.0 one.1 no_members)))
+members-told before so_far next front one told more =
+    more ∙ ap (λ b. b && is_distinct one.1) told ∙ members_more before front one
+
+names_more : (front : MemberTrees) (one : List ℕ × Tree)
+    → names (onto_members front (member one.0 one.1 no_members)) ≡ names front ++ one.0 ∷ []
+names_more no_members one = refl
+names_more (member name value front) one = ap (λ l. name ∷ l) (names_more front one)
+
+pub members-named : (before so_far next : List (List ℕ)) (front : MemberTrees) (one : List ℕ × Tree)
+    → so_far ≡ before ++ names front → next ≡ so_far ++ one.0 ∷ []
+    → next ≡ before ++ names (onto_members front (member one.0 one.1 no_members))
+members-named before so_far next front one named more =
+    more ∙ ap (λ l. l ++ one.0 ∷ []) named ∙ append_assoc before (names front) (one.0 ∷ [])
+    ∙ ap (λ l. before ++ l) (sym (names_more front one))
+
+-- ---- a scalar has no names
 some_same : {A : Type 0} (x y : A) → Some x ≡ Some y → x ≡ y
 some_same x y is = cc
 
-pub none_found : {A B : Type 0} (tell : A → B) (found : Option A) → option_map tell found ≡ None → found ≡ None
-none_found tell None is = refl
-none_found tell (Some p) is = cc
-
-pub record FoundValue (found : Option (Tree × List ℕ)) (distinct : Bool) (rest : List ℕ) : Type 0 where
-  pub value : Tree
-  pub is : found ≡ Some (value, rest)
-  pub distinct_is : is_distinct value ≡ distinct
-
-pub value_found : (found : Option (Tree × List ℕ)) (distinct : Bool) (rest : List ℕ)
-    → value_told found ≡ Some (distinct, rest) → FoundValue found distinct rest
-value_found None distinct rest told = cc
-value_found (Some p) distinct rest told =
-    let same = some_same {A = Bool × List ℕ} (is_distinct p.0, p.1) (distinct, rest) told in
-    record { value = p.0; is = ap (λ l. Some (p.0, l)) (ap (λ q. q.1) same); distinct_is = ap (λ q. q.0) same }
-
-pub record FoundMember (open_names after : List (List ℕ)) (found : Option ((List ℕ × Tree) × List ℕ)) (distinct : Bool)
-    (rest : List ℕ) : Type 0 where
-  pub named : List ℕ × Tree
-  pub is : found ≡ Some (named, rest)
-  pub names_are : open_names ++ named.0 ∷ [] ≡ after
-  pub distinct_is : is_distinct named.1 ≡ distinct
-
-pub member_found : (open_names after : List (List ℕ)) (found : Option ((List ℕ × Tree) × List ℕ)) (distinct : Bool)
-    (rest : List ℕ) → member_told open_names found ≡ Some (after, distinct, rest)
-    → FoundMember open_names after found distinct rest
-member_found open_names after None distinct rest told = cc
-member_found open_names after (Some p) distinct rest told =
-    let same = some_same {A = List (List ℕ) × Bool × List ℕ} (open_names ++ p.0.0 ∷ [], is_distinct p.0.1, p.1)
-    (after, distinct, rest) told in
-    record {
-      named = p.0;
-      is = ap (λ l. Some (p.0, l)) (ap (λ q. q.2) same);
-      names_are = ap (λ q. q.0) same;
-      distinct_is = ap (λ q. q.1) same;
-    }
-
--- ---- what a loop was told so far, before what the rest tells
-abbrev pub with_items : Bool → Option (Bool × List ℕ) → Option (Bool × List ℕ)
-with_items so_far told = option_map (λ p. (so_far && p.0, p.1)) told
-
-abbrev pub with_members : Bool → Option (List (List ℕ) × Bool × List ℕ) → Option (List (List ℕ) × Bool × List ℕ)
-with_members so_far told = option_map (λ p. (p.0, so_far && p.1, p.2)) told
-
-with_items-item : (so_far : Bool) (value : Tree) (found : Option (ItemTrees × List ℕ))
-    → with_items so_far (items_told (option_and_then (λ others. Some (item value others.0, others.1)) found))
-    ≡ with_items (so_far && is_distinct value) (items_told found)
-with_items-item so_far value None = refl
-with_items-item so_far value (Some p) =
-    ap (λ b. Some (b, p.1)) (and_and so_far (is_distinct value) (are_distinct_items p.0))
-
--- One step of the loop over items, by what stands after the item: `whole` is what all of them tell.
-module _ (value : List ℕ → Option (Tree × List ℕ)) (so_far one next : Bool) (n count : ℕ)
-    (bytes behind blank after : List ℕ) (mark_found : Mark) (whole : Option (Bool × List ℕ))
-    (more : n ≡ suc count) (read : value_told (value bytes) ≡ Some (one, behind)) (skipped : blank ≡ after_white behind)
-    (marked : (mark_found, after) ≡ mark_at close_bracket blank)
-    (before : with_items so_far (items_told (items_at value n bytes)) ≡ whole)
-    (tested : next ≡ (so_far && one)) where
-  found : FoundValue (value bytes) one behind
-  found = value_found (value bytes) one behind read
-
-  after_item : items_at value n bytes ≡ items_after (items_at value count) found.value (mark_found, after)
-  unfolding items_at
-  after_item = rw (more, found.is, ← skipped, ← marked) refl
-
-  tested_tree : (so_far && is_distinct found.value) ≡ next
-  tested_tree = ap (λ b. so_far && b) found.distinct_is ∙ sym tested
-
-  pub items-close : mark_found ≡ mark.Close → whole ≡ Some (next, after)
-  items-close is = sym before ∙ rw (after_item, is) (ap (λ b. Some (b, after))
-      (ap (λ b. so_far && b) (and_true (is_distinct found.value)) ∙ tested_tree))
-
-  pub items-neither : mark_found ≡ mark.Neither → whole ≡ None
-  items-neither is = sym before ∙ rw (after_item, is) refl
-
-  pub items-comma : mark_found ≡ mark.Comma → (rest : List ℕ) → rest ≡ after_white after
-      → with_items next (items_told (items_at value count rest)) ≡ whole
-  items-comma is rest begins =
-      ap (λ l. with_items next (items_told (items_at value count l))) begins
-      ∙ ap (λ b. with_items b (items_told (items_at value count (after_white after)))) (sym tested_tree)
-      ∙ sym (with_items-item so_far found.value (items_at value count (after_white after)))
-      ∙ sym (ap (λ l. with_items so_far (items_told l)) (after_item ∙ ap (λ m. items_after (items_at value count)
-      found.value (m, after)) is)) ∙ before
-
-with_members-member : (so_far : Bool) (open_names : List (List ℕ)) (named : List ℕ × Tree)
-    (found : Option (MemberTrees × List ℕ))
-    → with_members so_far (members_told open_names
-    (option_and_then (λ others. Some (member named.0 named.1 others.0, others.1)) found))
-    ≡ with_members (so_far && is_distinct named.1) (members_told (open_names ++ named.0 ∷ []) found)
-with_members-member so_far open_names named None = refl
-with_members-member so_far open_names named (Some p) =
-    ap (λ b. Some (open_names ++ named.0 ∷ names p.0, b, p.1))
-    (and_and so_far (is_distinct named.1) (are_distinct_members p.0))
-    ∙ ap (λ l. Some (l, (so_far && is_distinct named.1) && are_distinct_members p.0, p.1))
-    (sym (append_assoc open_names (named.0 ∷ []) (names p.0)))
-
--- The same over members.
-module _ (value : List ℕ → Option (Tree × List ℕ)) (open_names open_next : List (List ℕ)) (so_far one next : Bool)
-    (n count : ℕ) (bytes behind blank after : List ℕ) (mark_found : Mark)
-    (whole : Option (List (List ℕ) × Bool × List ℕ))
-    (more : n ≡ suc count) (read : member_told open_names (member_at value bytes) ≡ Some (open_next, one, behind))
-    (skipped : blank ≡ after_white behind) (marked : (mark_found, after) ≡ mark_at close_brace blank)
-    (before : with_members so_far (members_told open_names (members_at value n bytes)) ≡ whole)
-    (tested : next ≡ (so_far && one)) where
-  found_member : FoundMember open_names open_next (member_at value bytes) one behind
-  found_member = member_found open_names open_next (member_at value bytes) one behind read
-
-  after_member : members_at value n bytes
-      ≡ members_after (members_at value count) found_member.named (mark_found, after)
-  unfolding members_at
-  after_member = rw (more, found_member.is, ← skipped, ← marked) refl
-
-  tested_member : (so_far && is_distinct found_member.named.1) ≡ next
-  tested_member = ap (λ b. so_far && b) found_member.distinct_is ∙ sym tested
-
-  pub members-close : mark_found ≡ mark.Close → whole ≡ Some (open_next, next, after)
-  members-close is = sym before ∙ rw (after_member, is)
-      (ap (λ l. Some (l, so_far && (is_distinct found_member.named.1 && true), after)) found_member.names_are
-      ∙ ap (λ b. Some (open_next, b, after))
-      (ap (λ b. so_far && b) (and_true (is_distinct found_member.named.1)) ∙ tested_member))
-
-  pub members-neither : mark_found ≡ mark.Neither → whole ≡ None
-  members-neither is = sym before ∙ rw (after_member, is) refl
-
-  pub members-comma : mark_found ≡ mark.Comma → (rest : List ℕ) → rest ≡ after_white after
-      → with_members next (members_told open_next (members_at value count rest)) ≡ whole
-  members-comma is rest begins =
-      ap (λ l. with_members next (members_told open_next (members_at value count l))) begins
-      ∙ ap (λ b. with_members b (members_told open_next (members_at value count (after_white after))))
-      (sym tested_member)
-      ∙ ap (λ l. with_members (so_far && is_distinct found_member.named.1)
-      (members_told l (members_at value count (after_white after)))) (sym found_member.names_are)
-      ∙ sym (with_members-member so_far open_names found_member.named (members_at value count (after_white after)))
-      ∙ sym (ap (λ l. with_members so_far (members_told open_names l)) (after_member
-      ∙ ap (λ m. members_after (members_at value count) found_member.named (m, after)) is)) ∙ before
-
--- nothing is told where the first is not read
-pub items-failed : (value : List ℕ → Option (Tree × List ℕ)) (so_far : Bool) (count : ℕ) (bytes : List ℕ)
-    → value_told (value bytes) ≡ None → with_items so_far (items_told (items_at value count bytes)) ≡ None
-unfolding items_at
-items-failed value so_far zero bytes failed = refl
-items-failed value so_far (suc count) bytes failed = rw (none_found _ (value bytes) failed) refl
-
-pub members-failed : (value : List ℕ → Option (Tree × List ℕ)) (open_names : List (List ℕ)) (so_far : Bool) (count : ℕ)
-    (bytes : List ℕ) → member_told open_names (member_at value bytes) ≡ None
-    → with_members so_far (members_told open_names (members_at value count bytes)) ≡ None
-unfolding members_at
-members-failed value open_names so_far zero bytes failed = refl
-members-failed value open_names so_far (suc count) bytes failed =
-    rw (none_found _ (member_at value bytes) failed) refl
-
--- no item is left to be read
-pub items-none : (value : List ℕ → Option (Tree × List ℕ)) (so_far : Bool) (n : ℕ) (bytes : List ℕ) → n ≡ 0
-    → with_items so_far (items_told (items_at value n bytes)) ≡ None
-unfolding items_at
-items-none value so_far n bytes none = rw none refl
-
-pub members-none : (value : List ℕ → Option (Tree × List ℕ)) (open_names : List (List ℕ)) (so_far : Bool) (n : ℕ)
-    (bytes : List ℕ) → n ≡ 0 → with_members so_far (members_told open_names (members_at value n bytes)) ≡ None
-unfolding members_at
-members-none value open_names so_far n bytes none = rw none refl
-
--- ---- scalars
-pub number_left : (bytes : List ℕ) → left (number_value_at bytes) ≡ left (number_at bytes)
-number_left bytes = by (number_at bytes)
+word_distinct : (word : List ℕ) (value is : Tree) (bytes rest : List ℕ) → is_distinct value ≡ true
+    → word_at word value bytes ≡ Some (is, rest) → is_distinct is ≡ true
+word_distinct word value is bytes rest told = by (starts_with nat_eq bytes word)
   where
-    by : (found : Option (List ℕ × List ℕ))
-        → left (option_and_then (λ p. Some (number p.0, p.1)) found) ≡ left found
-    by None = refl
-    by (Some p) = refl
+    by : (b : Bool) → ◌≡◌ {A = Option (Tree × List ℕ)} (if b then Some (value, drop (length word) bytes) else None)
+        (Some (is, rest)) → is_distinct is ≡ true
+    by true read =
+        ap (λ p. is_distinct p.0) (sym (some_same {A = Tree × List ℕ} (value, drop (length word) bytes) (is, rest) read))
+        ∙ told
+    by false read = cc
 
-distinct_word : (word : List ℕ) (value : Tree) (bytes rest : List ℕ) → is_distinct value ≡ true
-    → left (word_at word value bytes) ≡ Some rest → value_told (word_at word value bytes) ≡ Some (true, rest)
-distinct_word word value bytes rest is = by (starts_with nat_eq bytes word)
-  where
-    by : (b : Bool) → left (if b then Some (value, drop (length word) bytes) else None) ≡ Some rest
-        → value_told (if b then Some (value, drop (length word) bytes) else None) ≡ Some (true, rest)
-    by true told = cc
-    by false told = cc
+text_distinct : (kind : List ℕ → Tree) → ((text : List ℕ) → is_distinct (kind text) ≡ true)
+    → (found : Option (List ℕ × List ℕ)) (is : Tree) (rest : List ℕ)
+    → ◌≡◌ {A = Option (Tree × List ℕ)} (option_and_then (λ p. Some (kind p.0, p.1)) found) (Some (is, rest))
+    → is_distinct is ≡ true
+text_distinct kind told None is rest read = cc
+text_distinct kind told (Some p) is rest read =
+    ap (λ q. is_distinct q.0) (sym (some_same {A = Tree × List ℕ} (kind p.0, p.1) (is, rest) read)) ∙ told p.0
 
-distinct_text : (kind : List ℕ → Tree) → ((text : List ℕ) → is_distinct (kind text) ≡ true)
-    → (found : Option (List ℕ × List ℕ)) (rest : List ℕ)
-    → left (option_and_then (λ p. Some (kind p.0, p.1)) found) ≡ Some rest
-    → value_told (option_and_then (λ p. Some (kind p.0, p.1)) found) ≡ Some (true, rest)
-distinct_text kind is None rest told = cc
-distinct_text kind is (Some p) rest told =
-    let same : p.1 ≡ rest = cc in
-    ap (λ b. Some (b, p.1)) (is p.0) ∙ ap (λ l. Some (true, l)) same
+scalar_distinct : (kind : Start) (bytes rest : List ℕ) (is : Tree) → scalar_at kind bytes ≡ Some (is, rest)
+    → is_distinct is ≡ true
+scalar_distinct start.Null bytes rest is read = word_distinct (codes "null") null is bytes rest refl read
+scalar_distinct start.True bytes rest is read = word_distinct (codes "true") (boolean true) is bytes rest refl read
+scalar_distinct start.False bytes rest is read = word_distinct (codes "false") (boolean false) is bytes rest refl read
+scalar_distinct start.Number bytes rest is read = text_distinct number (λ text. refl) (number_at bytes) is rest read
+scalar_distinct start.Text bytes rest is read = text_distinct string (λ text. refl) (string_at (drop 1 bytes)) is rest read
+scalar_distinct start.List bytes rest is read = cc
+scalar_distinct start.Map bytes rest is read = cc
+scalar_distinct start.Other bytes rest is read = cc
 
-pub scalar_told : (kind : Start) (bytes rest : List ℕ) → left (scalar_at kind bytes) ≡ Some rest
-    → value_told (scalar_at kind bytes) ≡ Some (true, rest)
-scalar_told start.Null bytes rest told = distinct_word (codes "null") null bytes rest refl told
-scalar_told start.True bytes rest told = distinct_word (codes "true") (boolean true) bytes rest refl told
-scalar_told start.False bytes rest told = distinct_word (codes "false") (boolean false) bytes rest refl told
-scalar_told start.Number bytes rest told = distinct_text number (λ text. refl) (number_at bytes) rest told
-scalar_told start.Text bytes rest told = distinct_text string (λ text. refl) (string_at (drop 1 bytes)) rest told
-scalar_told start.List bytes rest told = cc
-scalar_told start.Map bytes rest told = cc
-scalar_told start.Other bytes rest told = cc
-
--- ---- the whole text
-pub record FoundText (found : Option Tree) (distinct : Bool) : Type 0 where
-  pub value : Tree
-  pub is : found ≡ Some value
-  pub distinct_is : is_distinct value ≡ distinct
-
-pub text_found : (found : Option Tree) (distinct : Bool) → option_map is_distinct found ≡ Some distinct
-    → FoundText found distinct
-text_found None distinct told = cc
-text_found (Some value) distinct told =
-    record { value = value; is = refl; distinct_is = some_same (is_distinct value) distinct told }
+pub scalar-told : {X : Type 0} (is : X → Tree → Type 0) (result : Result (X × Bor (List ℕ)) Fault) (kind : Start)
+    (bytes : List ℕ) (before : Bool) → Makes is result (scalar_at kind bytes)
+    → Makes (IsToldOf is is_distinct before before) result (scalar_at kind bytes)
+scalar-told is (Ok made) kind bytes before (value, read, of) = (
+  value,
+  read,
+  (
+    of,
+    sym (and_true before) ∙ ap (λ b. before && b) (sym (scalar_distinct kind bytes made.1.now value read)),
+  ),
+)
+scalar-told is (Err fault) kind bytes before made = made

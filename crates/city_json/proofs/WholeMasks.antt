@@ -167,10 +167,6 @@ pub or_is : (f g : ℕ → Bool) (bs : List ℕ) (a b : ℕ) → a ≡ mask_l (m
     → bit_or a b ≡ mask_l (map (λ c. f c || g c) bs)
 or_is f g bs a b e h = (λ i. bit_or (e i) (h i)) ∙ or_maps f g bs
 
-pub length-lag : (m : Bool) (ms : List Bool) → length (lag m ms) ≡ length ms
-length-lag m [] = refl
-length-lag m (n ∷ ns) = ap suc (length-lag n ns)
-
 pub length-vains : (p : ℕ) (bs : List ℕ) → length (vains p bs) ≡ length bs
 length-vains p [] = refl
 length-vains p (c ∷ cs) = ap suc (length-vains c cs)

@@ -29,6 +29,5 @@ pub use members::{
     PlacedMembers, colon_after, end_after, members_at, members_of_compact, value_place,
 };
 pub use object::{CompactObject, TextPlace, compact_object};
-pub(crate) use places::place_named;
 pub use places::{MemberPlace, Span, between, is_between, part_named};
 pub use workspace::Workspace;

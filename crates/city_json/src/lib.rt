@@ -3,7 +3,6 @@
 //! and tells of any other text what it is. [`ObjectText`] gives its members by their names.
 #![tactic(auto)]
 
-mod checking;
 mod compacting;
 mod comparing;
 mod json;

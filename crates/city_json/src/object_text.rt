@@ -5,7 +5,7 @@ ghost use Rattle.city_json.specs.ObjectTexts.{HasNone, IsPlacedObject, IsValueOf
 ghost use Rattle.city_json.specs.Parts.{AreParts, IsPartNamed};
 ghost use Rattle.city_json.specs.Tree.{MemberTrees, object};
 
-use crate::compacting::{MemberPlace, between, is_between, place_named};
+use crate::compacting::{MemberPlace, between, is_between, part_named};
 use std::marker::Model;
 
 /// The compact text of an object that fits (RFC 8259, section 4; at most 128 levels, no name twice), and where each of its
@@ -58,7 +58,7 @@ impl<'a> ObjectText<'a> {
         ensures some { IfSome result (IsPartNamed self.now.text self.now.parts name.now) }
         ensures none { IfNone result (HasNone name.now self.now) }
     {
-        place_named(self.text, self.parts, name)
+        part_named(self.text, self.parts, name)
     }
 
     /// The compact text of the value of the member of this name. None exactly where there is no member of the name.

@@ -40,24 +40,12 @@ impl ShortBytes {
     pub(crate) fn copy_of(alloc: Global, bytes: &[u8]) -> Result<ShortBytes, AllocError>
         ensures { IfOk result (λ copy. copy ≡ bytes.now) }
     {
-        ShortBytes::front_of(alloc, bytes, bytes.len())
-    }
-
-    /// A copy of the first `size` bytes.
-    pub(crate) fn front_of(
-        alloc: Global,
-        bytes: &[u8],
-        size: usize,
-    ) -> Result<ShortBytes, AllocError>
-        requires { size ≤ length bytes.now }
-        ensures { IfOk result (λ copy. copy ≡ take size bytes.now) }
-    {
-        if size > MAX_INLINE {
-            return ShortBytes::on_heap(alloc, &bytes[..size]);
+        if bytes.len() > MAX_INLINE {
+            return ShortBytes::on_heap(alloc, bytes);
         }
         let form = Form::Inline {
-            size: size as u8,
-            bytes: first_bytes(bytes, size),
+            size: bytes.len() as u8,
+            bytes: first_bytes(bytes),
         };
         Ok(ShortBytes { form })
     }
@@ -82,18 +70,13 @@ impl ShortBytes {
     }
 }
 
-/// The first `size` bytes and then any others: where there are enough, a copy of fixed length is the cheapest.
-fn first_bytes(bytes: &[u8], size: usize) -> [u8; MAX_INLINE]
-    requires inline { size ≤ 22 }
-    requires there { size ≤ length bytes.now }
-    ensures { take size result ≡ take size bytes.now }
+/// The bytes, and then others.
+fn first_bytes(bytes: &[u8]) -> [u8; MAX_INLINE]
+    requires { length bytes.now ≤ 22 }
+    ensures { take (length bytes.now) result ≡ bytes.now }
 {
     let mut first = [0; MAX_INLINE];
-    if bytes.len() < MAX_INLINE {
-        first[..size].copy_from_slice(&bytes[..size]);
-        return first;
-    }
-    first.copy_from_slice(&bytes[..MAX_INLINE]);
+    first[..bytes.len()].copy_from_slice(bytes);
     first
 }
 

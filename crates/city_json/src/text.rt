@@ -2,12 +2,11 @@
 ghost use Rattle.std.specs.Prelude.{◌≡◌, [], ◌∷◌, drop, if◌then◌else◌, IfOk, IfErr};
 ghost use Rattle.std.specs.Str.Parse.{AllDigits, without_leading_sign};
 ghost use Rattle.city_json.specs.Bytes.{minus};
-ghost use Rattle.city_json.specs.Gives.{Gives, RefusesNumber};
+ghost use Rattle.city_json.specs.Gives.{RefusesNumber};
 ghost use Rattle.city_json.specs.Number.{IsNumber};
-ghost use Rattle.city_json.specs.NumberAt.{number_at};
 
 use crate::number_parts::{NumberParts, number_parts};
-use crate::reading::numbers::{is_number, number};
+use crate::reading::numbers::is_number;
 use crate::short::ShortBytes;
 use byte_streams::Fault;
 use std::alloc::{AllocError, Global};
@@ -107,18 +106,6 @@ impl NumText {
     {
         let text = ShortBytes::copy_of(alloc, bytes)?;
         Ok(NumText { text })
-    }
-
-    /// The number at the front of the bytes, and what follows it.
-    #[tactic(auto, using(crate::proofs::NumberLaws::number_is_in_front))]
-    pub(crate) fn front(alloc: Global, bytes: &[u8]) -> Result<(NumText, &[u8]), Fault>
-        ensures { Gives (λ read. (read.0, read.1.now)) result (number_at bytes.now) }
-    {
-        let Some((text, rest)) = number(bytes) else {
-            return Err(Fault::Syntax);
-        };
-        let text = ShortBytes::front_of(alloc, bytes, text.len())?;
-        Ok((NumText { text }, rest))
     }
 
     pub(crate) fn copy(&self, alloc: Global) -> Result<NumText, AllocError>

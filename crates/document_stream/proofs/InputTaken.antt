@@ -12,9 +12,9 @@ use Rattle.byte_streams.specs.declared.fault.Fault.{Fault}
 use Rattle.byte_streams.specs.declared.fault.Fault.TheVariants.{LineTooLong, Memory, NoHeader, Read, Write}
 use Rattle.city_feature.specs.Feature.{FeatureValue}
 use Rattle.city_feature.specs.Header.{HeaderValue}
-use Rattle.city_cut.specs.Cut.{RefusesCut}
+use Rattle.city_families.specs.Cut.{RefusesCut}
 use Rattle.city_cut.specs.CutTexts.{CutsInto, RefusesRead}
-use Rattle.city_cut.specs.HeldTexts.{HeldTexts, texts_in}
+use Rattle.city_families.specs.HeldTexts.{HeldTexts, texts_in}
 use Rattle.city_json.specs.ObjectTexts.{PlacedObject, SpellsThere, object_of}
 use Rattle.tile_stream.specs.Stream.{stream}
 use Rattle.document_stream.specs.CutStream.{IsStreamOf, cut_stream}

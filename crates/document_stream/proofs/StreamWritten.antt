@@ -1,7 +1,7 @@
 -- The texts of a document's features, written one after another.
 use Rattle.std.proofs.Common.{◌≡◌, ◌++◌, ◌+◌, ◌<◌, ◌≤◌, ℕ, zero, suc, List, [], ◌∷◌, Option, length, map, take, get_or, flat_map, sym, refl, subst, arith}
 use Rattle.std.specs.Io.KnownBytes.{Appends}
-use Rattle.city_cut.specs.HeldTexts.{HeldTexts, texts_in}
+use Rattle.city_families.specs.HeldTexts.{HeldTexts, texts_in}
 use Rattle.tile_stream.proofs.FirstBytes as first
 use Rattle.tile_stream.specs.Stream.{with_newline}
 

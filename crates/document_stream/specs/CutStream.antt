@@ -8,8 +8,8 @@ use Rattle.byte_streams.specs.declared.fault.Fault.{Fault}
 use Rattle.byte_streams.specs.declared.fault.Fault.TheVariants.{Write, Memory}
 use Rattle.city_feature.specs.Feature.{FeatureValue}
 use Rattle.city_feature.specs.Header.{HeaderValue}
-use Rattle.city_cut.specs.Cut.{IsCut, IsCuttable}
-use Rattle.city_cut.specs.Lines.{texts_of}
+use Rattle.city_families.specs.Cut.{IsCut, IsCuttable}
+use Rattle.city_families.specs.Lines.{texts_of}
 use Rattle.tile_stream.specs.Stream.{stream}
 use Rattle.tile_stream.specs.Tile.{Tile}
 use Rattle.document_stream.specs.Input.{IsReadAs, IsWholeInput, RefusesInput, SomeInput}

@@ -8,7 +8,7 @@ use Rattle.city_json.specs.Refusals.{RefusesText}
 use Rattle.city_json.specs.Tree.{Tree}
 use Rattle.byte_streams.specs.declared.fault.Fault.{Fault}
 use Rattle.byte_streams.specs.declared.fault.Fault.TheVariants.{LineTooLong, NoHeader, Read}
-use Rattle.city_cut.specs.Cut.{RefusesCut}
+use Rattle.city_families.specs.Cut.{RefusesCut}
 use Rattle.tile_stream.specs.Tile.{Tile, tile_of}
 
 -- the reader may give such an input

@@ -2,7 +2,7 @@
 ghost use Rattle.std.specs.Prelude.{◌≡◌, ◌≢◌, IfOk, IfErr, length};
 ghost use Rattle.city_json.specs.Compact.{compact};
 ghost use Rattle.city_feature.specs.Values.{header_value};
-ghost use Rattle.city_cut.specs.HeldTexts.{texts_in};
+ghost use Rattle.city_families.specs.HeldTexts.{texts_in};
 ghost use Rattle.document_stream.specs.CutStream.{IsStreamOf};
 ghost use Rattle.document_stream.specs.Input.{SomeInput};
 ghost use Rattle.document_stream.specs.Taking.{GivesCut, HasCut, IsRefusedInput, RefusesCutting, failed_reads_after_taking, is_white_space};
@@ -93,8 +93,7 @@ fn cut_read(alloc: Global, text: Vec<u8>) -> Result<CutTexts, Fault>
     let Some(found) = compact_object(alloc, &text, &mut workspace)? else {
         return Err(Fault::NotCityJson);
     };
-    let Workspace { line: buffer, .. } = workspace;
-    let line = found.place.into_line(text, buffer);
+    let line = found.place.into_line(text, workspace.into_line());
     let document = ObjectText::new(line.items(), &found.parts);
     cut_text(alloc, &document, found.triples)
 }

@@ -2,7 +2,7 @@
 ghost use Rattle.std.specs.Prelude.{◌≡◌, ◌<◌, ◌++◌, [], ℕ, flat_map, get_or, length, take, IfErr, OnOk, OnErr};
 ghost use Rattle.std.specs.Io.KnownBytes.{Appends};
 ghost use Rattle.byte_streams.specs.Failures.{after_call};
-ghost use Rattle.city_cut.specs.HeldTexts.{texts_in};
+ghost use Rattle.city_families.specs.HeldTexts.{texts_in};
 ghost use Rattle.tile_stream.specs.Stream.{stream, with_newline};
 
 use crate::taking::CutStream;

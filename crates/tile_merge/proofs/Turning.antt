@@ -75,10 +75,6 @@ pub any_false : (any : Bool) → (any || false) ≡ any
 any_false true = refl
 any_false false = refl
 
-pub any_true : (any : Bool) → (any || true) ≡ true
-any_true true = refl
-any_true false = refl
-
 module _ {R : Type 0} (gives : Giving R) (IsWanted : FeatureValue → Type 0)
     (before : List (FeedState R)) (old : Option (List ℕ)) where
   pub round_start : RoundSoFar gives IsWanted before before 0 false old old

@@ -90,10 +90,6 @@ one_text lists i within before now line longer header old count wrote result mid
 pub on_ok : (A : Type 0) (wrote : Done) → wrote ≡ Ok tt → OnOk wrote A → A
 on_ok A wrote is holds = subst (λ (r : Done). OnOk r A) is holds
 
-same_ok : (wrote : Done) → OnOk wrote (IsOk wrote)
-same_ok (Ok done) = refl
-same_ok (Err fault) = tt
-
 none_ok : (A : Type 0) (wrote : Done) → is_ok wrote ≡ false → OnOk wrote A
 none_ok A (Ok done) failing = absurd (cc failing)
 none_ok A (Err fault) failing = tt

@@ -10,10 +10,10 @@ use Rattle.city_json.specs.Tree.{Tree, tree}
 use Rattle.city_json.specs.declared.json.Json.{Json}
 use Rattle.byte_streams.specs.declared.fault.Fault.{Fault}
 use Rattle.byte_streams.specs.declared.fault.Fault.TheVariants.{NoHeader, Memory, Write}
-use Rattle.city_cut.specs.Lines.{texts_of}
+use Rattle.city_families.specs.Lines.{texts_of}
 use Rattle.city_feature.specs.Feature.{FeatureValue}
 use Rattle.city_feature.specs.FeatureLine.{SpellsFeature}
-use Rattle.city_cut.proofs.SpelledFeatures.{texts_spell}
+use Rattle.cut_on_text.proofs.SpelledFeatures.{texts_spell}
 use Rattle.std.specs.List.{AllZip}
 use Rattle.city_feature.specs.Header.{HeaderValue, HoldsCity, IsHeader, RefusesHeader}
 use Rattle.city_feature.specs.Values.{HeaderJson, header_value}

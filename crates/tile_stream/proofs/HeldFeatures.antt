@@ -4,7 +4,7 @@ use Rattle.std.proofs.lemmas.List.{get_or_default}
 use Rattle.std.specs.List.{AllZip}
 use Rattle.byte_streams.specs.declared.fault.Fault.{Fault}
 use Rattle.byte_streams.specs.declared.fault.Fault.TheVariants.{VertexRange, Memory}
-use Rattle.city_cut.proofs.FeatureList.{zip_at, zip_long}
+use Rattle.city_families.proofs.FeatureList.{zip_at, zip_long}
 use Rattle.city_feature.proofs.OneFeature.{not_moved, same_feature}
 use Rattle.city_feature.specs.Feature.{FeatureValue, IsMovable, moved}
 use Rattle.city_feature.specs.FeatureLine.{IsTextOf, SpellsFeature}

@@ -3,10 +3,10 @@ use Rattle.std.proofs.Common.{◌≡◌, ◌≤◌, ◌<◌, ◌+◌, ◌++◌, 
 use Rattle.std.proofs.lemmas.List.{take_more}
 use Rattle.std.specs.List.{AllByRecursion, AllZip}
 use Rattle.city_json.specs.Compact.{compact}
-use Rattle.city_cut.proofs.Seeking.{zip_push}
-use Rattle.city_cut.specs.HeldTexts.{HeldTexts, texts_in}
-use Rattle.city_cut.specs.Lines.{texts_of}
-use Rattle.city_cut.specs.Moved.{chosen_of}
+use Rattle.city_families.proofs.Seeking.{zip_push}
+use Rattle.city_families.specs.HeldTexts.{HeldTexts, texts_in}
+use Rattle.city_families.specs.Lines.{texts_of}
+use Rattle.cut_on_text.specs.Moved.{chosen_of}
 use Rattle.city_feature.specs.Feature.{FeatureValue, IsMovable, moved}
 use Rattle.city_feature.specs.FeatureLine.{GivesFeature, SpellsFeature}
 use Rattle.city_grid.specs.Axes.{Triple}

@@ -8,7 +8,7 @@ use Rattle.city_json.specs.Tree.{Tree}
 use Rattle.byte_streams.specs.declared.fault.Fault.{Fault}
 use Rattle.byte_streams.specs.declared.fault.Fault.TheVariants.{NoHeader}
 use Rattle.byte_streams.specs.declared.places.LineFault.{LineFault}
-use Rattle.city_cut.specs.Cut.{IsCut, IsCuttable, RefusesCut}
+use Rattle.city_families.specs.Cut.{IsCut, IsCuttable, RefusesCut}
 use Rattle.city_feature.specs.Feature.{FeatureValue}
 use Rattle.city_feature.specs.FeatureLine.{SpellsFeature}
 use Rattle.city_feature.specs.Header.{HeaderValue, HoldsCity, IsHeader, RefusesHeader}

@@ -59,8 +59,8 @@ pub struct Passed {
 
 impl<R> Model for TileReader<R> {
     ghost use Rattle.std.specs.Coded.{codes};
-    ghost use Rattle.city_cut.specs.HeldTexts.{AreOwnParts, texts_in};
-    ghost use Rattle.city_cut.specs.contracts.held.FeatureTexts as texts_type;
+    ghost use Rattle.city_families.specs.HeldTexts.{AreOwnParts, texts_in};
+    ghost use Rattle.cut_on_text.specs.contracts.held.FeatureTexts as texts_type;
     ghost use Rattle.tile_stream.specs.TileState.{TileState};
     ghost use Rattle.tile_stream.specs.Unread.{EndsFrom};
 

@@ -505,8 +505,8 @@ fn cut_at_once(rt: &(impl AllocGlobal + Eprint), text: &[u8]) -> Result<CutTexts
         wanted(rt, Call("compact_object"));
         return Err(Fault::Memory);
     };
-    let line = found.place.bytes(text, &workspace.line);
-    let Some(cut) = cut_compacted_triples(rt.alloc(), line, &found.parts, found.triples) else {
+    let document = found.text(text, &workspace.line);
+    let Some(cut) = cut_compacted_triples(rt.alloc(), &document, found.triples) else {
         wanted(rt, Call("cut_compacted_triples"));
         return Err(Fault::Memory);
     };

@@ -71,14 +71,6 @@ pub nothing_before : (text : List ℕ) (at mark : ℕ) → length text ≤ at �
 nothing_before text at mark past n others rest there is = let here = number_front text at n others there in
     omega (arith, here.0, past)
 
-pub lower_before : (text : List ℕ) (at mark : ℕ) → get_or text at 0 < 45 → IsNoNumberBefore text at mark
-lower_before text at mark lower n others rest there is = let here = number_front text at n others there in
-    omega (arith, here.1, lower)
-
-pub higher_before : (text : List ℕ) (at mark : ℕ) → 57 < get_or text at 0 → IsNoNumberBefore text at mark
-higher_before text at mark higher n others rest there is = let here = number_front text at n others there in
-    omega (arith, here.2, higher)
-
 pub other_before : (text : List ℕ) (at end mark : ℕ) → LeavesValue 128 (drop at text) (drop end text)
     → (end < length text → get_or text end 0 ≡ mark → ⊥) → IsNoNumberBefore text at mark
 other_before text at end mark leaves other n others rest there is =

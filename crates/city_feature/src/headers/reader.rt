@@ -59,7 +59,11 @@ pub fn transform_of(value: &Json) -> Result<Transform, Fault>
 }
 
 /// The transform of a value that is a header.
-fn header_transform(value: &Json) -> Result<Transform, Fault>
+///
+/// # Errors
+///
+/// Those of [`header`].
+pub fn header_transform(value: &Json) -> Result<Transform, Fault>
     ensures ok { IfOk result (λ grid. IsHeader (tree value.now) grid) }
     ensures only { (grid : Grid) → IsHeader (tree value.now) grid → result ≡ Ok grid }
     ensures refusal { IfErr result (λ fault. RefusesHeader fault (tree value.now)) }

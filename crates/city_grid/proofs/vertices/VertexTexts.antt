@@ -32,15 +32,6 @@ digits_more text at end onward within low high all =
     subst (AllDigits 10) (sym (one_more text at end onward within))
     (all_digits-append (slice_range text at end) (get_or text end 0 ∷ []) all (digit, tt))
 
-pub value_more : (text : List ℕ) (at end size next : ℕ) → at ≤ end → end < length text → 48 ≤ get_or text end 0
-    → get_or text end 0 ≤ 57 → size ≡ digits_value 10 (slice_range text at end)
-    → next ≡ size * 10 + (get_or text end 0 - 48) → next ≡ digits_value 10 (slice_range text at (end + 1))
-value_more text at end size next onward within low high is more =
-    let grown : digits_value 10 (slice_range text at (end + 1)) ≡ digits_value 10 (slice_range text at end) * 10
-    + digit_value (get_or text end 0) = ap (digits_value 10) (one_more text at end onward within)
-    ∙ value_after-append 0 (slice_range text at end) (get_or text end 0 ∷ []) in
-    omega (arith, grown, is, more, digit_byte (get_or text end 0) (low, high))
-
 pub slice_length : (text : List ℕ) (at end : ℕ) → end ≤ length text → length (slice_range text at end) ≡ end - at
 slice_length text at end within = length-take-le (end - at) (drop at text) (omega (arith, length-drop at text))
 

@@ -14,10 +14,9 @@ ghost use Rattle.city_json.specs.Triples.{HasTriples};
 use super::object::{CompactObject, TextPlace};
 use super::places::{MemberPlace, Span};
 use super::workspace::Workspace;
-use crate::checking::{check, spells_no_object};
 use crate::json::{Json, Member};
 use crate::printing::{put_string, put_value};
-use crate::reading::read;
+use crate::reading::{check, read, spells_no_object};
 use byte_streams::{Fault, Line};
 use std::alloc::{AllocError, Global};
 

@@ -41,7 +41,7 @@ pub fn between(text: &[u8], from: usize, to: usize) -> Option<&[u8]>
 }
 
 /// Whether this text stands between two places of the text.
-fn stands_between(text: &[u8], from: usize, to: usize, other: &[u8]) -> bool
+pub fn is_between(text: &[u8], from: usize, to: usize, other: &[u8]) -> bool
     ensures yes { IsTrue result → slice_range text.now from to ≡ other.now }
     ensures no { from ≤ to → to ≤ length text.now → slice_range text.now from to ≡ other.now → IsTrue result }
 {
@@ -51,30 +51,16 @@ fn stands_between(text: &[u8], from: usize, to: usize, other: &[u8]) -> bool
     found == other
 }
 
-/// The same; *no* says nothing.
-pub fn is_between(text: &[u8], from: usize, to: usize, other: &[u8]) -> bool
-    ensures { IsTrue result → slice_range text.now from to ≡ other.now }
-{
-    stands_between(text, from, to, other)
-}
-
 /// A part of a name, which is given as it stands in the text, with its marks and its colon; none where no part within the
 /// text has the name.
-pub(crate) fn place_named(text: &[u8], parts: &[MemberPlace], name: &[u8]) -> Option<MemberPlace>
+pub fn part_named(text: &[u8], parts: &[MemberPlace], name: &[u8]) -> Option<MemberPlace>
     ensures some { IfSome result (λ part. IsPartNamed text.now parts.now name.now part) }
     ensures none { IfNone result (NotNamed text.now parts.now name.now (length parts.now)) }
 {
     for part in parts {
-        if stands_between(text, part.at, part.value, name) {
+        if is_between(text, part.at, part.value, name) {
             return Some(*part);
         }
     }
     None
-}
-
-/// The same; *none* says nothing.
-pub fn part_named(text: &[u8], parts: &[MemberPlace], name: &[u8]) -> Option<MemberPlace>
-    ensures { IfSome result (λ part. IsPartNamed text.now parts.now name.now part) }
-{
-    place_named(text, parts, name)
 }

@@ -36,6 +36,13 @@ impl Workspace {
         }
     }
 
+    /// The buffer, and what it holds. The rest of the memory is given back.
+    pub fn into_line(self) -> Line
+        ensures { result ≡ self.line }
+    {
+        self.line
+    }
+
     /// Takes the memory of places that were found in it back. What they say is dropped.
     pub fn take_back(&mut self, parts: Vec<MemberPlace>)
         ensures { self.new.line ≡ self.old.line }

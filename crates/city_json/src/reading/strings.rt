@@ -1,5 +1,5 @@
 //! Reading of strings (RFC 8259, section 7).
-ghost use Rattle.std.specs.Prelude.{◌≡◌, ◌<◌, Some, option_map, IfSome, IsTrue, SomeIff};
+ghost use Rattle.std.specs.Prelude.{◌≡◌, ◌<◌, List, ℕ, Some, option_map, IfSome, IsTrue, SomeIff};
 ghost use Rattle.std.specs.Char.{digit_value};
 ghost use Rattle.city_json.specs.Gives.{Gives};
 ghost use Rattle.city_json.specs.ReadString.{is_high_surrogate, unit_at, pair_at, escape_at, checked, decoded, string_at};
@@ -7,46 +7,39 @@ ghost use Rattle.city_json.specs.Strings.{letter_meaning};
 ghost use Rattle.city_json.specs.PlainRun.{IsPlainRun};
 
 use crate::reading::plain::plain_len;
-use crate::text::Str;
 use byte_streams::Fault;
-use std::alloc::Global;
-
-/// Most texts with an escape are no longer.
-const COMMON_LEN: usize = 64;
 
 /// What a run of bytes that stand for themselves ends at.
 #[derive(Clone, Copy)]
-pub(crate) enum End {
+enum End {
     Closing,
     Escape,
     Broken,
 }
 
-/// The string whose opening quotation mark stands before the bytes, and what follows its closing one.
-pub(crate) fn string(alloc: Global, bytes: &[u8]) -> Result<(Str, &[u8]), Fault>
-    ensures { Gives (λ p. (p.0, p.1.now)) result (string_at bytes.now) }
+/// The text of the string whose opening quotation mark stands before the bytes, and what follows its closing one. That
+/// of a string with an escape lies in `decoded`, whose memory is taken.
+pub(super) fn string<'t, 'a: 't>(
+    bytes: &'a [u8],
+    decoded: &'t mut Vec<u8>,
+) -> Result<(&'t str, &'a [u8]), Fault>
+    ensures { Gives (λ p. (p.0.now, p.1.now)) result (string_at bytes.now) }
 {
     let (run, end, rest) = split_run(bytes);
     match end {
-        End::Closing => finished(alloc, run, rest),
-        End::Escape => escaped_string(alloc, bytes),
+        End::Closing => Ok((checked(run)?, rest)),
+        End::Escape => {
+            let rest = decode(bytes, decoded)?;
+            Ok((checked(decoded)?, rest))
+        }
         End::Broken => Err(Fault::Syntax),
     }
-}
-
-/// The same where an escape stands in the string.
-fn escaped_string(alloc: Global, bytes: &[u8]) -> Result<(Str, &[u8]), Fault>
-    ensures { Gives (λ p. (p.0, p.1.now)) result (string_at bytes.now) }
-{
-    let mut text = Vec::with_capacity(alloc, COMMON_LEN)?;
-    let rest = decode(bytes, &mut text)?;
-    finished(alloc, &text, rest)
 }
 
 /// What follows the string whose opening quotation mark stands before the bytes. What it spells is put into `to`, whose
 /// memory is taken; whether that is UTF-8 is not looked at.
 #[tactic(auto, using(crate::proofs::StringSteps::escapes))]
-pub(crate) fn decode<'a>(bytes: &'a [u8], to: &mut Vec<u8>) -> Result<&'a [u8], Fault>
+fn decode<'a>(bytes: &'a [u8], to: &mut Vec<u8>) -> Result<&'a [u8], Fault>
     ensures { Gives (λ rest. (to.new.items, rest.now)) result (decoded bytes.now) }
 {
     to.clear();
@@ -77,7 +70,7 @@ pub(crate) fn decode_into<'a>(bytes: &'a [u8], to: &mut Vec<u8>) -> Option<&'a [
 
 /// The bytes at the front that stand for themselves, what they end at, and what follows that.
 #[tactic(auto, using(crate::proofs::StringSteps::runs))]
-pub(crate) fn split_run(bytes: &[u8]) -> (&[u8], End, &[u8])
+fn split_run(bytes: &[u8]) -> (&[u8], End, &[u8])
     ensures { IsPlainRun bytes.now result.0.now result.1 result.2.now }
 {
     let at = plain_len(bytes);
@@ -92,15 +85,12 @@ pub(crate) fn split_run(bytes: &[u8]) -> (&[u8], End, &[u8])
     }
 }
 
-/// The text of these bytes, where they are UTF-8, beside what follows its string.
+/// The text of these bytes, where they are UTF-8.
 #[tactic(auto, using(crate::proofs::StringSteps::checking))]
-fn finished<'a>(alloc: Global, text: &[u8], rest: &'a [u8]) -> Result<(Str, &'a [u8]), Fault>
-    ensures { Gives (λ p. (p.0, p.1.now)) result (checked text.now rest.now) }
+fn checked(text: &[u8]) -> Result<&str, Fault>
+    ensures { (rest : List ℕ) → Gives (λ text. (text.now, rest)) result (checked text.now rest) }
 {
-    match simdutf8::basic::from_utf8(text) {
-        Ok(text) => Ok((Str::of(alloc, text)?, rest)),
-        Err(_) => Err(Fault::Syntax),
-    }
+    simdutf8::basic::from_utf8(text).map_err(|_| Fault::Syntax)
 }
 
 /// The character that the bytes after a backslash stand for, and what follows.

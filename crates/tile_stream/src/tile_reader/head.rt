@@ -2,8 +2,8 @@
 ghost use Rattle.std.specs.Prelude.{◌≡◌, ◌⊎◌, List, IfOk, IfErr, IfNone, IfSome};
 ghost use Rattle.city_json.specs.ObjectTexts.{object_of};
 ghost use Rattle.city_json.specs.Triples.{HasTriples};
-ghost use Rattle.city_cut.specs.HeldTexts.{AreOwnParts, texts_in};
-ghost use Rattle.city_cut.specs.Lines.{texts_of};
+ghost use Rattle.city_families.specs.HeldTexts.{AreOwnParts, texts_in};
+ghost use Rattle.city_families.specs.Lines.{texts_of};
 ghost use Rattle.city_feature.specs.Feature.{FeatureValue};
 ghost use Rattle.city_feature.specs.Header.{HoldsCity};
 ghost use Rattle.city_feature.specs.Values.{header_value};
@@ -58,7 +58,8 @@ fn document_of(alloc: Global, bytes: &[u8]) -> Result<Option<FirstLine>, Fault>
     let Some(found) = compact_object(alloc, bytes, &mut workspace)? else {
         return Err(Fault::NotCityJson);
     };
-    document_line(alloc, &found.text(bytes, &workspace.line), found.triples)
+    let buffer = workspace.into_line();
+    document_line(alloc, &found.text(bytes, &buffer), found.triples)
 }
 
 /// The same of the object whose compact text this is, in which these triples stand.

@@ -1,6 +1,6 @@
 //! The features that the first line of a tile holds, moved and chosen.
 ghost use Rattle.std.specs.Prelude.{◌≡◌, ◌≤◌, ◌<◌, ◌⊎◌, ◌++◌, [], IfOk, IfErr, OnOk, length, get_or, option_map, option_to_list};
-ghost use Rattle.city_cut.specs.HeldTexts.{AreOwnParts, texts_in};
+ghost use Rattle.city_families.specs.HeldTexts.{AreOwnParts, texts_in};
 ghost use Rattle.city_feature.specs.Choice.{IsChosen};
 ghost use Rattle.city_feature.specs.FeatureLine.{GivesFeature, RefusesFeatureLine};
 ghost use Rattle.tile_stream.specs.Held.{LinesGive, RefusesLines, TellWanted};

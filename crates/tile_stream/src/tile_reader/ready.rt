@@ -2,7 +2,7 @@
 ghost use Rattle.std.specs.Prelude.{◌≡◌, ◌<◌, ◌^◌, ◌++◌, [], ℕ, flat_map, get_or, length, take, IfOk, IfErr, OnOk, OnErr};
 ghost use Rattle.std.specs.Io.KnownBytes.{Appends};
 ghost use Rattle.byte_streams.specs.Failures.{after_call};
-ghost use Rattle.city_cut.specs.HeldTexts.{texts_in, with_end};
+ghost use Rattle.city_families.specs.HeldTexts.{texts_in, with_end};
 ghost use Rattle.tile_stream.specs.GivenTexts.{given_texts};
 ghost use Rattle.tile_stream.specs.Stream.{with_newline};
 
@@ -21,7 +21,7 @@ struct StoredTexts {
 
 impl Model for StoredTexts {
     ghost use Rattle.std.specs.Prelude.{ℕ, List};
-    ghost use Rattle.city_cut.specs.HeldTexts.{with_end};
+    ghost use Rattle.city_families.specs.HeldTexts.{with_end};
 
     ghost Value = { List (List ℕ) };
 

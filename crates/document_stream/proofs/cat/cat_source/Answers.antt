@@ -1,5 +1,5 @@
 use Rattle.std.proofs.Common.{◌∙◌, ap, length}
-use Rattle.city_cut.specs.HeldTexts.{HeldTexts, texts_in}
+use Rattle.city_families.specs.HeldTexts.{HeldTexts, texts_in}
 use Rattle.tile_stream.specs.Stream as lines
 use Rattle.document_stream.proofs.AllWritten.{all_written, some_written}
 use Rattle.document_stream.proofs.cat.cat_source.Goals as goal

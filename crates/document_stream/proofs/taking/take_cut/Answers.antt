@@ -1,5 +1,5 @@
-use Rattle.city_cut.specs.declared.cuts.CutTexts.{CutTexts}
-use Rattle.city_cut.specs.HeldTexts.{texts_in}
+use Rattle.cut_on_text.specs.declared.cuts.CutTexts.{CutTexts}
+use Rattle.city_families.specs.HeldTexts.{texts_in}
 use Rattle.city_feature.specs.Values.{header_value}
 use Rattle.document_stream.proofs.InputTaken.{cuts_given, cut_refused, too_long}
 use Rattle.document_stream.proofs.taking.take_cut.Goals as goal

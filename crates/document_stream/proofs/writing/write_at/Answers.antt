@@ -1,6 +1,6 @@
 use Rattle.std.proofs.Common.{◌≡◌, ◌∙◌, [], ap, get_or}
 use Rattle.std.proofs.lemmas.Result.{err_from_is_err_and}
-use Rattle.city_cut.specs.HeldTexts.{HeldTexts}
+use Rattle.city_families.specs.HeldTexts.{HeldTexts}
 use Rattle.tile_stream.proofs.FirstBytes.{both_written, common_failed, on_err_more, on_ok_more, own_failed}
 use Rattle.document_stream.proofs.writing.write_at.Goals as goal
 

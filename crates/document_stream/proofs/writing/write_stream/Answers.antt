@@ -1,6 +1,6 @@
 use Rattle.std.proofs.lemmas.Result.{err_from_is_err_and}
 use Rattle.std.proofs.Common.{flat_map}
-use Rattle.city_cut.specs.HeldTexts.{texts_in}
+use Rattle.city_families.specs.HeldTexts.{texts_in}
 use Rattle.tile_stream.specs.Stream.{with_newline}
 use Rattle.tile_stream.proofs.FirstBytes.{all_of_it, of_features, of_header, on_err}
 use Rattle.document_stream.proofs.writing.write_stream.Goals as goal

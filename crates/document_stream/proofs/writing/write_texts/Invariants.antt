@@ -1,6 +1,6 @@
 use Rattle.std.proofs.Common.{◌≡◌, flat_map, take}
 use Rattle.std.specs.Io.KnownBytes.{Appends}
-use Rattle.city_cut.specs.HeldTexts.{texts_in}
+use Rattle.city_families.specs.HeldTexts.{texts_in}
 use Rattle.tile_stream.specs.Stream.{with_newline}
 use Rattle.document_stream.proofs.writing.write_texts.Given as goal
 

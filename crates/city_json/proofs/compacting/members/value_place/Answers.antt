@@ -30,7 +30,7 @@ returns-then-is_between-clause-is c =
       opens = omega (arith, c.if-text-ne123.false);
       order = omega (arith, c.in_ok-colon.ensures.onward);
       within = omega (arith, c.in_ok-colon.ensures.within);
-      named = c.is_between.ensures c.if-is_between.true;
+      named = c.is_between.ensures.yes c.if-is_between.true;
       goes_on = on;
       leaves = λ end within leaves. member_leaves text c.members.at c.in_ok-colon.colon end
           (omega (arith, c.in_ok-colon.ensures.onward, c.in_ok-colon.ensures.within)) c.in_ok-colon.ensures.within within

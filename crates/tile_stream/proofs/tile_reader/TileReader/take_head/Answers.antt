@@ -1,5 +1,5 @@
 use Rattle.std.proofs.Common.{take, inl, inr}
-use Rattle.city_cut.specs.HeldTexts.{texts_in}
+use Rattle.city_families.specs.HeldTexts.{texts_in}
 use Rattle.city_feature.specs.Values.{header_value}
 use Rattle.tile_stream.specs.Unread.{Leaves}
 use Rattle.tile_stream.proofs.Heads.{gives_head, head_fault, no_head, no_line}

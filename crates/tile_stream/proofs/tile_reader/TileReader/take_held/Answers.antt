@@ -1,7 +1,7 @@
 use Rattle.std.proofs.Common.{[], Some, subst, sym, arith}
 use Rattle.std.proofs.lemmas.Bool.Decides.{nat_tests}
 use Rattle.std.proofs.lemmas.List.{nil_from_length}
-use Rattle.city_cut.specs.HeldTexts.{AreOwnParts, texts_in}
+use Rattle.city_families.specs.HeldTexts.{AreOwnParts, texts_in}
 use Rattle.city_feature.specs.Choice.{IsChosen}
 use Rattle.tile_stream.specs.Coming.{LinesMayComeTo, MayComeTo, GivesTexts}
 use Rattle.tile_stream.specs.TileState.{TileState}

@@ -1,7 +1,7 @@
 use Rattle.std.proofs.Common.{◌<◌, ◌∙◌, ◌++◌, ap, arith, length, option_map, sym, subst}
 use Rattle.std.proofs.lemmas.Bool.Decides.{nat_tests}
 use Rattle.std.proofs.lemmas.Result.{err_from_is_err_and}
-use Rattle.city_cut.specs.HeldTexts.{AreOwnParts, HeldTexts, texts_in, with_end}
+use Rattle.city_families.specs.HeldTexts.{AreOwnParts, HeldTexts, texts_in, with_end}
 use Rattle.city_feature.specs.Choice.{IsChosen}
 use Rattle.tile_stream.proofs.HeldTexts.{made_more, more_mapped, refuses_all, texts_long}
 use Rattle.tile_stream.proofs.tile_reader.held.stored_texts.Goals as goal

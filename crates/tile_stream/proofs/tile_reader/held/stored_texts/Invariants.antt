@@ -1,5 +1,5 @@
 use Rattle.std.proofs.Common.{◌≡◌, ◌≤◌, ◌-◌, length, take}
-use Rattle.city_cut.specs.HeldTexts.{texts_in, with_end}
+use Rattle.city_families.specs.HeldTexts.{texts_in, with_end}
 use Rattle.city_feature.specs.Choice.{IsChosen}
 use Rattle.tile_stream.proofs.HeldTexts.{MadeSoFar}
 use Rattle.tile_stream.proofs.tile_reader.held.stored_texts.Given as goal

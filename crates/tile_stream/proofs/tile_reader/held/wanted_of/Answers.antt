@@ -1,7 +1,7 @@
 use Rattle.std.proofs.Common.{◌<◌, ◌≤◌, ◌∙◌, ◌++◌, length, arith, sym, subst}
 use Rattle.std.proofs.lemmas.Bool.Decides.{nat_tests}
 use Rattle.std.proofs.lemmas.Result.{err_from_is_err_and}
-use Rattle.city_cut.specs.HeldTexts.{AreOwnParts, HeldTexts, texts_in}
+use Rattle.city_families.specs.HeldTexts.{AreOwnParts, HeldTexts, texts_in}
 use Rattle.city_feature.specs.Choice.{IsChosen}
 use Rattle.tile_stream.proofs.HeldTexts.{refuses_all, texts_long}
 use Rattle.tile_stream.proofs.WantedTexts.{all_told, told_more}

@@ -1,5 +1,5 @@
 use Rattle.std.proofs.Common.{◌≡◌, ◌≤◌, ◌-◌, length, take}
-use Rattle.city_cut.specs.HeldTexts.{texts_in}
+use Rattle.city_families.specs.HeldTexts.{texts_in}
 use Rattle.city_feature.specs.Choice.{IsChosen}
 use Rattle.tile_stream.specs.Held.{TellWanted}
 use Rattle.tile_stream.proofs.tile_reader.held.wanted_of.Given as goal

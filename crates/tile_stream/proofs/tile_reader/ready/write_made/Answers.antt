@@ -1,7 +1,7 @@
 use Rattle.std.proofs.Common.{◌∙◌, [], ℕ, ap, get_or, subst, sym, take}
 use Rattle.std.proofs.lemmas.Result.{err_from_is_err_and}
 use Rattle.std.specs.Io.KnownBytes.{Appends}
-use Rattle.city_cut.specs.HeldTexts.{HeldTexts}
+use Rattle.city_families.specs.HeldTexts.{HeldTexts}
 use Rattle.tile_stream.specs.Stream.{with_newline}
 use Rattle.tile_stream.proofs.FirstBytes.{common_failed, on_err_more, own_failed}
 use Rattle.tile_stream.proofs.HeldTexts.{text_there}

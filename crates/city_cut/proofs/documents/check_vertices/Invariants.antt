@@ -1,5 +1,0 @@
-use Rattle.city_cut.proofs.Checking.{GoesOn, RefusesOn}
-use Rattle.city_cut.proofs.documents.check_vertices.Given as goal
-
-abbrev pub invariant-loop-item : goal.invariant-loop-item
-invariant-loop-item l = GoesOn l.items l.item-index × RefusesOn l.items l.item-index

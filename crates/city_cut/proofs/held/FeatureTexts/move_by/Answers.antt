@@ -1,4 +1,0 @@
-use Rattle.city_cut.proofs.held.FeatureTexts.move_by.Goals as goal
-
-pub invariant_of-self : goal.invariant_of-self
-invariant_of-self c = c.move_by.ensures.end c.self.inside.common c.self.invariant

@@ -1,5 +1,0 @@
-use Rattle.city_cut.proofs.CityShapes.{AreChecked}
-use Rattle.city_cut.proofs.on_text.faults.are_city_objects.Given as goal
-
-abbrev pub invariant-loop-part : goal.invariant-loop-part
-invariant-loop-part l = AreChecked l.text l.part-items l.part-index

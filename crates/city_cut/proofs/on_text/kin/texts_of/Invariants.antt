@@ -1,9 +1,0 @@
-use Rattle.std.proofs.Common.{◌-◌, length}
-use Rattle.city_cut.proofs.TextNames.{TextsGoOn}
-use Rattle.city_cut.proofs.on_text.kin.texts_of.Given as goal
-
-abbrev pub invariant-texts : goal.invariant-texts
-invariant-texts l = TextsGoOn l.at l.text l.found.items
-
-abbrev pub decreases-texts : goal.decreases-texts
-decreases-texts l = length l.text - l.at

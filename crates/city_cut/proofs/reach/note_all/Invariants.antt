@@ -1,6 +1,0 @@
-use Rattle.std.proofs.Common.{take}
-use Rattle.city_cut.specs.Search.{Grows}
-use Rattle.city_cut.proofs.reach.note_all.Given as goal
-
-abbrev pub invariant-loop-one : goal.invariant-loop-one
-invariant-loop-one l = Grows l.root (take l.one-index l.new) l.initial.marks l.marks l.initial.found.items l.found.items

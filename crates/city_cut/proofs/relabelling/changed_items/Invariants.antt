@@ -1,7 +1,0 @@
-use Rattle.std.proofs.Common.{◌≡◌, map, take}
-use Rattle.city_json.specs.Tree.{tree}
-use Rattle.city_cut.proofs.relabelling.changed_items.Given as goal
-
-abbrev pub invariant-loop-item : goal.invariant-loop-item
-invariant-loop-item g l = map tree l.copies.items
-    ≡ map (g.C.Change.change l.change) (map tree (take l.item-index l.items))

@@ -1,9 +1,0 @@
-use Rattle.std.proofs.Common.{◌≡◌, map, take}
-use Rattle.city_cut.specs.Relabelling.{own_text}
-use Rattle.city_json.specs.Tree.{named_tree}
-use Rattle.city_cut.specs.Boundaries.{relabelled_part}
-use Rattle.city_cut.proofs.relabelling.members_with_parts.Given as goal
-
-abbrev pub invariant-loop-member : goal.invariant-loop-member
-invariant-loop-member l = map named_tree l.copies.items
-    ≡ map (relabelled_part (own_text l.table)) (map named_tree (take l.member-index l.members))

@@ -1,0 +1,11 @@
+pub mod Answered
+pub mod Assembly
+pub mod Checking
+pub mod Copies
+pub mod FeatureParts
+pub mod Indices
+pub mod Kinship
+pub mod Seeking
+pub mod Tables
+pub mod Trees
+pub mod WholeDocument

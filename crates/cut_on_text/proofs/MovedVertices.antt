@@ -1,0 +1,101 @@
+-- The texts of moved vertices, put one after another.
+use Rattle.std.proofs.Common.{◌≡◌, ◌∙◌, ◌++◌, ◌<◌, ◌≤◌, ◌+◌, ◌-◌, ◌⊎◌, inl, inr, ℕ, zero, suc, true, false, List, [], ◌∷◌, length, map, take, drop, sym, ap, subst, arith, length-append, take_all, pos}
+use Rattle.std.proofs.Math.Dec.{leb}
+use Rattle.std.proofs.Math.Seq.{drop-append-add}
+use Rattle.std.proofs.lemmas.Bool.Decides.{leb_tells}
+use Rattle.std.proofs.lemmas.List.{drop-append-le, length-drop, map_more, take-append-le}
+use Rattle.std.proofs.lemmas.List.Elements.{All-push}
+use Rattle.std.specs.List.{All, slice_index, slice_range}
+use Rattle.city_json.proofs.CompactLaws.{compact-tells}
+use Rattle.city_json.specs.Bytes.{comma}
+use Rattle.city_json.specs.Compact.{compact}
+use Rattle.city_grid.proofs.VertexLaws.{vertex_is_read, vertex_is_writable}
+use Rattle.city_grid.specs.Axes.{IsInRange, Triple, triple}
+use Rattle.city_grid.specs.Vertex.{IsVertex, vertex_tree}
+use Rattle.city_families.specs.Chosen.{point_at}
+use Rattle.cut_on_text.specs.Moved.{moved_or_same}
+use Rattle.cut_on_text.specs.VertexTexts.{StandAt}
+use Rattle.city_feature.proofs.OneFeature.{same_vertex}
+use Rattle.cut_on_text.proofs.TextPoints.{stand_more, stand_none}
+
+-- the text of a vertex in range tells the vertex
+pub same_point : (p q : Triple) → IsInRange p → IsInRange q → compact (vertex_tree p) ≡ compact (vertex_tree q) → p ≡ q
+same_point p q p_range q_range same =
+    let trees : vertex_tree p ≡ vertex_tree q =
+    compact-tells (vertex_tree p) (vertex_tree q) (vertex_is_writable p p_range) (vertex_is_writable q q_range) same in
+    same_vertex (vertex_tree q) p q (subst (λ t. IsVertex t p) trees (vertex_is_read p p_range))
+    (vertex_is_read q q_range)
+
+-- the texts of these vertices stand in a text that ends with the last of them
+pub record IsGrown (text starts : List ℕ) (points : List Triple) : Type 0 where
+  pub stand : StandAt text starts points
+  pub last : slice_index starts (length points) ≡ length text + 1
+  pub within : All (λ start. start ≤ length text + 1) starts
+
+pub grown_none : (text starts none : List ℕ) → text ≡ [] → none ≡ [] → starts ≡ none ++ 1 ∷ [] → IsGrown text starts []
+grown_none text starts none empty nothing is =
+    let there = stand_none text starts none nothing is in
+    let one : starts ≡ 1 ∷ [] = is ∙ ap (λ l. l ++ 1 ∷ []) nothing in
+    record {
+      stand = there.0;
+      last = there.1 ∙ ap (λ l. length l + 1) (sym empty);
+      within = subst (All (λ start. start ≤ length text + 1)) (sym one) (only_one (length text));
+    }
+  where
+    only_one : (n : ℕ) → All (λ start. start ≤ n + 1) (1 ∷ [])
+    only_one n zero d below = omega (arith, below)
+    only_one n (suc i) d below = absurd (omega (arith, below))
+
+range_before : (xs ys : List ℕ) (a b : ℕ) → b ≤ length xs → slice_range (xs ++ ys) a b ≡ slice_range xs a b
+range_before xs ys a b within = by (leb_tells a b)
+  where
+    by : ((leb a b ≡ true) × (a ≤ b)) ⊎ ((leb a b ≡ false) × (b < a)) → slice_range (xs ++ ys) a b ≡ slice_range xs a b
+    by (inl ordered) =
+        ap (take (b - a)) (drop-append-le a xs ys (omega (arith, ordered.1, within)))
+        ∙ take-append-le (b - a) (drop a xs) ys (omega (arith, within, ordered.1, length-drop a xs))
+    by (inr past) =
+        let none : b - a ≡ 0 = omega (arith, past.1) in
+        ap (λ n. take n (drop a (xs ++ ys))) none ∙ sym (ap (λ n. take n (drop a xs)) none)
+
+pub grown_more : (text text' starts starts' : List ℕ) (points : List Triple) (v : Triple) → IsGrown text starts points
+    → text' ≡ text ++ comma ∷ compact (vertex_tree v) → starts' ≡ starts ++ (length text' + 1) ∷ []
+    → IsGrown text' starts' (points ++ v ∷ [])
+grown_more text text' starts starts' points v grown appended pushed =
+    let here = compact (vertex_tree v) in
+    let long : length text' ≡ length text + length (comma ∷ here) =
+    ap length appended ∙ length-append text (comma ∷ here) in
+    let still : StandAt text' starts points = record {
+      long = grown.stand.long;
+      each = λ k below.
+          let next = grown.within (k + 1) 0 (omega (arith, below, grown.stand.long)) in
+          ap (λ l. slice_range l (slice_index starts k) (slice_index starts (k + 1) - 1)) appended
+          ∙ (range_before text (comma ∷ here) (slice_index starts k) (slice_index starts (k + 1) - 1)
+          (omega (arith, next)) ∙ grown.stand.each k below);
+    } in
+    let written : slice_range text' (length text + 1) (length text') ≡ here =
+    ap (λ l. take (length text' - (length text + 1)) (drop (length text + 1) l)) appended
+    ∙ (ap (take (length text' - (length text + 1))) (drop-append-add text (comma ∷ here) 1)
+    ∙ take_all (length text' - (length text + 1)) here (omega (arith, long))) in
+    let more = stand_more text' starts starts' points v (length text + 1) (length text') still grown.last written
+    pushed in
+    record {
+      stand = more.0;
+      last = more.1;
+      within = subst (All (λ start. start ≤ length text' + 1)) (sym pushed)
+          (All-push (λ start. start ≤ length text' + 1) starts (length text' + 1)
+          (λ i d below. let within = grown.within i d below in omega (arith, within, long)) (omega arith));
+    }
+
+pub grown_on : (k : Triple) (points : List Triple) (at : ℕ) (text text' starts starts' : List ℕ) → at < length points
+    → IsGrown text starts (map (moved_or_same k) (take at points))
+    → text' ≡ text ++ comma ∷ compact (vertex_tree (moved_or_same k (point_at points at)))
+    → starts' ≡ starts ++ (length text' + 1) ∷ [] → IsGrown text' starts' (map (moved_or_same k) (take (at + 1) points))
+grown_on k points at text text' starts starts' below grown appended pushed =
+    subst (IsGrown text' starts') (sym (map_more (moved_or_same k) points at (triple (pos 0) (pos 0) (pos 0)) below))
+    (grown_more text text' starts starts' (map (moved_or_same k) (take at points))
+    (moved_or_same k (point_at points at)) grown appended pushed)
+
+pub grown_all : (k : Triple) (points : List Triple) (at : ℕ) (text starts : List ℕ) → length points ≤ at
+    → IsGrown text starts (map (moved_or_same k) (take at points)) → StandAt text starts (map (moved_or_same k) points)
+grown_all k points at text starts past grown =
+    subst (λ l. StandAt text starts (map (moved_or_same k) l)) (take_all at points past) grown.stand

@@ -1,0 +1,11 @@
+use Rattle.std.proofs.Common.{arith}
+use Rattle.city_families.proofs.CopiedTexts.{not_both}
+use Rattle.cut_on_text.proofs.ScannedBounds.{is_array, no_boundary}
+use Rattle.cut_on_text.proofs.on_text.bounds.is_no_boundary.Goals as goal
+
+pub returns-then-not-is_array : goal.returns-then-not-is_array
+returns-then-not-is_array c = λ yes value of is.
+    not_both c.is_array.result ((c.is_array.ensures value of).1 (is_array c.args.count value is)) c.if-not-is_array.true
+
+pub returns : goal.returns
+returns c = λ yes. no_boundary c.args.count c.args.text.now (omega arith) (c.has_other_byte.ensures yes)

@@ -1,0 +1,29 @@
+use Rattle.std.proofs.Common.{◌≡◌, ◌++◌, ◌∷◌, ◌≤◌, ◌-◌, ◌+◌, ◌*◌, ℕ, List, length, drop}
+use Rattle.city_json.specs.Bytes.{close_bracket}
+use Rattle.city_json.specs.Compact.{compact_items}
+use Rattle.city_json.specs.Compacting.{shown}
+use Rattle.city_json.specs.Tree.{ItemTrees}
+use Rattle.city_json.specs.Writable.{AreWritableItems}
+use Rattle.cut_on_text.proofs.CopiedArrays.{ItemsCopied}
+use Rattle.cut_on_text.proofs.on_text.drafts.+copy.Given as goal
+
+abbrev pub decreases-copy_part : goal.decreases-copy_part
+decreases-copy_part g l = 2 * l.levels
+
+abbrev pub decreases-copy_items : goal.decreases-copy_items
+decreases-copy_items g l = 2 * l.levels + 1
+
+abbrev pub invariant-copy_items-items : goal.invariant-copy_items-items
+invariant-copy_items-items g l = record {
+  onward : l.at ≤ l.i;
+  within : l.i ≤ length l.text;
+  copied : l.draft.from ≤ l.i;
+  count : g.L.Labels.count l.labels ≡ g.L.Labels.count l.fn.labels;
+  goes_on : (items : ItemTrees) (rest : List ℕ) → AreWritableItems items
+      → drop l.at l.text ≡ compact_items items ++ close_bracket ∷ rest
+      → ItemsCopied g.L.Labels.labelled (g.L.Labels.count l.fn.labels) items (drop l.i l.text) rest l.fn.labels
+      (shown l.fn.draft.line l.text l.fn.draft.from l.at) l.labels (shown l.draft.line l.text l.draft.from l.i);
+}
+
+abbrev pub decreases-copy_items-items : goal.decreases-copy_items-items
+decreases-copy_items-items g l = length l.text - l.i

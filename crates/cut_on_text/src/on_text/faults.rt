@@ -1,0 +1,123 @@
+//! Why a document is not cut, found on its compact text.
+ghost use Rattle.std.specs.Prelude.{◌≡◌, ◌≢◌, ◌↔◌, List, IfSome, IsTrue, length};
+ghost use Rattle.city_json.specs.ObjectTexts.{object_of};
+ghost use Rattle.city_json.specs.Tree.{MemberTrees, Tree, object};
+ghost use Rattle.city_grid.specs.Axes.{Triple};
+ghost use Rattle.city_feature.specs.LineTexts.{SpellsVertices};
+ghost use Rattle.city_json.specs.CompactTexts.{IsCompactOf};
+ghost use Rattle.city_families.specs.CityObjects.{IsCityObject};
+ghost use Rattle.city_families.specs.Cut.{RefusesCut};
+ghost use Rattle.cut_on_text.specs.Faults.{HoldsCityObjects, RefusesObjects};
+
+use super::bounds::has_wrong_boundary;
+use super::graph::{graph_of, misses_child};
+use super::headers::transform_there;
+use super::kin::is_array_of_texts;
+use super::names::Names;
+use super::overview::{Overview, overview_of};
+use super::points::starts_of;
+use super::texts::{member_or, parts_of};
+use byte_streams::Fault;
+use city_families::check_belonging;
+use city_feature::{is_array, is_object, vertices_fault, vertices_of};
+use city_json::{ObjectText, between};
+use std::alloc::Global;
+
+/// How many vertices a text spells. `None`: undecided.
+fn vertex_count(alloc: Global, text: &[u8]) -> Option<usize>
+    ensures { IfSome result (λ count. (points : List Triple) × SpellsVertices text.now points
+        × (length points ≡ count)) }
+{
+    if let Some(starts) = starts_of(alloc, text) {
+        return Some(starts.len().saturating_sub(1));
+    }
+    let found = vertices_of(alloc, text)?;
+    Some(found.vertices.len())
+}
+
+/// Whether the value whose compact text this is is a city object. `None`: undecided.
+fn is_city_object(alloc: Global, text: &[u8]) -> Option<bool>
+    ensures { IfSome result (λ is. (value : Tree) → IsCompactOf text.now value → (IsTrue is ↔ IsCityObject value)) }
+{
+    if !is_object(text) {
+        return Some(false);
+    }
+    let parts = parts_of(alloc, text)?;
+    let parents = member_or(text, &parts, b"\"parents\":", b"[]")?;
+    if !is_array_of_texts(parents) {
+        return Some(false);
+    }
+    let children = member_or(text, &parts, b"\"children\":", b"[]")?;
+    Some(is_array_of_texts(children))
+}
+
+/// Whether it is an object of city objects.
+fn are_city_objects(alloc: Global, text: &[u8]) -> Option<bool>
+    ensures { IfSome result (λ are. (value : Tree) → IsCompactOf text.now value → (IsTrue are ↔ HoldsCityObjects value)) }
+{
+    if !is_object(text) {
+        return Some(false);
+    }
+    let parts = parts_of(alloc, text)?;
+    for part in &parts {
+        let value = between(text, part.value, part.end)?;
+        let is_one = is_city_object(alloc, value)?;
+        if !is_one {
+            return Some(false);
+        }
+    }
+    Some(true)
+}
+
+/// Why the city objects of this text are refused, whose boundaries name so many vertices. `None`: undecided, or they are
+/// not.
+fn objects_fault(alloc: Global, text: &[u8], vertices: usize) -> Option<Fault>
+    requires { (value : Tree) × IsCompactOf text.now value }
+    ensures { IfSome result (λ fault. (value : Tree) → IsCompactOf text.now value
+        → (members : MemberTrees) × (value ≡ object members) × RefusesObjects fault vertices members) }
+{
+    let Overview {
+        places,
+        parents,
+        children,
+        held,
+    } = overview_of(alloc, text)?;
+    let table = Names::new(alloc, text, &places)?;
+    if misses_child(alloc, &children, &table) {
+        return Some(Fault::ChildMissing);
+    }
+    let graph = graph_of(alloc, &children, &table)?;
+    match check_belonging(alloc, &graph, &parents) {
+        Err(Fault::Orphan) => return Some(Fault::Orphan),
+        Err(_) => return None,
+        Ok(_) => {}
+    }
+    if has_wrong_boundary(alloc, text, &places, &held, vertices) {
+        return Some(Fault::BoundaryIndex);
+    }
+    None
+}
+
+/// Why the document whose compact text this is is not cut. `None`: it is cut, or out of memory.
+pub fn cut_fault(alloc: Global, document: &ObjectText<'_>) -> Option<Fault>
+    ensures refused { IfSome result (λ fault. RefusesCut fault (object_of document.now)) }
+    ensures decided { IfSome result (λ fault. fault ≢ Fault.Memory) }
+{
+    let objects = document.value_or(b"\"CityObjects\":", b"{}");
+    let vertices = document.value_or(b"\"vertices\":", b"[]");
+    if !is_array(vertices) {
+        return Some(Fault::NotCityJson);
+    }
+    let holds = are_city_objects(alloc, objects)?;
+    if !holds {
+        return Some(Fault::NotCityJson);
+    }
+    if let Err(fault) = transform_there(alloc, document)? {
+        return Some(fault);
+    }
+    if let Some(fault) = vertices_fault(alloc, vertices) {
+        return Some(fault);
+    }
+    let count = vertex_count(alloc, vertices)?;
+    objects_fault(alloc, objects, count)
+}

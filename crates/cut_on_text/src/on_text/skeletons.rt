@@ -1,0 +1,182 @@
+//! City objects whose texts are held without the numbers of their leaves.
+//!
+//! What is held is in the size of the document; a feature's text is made of it without a look at a boundary.
+ghost use Rattle.std.specs.Prelude.{◌≡◌, ◌<◌, ◌+◌, ◌++◌, ◌∷◌, [], ℕ, List, All, length, IfSome, OnSome};
+ghost use Rattle.city_json.specs.Parts.{AreParts};
+ghost use Rattle.city_json.specs.Tree.{Tree, member_trees, object};
+ghost use Rattle.city_json.specs.CompactTexts.{IsCompactOf};
+ghost use Rattle.city_families.specs.Chosen.{named_at};
+ghost use Rattle.cut_on_text.specs.Overviews.{AreHolders};
+ghost use Rattle.cut_on_text.specs.Skeletons.{AreSkeletons};
+ghost use Rattle.cut_on_text.specs.Sketches.{IsSketch};
+
+mod reading;
+
+use super::drafts::Draft;
+use super::features::id_of;
+use super::holders::ShortHeld;
+use super::notes::{NotedLeaves, note_object};
+use super::short_parts::ShortPart;
+use super::texts::append_text;
+use byte_streams::{Line, push};
+use city_json::between;
+use std::alloc::Global;
+use std::marker::Model;
+
+/// A leaf of a boundary: where it belongs in a text that has no leaves, and the vertex that it names.
+#[derive(Clone, Copy, Debug)]
+pub(crate) struct Leaf {
+    at: u32,
+    vertex: u32,
+}
+
+impl Model for Leaf {
+    ghost use Rattle.cut_on_text.specs.Skeletons.{LeafPlace};
+
+    ghost Value = { LeafPlace };
+
+    ghost view = { λ leaf. record { at = leaf.at; vertex = leaf.vertex } };
+
+    ghost inverse = { λ place. record { at = place.at; vertex = place.vertex } };
+}
+
+impl Leaf {
+    /// The leaf at a place, where both numbers are below 2^32.
+    pub(super) fn new(at: usize, vertex: usize) -> Option<Leaf>
+        ensures { IfSome result (λ leaf. leaf ≡ record { at = at; vertex = vertex }) }
+    {
+        let Ok(at) = u32::try_from(at) else {
+            return None;
+        };
+        let Ok(vertex) = u32::try_from(vertex) else {
+            return None;
+        };
+        Some(Leaf { at, vertex })
+    }
+}
+
+/// Where the part of an object begins.
+#[derive(Clone, Copy, Debug)]
+pub(crate) struct Start {
+    text: u32,
+    name: u32,
+    leaves: u32,
+    split: u32,
+}
+
+impl Model for Start {
+    ghost use Rattle.cut_on_text.specs.Skeletons.{SkeletonPlace};
+
+    ghost Value = { SkeletonPlace };
+
+    ghost view = { λ start.
+        record { text = start.text; name = start.name; leaves = start.leaves; split = start.split } };
+
+    ghost inverse = { λ place.
+        record { text = place.text; name = place.name; leaves = place.leaves; split = place.split } };
+}
+
+impl Start {
+    /// Where it begins, where all of these are below 2^32.
+    fn new(text: usize, name: usize, leaves: usize, split: usize) -> Option<Start>
+        ensures { IfSome result (λ start. start ≡ record { text = text; name = name; leaves = leaves; split = split }) }
+    {
+        let text = u32::try_from(text).ok()?;
+        let name = u32::try_from(name).ok()?;
+        let leaves = u32::try_from(leaves).ok()?;
+        let split = u32::try_from(split).ok()?;
+        Some(Start {
+            text,
+            name,
+            leaves,
+            split,
+        })
+    }
+}
+
+/// The texts of objects without the numbers of their leaves, one after another, and these leaves.
+#[derive(Debug, Drop)]
+pub(crate) struct Skeletons {
+    text: Line,
+    leaves: Vec<Leaf>,
+    places: Vec<Start>,
+}
+
+impl Model for Skeletons {
+    ghost use Rattle.cut_on_text.specs.Skeletons.{SkeletonTexts};
+
+    ghost Value = { SkeletonTexts };
+
+    ghost view = { λ skeletons.
+        record { text = skeletons.text; leaves = skeletons.leaves.items; places = skeletons.places.items } };
+}
+
+/// Copies the object at a place, its name before it, without its leaves: where it begins.
+fn note_named(
+    alloc: Global,
+    text: &[u8],
+    parts: &[ShortPart],
+    held: &[ShortHeld],
+    at: usize,
+    notes: &mut NotedLeaves,
+    draft: &mut Draft,
+) -> Option<Start>
+    requires { AreHolders text.now parts.now held.now }
+    ensures count { OnSome result (notes.new.count ≡ notes.old.count) }
+    ensures made { IfSome result (λ start. (pairs : List (List ℕ × Tree))
+        → IsCompactOf text.now (object (member_trees pairs)) → AreParts 1 parts.now (member_trees pairs)
+        → IsSketch notes.old.count notes.old.leaves.items draft.old.line start notes.new.leaves.items draft.new.line
+        (named_at pairs at)) }
+{
+    if at >= parts.len() {
+        return None;
+    }
+    if at >= held.len() {
+        return None;
+    }
+    let part = parts[at].part();
+    let id = id_of(text, parts, at)?;
+    let value = between(text, part.value, part.end)?;
+    let begin = draft.line.items().len();
+    let leaves = notes.leaves.len();
+    append_text(id, &mut draft.line)?;
+    let name = draft.line.items().len();
+    append_text(b":", &mut draft.line)?;
+    let split = note_object(alloc, value, &held[at].parts(), notes, draft)?;
+    Start::new(begin, name, leaves, split)
+}
+
+/// The objects that lie in these parts of a text, with boundaries that name vertices below `count`. `None`: undecided.
+pub(super) fn skeletons_of(
+    alloc: Global,
+    text: &[u8],
+    parts: &[ShortPart],
+    held: &[ShortHeld],
+    count: usize,
+) -> Option<Skeletons>
+    requires { AreHolders text.now parts.now held.now }
+    ensures long { IfSome result (λ skeletons. length skeletons.places ≡ length parts.now + 1) }
+    ensures within { IfSome result (λ skeletons. All (λ leaf. leaf.vertex < count) skeletons.leaves) }
+    ensures made { IfSome result (λ skeletons. (pairs : List (List ℕ × Tree))
+        → IsCompactOf text.now (object (member_trees pairs)) → AreParts 1 parts.now (member_trees pairs)
+        → AreSkeletons count skeletons pairs) }
+{
+    let mut notes = NotedLeaves::new(alloc, count);
+    let mut draft = Draft {
+        line: Line::from_vec(Vec::with_capacity(alloc, text.len()).ok()?),
+        from: 0,
+    };
+    let mut places = Vec::with_capacity(alloc, parts.len() + 1).ok()?;
+    for at in 0..parts.len() {
+        let start = note_named(alloc, text, parts, held, at, &mut notes, &mut draft)?;
+        push(start, &mut places)?;
+    }
+    let end = draft.line.items().len();
+    let last = notes.leaves.len();
+    push(Start::new(end, end, last, last)?, &mut places)?;
+    Some(Skeletons {
+        text: draft.line,
+        leaves: notes.leaves,
+        places,
+    })
+}
