@@ -38,11 +38,9 @@ fn moved_and_kept(alloc: Global, document: &str, chosen: &[bool]) -> Result<Line
     ) else {
         return Err(Fault::NotCityJson);
     };
-    if !cut.texts.is_made() {
+    if !cut.texts.move_by(alloc, shift)? || !cut.texts.keep(chosen) {
         return Err(Fault::NotCityJson);
     }
-    cut.texts.move_by(alloc, shift)?;
-    cut.texts.keep(chosen)?;
     lines_of(alloc, &mut cut.texts)
 }
 

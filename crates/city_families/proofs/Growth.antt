@@ -1,6 +1,6 @@
 -- How marks and found things grow.
 use Rattle.std.proofs.Common.{◌≡◌, Some, ◌≢◌, ◌<◌, ◌≤◌, ◌+◌, ◌++◌, ◌⊎◌, ◌↔◌, inl, inr, ℕ, Bool, true, false, ◌==◌, List, [], ◌∷◌, length, get_or, if◌then◌else◌, take, sym, refl, ap, subst, ◌∙◌, arith, append_assoc, length-append, length-set}
-use Rattle.std.proofs.lemmas.Bool.{eq-eqb, eqb-true, eqb-false}
+use Rattle.std.proofs.lemmas.Bool.{cases_Bool, eq-eqb, eqb-false, eqb-true}
 use Rattle.std.proofs.lemmas.List.{append-nil, take_more, get_or_default, get_or_append_left, get_or-set_same, get_or-set_other}
 use Rattle.std.proofs.lemmas.List.Elements.{Contains-append_left, Contains-append_right, Contains-push, Contains-push_cases, Contains-append_cases}
 use Rattle.std.proofs.lemmas.Option.{get_or_from_slice_get, slice_get_within}
@@ -85,19 +85,17 @@ other_after root marks k j within other = elim (at_set marks k root j within)
 
 one_fewer : (root : ℕ) (marks : List ℕ) (k : ℕ) → k < length marks → slice_index marks k ≢ root
     → unmarked root (slice_set marks k root) + 1 ≡ unmarked root marks
-one_fewer root marks k within isnt = by (slice_index marks k == root) refl
+one_fewer root marks k within isnt = elim (cases_Bool (slice_index marks k == root)) [
+  | inl e ↦ absurd (isnt (eqb-true _ _ e))
+  | inr e ↦ let total = sum_by-set (λ mark. if mark == root then 0 else 1) marks k root 0 within in
+      omega (arith, rw (e, own) at total)
+]
   where
     one : ℕ → ℕ
     one mark = if mark == root then 0 else 1
 
     own : (root == root) ≡ true
     own = eq-eqb root root refl
-
-    by : (b : Bool) → (slice_index marks k == root) ≡ b
-        → unmarked root (slice_set marks k root) + 1 ≡ unmarked root marks
-    by true e = absurd (isnt (eqb-true _ _ e))
-    by false e = let total = sum_by-set (λ mark. if mark == root then 0 else 1) marks k root 0 within in
-        omega (arith, rw (e, own) at total)
 
 pub grows_first : (root : ℕ) (new marks marks' found found' : List ℕ) (k : ℕ) → Grows root new marks marks' found found'
     → k < length marks → slice_index marks' k ≢ root

@@ -1,5 +1,6 @@
 -- What is reached among identifiers is what is reached among places.
-use Rattle.std.proofs.Common.{◌≡◌, ◌≢◌, ◌<◌, ◌++◌, inl, inr, ℕ, zero, suc, Bool, true, false, List, [], ◌∷◌, Some, length, get_or, sym, refl, ap, subst, ◌∙◌, arith, bytes_eq}
+use Rattle.std.proofs.Common.{◌≡◌, ◌≢◌, ◌<◌, ◌++◌, inl, inr, ℕ, zero, suc, true, false, List, [], ◌∷◌, Some, length, get_or, sym, refl, ap, subst, ◌∙◌, arith, bytes_eq}
+use Rattle.std.proofs.lemmas.Bool.{cases_Bool}
 use Rattle.std.proofs.lemmas.List.Kept.{Contains-dedup_nat, Contains-from_dedup}
 use Rattle.std.proofs.lemmas.List.Sorted.{Contains-permutation, IsPermutation-sym}
 use Rattle.std.proofs.lemmas.Map.Keys.{IsStrictlyIncreasing-dedup}
@@ -38,11 +39,10 @@ test_same : (x : List ℕ) → bytes_eq x x ≡ true
 test_same x = (bytes_eq-Decides x x).1 refl
 
 apart_test : (x y : List ℕ) → x ≢ y → bytes_eq x y ≡ false
-apart_test x y apart = by (bytes_eq x y) refl
-  where
-    by : (b : Bool) → bytes_eq x y ≡ b → bytes_eq x y ≡ false
-    by true e = absurd (apart ((bytes_eq-Decides x y).0 e))
-    by false e = e
+apart_test x y apart = elim (cases_Bool (bytes_eq x y)) [
+  | inl e ↦ absurd (apart ((bytes_eq-Decides x y).0 e))
+  | inr e ↦ e
+]
 
 -- where names differ, the object of a name is the one at its place
 pub first_at : (objects : MemberTrees) (k : ℕ) (name : List ℕ) (value : Tree) → HasDistinctNames objects

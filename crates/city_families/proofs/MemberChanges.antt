@@ -1,5 +1,6 @@
 -- The members of an object of which one was changed.
-use Rattle.std.proofs.Common.{◌≡◌, ℕ, Bool, true, false, List, Some, bytes_eq, if◌then◌else◌, is_some, option_map, refl, ap, ◌∙◌}
+use Rattle.std.proofs.Common.{◌≡◌, ℕ, true, false, List, Some, bytes_eq, if◌then◌else◌, is_some, option_map, refl, ap, ◌∙◌, inl, inr}
+use Rattle.std.proofs.lemmas.Bool.{cases_Bool, true≢false}
 use Rattle.std.proofs.lemmas.Slice.Eq.{bytes_eq-Decides}
 use Rattle.city_json.specs.Members.{first_named, member_of}
 use Rattle.city_json.specs.Tree.{Tree, null, boolean, number, string, array, object, MemberTrees, no_members, member}
@@ -11,56 +12,42 @@ apart_by other m n apart e = ap (λ l. bytes_eq l n) ((bytes_eq-Decides other m)
 kept_named : (m n : List ℕ) (f : Tree → Tree) (ms : MemberTrees) → bytes_eq m n ≡ false
     → first_named n (changed_named m f ms) ≡ first_named n ms
 kept_named m n f no_members apart = refl
-kept_named m n f (member other v os) apart = by (bytes_eq other m) refl (kept_named m n f os apart)
-  where
-    by : (b : Bool) → bytes_eq other m ≡ b → first_named n (changed_named m f os) ≡ first_named n os
-        → first_named n (changed_named m f (member other v os)) ≡ first_named n (member other v os)
-    by true e others = rw (e, apart_by other m n apart e) refl
-    by false e others = rw e (ap (λ x. if bytes_eq other n then Some v else x) others)
+kept_named m n f (member other v os) apart = elim (cases_Bool (bytes_eq other m)) [
+  | inl e ↦ rw (e, apart_by other m n apart e) refl
+  | inr e ↦ rw e (ap (λ x. if bytes_eq other n then Some v else x) (kept_named m n f os apart))
+]
 
 own_named : (m : List ℕ) (f : Tree → Tree) (ms : MemberTrees)
     → first_named m (changed_named m f ms) ≡ option_map f (first_named m ms)
 own_named m f no_members = refl
-own_named m f (member other v os) = by (bytes_eq other m) refl (own_named m f os)
-  where
-    by : (b : Bool) → bytes_eq other m ≡ b → first_named m (changed_named m f os) ≡ option_map f (first_named m os)
-        → first_named m (changed_named m f (member other v os)) ≡ option_map f (first_named m (member other v os))
-    by true e others = rw (e, e) refl
-    by false e others = rw (e, e) others
+own_named m f (member other v os) = elim (cases_Bool (bytes_eq other m)) [
+  | inl e ↦ rw (e, e) refl
+  | inr e ↦ rw (e, e) (own_named m f os)
+]
 
 left_named : (m n : List ℕ) (ms : MemberTrees) → bytes_eq m n ≡ false
     → first_named n (without_named m ms) ≡ first_named n ms
 left_named m n no_members apart = refl
-left_named m n (member other v os) apart = by (bytes_eq other m) refl (left_named m n os apart)
-  where
-    by : (b : Bool) → bytes_eq other m ≡ b → first_named n (without_named m os) ≡ first_named n os
-        → first_named n (without_named m (member other v os)) ≡ first_named n (member other v os)
-    by true e others = rw (e, apart_by other m n apart e) refl
-    by false e others = rw e (ap (λ x. if bytes_eq other n then Some v else x) others)
+left_named m n (member other v os) apart = elim (cases_Bool (bytes_eq other m)) [
+  | inl e ↦ rw (e, apart_by other m n apart e) refl
+  | inr e ↦ rw e (ap (λ x. if bytes_eq other n then Some v else x) (left_named m n os apart))
+]
 
 set_named : (m : List ℕ) (value : Tree) (ms : MemberTrees) → is_some (first_named m ms) ≡ true
     → with_named m value ms ≡ changed_named m (λ old. value) ms
 set_named m value no_members there = cc
-set_named m value (member other v os) there = by (bytes_eq other m) refl (λ later. set_named m value os later)
-  where
-    by : (b : Bool) → bytes_eq other m ≡ b → (is_some (first_named m os) ≡ true
-        → with_named m value os ≡ changed_named m (λ old. value) os)
-        → with_named m value (member other v os) ≡ changed_named m (λ old. value) (member other v os)
-    by true e others = rw e refl
-    by false e others = rw e (ap (member other v) (others (rw e at there)))
+set_named m value (member other v os) there = elim (cases_Bool (bytes_eq other m)) [
+  | inl e ↦ rw e refl
+  | inr e ↦ rw e (ap (member other v) (set_named m value os (rw e at there)))
+]
 
 no_named : (m : List ℕ) (f : Tree → Tree) (ms : MemberTrees) → is_some (first_named m ms) ≡ false
     → changed_named m f ms ≡ ms
 no_named m f no_members none = refl
-no_named m f (member other v os) none = by (bytes_eq other m) refl (λ later. no_named m f os later)
-  where
-    some_is_none : true ≡ false → ⊥
-    some_is_none is = cc
-
-    by : (b : Bool) → bytes_eq other m ≡ b → (is_some (first_named m os) ≡ false → changed_named m f os ≡ os)
-        → changed_named m f (member other v os) ≡ member other v os
-    by true e others = absurd (some_is_none (rw e at none))
-    by false e others = rw e (ap (member other v) (others (rw e at none)))
+no_named m f (member other v os) none = elim (cases_Bool (bytes_eq other m)) [
+  | inl e ↦ absurd (true≢false (rw e at none))
+  | inr e ↦ rw e (ap (member other v) (no_named m f os (rw e at none)))
+]
 
 -- ---- the same of values
 pub kept : (m n : List ℕ) (f : Tree → Tree) (value : Tree) → bytes_eq m n ≡ false

@@ -1,5 +1,6 @@
 -- What the table gives for the leaves of a boundary is another number for each, where the boundaries are some.
-use Rattle.std.proofs.Common.{◌≡◌, ◌<◌, ℕ, Bool, true, false, List, [], ◌∷◌, Option, Some, length, bytes_eq, refl, sym, ap, subst, ◌∙◌, arith, ◌^◌}
+use Rattle.std.proofs.Common.{◌≡◌, ◌<◌, ℕ, Bool, true, false, List, [], ◌∷◌, Option, Some, length, bytes_eq, refl, sym, ap, subst, ◌∙◌, arith, ◌^◌, inl, inr}
+use Rattle.std.proofs.lemmas.Bool.{cases_Bool}
 use Rattle.std.specs.Prelude.{codes}
 use Rattle.std.proofs.lemmas.Slice.Eq.{bytes_eq-Decides}
 use Rattle.std.proofs.lemmas.Fmt.{decimal_is_IsNumeral}
@@ -55,12 +56,10 @@ boundary table (object inner) small is = refl
 no_change : (name : List ℕ) (f g : Tree → Tree) (ms : MemberTrees) → IsNewName name ms
     → changed_members name f ms ≡ changed_members name g ms
 no_change name f g no_members new = refl
-no_change name f g (member other v os) new = by (bytes_eq other name) refl (no_change name f g os new.1)
-  where
-    by : (b : Bool) → bytes_eq other name ≡ b → changed_members name f os ≡ changed_members name g os
-        → changed_members name f (member other v os) ≡ changed_members name g (member other v os)
-    by true e later = absurd (new.0 (sym ((bytes_eq-Decides other name).0 e)))
-    by false e later = rw e (ap (member other v) later)
+no_change name f g (member other v os) new = elim (cases_Bool (bytes_eq other name)) [
+  | inl e ↦ absurd (new.0 (sym ((bytes_eq-Decides other name).0 e)))
+  | inr e ↦ rw e (ap (member other v) (no_change name f g os new.1))
+]
 
 same_change : (name : List ℕ) (f g : Tree → Tree) (ms : MemberTrees) → HasDistinctNames ms
     → ((value : Tree) → first_named name ms ≡ Some value → f value ≡ g value)
@@ -110,17 +109,12 @@ geometry_kept : (f : Tree → Tree) (members : MemberTrees)
     → first_named (codes "geometry") (changed_members (codes "address") f members)
     ≡ first_named (codes "geometry") members
 geometry_kept f no_members = refl
-geometry_kept f (member other v os) = by (bytes_eq other (codes "geometry")) refl (geometry_kept f os)
-  where
-    by : (b : Bool) → bytes_eq other (codes "geometry") ≡ b
-        → first_named (codes "geometry") (changed_members (codes "address") f os) ≡ first_named (codes "geometry") os
-        → first_named (codes "geometry") (changed_members (codes "address") f (member other v os))
-        ≡ first_named (codes "geometry") (member other v os)
-    by true e later =
-        let other_name : bytes_eq other (codes "address") ≡ false =
-        ap (λ n. bytes_eq n (codes "address")) ((bytes_eq-Decides other (codes "geometry")).0 e) in
-        rw (e, other_name) refl
-    by false e later = rw e later
+geometry_kept f (member other v os) = elim (cases_Bool (bytes_eq other (codes "geometry"))) [
+  | inl e ↦ let other_name : bytes_eq other (codes "address") ≡ false =
+      ap (λ n. bytes_eq n (codes "address")) ((bytes_eq-Decides other (codes "geometry")).0 e) in
+      rw (e, other_name) refl
+  | inr e ↦ rw e (geometry_kept f os)
+]
 
 new_kept : (n name : List ℕ) (f : Tree → Tree) (ms : MemberTrees) → IsNewName n ms
     → IsNewName n (changed_members name f ms)

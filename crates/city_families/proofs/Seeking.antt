@@ -1,6 +1,6 @@
 -- The families, object by object, and the search for what is in none.
 use Rattle.std.proofs.Common.{◌≡◌, ◌≢◌, ◌<◌, ◌+◌, ◌++◌, ◌⊎◌, ◌↔◌, inl, inr, ℕ, zero, suc, Bool, true, false, List, [], ◌∷◌, length, get_or, map, take, drop, take_all, sym, refl, ap, subst, ◌∙◌, arith, ◌==◌, if◌then◌else◌, length-set, Result, Ok, Err}
-use Rattle.std.proofs.lemmas.Bool.{eqb-true, eqb-false}
+use Rattle.std.proofs.lemmas.Bool.{cases_Bool, eqb-false, eqb-true}
 use Rattle.std.proofs.Math.ListN.{get_or-map, replicate}
 use Rattle.std.proofs.lemmas.List.{append-nil, drop_all, get_or_default, length-map, length-replicate, take_more}
 use Rattle.std.proofs.lemmas.List.Elements.{Contains-append_left, Contains-push, Contains-push_cases}
@@ -35,20 +35,18 @@ pub marked_more : (n at : ℕ) (marks marks' : List ℕ) → IsMarkedSoFar n at 
 marked_more n at marks marks' s long others = record { as_many = long ∙ s.as_many; before = before }
   where
     before : All (λ mark. (mark ≡ n) ⊎ (mark < at + 1)) marks'
-    before i d below = by (slice_index marks' i == at) refl
+    before i d below = elim (cases_Bool (slice_index marks' i == at)) [
+      | inl e ↦ let own = eqb-true _ _ e in inr (omega (arith, here, own))
+      | inr e ↦ let old = others i (omega (arith, below, long)) (eqb-false _ _ e) in
+          let first = get_or_default marks i d 0 (omega (arith, below, long)) in
+          elim (s.before i d (omega (arith, below, long))) [
+            | inl none ↦ inl (here ∙ (old ∙ (sym first ∙ none)))
+            | inr less ↦ inr (omega (arith, here, old, first, less))
+          ]
+    ]
       where
         here : get_or marks' i d ≡ slice_index marks' i
         here = get_or_default marks' i d 0 below
-
-        by : (b : Bool) → (slice_index marks' i == at) ≡ b → (get_or marks' i d ≡ n) ⊎ (get_or marks' i d < at + 1)
-        by true e = let own = eqb-true _ _ e in inr (omega (arith, here, own))
-        by false e =
-            let old = others i (omega (arith, below, long)) (eqb-false _ _ e) in
-            let first = get_or_default marks i d 0 (omega (arith, below, long)) in
-            elim (s.before i d (omega (arith, below, long))) [
-              | inl none ↦ inl (here ∙ (old ∙ (sym first ∙ none)))
-              | inr less ↦ inr (omega (arith, here, old, first, less))
-            ]
 
 -- no mark is the place of the next object
 pub unmarked_at : (n at : ℕ) (marks : List ℕ) → IsMarkedSoFar n at marks → at < n → All (λ mark. mark ≢ at) marks
@@ -68,13 +66,10 @@ roots_push [] pair = by (has_parents pair.1) refl
   where
     by : (b : Bool) → has_parents pair.1 ≡ b → (if has_parents pair.1 then [] else pair.0 ∷ []) ≡ begun_by pair
     by b e = refl
-roots_push (first ∷ others) pair = by (has_parents first.1) refl (roots_push others pair)
-  where
-    by : (b : Bool) → has_parents first.1 ≡ b
-        → roots (member_trees (others ++ pair ∷ [])) ≡ roots (member_trees others) ++ begun_by pair
-        → roots (member_trees (first ∷ (others ++ pair ∷ []))) ≡ roots (member_trees (first ∷ others)) ++ begun_by pair
-    by true e later = rw e later
-    by false e later = rw e (ap (λ l. first.0 ∷ l) later)
+roots_push (first ∷ others) pair = elim (cases_Bool (has_parents first.1)) [
+  | inl e ↦ rw e (roots_push others pair)
+  | inr e ↦ rw e (ap (λ l. first.0 ∷ l) (roots_push others pair))
+]
 
 pub roots_more : (pairs : List (List ℕ × Tree)) (i : ℕ) → i < length pairs
     → roots (member_trees (take (i + 1) pairs)) ≡ roots (member_trees (take i pairs)) ++ begun_by (named_at pairs i)
@@ -210,13 +205,10 @@ root_there : (pairs : List (List ℕ × Tree)) (k : ℕ) → k < length pairs �
     → Contains (roots (member_trees pairs)) (name_at (member_trees pairs) k)
 root_there [] k within none = absurd (omega (arith, within))
 root_there (p ∷ ps) zero within none = rw none (0, omega arith, refl)
-root_there (p ∷ ps) (suc k) within none = by (has_parents p.1) refl (root_there ps k (omega (arith, within)) none)
-  where
-    by : (b : Bool) → has_parents p.1 ≡ b
-        → Contains (roots (member_trees ps)) (name_at (member_trees ps) k)
-        → Contains (roots (member_trees (p ∷ ps))) (name_at (member_trees ps) k)
-    by true e later = rw e later
-    by false e later = rw e (suc later.0, omega (arith, later.1), later.2)
+root_there (p ∷ ps) (suc k) within none = elim (cases_Bool (has_parents p.1)) [
+  | inl e ↦ rw e (root_there ps k (omega (arith, within)) none)
+  | inr e ↦ rw e (suc (root_there ps k (omega (arith, within)) none).0, omega (arith, (root_there ps k (omega (arith, within)) none).1), (root_there ps k (omega (arith, within)) none).2)
+]
 
 abbrev RootPlace : List (List ℕ × Tree) → List ℕ → Type 0
 RootPlace pairs id = (k : ℕ) × (k < length pairs) × (has_parents (named_at pairs k).1 ≡ false)

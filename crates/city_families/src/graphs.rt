@@ -1,10 +1,10 @@
 //! Which of some numbered things come after each of them.
-ghost use Rattle.std.specs.Prelude.{◌≡◌, ◌<◌, ◌≤◌, ◌++◌, ◌∷◌, [], IfSome, OnSome, Some, get_or, length, slice_get, slice_range};
+ghost use Rattle.std.specs.Prelude.{◌≡◌, ◌<◌, ◌≤◌, ◌++◌, ◌∷◌, [], IfOk, OnOk, Some, get_or, length, slice_get, slice_range};
 ghost use Rattle.city_json.specs.OpenNames.{AreEnds};
 ghost use Rattle.city_families.specs.HeldTexts.{pieces};
 
 use crate::placing::push_place;
-use std::alloc::Global;
+use std::alloc::{AllocError, Global};
 use std::marker::Model;
 
 /// For each thing the places of those that come after it, in one list for all of them.
@@ -28,13 +28,13 @@ impl Model for Graph {
 }
 
 impl Graph {
-    /// No things, with room for so many. `None`: out of memory.
-    pub fn with_capacity(alloc: Global, count: usize) -> Option<Graph>
-        ensures { IfSome result (λ graph. graph ≡ []) }
+    /// No things, with room for so many.
+    pub fn with_capacity(alloc: Global, count: usize) -> Result<Graph, AllocError>
+        ensures { IfOk result (λ graph. graph ≡ []) }
     {
-        Some(Graph {
+        Ok(Graph {
             places: Vec::new(alloc),
-            ends: Vec::with_capacity(alloc, count).ok()?,
+            ends: Vec::with_capacity(alloc, count)?,
         })
     }
 
@@ -53,16 +53,16 @@ impl Graph {
         row(&self.places, &self.ends, at)
     }
 
-    /// The same with one more thing, after which those at these places come. `None`: there are too many, or out of memory.
-    pub fn and_row(self, row: &[usize]) -> Option<Graph>
-        ensures { IfSome result (λ graph. graph ≡ self ++ row.now ∷ []) }
+    /// The same with one more thing, after which those at these places come. Places of 2^32 or more have no room in it.
+    pub fn and_row(self, row: &[usize]) -> Result<Graph, AllocError>
+        ensures { IfOk result (λ graph. graph ≡ self ++ row.now ∷ []) }
     {
         let Graph { places, ends } = self;
         let mut places = places;
         let mut ends = ends;
         append_short(row, &mut places)?;
         push_place(places.len(), &mut ends)?;
-        Some(Graph { places, ends })
+        Ok(Graph { places, ends })
     }
 }
 
@@ -94,12 +94,12 @@ fn row<'a>(places: &'a [u32], ends: &[u32], at: usize) -> &'a [u32]
     part_of(places, start_of(ends, at), ends[at] as usize)
 }
 
-/// Puts these numbers after the others. `None`: one is too large, or out of memory.
-fn append_short(row: &[usize], to: &mut Vec<u32>) -> Option<()>
-    ensures { OnSome result (to.new.items ≡ to.old.items ++ row.now) }
+/// Puts these numbers after the others.
+fn append_short(row: &[usize], to: &mut Vec<u32>) -> Result<(), AllocError>
+    ensures { OnOk result (to.new.items ≡ to.old.items ++ row.now) }
 {
     for one in row {
         push_place(*one, to)?;
     }
-    Some(())
+    Ok(())
 }

@@ -1,5 +1,6 @@
 -- A feature with an appearance after its other members.
 use Rattle.std.proofs.Common.{◌≡◌, ◌≢◌, ◌⊎◌, ◌∙◌, ◌++◌, ◌≤◌, inl, inr, ℕ, sym, ap, refl, subst, Bool, true, false, List, [], ◌∷◌, append_assoc, Option, Some, None, codes, bytes_eq, arith, IfSome, MatchBool, Contains, IsUtf8}
+use Rattle.std.proofs.lemmas.Bool.{cases_Bool}
 use Rattle.std.proofs.lemmas.List.{append_cancel_right}
 use Rattle.std.proofs.lemmas.Slice.Eq.{bytes_eq-Decides}
 use Rattle.city_json.proofs.CompactLaws.{compact-spells}
@@ -36,32 +37,23 @@ module _ (name : List ℕ) (x : Tree) where
       → compact_more_members (with_named name x members)
       ≡ compact_more_members members ++ compact_more_members (member name x no_members)
   more_text no_members none = refl
-  more_text (member other v others) none = by (bytes_eq other name) refl (more_text others)
-    where
-      by : (b : Bool) → bytes_eq other name ≡ b
-          → (first_named name others ≡ None → compact_more_members (with_named name x others)
-          ≡ compact_more_members others ++ compact_more_members (member name x no_members))
-          → compact_more_members (with_named name x (member other v others))
-          ≡ compact_more_members (member other v others) ++ compact_more_members (member name x no_members)
-      by true e later = absurd (some_is_none v (rw e at none))
-      by false e later =
-          let front = quoted other ++ colon ∷ compact v in
-          rw e (ap (λ l. comma ∷ front ++ l) (later (rw e at none))
-          ∙ ap (λ l. comma ∷ l) (sym (append_assoc front (compact_more_members others)
-          (compact_more_members (member name x no_members)))))
+  more_text (member other v others) none = elim (cases_Bool (bytes_eq other name)) [
+    | inl e ↦ absurd (some_is_none v (rw e at none))
+    | inr e ↦ let front = quoted other ++ colon ∷ compact v in
+        rw e (ap (λ l. comma ∷ front ++ l) ((more_text others) (rw e at none))
+        ∙ ap (λ l. comma ∷ l) (sym (append_assoc front (compact_more_members others)
+        (compact_more_members (member name x no_members)))))
+  ]
 
   first_text : (other : List ℕ) (v : Tree) (others : MemberTrees) → first_named name (member other v others) ≡ None
       → compact_members (with_named name x (member other v others))
       ≡ compact_members (member other v others) ++ compact_more_members (member name x no_members)
-  first_text other v others none = by (bytes_eq other name) refl
-    where
-      by : (b : Bool) → bytes_eq other name ≡ b → compact_members (with_named name x (member other v others))
-          ≡ compact_members (member other v others) ++ compact_more_members (member name x no_members)
-      by true e = absurd (some_is_none v (rw e at none))
-      by false e =
-          let front = quoted other ++ colon ∷ compact v in
-          rw e (ap (λ l. front ++ l) (more_text others (rw e at none))
-          ∙ sym (append_assoc front (compact_more_members others) (compact_more_members (member name x no_members))))
+  first_text other v others none = elim (cases_Bool (bytes_eq other name)) [
+    | inl e ↦ absurd (some_is_none v (rw e at none))
+    | inr e ↦ let front = quoted other ++ colon ∷ compact v in
+        rw e (ap (λ l. front ++ l) (more_text others (rw e at none))
+        ∙ sym (append_assoc front (compact_more_members others) (compact_more_members (member name x no_members))))
+  ]
 
   -- the text of the object goes on where that without the member ends
   pub last_text : (members : MemberTrees) (own another : List ℕ) (there : Tree)
@@ -84,55 +76,41 @@ module _ (name : List ℕ) (x : Tree) where
   within : (members : MemberTrees) (k : ℕ) → members_depth members ≤ k → depth x ≤ k
       → members_depth (with_named name x members) ≤ k
   within no_members k all one = omega (arith, one)
-  within (member other v others) k all one = by (bytes_eq other name) refl (within others k)
-    where
-      by : (b : Bool) → bytes_eq other name ≡ b
-          → (members_depth others ≤ k → depth x ≤ k → members_depth (with_named name x others) ≤ k)
-          → members_depth (with_named name x (member other v others)) ≤ k
-      by true e later = rw e (omega (arith, all, one))
-      by false e later = rw e (let more = later (omega (arith, all)) one in omega (arith, all, more))
+  within (member other v others) k all one = elim (cases_Bool (bytes_eq other name)) [
+    | inl e ↦ rw e (omega (arith, all, one))
+    | inr e ↦ rw e (let more = (within others k) (omega (arith, all)) one in omega (arith, all, more))
+  ]
 
   new_named : (other : List ℕ) (members : MemberTrees) → other ≢ name → IsNewName other members
       → IsNewName other (with_named name x members)
   new_named other no_members apart new = (apart, tt)
-  new_named other (member n v others) apart new = by (bytes_eq n name) refl (new_named other others apart)
-    where
-      by : (b : Bool) → bytes_eq n name ≡ b → (IsNewName other others → IsNewName other (with_named name x others))
-          → IsNewName other (with_named name x (member n v others))
-      by true e later = rw e new
-      by false e later = rw e (new.0, later new.1)
+  new_named other (member n v others) apart new = elim (cases_Bool (bytes_eq n name)) [
+    | inl e ↦ rw e new
+    | inr e ↦ rw e (new.0, (new_named other others apart) new.1)
+  ]
 
   names_differ : (members : MemberTrees) → HasDistinctNames members → HasDistinctNames (with_named name x members)
   names_differ no_members differ = (tt, tt)
-  names_differ (member n v others) differ = by (bytes_eq n name) refl (names_differ others)
-    where
-      by : (b : Bool) → bytes_eq n name ≡ b
-          → (HasDistinctNames others → HasDistinctNames (with_named name x others))
-          → HasDistinctNames (with_named name x (member n v others))
-      by true e later = rw e differ
-      by false e later = rw e (new_named n others (apart_by n e) differ.0, later differ.1)
+  names_differ (member n v others) differ = elim (cases_Bool (bytes_eq n name)) [
+    | inl e ↦ rw e differ
+    | inr e ↦ rw e (new_named n others (apart_by n e) differ.0, (names_differ others) differ.1)
+  ]
 
   all_distinct : (members : MemberTrees) → AreDistinctMembers members → IsDistinct x
       → AreDistinctMembers (with_named name x members)
   all_distinct no_members all one = (one, tt)
-  all_distinct (member n v others) all one = by (bytes_eq n name) refl (all_distinct others)
-    where
-      by : (b : Bool) → bytes_eq n name ≡ b
-          → (AreDistinctMembers others → IsDistinct x → AreDistinctMembers (with_named name x others))
-          → AreDistinctMembers (with_named name x (member n v others))
-      by true e later = rw e (one, all.1)
-      by false e later = rw e (all.0, later all.1 one)
+  all_distinct (member n v others) all one = elim (cases_Bool (bytes_eq n name)) [
+    | inl e ↦ rw e (one, all.1)
+    | inr e ↦ rw e (all.0, (all_distinct others) all.1 one)
+  ]
 
   all_writable : IsUtf8 name → IsWritable x → (members : MemberTrees) → AreWritableMembers members
       → AreWritableMembers (with_named name x members)
   all_writable utf8 one no_members all = (utf8, one, tt)
-  all_writable utf8 one (member n v others) all = by (bytes_eq n name) refl (all_writable utf8 one others)
-    where
-      by : (b : Bool) → bytes_eq n name ≡ b
-          → (AreWritableMembers others → AreWritableMembers (with_named name x others))
-          → AreWritableMembers (with_named name x (member n v others))
-      by true e later = rw e (all.0, one, all.2)
-      by false e later = rw e (all.0, all.1, later all.2)
+  all_writable utf8 one (member n v others) all = elim (cases_Bool (bytes_eq n name)) [
+    | inl e ↦ rw e (all.0, one, all.2)
+    | inr e ↦ rw e (all.0, all.1, (all_writable utf8 one others) all.2)
+  ]
 
 -- two members are set in either order, where the one is there
 exchanged : (name other : List ℕ) (x y old : Tree) → bytes_eq other name ≡ false → (members : MemberTrees)

@@ -55,7 +55,7 @@ same_vertices (item value others) (p ∷ ps) (q ∷ qs) is_ps is_qs =
     cc
 
 -- a vertex in range is not refused
-taken : (fault : Fault) (value : Tree) (p : Triple) → IsVertex value p → IsInRange p → RefusesVertex fault value → ⊥
+pub taken : (fault : Fault) (value : Tree) (p : Triple) → IsVertex value p → IsInRange p → RefusesVertex fault value → ⊥
 taken VertexShape value p is range refused = refused is.0 is.1
 taken VertexNotInteger value p is range refused =
     let texts : is.0 ≡ refused.0 = same_texts is.0 refused.0 (sym is.1 ∙ refused.1) in

@@ -22,13 +22,12 @@ pub use choices::selecting::selects;
 pub use choices::types::{Types, types};
 pub use features::Feature;
 pub use features::ended::{OwnBuffers, own_text};
-pub use features::faults::vertices_fault;
+pub use features::faults::{TakeVertex, take_vertices, vertex_of};
 pub use features::lines::feature_text;
 pub use features::moving::shifted;
 pub use features::on_text::unread::triples_meet;
 pub use features::reader::feature;
 pub use features::shape::{is_array, is_object, is_text};
-pub use features::texts::{SpelledVertices, append_vertices, vertices_of};
 pub use features::writer::line;
 pub use headers::Header;
 pub use headers::reader::{

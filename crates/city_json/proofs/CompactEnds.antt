@@ -1,5 +1,5 @@
 -- Where values end in a compact text, and arrays.
-use Rattle.std.proofs.Common.{◌≡◌, ◌≢◌, ◌⊎◌, ◌++◌, ◌∙◌, ◌≤◌, ◌<◌, ◌+◌, ℕ, List, [], ◌∷◌, true, false, length, drop, get_or, inl, inr, refl, ap, sym, subst, arith, append_assoc, length-append, length-drop, Option, Some, None, slice_range}
+use Rattle.std.proofs.Common.{◌≡◌, ◌≢◌, ◌++◌, ◌∙◌, ◌≤◌, ◌<◌, ◌+◌, ℕ, List, [], ◌∷◌, true, false, length, drop, get_or, inl, inr, refl, ap, sym, subst, arith, append_assoc, length-append, length-drop, Option, Some, None, slice_range}
 use Rattle.std.proofs.lemmas.List.Folds.{drop_split}
 use Rattle.city_json.specs.Reading.{value_at}
 use Rattle.city_json.specs.Whole.{IsItemsText}

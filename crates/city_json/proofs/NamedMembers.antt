@@ -1,7 +1,7 @@
 -- Members of an object that are found by their names, in the parts of its compact text.
-use Rattle.std.proofs.Common.{◌≡◌, ◌≢◌, ◌∙◌, ◌++◌, ◌<◌, ◌≤◌, ◌+◌, ◌==◌, max, ℕ, zero, suc, Bool, true, false, if◌then◌else◌, List, [], ◌∷◌, Option, Some, None, IsUtf8, bytes_eq, length, get_or, slice_range, refl, sym, ap, subst, arith, length-append}
-use Rattle.std.proofs.lemmas.Bool.{eqb-true, eqb-false}
-use Rattle.std.proofs.lemmas.List.{append_cancel_right, get_or_default}
+use Rattle.std.proofs.Common.{◌≡◌, ◌≢◌, ◌∙◌, ◌++◌, ◌<◌, ◌≤◌, ◌+◌, ℕ, zero, suc, Bool, true, false, if◌then◌else◌, List, [], ◌∷◌, Option, Some, None, IsUtf8, bytes_eq, length, get_or, slice_range, refl, sym, ap, subst, arith, length-append, inl, inr}
+use Rattle.std.proofs.lemmas.Bool.{cases_Bool}
+use Rattle.std.proofs.lemmas.List.{append_cancel_right}
 use Rattle.std.proofs.lemmas.Slice.Eq.{bytes_eq-Decides}
 use Rattle.city_json.proofs.CompactLaws.{compact-tells}
 use Rattle.city_json.proofs.MemberPlaces.{member_in_part}
@@ -66,16 +66,13 @@ same_name other name utf8 also same =
 pub named_place : (name : List ℕ) (value : Tree) (members : MemberTrees) → first_named name members ≡ Some value → (k : ℕ)
     × HasMember k name value members
 named_place name value no_members is = cc
-named_place name value (member other v others) is = by (bytes_eq other name) refl (named_place name value others)
+named_place name value (member other v others) is = elim (cases_Bool (bytes_eq other name)) [
+  | inl e ↦ (0, ((bytes_eq-Decides other name).0 e, some_same (rw e at is)))
+  | inr e ↦ let there = (named_place name value others) (rw e at is) in (suc there.0, there.1)
+]
   where
     some_same : Some v ≡ Some value → v ≡ value
     some_same e = cc
-
-    by : (b : Bool) → bytes_eq other name ≡ b
-        → (first_named name others ≡ Some value → (k : ℕ) × HasMember k name value others) → (k : ℕ)
-        × HasMember k name value (member other v others)
-    by true e later = (0, ((bytes_eq-Decides other name).0 e, some_same (rw e at is)))
-    by false e later = let there = later (rw e at is) in (suc there.0, there.1)
 
 pub has_within : (k front : ℕ) (name : List ℕ) (value : Tree) (members : MemberTrees) (parts : List MemberPlace)
     → HasMember k name value members → AreParts front parts members → k < length parts
@@ -111,31 +108,13 @@ distinct_named name (member other v os) value all is =
 pub depth_named : (name : List ℕ) (value : Tree) (members : MemberTrees) → first_named name members ≡ Some value
     → depth value ≤ members_depth members
 depth_named name value no_members is = cc
-depth_named name value (member other v others) is = by (bytes_eq other name) refl (depth_named name value others)
+depth_named name value (member other v others) is = elim (cases_Bool (bytes_eq other name)) [
+  | inl e ↦ let same : depth v ≡ depth value = ap depth (some_same (rw e at is)) in omega (arith, same)
+  | inr e ↦ let deep = (depth_named name value others) (rw e at is) in omega (arith, deep)
+]
   where
     some_same : Some v ≡ Some value → v ≡ value
     some_same e = cc
-
-    by : (b : Bool) → bytes_eq other name ≡ b
-        → (first_named name others ≡ Some value → depth value ≤ members_depth others)
-        → depth value ≤ max (depth v) (members_depth others)
-    by true e later = let same : depth v ≡ depth value = ap depth (some_same (rw e at is)) in omega (arith, same)
-    by false e later = let deep = later (rw e at is) in omega (arith, deep)
-
-pub not_named_more : (text : List ℕ) (parts : List MemberPlace) (given : List ℕ) (n : ℕ) (e : MemberPlace)
-    → NotNamed text parts given n → n < length parts
-    → ((get_or parts n e).at ≤ (get_or parts n e).value → (get_or parts n e).value ≤ length text
-    → slice_range text (get_or parts n e).at (get_or parts n e).value ≢ given) → NotNamed text parts given (n + 1)
-not_named_more text parts given n e before within apart = λ i d below inside. by i d below inside (i == n) refl
-  where
-    by : (i : ℕ) (d : MemberPlace) → i < n + 1 → i < length parts → (b : Bool) → (i == n) ≡ b
-        → (get_or parts i d).at ≤ (get_or parts i d).value → (get_or parts i d).value ≤ length text
-        → slice_range text (get_or parts i d).at (get_or parts i d).value ≢ given
-    by i d below inside true same =
-        let here : get_or parts i d ≡ get_or parts n e =
-        ap (λ m. get_or parts m d) (eqb-true i n same) ∙ get_or_default parts n d e within in
-        rw here apart
-    by i d below inside false apart_from = before i d (omega (arith, below, eqb-false i n apart_from)) inside
 
 -- ---- where parts lie
 pub parts_within : (members : MemberTrees) (front : ℕ) (parts : List MemberPlace) (k : ℕ) (d : MemberPlace)

@@ -15,7 +15,7 @@ use Rattle.city_json.proofs.CompactText.{written_run}
 use Rattle.city_json.proofs.DecodedText.{utf8_decoded}
 use Rattle.city_json.proofs.PassScalars.{rest_is}
 use Rattle.city_json.proofs.Places.{drop_one, shown_more, shown_one}
-use Rattle.city_json.proofs.ReadString.{checked-some, decoded-escape, decoded-front, decoded-quote, escape_at-sound, prepend-nil, prepend-prepend, string_at-some}
+use Rattle.city_json.proofs.ReadString.{checked-some, decoded-escape, decoded-front, decoded-quote, escape_at-sound, prepend-prepend, string_at-some}
 use Rattle.city_json.proofs.SpelledString.{string_at-sound}
 
 -- some characters were taken, and the rest is still to be taken

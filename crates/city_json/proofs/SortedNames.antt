@@ -1,5 +1,6 @@
 -- Names that are sorted are pairwise different exactly where neighbours are.
-use Rattle.std.proofs.Common.{◌≡◌, ◌≢◌, ◌↔◌, ◌+◌, ◌<◌, ℕ, Bool, true, false, true≢false, List, [], ◌∷◌, length, map, get_or, sym, refl, ap, subst, ◌∙◌, arith, rules, Ordering, Less, Equal, Greater}
+use Rattle.std.proofs.Common.{◌≡◌, ◌≢◌, ◌↔◌, ◌+◌, ◌<◌, ℕ, Bool, true, false, true≢false, List, [], ◌∷◌, length, map, get_or, sym, refl, ap, subst, ◌∙◌, arith, rules, Ordering, Less, Equal, Greater, inl, inr}
+use Rattle.std.proofs.lemmas.Bool.{cases_Bool}
 use Rattle.std.proofs.lemmas.Cmp.{nat_list_cmp_total, eq_by_cmp_equiv}
 use Rattle.std.proofs.Math.ListN.{get_or-map}
 use Rattle.std.proofs.lemmas.List.{length-map}
@@ -28,18 +29,17 @@ same = eq_by_cmp by_bytes
 
 -- ---- the names of members are pairwise different
 differ : (x y : List ℕ) → x ≢ y ↔ same x y ≡ false
-differ x y = by (same x y) refl
-  where
-    by : (b : Bool) → same x y ≡ b → x ≢ y ↔ same x y ≡ false
-    by true e = (
-      λ apart. absurd (apart ((bytes_eq-Decides x y).0 (sym (is_eq-slice_cmp x y) ∙ e))),
-      λ not. absurd (true≢false (sym e ∙ not)),
-    )
-    by false e = (
-      λ apart. e,
-      λ not equal. true≢false (sym ((is_eq-slice_cmp x y) ∙ (bytes_eq-Decides x y).1 equal)
-          ∙ not),
-    )
+differ x y = elim (cases_Bool (same x y)) [
+  | inl e ↦ (
+    λ apart. absurd (apart ((bytes_eq-Decides x y).0 (sym (is_eq-slice_cmp x y) ∙ e))),
+    λ not. absurd (true≢false (sym e ∙ not)),
+  )
+  | inr e ↦ (
+    λ apart. e,
+    λ not equal. true≢false (sym ((is_eq-slice_cmp x y) ∙ (bytes_eq-Decides x y).1 equal)
+        ∙ not),
+  )
+]
 
 new_is : (name : List ℕ) (members : MemberTrees) → IsNewName name members
     ↔ AllByRecursion (λ other. same name other ≡ false) (names members)

@@ -83,13 +83,10 @@ pub(crate) fn children(alloc: Global, objects: &[Member]) -> Result<Graph, Fault
         × ((k : ℕ) → slice_get (names (members_tree objects.now)) k ≢ Some name))) }
 {
     let table = table(alloc, objects)?;
-    let mut graph = Graph::with_capacity(alloc, objects.len()).ok_or(Fault::Memory)?;
+    let mut graph = Graph::with_capacity(alloc, objects.len())?;
     for member in objects {
         let row = children_of(alloc, value_of(member), &table)?;
-        let Some(longer) = graph.and_row(&row) else {
-            return Err(Fault::Memory);
-        };
-        graph = longer;
+        graph = graph.and_row(&row)?;
     }
     Ok(graph)
 }

@@ -1,6 +1,6 @@
 -- Numbers in the order of their first uses: the place of each in it counts up.
-use Rattle.std.proofs.Common.{◌≡◌, ◌<◌, ◌++◌, ◌==◌, inl, inr, ℕ, suc, Bool, true, false, List, [], ◌∷◌, length, get_or, map, sym, refl, ap, subst, ◌∙◌, arith, append_assoc, length-append}
-use Rattle.std.proofs.lemmas.Bool.{eq-eqb, false≢true}
+use Rattle.std.proofs.Common.{◌≡◌, ◌<◌, ◌++◌, ◌==◌, inl, inr, ℕ, suc, true, false, List, [], ◌∷◌, length, get_or, map, sym, refl, ap, subst, ◌∙◌, arith, append_assoc, length-append}
+use Rattle.std.proofs.lemmas.Bool.{cases_Bool, eq-eqb, false≢true}
 use Rattle.std.proofs.lemmas.List.Elements.{All-contains, Contains-get_or}
 use Rattle.std.specs.List.{All, Contains, list_any, slice_index}
 use Rattle.cut_on_text.specs.Made.{first_uses, place_in}
@@ -10,49 +10,37 @@ use Rattle.cut_on_text.proofs.Passes.{has_any}
 
 place_before : (xs ys : List ℕ) (k : ℕ) → list_any (λ x. x == k) xs ≡ true → place_in (xs ++ ys) k ≡ place_in xs k
 place_before [] ys k there = absurd (false≢true there)
-place_before (x ∷ xs) ys k there = by (x == k) refl (place_before xs ys k)
-  where
-    by : (b : Bool) → (x == k) ≡ b → (list_any (λ x. x == k) xs ≡ true → place_in (xs ++ ys) k ≡ place_in xs k)
-        → place_in ((x ∷ xs) ++ ys) k ≡ place_in (x ∷ xs) k
-    by true e later = rw e refl
-    by false e later = rw e (ap suc (later (rw e at there)))
+place_before (x ∷ xs) ys k there = elim (cases_Bool (x == k)) [
+  | inl e ↦ rw e refl
+  | inr e ↦ rw e (ap suc ((place_before xs ys k) (rw e at there)))
+]
 
 place_after : (xs ys : List ℕ) (k : ℕ) → list_any (λ x. x == k) xs ≡ false → place_in (xs ++ k ∷ ys) k ≡ length xs
 place_after [] ys k none = rw (eq-eqb k k refl) refl
-place_after (x ∷ xs) ys k none = by (x == k) refl (place_after xs ys k)
-  where
-    by : (b : Bool) → (x == k) ≡ b → (list_any (λ x. x == k) xs ≡ false → place_in (xs ++ k ∷ ys) k ≡ length xs)
-        → place_in ((x ∷ xs) ++ k ∷ ys) k ≡ length (x ∷ xs)
-    by true e later = absurd (false≢true (sym (rw e at none)))
-    by false e later = rw e (ap suc (later (rw e at none)))
+place_after (x ∷ xs) ys k none = elim (cases_Bool (x == k)) [
+  | inl e ↦ absurd (false≢true (sym (rw e at none)))
+  | inr e ↦ rw e (ap suc ((place_after xs ys k) (rw e at none)))
+]
 
 counts_from : (before ks all : List ℕ) → first_uses before ks ≡ all
     → CountsUp (length before) (map (place_in all) ks) (length all)
 counts_from before [] all is = ap length is
-counts_from before (k ∷ ks) all is =
-    by (list_any (λ x. x == k) before) refl (counts_from before ks all) (counts_from (before ++ k ∷ []) ks all)
-  where
-    by : (b : Bool) → list_any (λ x. x == k) before ≡ b
-        → (first_uses before ks ≡ all → CountsUp (length before) (map (place_in all) ks) (length all))
-        → (first_uses (before ++ k ∷ []) ks ≡ all
-        → CountsUp (length (before ++ k ∷ [])) (map (place_in all) ks) (length all))
-        → CountsUp (length before) (map (place_in all) (k ∷ ks)) (length all)
-    by true e same grown =
-        let here : first_uses before ks ≡ all = rw e at is in
-        let front = first_uses-front before ks in
-        let place : place_in all k ≡ place_in before k =
-        ap (λ l. place_in l k) (sym here ∙ front.1) ∙ place_before before front.0 k e in
-        inl (omega (arith, place, (place_there before k (has_any before k e)).0), same here)
-    by false e same grown =
-        let here : first_uses (before ++ k ∷ []) ks ≡ all = rw e at is in
-        let front = first_uses-front (before ++ k ∷ []) ks in
-        let place : place_in all k ≡ length before =
-        ap (λ l. place_in l k) (sym here ∙ (front.1 ∙ append_assoc before (k ∷ []) front.0))
-        ∙ place_after before front.0 k e in
-        inr (
-          place,
-          subst (λ n. CountsUp n (map (place_in all) ks) (length all)) (length-append before (k ∷ [])) (grown here),
-        )
+counts_from before (k ∷ ks) all is = elim (cases_Bool (list_any (λ x. x == k) before)) [
+  | inl e ↦ let here : first_uses before ks ≡ all = rw e at is in
+      let front = first_uses-front before ks in
+      let place : place_in all k ≡ place_in before k =
+      ap (λ l. place_in l k) (sym here ∙ front.1) ∙ place_before before front.0 k e in
+      inl (omega (arith, place, (place_there before k (has_any before k e)).0), (counts_from before ks all) here)
+  | inr e ↦ let here : first_uses (before ++ k ∷ []) ks ≡ all = rw e at is in
+      let front = first_uses-front (before ++ k ∷ []) ks in
+      let place : place_in all k ≡ length before =
+      ap (λ l. place_in l k) (sym here ∙ (front.1 ∙ append_assoc before (k ∷ []) front.0))
+      ∙ place_after before front.0 k e in
+      inr (
+        place,
+        subst (λ n. CountsUp n (map (place_in all) ks) (length all)) (length-append before (k ∷ [])) ((counts_from (before ++ k ∷ []) ks all) here),
+      )
+]
 
 module _ (ks : List ℕ) where
   pub counts_up : CountsUp 0 (map (place_in (first_uses [] ks)) ks) (length (first_uses [] ks))

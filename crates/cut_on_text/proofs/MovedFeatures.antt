@@ -1,6 +1,6 @@
 -- What is made on moved vertices are the features, moved.
-use Rattle.std.proofs.Common.{◌≡◌, ◌∙◌, ◌++◌, ◌<◌, ◌^◌, ◌&&◌, ℕ, zero, suc, Bool, true, false, List, [], ◌∷◌, Option, Some, cond, get_or, length, map, unsigned_abs, refl, sym, ap, subst, arith, codes, pos}
-use Rattle.std.proofs.lemmas.Bool.{le-leb, leb-true}
+use Rattle.std.proofs.Common.{◌≡◌, ◌∙◌, ◌++◌, ◌<◌, ◌^◌, ◌&&◌, ℕ, zero, suc, Bool, true, false, List, [], ◌∷◌, Option, Some, cond, get_or, length, map, unsigned_abs, refl, sym, ap, subst, arith, codes, pos, inl, inr}
+use Rattle.std.proofs.lemmas.Bool.{cases_Bool, le-leb, leb-true}
 use Rattle.std.proofs.Math.Dec.{leb}
 use Rattle.std.proofs.lemmas.List.{length-map}
 use Rattle.std.proofs.lemmas.List.Elements.{All-map}
@@ -65,18 +65,16 @@ pub moved_within : (k p : Triple) → IsInRange (sum p k) → moved_or_same k p 
 moved_within k p range = ap (λ b. cond b (sum p k) p) (said_in_range (sum p k) range)
 
 pub same_outside : (k p : Triple) → (IsInRange (sum p k) → ⊥) → moved_or_same k p ≡ p
-same_outside k p out = by (is_in_range (sum p k)) refl
-  where
-    by : (b : Bool) → is_in_range (sum p k) ≡ b → moved_or_same k p ≡ p
-    by true e = absurd (out (in_range_says (sum p k) e))
-    by false e = ap (λ b. cond b (sum p k) p) e
+same_outside k p out = elim (cases_Bool (is_in_range (sum p k))) [
+  | inl e ↦ absurd (out (in_range_says (sum p k) e))
+  | inr e ↦ ap (λ b. cond b (sum p k) p) e
+]
 
 pub moved_in_range : (k p : Triple) → IsInRange p → IsInRange (moved_or_same k p)
-moved_in_range k p range = by (is_in_range (sum p k)) refl
-  where
-    by : (b : Bool) → is_in_range (sum p k) ≡ b → IsInRange (moved_or_same k p)
-    by true e = subst IsInRange (sym (ap (λ b. cond b (sum p k) p) e)) (in_range_says (sum p k) e)
-    by false e = subst IsInRange (sym (ap (λ b. cond b (sum p k) p) e)) range
+moved_in_range k p range = elim (cases_Bool (is_in_range (sum p k))) [
+  | inl e ↦ subst IsInRange (sym (ap (λ b. cond b (sum p k) p) e)) (in_range_says (sum p k) e)
+  | inr e ↦ subst IsInRange (sym (ap (λ b. cond b (sum p k) p) e)) range
+]
 
 pub moved_point : (k : Triple) (points : List Triple) (j : ℕ) → j < length points
     → point_at (map (moved_or_same k) points) j ≡ moved_or_same k (point_at points j)

@@ -1,36 +1,43 @@
 -- The texts of moved vertices, put one after another.
-use Rattle.std.proofs.Common.{◌≡◌, ◌∙◌, ◌++◌, ◌<◌, ◌≤◌, ◌+◌, ◌-◌, ◌⊎◌, inl, inr, ℕ, zero, suc, true, false, List, [], ◌∷◌, length, map, take, drop, sym, ap, subst, arith, length-append, take_all, pos}
+use Rattle.std.proofs.Common.{◌≡◌, ◌∙◌, ◌++◌, ◌<◌, ◌≤◌, ◌+◌, ◌-◌, ◌⊎◌, inl, inr, ℕ, zero, suc, true, false, List, [], ◌∷◌, length, map, take, drop, sym, ap, subst, arith, ⊎_elim, length-append, take_all, pos}
 use Rattle.std.proofs.Math.Dec.{leb}
 use Rattle.std.proofs.Math.Seq.{drop-append-add}
 use Rattle.std.proofs.lemmas.Bool.Decides.{leb_tells}
 use Rattle.std.proofs.lemmas.List.{drop-append-le, length-drop, map_more, take-append-le}
 use Rattle.std.proofs.lemmas.List.Elements.{All-push}
 use Rattle.std.specs.List.{All, slice_index, slice_range}
-use Rattle.city_json.proofs.CompactLaws.{compact-tells}
+use Rattle.byte_streams.specs.declared.fault.Fault.{Fault}
+use Rattle.byte_streams.specs.declared.fault.Fault.TheVariants.{Memory}
 use Rattle.city_json.specs.Bytes.{comma}
 use Rattle.city_json.specs.Compact.{compact}
+use Rattle.city_json.specs.CompactTexts.{IsCompactOf}
+use Rattle.city_json.specs.Tree.{Tree}
 use Rattle.city_grid.proofs.VertexLaws.{vertex_is_read, vertex_is_writable}
 use Rattle.city_grid.specs.Axes.{IsInRange, Triple, triple}
-use Rattle.city_grid.specs.Vertex.{IsVertex, vertex_tree}
+use Rattle.city_grid.specs.Vertex.{IsVertex, RefusesVertex, vertex_tree}
 use Rattle.city_families.specs.Chosen.{point_at}
 use Rattle.cut_on_text.specs.Moved.{moved_or_same}
-use Rattle.cut_on_text.specs.VertexTexts.{StandAt}
-use Rattle.city_feature.proofs.OneFeature.{same_vertex}
+use Rattle.cut_on_text.specs.VertexTexts.{IsGrown, StandAt}
+use Rattle.city_feature.proofs.OneFeature.{same_vertex, taken}
 use Rattle.cut_on_text.proofs.TextPoints.{stand_more, stand_none}
 
--- the text of a vertex in range tells the vertex
-pub same_point : (p q : Triple) → IsInRange p → IsInRange q → compact (vertex_tree p) ≡ compact (vertex_tree q) → p ≡ q
-same_point p q p_range q_range same =
-    let trees : vertex_tree p ≡ vertex_tree q =
-    compact-tells (vertex_tree p) (vertex_tree q) (vertex_is_writable p p_range) (vertex_is_writable q q_range) same in
-    same_vertex (vertex_tree q) p q (subst (λ t. IsVertex t p) trees (vertex_is_read p p_range))
-    (vertex_is_read q q_range)
+-- the text of a vertex in range is read as that vertex
+vertex_text : (text : List ℕ) (p : Triple) → IsInRange p → text ≡ compact (vertex_tree p)
+    → IsCompactOf text (vertex_tree p)
+vertex_text text p range is =
+    record { is = is; writable = vertex_is_writable p range; distinct = (tt, (tt, (tt, tt))); within = omega arith }
 
--- the texts of these vertices stand in a text that ends with the last of them
-pub record IsGrown (text starts : List ℕ) (points : List Triple) : Type 0 where
-  pub stand : StandAt text starts points
-  pub last : slice_index starts (length points) ≡ length text + 1
-  pub within : All (λ start. start ≤ length text + 1) starts
+pub vertex_read : (text : List ℕ) (p v : Triple) → IsInRange p → text ≡ compact (vertex_tree p)
+    → ((value : Tree) → IsCompactOf text value → IsVertex value v) → v ≡ p
+vertex_read text p v range is read = same_vertex (vertex_tree p) v p
+    (read (vertex_tree p) (vertex_text text p range is)) (vertex_is_read p range)
+
+pub no_vertex_fault : (text : List ℕ) (p : Triple) (fault : Fault) → IsInRange p → text ≡ compact (vertex_tree p)
+    → ((value : Tree) → IsCompactOf text value → (fault ≡ Memory) ⊎ RefusesVertex fault value) → fault ≡ Memory
+no_vertex_fault text p fault range is refused =
+    ⊎_elim (λ memory. memory)
+    (λ why. absurd (taken fault (vertex_tree p) p (vertex_is_read p range) range why))
+    (refused (vertex_tree p) (vertex_text text p range is))
 
 pub grown_none : (text starts none : List ℕ) → text ≡ [] → none ≡ [] → starts ≡ none ++ 1 ∷ [] → IsGrown text starts []
 grown_none text starts none empty nothing is =
@@ -86,14 +93,13 @@ grown_more text text' starts starts' points v grown appended pushed =
           (λ i d below. let within = grown.within i d below in omega (arith, within, long)) (omega arith));
     }
 
-pub grown_on : (k : Triple) (points : List Triple) (at : ℕ) (text text' starts starts' : List ℕ) → at < length points
-    → IsGrown text starts (map (moved_or_same k) (take at points))
-    → text' ≡ text ++ comma ∷ compact (vertex_tree (moved_or_same k (point_at points at)))
-    → starts' ≡ starts ++ (length text' + 1) ∷ [] → IsGrown text' starts' (map (moved_or_same k) (take (at + 1) points))
-grown_on k points at text text' starts starts' below grown appended pushed =
-    subst (IsGrown text' starts') (sym (map_more (moved_or_same k) points at (triple (pos 0) (pos 0) (pos 0)) below))
-    (grown_more text text' starts starts' (map (moved_or_same k) (take at points))
-    (moved_or_same k (point_at points at)) grown appended pushed)
+pub grown_on : (k : Triple) (points : List Triple) (at : ℕ) (text starts : List ℕ) (v : Triple) → at < length points
+    → v ≡ moved_or_same k (point_at points at)
+    → IsGrown text starts (map (moved_or_same k) (take at points) ++ v ∷ [])
+    → IsGrown text starts (map (moved_or_same k) (take (at + 1) points))
+grown_on k points at text starts v below is grown =
+    subst (IsGrown text starts) (ap (λ p. map (moved_or_same k) (take at points) ++ p ∷ []) is
+    ∙ sym (map_more (moved_or_same k) points at (triple (pos 0) (pos 0) (pos 0)) below)) grown
 
 pub grown_all : (k : Triple) (points : List Triple) (at : ℕ) (text starts : List ℕ) → length points ≤ at
     → IsGrown text starts (map (moved_or_same k) (take at points)) → StandAt text starts (map (moved_or_same k) points)

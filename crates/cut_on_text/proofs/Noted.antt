@@ -1,6 +1,6 @@
 -- Numbers that are noted once each, in a table of their places.
 use Rattle.std.proofs.Common.{◌≡◌, ◌≢◌, ◌<◌, ◌≤◌, ◌+◌, ◌++◌, ◌⊎◌, ◌↔◌, inl, inr, ℕ, zero, suc, Bool, true, false, ◌==◌, List, [], ◌∷◌, length, get_or, map, flat_map, take, length-append, length-set, sym, refl, ap, subst, ◌∙◌, arith, append_assoc}
-use Rattle.std.proofs.lemmas.Bool.{cases_eq, eqb-true, eq-eqb, false_from_ne_true, ne_eqb, both_ways}
+use Rattle.std.proofs.lemmas.Bool.{both_ways, cases_Bool, cases_eq, eq-eqb, eqb-true, false_from_ne_true, ne_eqb}
 use Rattle.std.proofs.lemmas.List.{append-nil, get_or_append_left, get_or_default, get_or_push, get_or-set_same, get_or-set_other, map-append, take_more}
 use Rattle.std.proofs.lemmas.Grind.{flat_map-append}
 use Rattle.std.proofs.lemmas.List.Elements.{All-contains, Contains-append_left, Contains-get_or, Contains-push, Contains-push_cases, recursion_from_All}
@@ -25,12 +25,10 @@ place_there xs k c = found xs c.0 c.1 c.2
         → (place_in xs k < length xs) × (slice_index xs (place_in xs k) ≡ k)
     found [] i inside is = absurd (omega (arith, inside))
     found (x ∷ xs) zero inside is = rw (eq-eqb x k is) (omega arith, is)
-    found (x ∷ xs) (suc i) inside is = by (x == k) refl (found xs i (omega (arith, inside)) is)
-      where
-        by : (b : Bool) → (x == k) ≡ b → (place_in xs k < length xs) × (slice_index xs (place_in xs k) ≡ k)
-            → (place_in (x ∷ xs) k < length (x ∷ xs)) × (slice_index (x ∷ xs) (place_in (x ∷ xs) k) ≡ k)
-        by true e later = rw e (omega arith, eqb-true x k e)
-        by false e later = rw e (omega (arith, later.0), later.1)
+    found (x ∷ xs) (suc i) inside is = elim (cases_Bool (x == k)) [
+      | inl e ↦ rw e (omega arith, eqb-true x k e)
+      | inr e ↦ rw e (omega (arith, (found xs i (omega (arith, inside)) is).0), (found xs i (omega (arith, inside)) is).1)
+    ]
 
 pub place_none : (xs : List ℕ) (k : ℕ) → list_any (λ x. x == k) xs ≡ false → place_in xs k ≡ length xs
 place_none [] k none = refl
@@ -51,16 +49,13 @@ module _ (table order : List ℕ) (r : IsRoster table order) where
 
   pub has_below : (one : ℕ) → slice_index table one < length order
       → nat_eq (slice_index order (slice_index table one)) one ≡ list_any (λ x. x == one) order
-  has_below one below = by (nat_eq (slice_index order (slice_index table one)) one) refl
-    where
-      by : (b : Bool) → nat_eq (slice_index order (slice_index table one)) one ≡ b
-          → nat_eq (slice_index order (slice_index table one)) one ≡ list_any (λ x. x == one) order
-      by true e =
-          let same : slice_index order (slice_index table one) ≡ one = eqb-true _ _ e in
-          e ∙ sym (any_has order one (subst (Contains order) same
-          (Contains-get_or order (slice_index table one) 0 below)))
-      by false e = e ∙ sym (false_from_ne_true (list_any (λ x. x == one) order)
-          (λ found. both_ways _ e (eq-eqb _ one (stands_there one (has_any order one found)).1)))
+  has_below one below = elim (cases_Bool (nat_eq (slice_index order (slice_index table one)) one)) [
+    | inl e ↦ let same : slice_index order (slice_index table one) ≡ one = eqb-true _ _ e in
+        e ∙ sym (any_has order one (subst (Contains order) same
+        (Contains-get_or order (slice_index table one) 0 below)))
+    | inr e ↦ e ∙ sym (false_from_ne_true (list_any (λ x. x == one) order)
+        (λ found. both_ways _ e (eq-eqb _ one (stands_there one (has_any order one found)).1)))
+  ]
 
   pub has_past : (one : ℕ) → length order ≤ slice_index table one → list_any (λ x. x == one) order ≡ false
   has_past one past = false_from_ne_true (list_any (λ x. x == one) order)
@@ -185,11 +180,10 @@ sorted_rises table order sorted r moved up =
     (IsDistinct-IsPermutation nat_eq same order sorted moved (distinct table order r))
   where
     same : (x y : ℕ) → nat_eq x y ≡ nat_eq y x
-    same x y = by (nat_eq x y) refl
-      where
-        by : (b : Bool) → nat_eq x y ≡ b → nat_eq x y ≡ nat_eq y x
-        by true e = e ∙ sym (flipped x y e)
-        by false e = e ∙ sym (ne_eqb y x (λ back. both_ways _ e (eq-eqb x y (sym back))))
+    same x y = elim (cases_Bool (nat_eq x y)) [
+      | inl e ↦ e ∙ sym (flipped x y e)
+      | inr e ↦ e ∙ sym (ne_eqb y x (λ back. both_ways _ e (eq-eqb x y (sym back))))
+    ]
 
 pub sorted_same : (order sorted : List ℕ) → IsPermutation order sorted → (k : ℕ) → Contains sorted k ↔ Contains order k
 sorted_same order sorted moved k = (

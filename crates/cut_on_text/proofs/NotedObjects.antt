@@ -1,27 +1,24 @@
 -- Objects whose leaves are noted.
-use Rattle.std.proofs.Common.{◌≡◌, ◌∙◌, ◌++◌, ◌≤◌, ◌+◌, ℕ, List, ◌∷◌, [], Some, length, take, drop, slice_range, sym, ap, codes, length-append}
+use Rattle.std.proofs.Common.{◌≡◌, ◌∙◌, ◌++◌, ◌+◌, ℕ, List, Option, length, sym, ap, subst, length-append}
 use Rattle.std.proofs.lemmas.List.{length-map}
 use Rattle.std.specs.List.{flat_map}
-use Rattle.city_json.specs.Bytes.{colon}
-use Rattle.city_json.specs.Compact.{compact, quoted}
-use Rattle.city_json.specs.Members.{first_named}
-use Rattle.city_json.specs.Parts.{AreParts, IsPartNamed}
-use Rattle.city_json.specs.Tree.{Tree, MemberTrees, object}
-use Rattle.city_json.specs.declared.compacting.places.MemberPlace.{MemberPlace}
+use Rattle.city_json.specs.Compact.{compact}
 use Rattle.city_json.specs.CompactTexts.{IsCompactOf}
-use Rattle.city_families.specs.Boundaries.{IsBounded, boundaries, changed_members, relabelled_addresses, relabelled_geometries, relabelled_object}
-use Rattle.cut_on_text.specs.Holders.{AreHeld, held_uses, name_of, other_than, relabelled_held}
+use Rattle.city_json.specs.Tree.{Tree, object}
+use Rattle.city_json.specs.declared.compacting.places.MemberPlace.{MemberPlace}
+use Rattle.city_families.specs.Boundaries.{IsBounded, boundaries, relabelled_object}
+use Rattle.cut_on_text.specs.Holders.{copied_to, part_in, split_by, uses_in}
 use Rattle.city_families.specs.Leaves.{leaves}
+use Rattle.cut_on_text.specs.Overviews.{HasHolders, IsHolderPart}
 use Rattle.cut_on_text.specs.Skeletons.{LeafPlace}
 use Rattle.cut_on_text.specs.Sketches.{IsNoted, LeafNoted}
-use Rattle.cut_on_text.specs.Walks.{Labelling}
+use Rattle.cut_on_text.specs.Walks.{Labelling, Walks}
+use Rattle.cut_on_text.specs.declared.on_text.holders.HeldParts.{HeldParts}
 use Rattle.cut_on_text.specs.declared.on_text.holders.Holder.{Holder}
 use Rattle.cut_on_text.specs.declared.on_text.holders.Holder.TheVariants.{Geometry, Address}
 use Rattle.cut_on_text.specs.declared.on_text.notes.NotedLeaves.{NotedLeaves}
-use Rattle.cut_on_text.proofs.NoteWalks.{Notes, noted_apart, noted_in_order, noted_so, walk_notes}
-use Rattle.cut_on_text.proofs.TextCopies.{HeldMade, ObjectWalked}
-use Rattle.cut_on_text.proofs.TextObjects.{both_bounded, both_uses, either, name_utf8, some_same, two_made}
-use Rattle.cut_on_text.proofs.TextMembers.{member_there}
+use Rattle.cut_on_text.proofs.NoteWalks.{Notes, noted_apart, noted_in_order, walk_notes}
+use Rattle.cut_on_text.proofs.TextObjects.{MemberMade, WalkedFrom, both_uses, holder_part, of_object}
 
 abbrev pub NoteLabelled : Labelling NotedLeaves
 NoteLabelled notes line notes' line' vertex = LeafNoted notes.leaves.items line notes'.leaves.items line' vertex
@@ -34,94 +31,49 @@ ObjectNoted count noted line split noted' line' value = IsBounded count value
     × IsNoted noted line split noted' line' (flat_map leaves (boundaries value))
     (λ change. compact (relabelled_object change value))
 
-pub object_noted : (count : ℕ) (n : NotedLeaves) (line : List ℕ) (split : ℕ) (n' : NotedLeaves) (line' : List ℕ)
-    (value : Tree) → ObjectWalked NoteLabelled count n line n' line' value → split ≡ length n.leaves.items
+notes_of : (n : NotedLeaves) (line : List ℕ) (n' : NotedLeaves) (line' uses : List ℕ) (own : (List ℕ → List ℕ) → List ℕ)
+    → Walks NoteLabelled n line n' line' uses own → Notes n.leaves.items line n'.leaves.items line' uses own
+notes_of n line n' line' uses own walk = walk_notes noted_in (λ s a s' b vertex noted. noted) n line n' line' uses own walk
+
+-- so many leaves are noted as vertices are named
+noted_more : (n : NotedLeaves) (line : List ℕ) (n' : NotedLeaves) (line' uses : List ℕ) (own : (List ℕ → List ℕ) → List ℕ)
+    → Walks NoteLabelled n line n' line' uses own → length n'.leaves.items ≡ length n.leaves.items + length uses
+noted_more n line n' line' uses own walk =
+    let notes = notes_of n line n' line' uses own walk in
+    ap length notes.more ∙ (length-append n.leaves.items notes.new ∙ ap (λ k. length n.leaves.items + k)
+    (sym (ap length notes.named ∙ length-map notes.new (λ (leaf : LeafPlace). leaf.vertex))))
+
+noted_value : (first : Holder) (count : ℕ) (n : NotedLeaves) (line : List ℕ) (n₁ : NotedLeaves) (line₁ : List ℕ)
+    (n' : NotedLeaves) (line' : List ℕ) (split : ℕ) (value : Tree) (own₁ : (List ℕ → List ℕ) → List ℕ)
+    → Walks NoteLabelled n line n₁ line₁ (uses_in first value) own₁
+    → split ≡ split_by first (length n.leaves.items) (length n₁.leaves.items)
+    → WalkedFrom NoteLabelled first count n line n' line' value
     → ObjectNoted count n.leaves.items line split n'.leaves.items line' value
-object_noted count n line split n' line' value made is =
-    let uses = flat_map leaves (boundaries value) in
+noted_value Geometry count n line n₁ line₁ n' line' split value own₁ walk is made =
     let own : (List ℕ → List ℕ) → List ℕ = λ change. compact (relabelled_object change value) in (
       made.0,
-      noted_in_order n.leaves.items line split n'.leaves.items line' uses own
-          (walk_notes noted_in (λ s a s' b vertex noted. noted) n line n' line' uses own made.1) is,
+      subst (λ uses. IsNoted n.leaves.items line split n'.leaves.items line' uses own) (both_uses value)
+          (noted_in_order n.leaves.items line split n'.leaves.items line' (uses_in Geometry value ++ uses_in Address value)
+          own (notes_of n line n' line' (uses_in Geometry value ++ uses_in Address value) own made.1) is),
+    )
+noted_value Address count n line n₁ line₁ n' line' split value own₁ walk is made =
+    let own : (List ℕ → List ℕ) → List ℕ = λ change. compact (relabelled_object change value) in (
+      made.0,
+      subst (λ uses. IsNoted n.leaves.items line split n'.leaves.items line' uses own) (both_uses value)
+          (noted_apart n.leaves.items line split n'.leaves.items line' (uses_in Address value) (uses_in Geometry value) own
+          (notes_of n line n' line' (uses_in Address value ++ uses_in Geometry value) own made.1)
+          (is ∙ noted_more n line n₁ line₁ (uses_in Address value) own₁ walk)),
     )
 
--- ---- two members
-abbrev pub TwoNoted : Holder → ℕ → List LeafPlace → List ℕ → ℕ → List LeafPlace → List ℕ → MemberTrees → Type 0
-TwoNoted holder count noted line split noted' line' members =
-    (value other : Tree) × (first_named (name_of holder) members ≡ Some value)
-    × (first_named (name_of (other_than holder)) members ≡ Some other)
-    × AreHeld holder count value × AreHeld (other_than holder) count other
-    × IsNoted noted line split noted' line' (held_uses (other_than holder) other ++ held_uses holder value)
-    (λ change. compact (object (changed_members (name_of holder) (relabelled_held holder change)
-    (changed_members (name_of (other_than holder)) (relabelled_held (other_than holder) change) members))))
-
--- how many leaves are noted where the first member was copied
-noted_first : (holder : Holder) (count : ℕ) (text given : List ℕ) (n : NotedLeaves) (line : List ℕ) (n₁ : NotedLeaves)
-    (line₁ : List ℕ) (part : MemberPlace) → given ≡ slice_range text part.value part.end
-    → ((value : Tree) → IsCompactOf given value → HeldMade NoteLabelled holder count n line n₁ line₁ value)
-    → (parts : List MemberPlace) (members : MemberTrees) → IsCompactOf text (object members) → AreParts 1 parts members
-    → IsPartNamed text parts (quoted (name_of holder) ++ colon ∷ []) part → (value : Tree)
-    → first_named (name_of holder) members ≡ Some value
-    → length n₁.leaves.items ≡ length n.leaves.items + length (held_uses holder value)
-noted_first holder count text given n line n₁ line₁ part lies made parts members of are named value is =
-    let found = member_there text parts members (name_of holder) part given (name_utf8 holder) of are named lies in
-    let same : found.value ≡ value = some_same found.value value (sym found.is ∙ is) in
-    let notes : Notes n.leaves.items line n₁.leaves.items line₁ (held_uses holder found.value)
-    (λ change. compact (relabelled_held holder change found.value)) =
-    walk_notes noted_in (λ s a s' b vertex noted. noted) n line n₁ line₁ (held_uses holder found.value)
-    (λ change. compact (relabelled_held holder change found.value)) (made found.value found.of).1 in
-    let new : length (held_uses holder found.value) ≡ length notes.new =
-    ap length notes.named ∙ length-map notes.new (λ (leaf : LeafPlace). leaf.vertex) in
-    let more : length n₁.leaves.items ≡ length n.leaves.items + length notes.new =
-    ap length notes.more ∙ length-append n.leaves.items notes.new in
-    more ∙ ap (λ k. length n.leaves.items + k) (sym new ∙ ap (λ v. length (held_uses holder v)) same)
-
-pub two_noted : (holder : Holder) (count : ℕ) (text given middle given₂ : List ℕ) (n : NotedLeaves)
-    (line line₁ : List ℕ) (n₁ : NotedLeaves) (line₂ line₃ : List ℕ) (n₂ : NotedLeaves) (line₄ line₅ : List ℕ)
-    (p q : MemberPlace) (split : ℕ)
-    → given ≡ slice_range text p.value p.end → middle ≡ slice_range text p.end q.value
-    → given₂ ≡ slice_range text q.value q.end → p.end ≤ q.value
-    → line₁ ≡ line ++ take p.value text → ((value : Tree) → IsCompactOf given value
-    → HeldMade NoteLabelled holder count n line₁ n₁ line₂ value) → line₃ ≡ line₂ ++ middle
-    → ((value : Tree) → IsCompactOf given₂ value
-    → HeldMade NoteLabelled (other_than holder) count n₁ line₃ n₂ line₄ value)
-    → line₅ ≡ line₄ ++ drop q.end text → split ≡ length n₁.leaves.items
-    → (parts : List MemberPlace) (members : MemberTrees) → IsCompactOf text (object members) → AreParts 1 parts members
-    → IsPartNamed text parts (quoted (name_of holder) ++ colon ∷ []) p
-    → IsPartNamed text parts (quoted (name_of (other_than holder)) ++ colon ∷ []) q
-    → TwoNoted holder count n.leaves.items line split n₂.leaves.items line₅ members
-two_noted holder count text given middle given₂ n line line₁ n₁ line₂ line₃ n₂ line₄ line₅ p q split lies between lies₂
-    ordered front made more made₂ back split_is parts members of are named named₂ =
-    let (value, other, is, is₂, held, held₂, walk) = two_made holder count text given middle given₂ n line line₁ n₁
-    line₂ line₃ n₂ line₄ line₅ p q lies between lies₂ ordered front made more made₂ back parts members of are named
-    named₂ in
-    let own : (List ℕ → List ℕ) → List ℕ = λ change. compact (object (changed_members (name_of holder)
-    (relabelled_held holder change) (changed_members (name_of (other_than holder))
-    (relabelled_held (other_than holder) change) members))) in
-    let uses = held_uses holder value in
-    let uses₂ = held_uses (other_than holder) other in
-    let first = noted_first holder count text given n line₁ n₁ line₂ p lies made parts members of are named value is
-    in (
-      value,
-      other,
-      is,
-      is₂,
-      held,
-      held₂,
-      noted_apart n.leaves.items line split n₂.leaves.items line₅ uses uses₂ own
-          (walk_notes noted_in (λ s a s' b vertex noted. noted) n line n₂ line₅ (uses ++ uses₂) own walk)
-          (split_is ∙ first),
-    )
-
-pub object_noted_last : (count : ℕ) (noted : List LeafPlace) (line : List ℕ) (split : ℕ) (noted' : List LeafPlace)
-    (line' : List ℕ) (members : MemberTrees) → TwoNoted Address count noted line split noted' line' members
-    → ObjectNoted count noted line split noted' line' (object members)
-object_noted_last count noted line split noted' line' members (other, value, is₂, is, held₂, held, notes) = (
-  both_bounded count members value other is is₂ held held₂,
-  noted_so noted line split noted' line' (held_uses Geometry value ++ held_uses Address other)
-      (flat_map leaves (boundaries (object members)))
-      (λ change. compact (object (changed_members (codes "address") (relabelled_addresses change)
-      (changed_members (codes "geometry") (relabelled_geometries change) members))))
-      (λ change. compact (relabelled_object change (object members))) notes (sym (both_uses members value other is is₂))
-      (λ change. ap (λ m. compact (object m)) (either change members)),
-)
+pub object_noted : (first : Holder) (count : ℕ) (text : List ℕ) (held : HeldParts) (part : Option MemberPlace) (n : NotedLeaves)
+    (line : List ℕ) (n₁ : NotedLeaves) (line₁ : List ℕ) (n' : NotedLeaves) (line' : List ℕ) (split : ℕ)
+    → HasHolders text held → part ≡ part_in first held → MemberMade NoteLabelled text first count 0 part n line n₁ line₁
+    → split ≡ split_by first (length n.leaves.items) (length n₁.leaves.items)
+    → ((value : Tree) → IsCompactOf text value → WalkedFrom NoteLabelled first count n line n' line' value)
+    → (value : Tree) → IsCompactOf text value → ObjectNoted count n.leaves.items line split n'.leaves.items line' value
+object_noted first count text held part n line n₁ line₁ n' line' split has is made split_is walked =
+    of_object (ObjectNoted count n.leaves.items line split n'.leaves.items line') text has.parts has.listed
+    (λ members of are. noted_value first count n line n₁ line₁ n' line' split (object members)
+    (λ change. copied_to text 0 part first change (object members)) (made has.parts members of are
+    (subst (IsHolderPart first text has.parts) (sym is) (holder_part first text held has))).1 split_is
+    (walked (object members) of))

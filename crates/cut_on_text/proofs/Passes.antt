@@ -1,6 +1,6 @@
 -- What is reached from a thing, found by Warshall's algorithm, and the list of it in order.
-use Rattle.std.proofs.Common.{◌≡◌, ◌<◌, ◌≤◌, ◌+◌, ◌++◌, ◌⊎◌, ◌↔◌, inl, inr, ℕ, zero, suc, Bool, true, false, ◌==◌, ◌&&◌, List, [], ◌∷◌, Some, not, length, get_or, length-append, sym, refl, ap, subst, ◌∙◌, arith}
-use Rattle.std.proofs.lemmas.Bool.{and_from, and_parts, cases_eq, eq-eqb, eqb-true, or_cases, or_left, or_right}
+use Rattle.std.proofs.Common.{◌≡◌, ◌<◌, ◌≤◌, ◌+◌, ◌++◌, ◌⊎◌, ◌↔◌, inl, inr, ℕ, zero, suc, Bool, true, ◌==◌, ◌&&◌, List, [], ◌∷◌, Some, not, length, get_or, length-append, sym, refl, ap, subst, ◌∙◌, arith}
+use Rattle.std.proofs.lemmas.Bool.{and_from, and_parts, cases_Bool, cases_eq, eq-eqb, eqb-true, or_cases, or_left, or_right}
 use Rattle.std.proofs.lemmas.List.{get_or_append_left, get_or_push}
 use Rattle.std.proofs.lemmas.List.Elements.{All-contains, All-contains_itself, All-filter, Contains-get_or, filter_passes}
 use Rattle.std.proofs.lemmas.List.Folds.{Any-from_list_any, list_any-from_Any}
@@ -174,12 +174,10 @@ filter_has : (p : ℕ → Bool) (xs : List ℕ) (x k : ℕ) → k < length xs �
 filter_has p [] x k inside is passes = absurd (omega (arith, inside))
 filter_has p (first ∷ others) x zero inside is passes =
     rw (ap p is ∙ passes) (0, omega arith, is)
-filter_has p (first ∷ others) x (suc k) inside is passes = by (p first) refl
-    (filter_has p others x k (omega (arith, inside)) is passes)
-  where
-    by : (b : Bool) → p first ≡ b → Contains (filter p others) x → Contains (filter p (first ∷ others)) x
-    by true e later = rw e (suc later.0, omega (arith, later.1), later.2)
-    by false e later = rw e later
+filter_has p (first ∷ others) x (suc k) inside is passes = elim (cases_Bool (p first)) [
+  | inl e ↦ rw e (suc (filter_has p others x k (omega (arith, inside)) is passes).0, omega (arith, (filter_has p others x k (omega (arith, inside)) is passes).1), (filter_has p others x k (omega (arith, inside)) is passes).2)
+  | inr e ↦ rw e (filter_has p others x k (omega (arith, inside)) is passes)
+]
 
 pub family_has : (graph : List (List ℕ)) (root k : ℕ) → k < length graph
     → passes graph (length graph) root k ≡ true → Contains (family graph root) k

@@ -1,12 +1,10 @@
 -- Why a document is not cut, found on its compact text.
-use Rattle.std.proofs.Common.{◌≡◌, ◌∙◌, ◌<◌, ◌⊎◌, ◌↔◌, inl, inr, ℕ, zero, suc, Bool, true, false, IsTrue, List, [], ◌∷◌, Option, Some, None, Result, Ok, Err, IfErr, IfOk, IsUtf8, length, map, unwrap_or, refl, sym, ap, subst, arith, codes}
+use Rattle.std.proofs.Common.{◌≡◌, ◌∙◌, ◌<◌, ◌⊎◌, ◌↔◌, inl, inr, ℕ, zero, suc, Bool, true, false, IsTrue, List, [], ◌∷◌, Option, Some, None, Result, Ok, Err, IfErr, IfOk, IfSome, IsUtf8, length, map, unwrap_or, refl, sym, ap, subst, arith, codes}
 use Rattle.std.specs.Borrow.{Bor}
 use Rattle.std.specs.List.{AllByRecursion, AllZip, Contains}
 use Rattle.byte_streams.specs.declared.fault.Fault.{Fault}
-use Rattle.byte_streams.specs.declared.fault.Fault.TheVariants.{NotCityJson, Version, NoTransform, Decimal, ScaleNotPositive, VertexShape, VertexNotInteger, VertexRange, ChildMissing, Orphan, BoundaryIndex, Memory}
-use Rattle.city_json.proofs.CompactLaws.{compact-tells}
+use Rattle.byte_streams.specs.declared.fault.Fault.TheVariants.{NotCityJson, Version, NoTransform, Decimal, ScaleNotPositive, ChildMissing, Orphan, BoundaryIndex, Memory}
 use Rattle.city_json.specs.Compact.{quoted}
-use Rattle.city_json.specs.CompactMembers.{HasParts}
 use Rattle.city_json.specs.Members.{first_named, member_of, names}
 use Rattle.city_json.specs.Parts.{AreParts}
 use Rattle.city_json.specs.Tree.{Tree, ItemTrees, MemberTrees, array, no_items, no_members, member_trees, null, object, string}
@@ -15,47 +13,27 @@ use Rattle.city_grid.specs.Axes.{Triple}
 use Rattle.city_grid.specs.Transform.{Grid}
 use Rattle.city_feature.specs.Feature.{AreVertices, RefusesFirst, item_count}
 use Rattle.city_feature.specs.Header.{HasBadTransform, IsHeader, RefusesGrid, RefusesHeader}
-use Rattle.city_feature.specs.LineTexts.{SpellsVertices}
 use Rattle.city_feature.specs.Shapes.{IsArray, IsObject, WhereThere}
 use Rattle.city_json.specs.CompactTexts.{IsCompactOf}
 use Rattle.city_families.specs.Chosen.{named_at}
 use Rattle.city_families.specs.CityObjects.{AreCityObjects, LacksChild, objects_of, vertices_of}
 use Rattle.city_families.specs.Cut.{HasFrame, HasValidVertices, IsDocument, RefusesCut, RefusesFrame, header_tree}
 use Rattle.cut_on_text.specs.Faults.{HoldsCityObjects, RefusesObjects}
-use Rattle.city_families.specs.Families.{AreRelated}
-use Rattle.cut_on_text.specs.Graphs.{HaveRows, SomeNamesMissing}
+use Rattle.cut_on_text.specs.Graphs.{SomeNamesMissing}
 use Rattle.city_families.specs.Items.{items_of, members_in, values}
 use Rattle.cut_on_text.specs.Kin.{HasChildrenText}
-use Rattle.cut_on_text.specs.Overviews.{HasChildrenIn, HasParentsIn}
+use Rattle.cut_on_text.specs.Overviews.{HasChildrenIn}
 use Rattle.city_families.specs.Table.{IsTable}
 use Rattle.city_families.proofs.FeatureList.{zip_at}
-use Rattle.city_families.proofs.Checking.{no_first, vertex_refused}
+use Rattle.city_families.proofs.Checking.{vertex_refused}
 use Rattle.city_families.proofs.CopiedTexts.{not_both}
 use Rattle.city_families.proofs.HeaderMembers.{other_member, stays_city_json}
-use Rattle.cut_on_text.proofs.TextDocuments.{ObjectsThere, as_many, document_is, frame, items_or, members_or, objects_there}
-use Rattle.cut_on_text.proofs.TextGraphs.{names_utf8, quoted_names, related}
+use Rattle.cut_on_text.proofs.TextDocuments.{as_many, document_is, frame, items_or, members_or}
+use Rattle.cut_on_text.proofs.TextGraphs.{names_utf8, quoted_names}
 use Rattle.cut_on_text.proofs.TextOverviews.{said_all}
+use Rattle.cut_on_text.proofs.TextPoints.{array_is}
 
 -- ---- the objects that are in a text
-pub related_there : (text : List ℕ) (places listed : List MemberPlace) (parents : List Bool)
-    (given lent : List (Bor (List ℕ))) (graph : List (List ℕ)) (table sorted : List (Bor (List ℕ) × ℕ))
-    (value : Tree) → HasParts text places → AllZip (HasParentsIn text) places parents
-    → AllZip (HasChildrenIn text) places given → listed ≡ places → lent ≡ given → sorted ≡ table
-    → ((pairs : List (List ℕ × Tree)) → IsCompactOf text (object (member_trees pairs))
-    → AreParts 1 listed (member_trees pairs) → IsTable (map (λ (pair : List ℕ × Tree). quoted pair.0) pairs) table)
-    → ((all : List (List ℕ)) → AllByRecursion IsUtf8 all → IsTable (map quoted all) sorted → HaveRows all lent graph)
-    → IsCompactOf text value
-    → (there : ObjectsThere text places value) × AreRelated there.pairs graph parents
-related_there text places listed parents given lent graph table sorted value has in_parts texts same lends as_sorted
-    tabled rows of =
-    let there = objects_there text places value of has in (
-      there,
-      (related text places parents given graph there.pairs table in_parts texts
-          (tabled there.pairs there.of (subst (λ p. AreParts 1 p (member_trees there.pairs)) (sym same) there.are))
-          (λ all utf8 is. subst (λ l. HaveRows all l graph) lends
-          (rows all utf8 (subst (IsTable (map quoted all)) (sym as_sorted) is))) there.of there.are).0,
-    )
-
 pub orphan_told : {P : Type 0} (fault : Fault) → fault ≡ Orphan → (fault ≡ Memory) ⊎ ((fault ≡ Orphan) × P) → P
 orphan_told fault is (inl memory) = absurd (apart (sym is ∙ memory))
   where
@@ -125,6 +103,11 @@ refused_so document fault objects count valid same many refused =
     told other refused = absurd refused
 
 -- ---- what is known of an answer, where it is known which it is
+pub if_both : {A : Type 0} {P Q R : A → Type 0} (answer : Option A) → IfSome answer P → IfSome answer Q
+    → ((x : A) → P x → Q x → R x) → IfSome answer R
+if_both (Some x) one other both = both x one other
+if_both None one other both = tt
+
 pub ok_told : {A E : Type 0} (P : A → Type 0) (answer : Result A E) (value : A) → answer ≡ Ok value → IfOk answer P
     → P value
 ok_told {A = A} {E = E} P answer value is holds = subst (λ (a : Result A E). IfOk a P) is holds
@@ -143,10 +126,6 @@ object_or (Some other) is are = absurd is
 array_or : (there : Option Tree) → WhereThere IsArray there → IsArray (unwrap_or there (array no_items))
 array_or None is = tt
 array_or (Some value) is = is
-
-array_is : (value : Tree) → IsArray value → (items : ItemTrees) × (value ≡ array items)
-array_is (array items) is = (items, refl)
-array_is other is = absurd is
 
 -- its city objects and its vertices, or none where they are not there
 abbrev pub objects_in : MemberTrees → Tree
@@ -170,19 +149,6 @@ other_objects text is members test none of document = not_both is ((test (object
 -- faults that are told are no want of memory
 pub header_decided : (fault : Fault) (value : Tree) → RefusesHeader fault value → fault ≡ Memory → ⊥
 header_decided fault value refused same = subst (λ f. RefusesHeader f value) same refused
-
-pub vertices_decided : (fault : Fault) (items : ItemTrees) → RefusesFirst fault items → fault ≡ Memory → ⊥
-vertices_decided fault items refused same = elim (no_first fault items refused)
-    [ inl e ↦ shape (e ∙ same) | inr (inl e) ↦ whole (e ∙ same) | inr (inr e) ↦ range (e ∙ same) ]
-  where
-    shape : VertexShape ≡ Memory → ⊥
-    shape e = cc
-
-    whole : VertexNotInteger ≡ Memory → ⊥
-    whole e = cc
-
-    range : VertexRange ≡ Memory → ⊥
-    range e = cc
 
 pub objects_decided : (fault : Fault) (count : ℕ) (objects : MemberTrees) → RefusesObjects fault count objects
     → fault ≡ Memory → ⊥
@@ -249,18 +215,13 @@ module _ (members : MemberTrees) (text : List ℕ) (is : IsShaped members text) 
       (subst (RefusesFirst fault) (sym same_items) (refused is.items is.of))
 
   pub objects_refused : (fault : Fault) (value : Tree) (count : ℕ) → HasFrame (object members)
-      → value ≡ objects_in members → ((points : List Triple) × SpellsVertices text points × (length points ≡ count))
+      → value ≡ objects_in members → ((points : List Triple) × AreVertices is.items points × (length points ≡ count))
       → ((objects : MemberTrees) × (value ≡ object objects) × RefusesObjects fault count objects)
       → RefusesCut fault (object members)
-  objects_refused fault value count framed value_is (points, (found, written, writable, vertices), many)
-      (objects, same, refused) =
-      let all : array is.items ≡ array found = compact-tells (array is.items) (array found) is.of.writable writable
-      (sym is.of.is ∙ written) in
-      let as_found : vertices_of (object members) ≡ found =
-      (items_or (first_named (codes "vertices") members) found (is.vertices_are ∙ all)).1 in
+  objects_refused fault value count framed value_is (points, vertices, many) (objects, same, refused) =
       let as_objects : objects_of (object members) ≡ objects =
       (members_or (first_named (codes "CityObjects") members) objects (sym value_is ∙ same)).1 in
       let valid : HasValidVertices (object members) =
-      (framed, (points, subst (λ i. AreVertices i points) (sym as_found) vertices)) in
+      (framed, (points, subst (λ i. AreVertices i points) (sym same_items) vertices)) in
       refused_so (object members) fault objects count valid as_objects
-      (ap item_count as_found ∙ (sym (as_many found points vertices) ∙ many)) refused
+      (ap item_count same_items ∙ (sym (as_many is.items points vertices) ∙ many)) refused

@@ -284,18 +284,20 @@ names_utf8 [] w = tt
 names_utf8 (p ∷ ps) w = (w.0, names_utf8 ps w.2)
 
 -- the objects have these children, and of them these have parents
-pub related : (text : List ℕ) (places : List MemberPlace) (parents : List Bool) (given : List (Bor (List ℕ)))
-    (graph : List (List ℕ)) (pairs : List (List ℕ × Tree)) (table : List (Bor (List ℕ) × ℕ))
-    → AllZip (HasParentsIn text) places parents → AllZip (HasChildrenIn text) places given
-    → IsTable (map (λ (pair : List ℕ × Tree). quoted pair.0) pairs) table
-    → ((all : List (List ℕ)) → AllByRecursion IsUtf8 all → IsTable (map quoted all) table → HaveRows all given graph)
-    → IsCompactOf text (object (member_trees pairs)) → AreParts 1 places (member_trees pairs)
-    → AreRelated pairs graph parents × AreCityObjects (member_trees pairs)
-related text places parents given graph pairs table in_parts texts listed rows of are =
+pub related : (text : List ℕ) (places : List MemberPlace) (parents : List Bool) (given lent : List (Bor (List ℕ)))
+    (graph : List (List ℕ)) (table : List (Bor (List ℕ) × ℕ))
+    → AllZip (HasParentsIn text) places parents → AllZip (HasChildrenIn text) places given → lent ≡ given
+    → ((pairs : List (List ℕ × Tree)) → IsCompactOf text (object (member_trees pairs))
+    → AreParts 1 places (member_trees pairs) → IsTable (map (λ (pair : List ℕ × Tree). quoted pair.0) pairs) table)
+    → ((all : List (List ℕ)) → AllByRecursion IsUtf8 all → IsTable (map quoted all) table → HaveRows all lent graph)
+    → (pairs : List (List ℕ × Tree)) → IsCompactOf text (object (member_trees pairs))
+    → AreParts 1 places (member_trees pairs) → AreRelated pairs graph parents × AreCityObjects (member_trees pairs)
+related text places parents given lent graph table in_parts texts same tabled rows pairs of are =
     let all = names (member_trees pairs) in
     let said = said_all HasParents text places parents pairs in_parts of are in
     let found = rows_are all given graph pairs (said_all HasChildrenText text places given pairs texts of are)
-    (rows all (names_utf8 pairs of.writable) (subst (λ l. IsTable l table) (quoted_names pairs) listed)) in (
+    (subst (λ l. HaveRows all l graph) same (rows all (names_utf8 pairs of.writable)
+    (subst (λ l. IsTable l table) (quoted_names pairs) (tabled pairs of are)))) in (
       record {
         differ = of.distinct.0;
         linked = record {

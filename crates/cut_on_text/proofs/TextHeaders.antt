@@ -1,5 +1,6 @@
 -- The header of a document, written member by member.
-use Rattle.std.proofs.Common.{◌≡◌, ◌∙◌, ◌++◌, ◌<◌, ◌≤◌, ◌+◌, ◌&&◌, ℕ, zero, suc, Bool, true, false, List, [], ◌∷◌, Option, Some, None, IsUtf8, bytes_eq, length, is_some, get_or, slice_range, refl, sym, ap, subst, arith, append_assoc, append-nil, codes, length-append, not}
+use Rattle.std.proofs.Common.{◌≡◌, ◌∙◌, ◌++◌, ◌<◌, ◌≤◌, ◌+◌, ◌&&◌, ℕ, zero, suc, Bool, true, false, List, [], ◌∷◌, Option, Some, None, IsUtf8, bytes_eq, length, is_some, get_or, slice_range, refl, sym, ap, subst, arith, append_assoc, append-nil, codes, length-append, not, inl, inr}
+use Rattle.std.proofs.lemmas.Bool.{cases_Bool}
 use Rattle.std.proofs.lemmas.Slice.Eq.{bytes_eq-Decides}
 use Rattle.city_json.proofs.MemberPlaces.{member_in_part}
 use Rattle.city_json.proofs.NamedMembers.{other_names, same_name, writable_at}
@@ -36,24 +37,18 @@ none_dropped name (member other value others) new =
 new_without : (other name : List ℕ) (members : MemberTrees) → IsNewName other members
     → IsNewName other (without_named name members)
 new_without other name no_members new = tt
-new_without other name (member n value others) new =
-    by (bytes_eq n name) refl (new_without other name others new.1)
-  where
-    by : (b : Bool) → bytes_eq n name ≡ b → IsNewName other (without_named name others)
-        → IsNewName other (without_named name (member n value others))
-    by true e later = rw e new.1
-    by false e later = rw e (new.0, later)
+new_without other name (member n value others) new = elim (cases_Bool (bytes_eq n name)) [
+  | inl e ↦ rw e new.1
+  | inr e ↦ rw e (new.0, (new_without other name others new.1))
+]
 
 distinct_without : (name : List ℕ) (members : MemberTrees) → HasDistinctNames members
     → HasDistinctNames (without_named name members)
 distinct_without name no_members differ = tt
-distinct_without name (member n value others) differ =
-    by (bytes_eq n name) refl (distinct_without name others differ.1)
-  where
-    by : (b : Bool) → bytes_eq n name ≡ b → HasDistinctNames (without_named name others)
-        → HasDistinctNames (without_named name (member n value others))
-    by true e later = rw e differ.1
-    by false e later = rw e (new_without n name others differ.0, later)
+distinct_without name (member n value others) differ = elim (cases_Bool (bytes_eq n name)) [
+  | inl e ↦ rw e differ.1
+  | inr e ↦ rw e (new_without n name others differ.0, (distinct_without name others differ.1))
+]
 
 abbrev no_object : Tree → Tree
 no_object old = object no_members
@@ -94,16 +89,11 @@ emptied (member name value others) differ =
 dropped : (members : MemberTrees) → HasDistinctNames members
     → header_members false (without_named (codes "appearance") members) ≡ header_members true members
 dropped no_members differ = refl
-dropped (member name value others) differ =
-    by (bytes_eq name (codes "appearance")) refl (dropped others differ.1)
-  where
-    by : (b : Bool) → bytes_eq name (codes "appearance") ≡ b
-        → header_members false (without_named (codes "appearance") others) ≡ header_members true others
-        → header_members false (without_named (codes "appearance") (member name value others))
-        ≡ header_members true (member name value others)
-    by true e later = rw e (ap (header_members false) (sym (none_dropped (codes "appearance") others
-        (subst (λ n. IsNewName n others) ((bytes_eq-Decides name (codes "appearance")).0 e) differ.0))) ∙ later)
-    by false e later = rw e (ap (member name (header_value name value)) later)
+dropped (member name value others) differ = elim (cases_Bool (bytes_eq name (codes "appearance"))) [
+  | inl e ↦ rw e (ap (header_members false) (sym (none_dropped (codes "appearance") others
+      (subst (λ n. IsNewName n others) ((bytes_eq-Decides name (codes "appearance")).0 e) differ.0))) ∙ (dropped others differ.1))
+  | inr e ↦ rw e (ap (member name (header_value name value)) (dropped others differ.1))
+]
 
 pub is_header_tree : (members : MemberTrees) (drops : Bool) → HasDistinctNames members
     → drops ≡ not (is_some (first_named (codes "geometry-templates") members))
@@ -120,20 +110,16 @@ is_header_tree members drops differ is =
 writable_header : (drops : Bool) (members : MemberTrees) → AreWritableMembers members
     → AreWritableMembers (header_members drops members)
 writable_header drops no_members all = tt
-writable_header drops (member name value others) all =
-    by (drops && bytes_eq name (codes "appearance")) refl (writable_header drops others all.2)
+writable_header drops (member name value others) all = elim (cases_Bool (drops && bytes_eq name (codes "appearance"))) [
+  | inl e ↦ rw e (writable_header drops others all.2)
+  | inr e ↦ rw e (all.0, one _ _ refl refl, (writable_header drops others all.2))
+]
   where
     one : (b c : Bool) → bytes_eq name (codes "CityObjects") ≡ b → bytes_eq name (codes "vertices") ≡ c
         → IsWritable (header_value name value)
     one true c e d = rw e tt
     one false true e d = rw (e, d) tt
     one false false e d = rw (e, d) all.1
-
-    by : (b : Bool) → (drops && bytes_eq name (codes "appearance")) ≡ b
-        → AreWritableMembers (header_members drops others)
-        → AreWritableMembers (header_members drops (member name value others))
-    by true e later = rw e later
-    by false e later = rw e (all.0, one _ _ refl refl, later)
 
 pub header_writable : (members : MemberTrees) → HasDistinctNames members → AreWritableMembers members
     → IsWritable (header_tree (object members))
@@ -161,15 +147,14 @@ named_other name other given marked is marks apart =
 
 pub same_test : (name other given marked : List ℕ) → IsUtf8 name → IsUtf8 other → given ≡ quoted name ++ colon ∷ []
     → marked ≡ quoted other ++ colon ∷ [] → bytes_eq given marked ≡ bytes_eq name other
-same_test name other given marked utf8 also is marks = by (bytes_eq given marked) refl
+same_test name other given marked utf8 also is marks = elim (cases_Bool (bytes_eq given marked)) [
+  | inl e ↦ e ∙ sym (named_as name other given marked utf8 also is marks ((bytes_eq-Decides given marked).0 e))
+  | inr e ↦ e ∙ sym (named_other name other given marked is marks
+      (λ same. is_not e ((bytes_eq-Decides given marked).1 same)))
+]
   where
     is_not : {b : Bool} → b ≡ false → b ≡ true → ⊥
     is_not e is = cc
-
-    by : (b : Bool) → bytes_eq given marked ≡ b → bytes_eq given marked ≡ bytes_eq name other
-    by true e = e ∙ sym (named_as name other given marked utf8 also is marks ((bytes_eq-Decides given marked).0 e))
-    by false e = e ∙ sym (named_other name other given marked is marks
-        (λ same. is_not e ((bytes_eq-Decides given marked).1 same)))
 
 -- a member is written after what comes before it
 pub member_written : (name : List ℕ) (value : Tree) (drops : Bool) (others : MemberTrees)

@@ -1,5 +1,6 @@
 -- The members of an object that lie in its compact text, and how they are exchanged.
-use Rattle.std.proofs.Common.{◌≡◌, ◌∙◌, ◌++◌, ◌≤◌, ◌-◌, ℕ, Bool, true, false, List, [], Option, Some, None, OnSome, bytes_eq, length, take, drop, slice_range, refl, sym, ap, subst, arith, append_assoc, append-nil, length-append, length-drop}
+use Rattle.std.proofs.Common.{◌≡◌, ◌∙◌, ◌++◌, ◌≤◌, ◌-◌, ℕ, List, [], Option, Some, None, OnSome, bytes_eq, length, take, drop, slice_range, refl, sym, ap, subst, arith, append_assoc, append-nil, length-append, length-drop, inl, inr}
+use Rattle.std.proofs.lemmas.Bool.{cases_Bool}
 use Rattle.std.proofs.lemmas.List.{take_at}
 use Rattle.std.proofs.lemmas.Slice.Eq.{bytes_eq-Decides}
 use Rattle.city_json.specs.Compact.{compact}
@@ -21,60 +22,47 @@ on_some_more None on holds = tt
 -- ---- changing the members of a name
 pub new_none : (name : List ℕ) (members : MemberTrees) → IsNewName name members → first_named name members ≡ None
 new_none name no_members new = refl
-new_none name (member other v others) new = by (bytes_eq other name) refl (new_none name others new.1)
-  where
-    by : (b : Bool) → bytes_eq other name ≡ b → first_named name others ≡ None
-        → first_named name (member other v others) ≡ None
-    by true e later = absurd (new.0 (sym ((bytes_eq-Decides other name).0 e)))
-    by false e later = rw e later
+new_none name (member other v others) new = elim (cases_Bool (bytes_eq other name)) [
+  | inl e ↦ absurd (new.0 (sym ((bytes_eq-Decides other name).0 e)))
+  | inr e ↦ rw e (new_none name others new.1)
+]
 
 pub changed_absent : (name : List ℕ) (f : Tree → Tree) (members : MemberTrees) → first_named name members ≡ None
     → changed_members name f members ≡ members
 changed_absent name f no_members none = refl
-changed_absent name f (member other v others) none = by (bytes_eq other name) refl (changed_absent name f others)
+changed_absent name f (member other v others) none = elim (cases_Bool (bytes_eq other name)) [
+  | inl e ↦ absurd (some_is_none (rw e at none))
+  | inr e ↦ rw e (ap (member other v) ((changed_absent name f others) (rw e at none)))
+]
   where
     some_is_none : Some v ≡ None → ⊥
     some_is_none e = cc
 
-    by : (b : Bool) → bytes_eq other name ≡ b
-        → (first_named name others ≡ None → changed_members name f others ≡ others)
-        → changed_members name f (member other v others) ≡ member other v others
-    by true e later = absurd (some_is_none (rw e at none))
-    by false e later = rw e (ap (member other v) (later (rw e at none)))
-
 pub changed_with : (name : List ℕ) (f : Tree → Tree) (value : Tree) (members : MemberTrees) → HasDistinctNames members
     → first_named name members ≡ Some value → changed_members name f members ≡ with_named name (f value) members
 changed_with name f value no_members differ is = cc
-changed_with name f value (member other v others) differ is =
-    by (bytes_eq other name) refl (changed_with name f value others differ.1)
+changed_with name f value (member other v others) differ is = elim (cases_Bool (bytes_eq other name)) [
+  | inl e ↦ let same : other ≡ name = (bytes_eq-Decides other name).0 e in
+      let none : first_named name others ≡ None =
+      new_none name others (subst (λ n. IsNewName n others) same differ.0) in
+      rw e (ap (λ t. member other (f t) (changed_members name f others)) (some_same (rw e at is))
+      ∙ ap (member other (f value)) (changed_absent name f others none))
+  | inr e ↦ rw e (ap (member other v) ((changed_with name f value others differ.1) (rw e at is)))
+]
   where
     some_same : Some v ≡ Some value → v ≡ value
     some_same e = cc
-
-    by : (b : Bool) → bytes_eq other name ≡ b
-        → (first_named name others ≡ Some value → changed_members name f others ≡ with_named name (f value) others)
-        → changed_members name f (member other v others) ≡ with_named name (f value) (member other v others)
-    by true e later =
-        let same : other ≡ name = (bytes_eq-Decides other name).0 e in
-        let none : first_named name others ≡ None =
-        new_none name others (subst (λ n. IsNewName n others) same differ.0) in
-        rw e (ap (λ t. member other (f t) (changed_members name f others)) (some_same (rw e at is))
-        ∙ ap (member other (f value)) (changed_absent name f others none))
-    by false e later = rw e (ap (member other v) (later (rw e at is)))
 
 pub with_same : (name : List ℕ) (value : Tree) (members : MemberTrees) → first_named name members ≡ Some value
     → with_named name value members ≡ members
 with_same name value no_members is = cc
-with_same name value (member other v others) is = by (bytes_eq other name) refl (with_same name value others)
+with_same name value (member other v others) is = elim (cases_Bool (bytes_eq other name)) [
+  | inl e ↦ rw e (ap (λ t. member other t others) (sym (some_same (rw e at is))))
+  | inr e ↦ rw e (ap (member other v) ((with_same name value others) (rw e at is)))
+]
   where
     some_same : Some v ≡ Some value → v ≡ value
     some_same e = cc
-
-    by : (b : Bool) → bytes_eq other name ≡ b
-        → (first_named name others ≡ Some value → with_named name value others ≡ others)
-        → with_named name value (member other v others) ≡ member other v others
-    by true e later = rw e (ap (λ t. member other t others) (sym (some_same (rw e at is))))
-    by false e later = rw e (ap (member other v) (later (rw e at is)))
 
 -- ---- the text around a member, and its value between
 pub walks_exchanged : {S : Type 0} {L : Labelling S} (s : S) (line line₁ : List ℕ) (s' : S)

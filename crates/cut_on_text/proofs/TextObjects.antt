@@ -1,34 +1,35 @@
 -- Objects that are copied with their geometries and their addresses, in whichever order these stand.
-use Rattle.std.proofs.Common.{◌≡◌, ◌∙◌, ◌++◌, ◌<◌, ◌≤◌, ◌+◌, ℕ, false, bytes_eq, List, [], ◌∷◌, Option, Some, None, IsUtf8, inl, inr, map, length, take, drop, slice_index, slice_range, refl, sym, ap, subst, arith, append_assoc, append-nil, codes}
+use Rattle.std.proofs.Common.{◌≡◌, ◌∙◌, ◌++◌, ◌<◌, ◌≤◌, ◌+◌, ◌-◌, ℕ, false, bytes_eq, List, [], ◌∷◌, Option, Some, None, IfSome, IsUtf8, inl, inr, map, unwrap_or, length, length-drop, take, take_all, drop, slice_index, slice_range, refl, sym, ap, subst, arith, append_assoc, append-nil, codes}
 use Rattle.std.proofs.lemmas.Grind.{flat_map-append}
 use Rattle.std.proofs.lemmas.List.{map-append, take_at}
 use Rattle.std.proofs.lemmas.List.Elements.{Contains-append_left}
 use Rattle.std.specs.List.{flat_map, AllByRecursion}
-use Rattle.city_json.specs.Bytes.{colon}
-use Rattle.city_json.specs.Compact.{compact, quoted}
-use Rattle.city_json.specs.Members.{first_named}
-use Rattle.city_json.specs.Parts.{AreParts, IsPartNamed}
-use Rattle.city_json.specs.Tree.{Tree, MemberTrees, object}
+use Rattle.city_json.specs.Compact.{compact}
+use Rattle.city_json.specs.Members.{first_named, member_of}
+use Rattle.city_json.specs.Parts.{AreParts}
+use Rattle.city_json.specs.Tree.{Tree, MemberTrees, null, object}
 use Rattle.city_json.specs.declared.compacting.places.MemberPlace.{MemberPlace}
 use Rattle.city_feature.proofs.LineTexts.{utf8}
-use Rattle.city_families.specs.Boundaries.{IsBounded, address_boundary, boundaries, changed_members, own_boundary, relabelled_addresses, relabelled_geometries, relabelled_object}
+use Rattle.city_feature.specs.Shapes.{IsArray, WhereThere}
+use Rattle.city_families.specs.Boundaries.{IsAddress, IsBounded, IsGeometry, address_boundary, boundaries, changed_members, own_boundary, relabelled_addresses, relabelled_geometries, relabelled_object}
 use Rattle.city_families.specs.Copied.{Copies, Numbers}
-use Rattle.cut_on_text.specs.Holders.{AreHeld, held_uses, name_of, other_than, relabelled_held}
+use Rattle.cut_on_text.specs.Holders.{AreHeld, AreHeldIn, boundary_in, copied_to, end_of, held_uses, name_of, other_than, part_in, relabelled_held, uses_in}
 use Rattle.city_families.specs.Items.{items_of}
 use Rattle.city_families.specs.Leaves.{leaves}
 use Rattle.city_families.specs.Numbered.{AreNumbered}
-use Rattle.cut_on_text.specs.Overviews.{IsFoundIn, IsHolderPart, IsNowhere}
+use Rattle.cut_on_text.specs.Overviews.{HasHolders, IsFoundIn, IsHolderPart}
 use Rattle.cut_on_text.specs.NumberWalks.{NumberLabelled}
 use Rattle.city_families.specs.Points.{CountsUp}
 use Rattle.cut_on_text.specs.Walks.{Labelling, Walks, walks_both, walks_so, walks_text}
 use Rattle.city_families.specs.declared.numbering.Numbering.{Numbering}
 use Rattle.city_json.specs.CompactTexts.{IsCompactOf}
+use Rattle.cut_on_text.specs.declared.on_text.holders.HeldParts.{HeldParts}
 use Rattle.cut_on_text.specs.declared.on_text.holders.Holder.{Holder}
 use Rattle.cut_on_text.specs.declared.on_text.holders.Holder.TheVariants.{Geometry, Address}
 use Rattle.city_families.proofs.CopiedTexts.{copies_so, extends_same, extends_trans}
 use Rattle.cut_on_text.proofs.NumberedWalks.{numbered_walk}
-use Rattle.cut_on_text.proofs.TextCopies.{HeldMade, ObjectMade, ObjectWalked}
-use Rattle.cut_on_text.proofs.TextMembers.{changed_absent, member_there, walks_exchanged}
+use Rattle.cut_on_text.proofs.TextCopies.{HeldMade, ObjectMade}
+use Rattle.cut_on_text.proofs.TextMembers.{changed_absent, changed_with, member_there}
 use Rattle.cut_on_text.proofs.TwoMembers.{changed_either, two_exchanged}
 
 -- ---- vertices that are noted again
@@ -107,130 +108,150 @@ pub name_utf8 : (holder : Holder) → IsUtf8 (name_of holder)
 name_utf8 Geometry = utf8 (codes "geometry") refl
 name_utf8 Address = utf8 (codes "address") refl
 
-abbrev pub OneMade : {S : Type 0} → Labelling S → Holder → ℕ → S → List ℕ → S → List ℕ → MemberTrees → Type 0
-OneMade L holder count s line s' line' members =
-    (value : Tree) × (first_named (name_of holder) members ≡ Some value) × AreHeld holder count value
-    × Walks L s line s' line' (held_uses holder value)
-    (λ change. compact (object (changed_members (name_of holder) (relabelled_held holder change) members)))
-
-pub one_made : {S : Type 0} {L : Labelling S} (holder : Holder) (count : ℕ) (text given : List ℕ) (s : S)
-    (line line₁ : List ℕ) (s' : S) (line₂ line₃ : List ℕ) (part : MemberPlace)
-    → given ≡ slice_range text part.value part.end → line₁ ≡ line ++ take part.value text
-    → ((value : Tree) → IsCompactOf given value → HeldMade L holder count s line₁ s' line₂ value)
-    → line₃ ≡ line₂ ++ drop part.end text
-    → (parts : List MemberPlace) (members : MemberTrees) → IsCompactOf text (object members) → AreParts 1 parts members
-    → IsPartNamed text parts (quoted (name_of holder) ++ colon ∷ []) part
-    → OneMade L holder count s line s' line₃ members
-one_made holder count text given s line line₁ s' line₂ line₃ part lies front made back parts members of are named =
-    let found = member_there text parts members (name_of holder) part given (name_utf8 holder) of are named lies in
-    let inner = made found.value found.of in (
-      found.value,
-      found.is,
-      inner.0,
-      walks_exchanged s line line₁ s' line₂ line₃ text part members
-          (name_of holder) found.value (held_uses holder found.value) (relabelled_held holder) of.distinct.0 found.is
-          found.exchanged front inner.1 back,
-    )
-
-pub some_same : (v w : Tree) → Some v ≡ Some w → v ≡ w
-some_same v w e = cc
-
-abbrev pub NumberedMade : Holder → List ℕ → List ℕ → List ℕ → List ℕ → MemberTrees → Type 0
-NumberedMade holder t o t' o' members = (value : Tree) → first_named (name_of holder) members ≡ Some value
-    → Numbers t o t' o' (held_uses holder value)
-
-pub numbered_made : (holder : Holder) (count : ℕ) (text given : List ℕ) (n : Numbering) (line : List ℕ) (n' : Numbering)
-    (line₁ line₂ : List ℕ) (part : MemberPlace) → given ≡ slice_range text part.value part.end
-    → ((value : Tree) → IsCompactOf given value → HeldMade NumberLabelled holder count n line n' line₁ value)
-    → line₂ ≡ take (length line) line₁
-    → (parts : List MemberPlace) (members : MemberTrees) → IsCompactOf text (object members) → AreParts 1 parts members
-    → IsPartNamed text parts (quoted (name_of holder) ++ colon ∷ []) part → (line₂ ≡ line)
-    × NumberedMade holder n.table.items n.order.items n'.table.items n'.order.items members
-numbered_made holder count text given n line n' line₁ line₂ part lies made back parts members of are named =
-    let found = member_there text parts members (name_of holder) part given (name_utf8 holder) of are named lies in
-    let inner = numbered_walk n line n' line₁ (held_uses holder found.value)
-    (λ change. compact (relabelled_held holder change found.value)) (made found.value found.of).1 in
-    let t' = n'.table.items in
-    let o' = n'.order.items in
-    let written = inner.written t' o' (extends_same t' o') in (
-      back ∙ (ap (take (length line)) written ∙ take_at line _ (length line) refl),
-      λ value is. subst (λ v. Numbers n.table.items n.order.items t' o' (held_uses holder v))
-          (some_same found.value value (sym found.is ∙ is))
-          (record { extends = inner.extends; numbered = inner.numbered }),
-    )
-
--- ---- two members
-names_apart : (holder : Holder) → bytes_eq (name_of holder) (name_of (other_than holder)) ≡ false
-names_apart Geometry = refl
-names_apart Address = refl
-
-abbrev pub TwoMade : {S : Type 0} → Labelling S → Holder → ℕ → S → List ℕ → S → List ℕ → MemberTrees → Type 0
-TwoMade L holder count s line s' line' members =
-    (value other : Tree) × (first_named (name_of holder) members ≡ Some value)
-    × (first_named (name_of (other_than holder)) members ≡ Some other)
-    × AreHeld holder count value × AreHeld (other_than holder) count other
-    × Walks L s line s' line' (held_uses holder value ++ held_uses (other_than holder) other)
-    (λ change. compact (object (changed_members (name_of holder) (relabelled_held holder change)
-    (changed_members (name_of (other_than holder)) (relabelled_held (other_than holder) change) members))))
-
-five : (a b c d e : List ℕ) → (((a ++ b) ++ c) ++ d) ++ e ≡ a ++ (b ++ (c ++ (d ++ e)))
-five a b c d e = simp append_assoc
-
-pub two_made : {S : Type 0} {L : Labelling S} (holder : Holder) (count : ℕ)
-    (text given middle given₂ : List ℕ) (s : S) (line line₁ : List ℕ) (s₁ : S) (line₂ line₃ : List ℕ) (s₂ : S)
-    (line₄ line₅ : List ℕ) (p q : MemberPlace)
-    → given ≡ slice_range text p.value p.end → middle ≡ slice_range text p.end q.value
-    → given₂ ≡ slice_range text q.value q.end → p.end ≤ q.value
-    → line₁ ≡ line ++ take p.value text → ((value : Tree) → IsCompactOf given value
-    → HeldMade L holder count s line₁ s₁ line₂ value) → line₃ ≡ line₂ ++ middle
-    → ((value : Tree) → IsCompactOf given₂ value → HeldMade L (other_than holder) count s₁ line₃ s₂ line₄ value)
-    → line₅ ≡ line₄ ++ drop q.end text
-    → (parts : List MemberPlace) (members : MemberTrees) → IsCompactOf text (object members) → AreParts 1 parts members
-    → IsPartNamed text parts (quoted (name_of holder) ++ colon ∷ []) p
-    → IsPartNamed text parts (quoted (name_of (other_than holder)) ++ colon ∷ []) q
-    → TwoMade L holder count s line s₂ line₅ members
-two_made holder count text given middle given₂ s line line₁ s₁ line₂ line₃ s₂ line₄ line₅ p q lies between lies₂
-    ordered front made more made₂ back parts members of are named named₂ =
-    let found = member_there text parts members (name_of holder) p given (name_utf8 holder) of are named lies in
-    let found₂ = member_there text parts members (name_of (other_than holder)) q given₂ (name_utf8 (other_than holder))
-    of are named₂ lies₂ in
-    let inner = made found.value found.of in
-    let inner₂ = made₂ found₂.value found₂.of in
-    let uses = held_uses holder found.value in
-    let uses₂ = held_uses (other_than holder) found₂.value in
-    let one : (List ℕ → List ℕ) → List ℕ = λ change. compact (relabelled_held holder change found.value) in
-    let two : (List ℕ → List ℕ) → List ℕ = λ change.
-    compact (relabelled_held (other_than holder) change found₂.value) in
-    let begins = walks_both s line s line₁ s₁ line₂ [] uses (λ change. take p.value text) one
-    (walks_text s line line₁ (take p.value text) front) inner.1 in
-    let goes = walks_both s line s₁ line₂ s₁ line₃ uses [] (λ change. take p.value text ++ one change)
-    (λ change. middle) begins (walks_text s₁ line₂ line₃ middle more) in
-    let on = walks_both s line s₁ line₃ s₂ line₄ (uses ++ []) uses₂
-    (λ change. (take p.value text ++ one change) ++ middle) two goes inner₂.1 in
-    let ends = walks_both s line s₂ line₄ s₂ line₅ ((uses ++ []) ++ uses₂) []
-    (λ change. ((take p.value text ++ one change) ++ middle) ++ two change) (λ change. drop q.end text) on
-    (walks_text s₂ line₄ line₅ (drop q.end text) back) in
-    let all = walks_so s line s₂ line₅ (((uses ++ []) ++ uses₂) ++ []) (uses ++ uses₂)
-    (λ change. (((take p.value text ++ one change) ++ middle) ++ two change) ++ drop q.end text)
-    (λ change. compact (object (changed_members (name_of holder) (relabelled_held holder change)
-    (changed_members (name_of (other_than holder)) (relabelled_held (other_than holder) change) members)))) ends
-    (append-nil ((uses ++ []) ++ uses₂) ∙ ap (λ l. l ++ uses₂) (append-nil uses))
-    (λ change. five (take p.value text) (one change) middle (two change) (drop q.end text)
-    ∙ (ap (λ m. take p.value text ++ (one change ++ (m ++ (two change ++ drop q.end text)))) between
-    ∙ sym (two_exchanged text parts members p q (name_of holder) (name_of (other_than holder)) found.value found₂.value
-    (relabelled_held holder change) (relabelled_held (other_than holder) change) (name_utf8 holder)
-    (name_utf8 (other_than holder)) (names_apart holder) of are named named₂ ordered found.is found₂.is))) in
-    (found.value, found₂.value, found.is, found₂.is, inner.0, inner₂.0, all)
-
--- ---- an object
-pub not_found : (holder : Holder) (text : List ℕ) (parts : List MemberPlace) (found : Option MemberPlace) → found ≡ None
-    → IsHolderPart holder text parts found → IsNowhere holder text parts
-not_found holder text parts found is told = subst (IsHolderPart holder text parts) is told
-
 pub is_found : (holder : Holder) (text : List ℕ) (parts : List MemberPlace) (found : Option MemberPlace) (part : MemberPlace)
     → found ≡ Some part → IsHolderPart holder text parts found → IsFoundIn holder text parts part
 is_found holder text parts found part is told = subst (IsHolderPart holder text parts) is told
 
+pub holder_part : (holder : Holder) (text : List ℕ) (held : HeldParts) → (has : HasHolders text held)
+    → IsHolderPart holder text has.parts (part_in holder held)
+holder_part Geometry text held has = has.geometry
+holder_part Address text held has = has.address
+
+-- what is made of an object's text up to the end of a member
+abbrev pub MemberMade : {S : Type 0} → Labelling S → List ℕ → Holder → ℕ → ℕ → Option MemberPlace → S → List ℕ → S → List ℕ → Type 0
+MemberMade L text holder count from part s line s' line' = (parts : List MemberPlace) (members : MemberTrees)
+    → IsCompactOf text (object members) → AreParts 1 parts members → IsHolderPart holder text parts part
+    → AreHeldIn holder count (object members)
+    × Walks L s line s' line' (uses_in holder (object members))
+    (λ change. copied_to text from part holder change (object members))
+
+pub none_made : {S : Type 0} {L : Labelling S} (text : List ℕ) (holder : Holder) (count from : ℕ) (s : S) (line : List ℕ)
+    → MemberMade L text holder count from None s line s line
+none_made text holder count from s line = λ parts members of are nowhere.
+    let none = nowhere members of are in (
+      subst (WhereThere (AreHeld holder count)) (sym none) tt,
+      walks_so s line s line [] (uses_in holder (object members)) (λ change. []) (λ change. [])
+          (walks_text s line line [] (sym (append-nil line)))
+          (ap (λ there. flat_map leaves (flat_map (boundary_in holder) (items_of there))) (sym none)) (λ change. refl),
+    )
+
+pub one_made : {S : Type 0} {L : Labelling S} (text : List ℕ) (holder : Holder) (count from : ℕ) (part : MemberPlace)
+    (given front : List ℕ) (s : S) (line line₁ : List ℕ) (s' : S) (line₂ : List ℕ)
+    → given ≡ slice_range text part.value part.end → front ≡ slice_range text from part.value → line₁ ≡ line ++ front
+    → ((value : Tree) → IsCompactOf given value → HeldMade L holder count s line₁ s' line₂ value)
+    → MemberMade L text holder count from (Some part) s line s' line₂
+one_made text holder count from part given front s line line₁ s' line₂ lies begins more made =
+    λ parts members of are named.
+    let found = member_there text parts members (name_of holder) part given (name_utf8 holder) of are named lies in
+    let inner = made found.value found.of in
+    let before = slice_range text from part.value in
+    let own : Tree → (List ℕ → List ℕ) → List ℕ = λ value change. before ++ compact (relabelled_held holder change value) in
+    let walk = walks_both s line s line₁ s' line₂ [] (held_uses holder found.value) (λ change. before)
+    (λ change. compact (relabelled_held holder change found.value))
+    (walks_text s line line₁ before (more ∙ ap (λ l. line ++ l) begins)) inner.1 in (
+      subst (WhereThere (AreHeld holder count)) (sym found.is) inner.0,
+      walks_so s line s' line₂ (held_uses holder found.value) (uses_in holder (object members)) (own found.value)
+          (λ change. copied_to text from (Some part) holder change (object members)) walk
+          (ap (λ there. flat_map leaves (flat_map (boundary_in holder) (items_of there))) (sym found.is))
+          (λ change. ap (λ there. own (unwrap_or there null) change) (sym found.is)),
+    )
+
+pub made_again : {S : Type 0} {L : Labelling S} (text : List ℕ) (holder other : Holder) (count count₂ from from₂ : ℕ)
+    (part part₂ : Option MemberPlace) (s : S) (line : List ℕ) (s' : S) (line' : List ℕ) → other ≡ holder → count₂ ≡ count
+    → from₂ ≡ from → part₂ ≡ part → MemberMade L text other count₂ from₂ part₂ s line s' line'
+    → MemberMade L text holder count from part s line s' line'
+made_again {S} {L} text holder other count count₂ from from₂ part part₂ s line s' line' same long begins is made =
+    subst (λ h. MemberMade L text h count from part s line s' line') same
+    (subst (λ n. MemberMade L text other n from part s line s' line') long
+    (subst (λ f. MemberMade L text other count₂ f part s line s' line') begins
+    (subst (λ p. MemberMade L text other count₂ from₂ p s line s' line') is made)))
+
+-- ---- the text of an object with other labels, in the order in which the members stand
+names_apart : (holder : Holder) → bytes_eq (name_of holder) (name_of (other_than holder)) ≡ false
+names_apart Geometry = refl
+names_apart Address = refl
+
+other_apart : (holder : Holder) → bytes_eq (name_of (other_than holder)) (name_of holder) ≡ false
+other_apart Geometry = refl
+other_apart Address = refl
+
+abbrev relabelled_in_turn : Holder → (List ℕ → List ℕ) → MemberTrees → MemberTrees
+relabelled_in_turn first change members = changed_members (name_of first) (relabelled_held first change)
+    (changed_members (name_of (other_than first)) (relabelled_held (other_than first) change) members)
+
+either : (first : Holder) (change : List ℕ → List ℕ) (members : MemberTrees)
+    → relabelled_in_turn first change members ≡ relabelled_in_turn Geometry change members
+either Geometry change members = refl
+either Address change members = changed_either (codes "address") (codes "geometry") (relabelled_addresses change)
+    (relabelled_geometries change) members refl refl
+
+from_front : (text : List ℕ) (n : ℕ) → slice_range text 0 n ≡ take n text
+from_front text n = let whole : n - 0 ≡ n = omega arith in ap (λ k. take k text) whole
+
+module _ (text : List ℕ) (parts : List MemberPlace) (members : MemberTrees) (of : IsCompactOf text (object members))
+    (are : AreParts 1 parts members) (change : List ℕ → List ℕ) where
+  abbrev up_to : ℕ → Option MemberPlace → Holder → List ℕ
+  up_to from part holder = copied_to text from part holder change (object members)
+
+  abbrev relabelled_one : Holder → MemberTrees → MemberTrees
+  relabelled_one holder others = changed_members (name_of holder) (relabelled_held holder change) others
+
+  one_exchanged : (holder : Holder) (part : MemberPlace) → IsFoundIn holder text parts part
+      → up_to 0 (Some part) holder ++ drop part.end text ≡ compact (object (relabelled_one holder members))
+  one_exchanged holder part named =
+      let found = member_there text parts members (name_of holder) part (slice_range text part.value part.end)
+      (name_utf8 holder) of are named refl in
+      let front = slice_range text 0 part.value in
+      ap (λ there. (front ++ compact (relabelled_held holder change (unwrap_or there null))) ++ drop part.end text)
+      found.is
+      ∙ (append_assoc front (compact (relabelled_held holder change found.value)) (drop part.end text)
+      ∙ (ap (λ l. l ++ (compact (relabelled_held holder change found.value) ++ drop part.end text))
+      (from_front text part.value) ∙ (sym (found.exchanged (relabelled_held holder change found.value)) ∙ ap (λ m. compact (object m))
+      (sym (changed_with (name_of holder) (relabelled_held holder change) found.value members of.distinct.0
+      found.is)))))
+
+  four : (a b c d e : List ℕ) → ((a ++ b) ++ (c ++ d)) ++ e ≡ a ++ (b ++ (c ++ (d ++ e)))
+  four a b c d e = simp append_assoc
+
+  object_copied : (first : Holder) (p q : Option MemberPlace) → IsHolderPart first text parts p
+      → IsHolderPart (other_than first) text parts q → IfSome q (λ part. end_of 0 p ≤ part.value)
+      → (up_to 0 p first ++ up_to (end_of 0 p) q (other_than first)) ++ drop (end_of (end_of 0 p) q) text
+      ≡ compact (object (relabelled_in_turn first change members))
+  object_copied first None None here there ordered =
+      let others = changed_absent (name_of (other_than first)) (relabelled_held (other_than first) change) members
+      (there members of are) in
+      of.is ∙ ap (λ m. compact (object m)) (sym (ap (relabelled_one first) others
+      ∙ changed_absent (name_of first) (relabelled_held first change) members (here members of are)))
+  object_copied first (Some p) None here there ordered =
+      ap (λ l. l ++ drop p.end text) (append-nil (up_to 0 (Some p) first)) ∙ (one_exchanged first p here
+      ∙ ap (λ m. compact (object (relabelled_one first m))) (sym (changed_absent (name_of (other_than first))
+      (relabelled_held (other_than first) change) members (there members of are))))
+  object_copied first None (Some q) here there ordered = one_exchanged (other_than first) q there
+      ∙ ap (λ m. compact (object m)) (sym (changed_either (name_of first) (name_of (other_than first))
+      (relabelled_held first change) (relabelled_held (other_than first) change) members (names_apart first)
+      (other_apart first) ∙ ap (relabelled_one (other_than first)) (changed_absent (name_of first)
+      (relabelled_held first change) members (here members of are))))
+  object_copied first (Some p) (Some q) here there ordered =
+      let second = other_than first in
+      let v = member_there text parts members (name_of first) p (slice_range text p.value p.end) (name_utf8 first) of are
+      here refl in
+      let w = member_there text parts members (name_of second) q (slice_range text q.value q.end) (name_utf8 second) of
+      are there refl in
+      let front = slice_range text 0 p.value in
+      let middle = slice_range text p.end q.value in
+      ap (λ m. ((front ++ compact (relabelled_held first change (unwrap_or m null)))
+      ++ up_to p.end (Some q) second) ++ drop q.end text) v.is
+      ∙ (ap (λ m. ((front ++ compact (relabelled_held first change v.value))
+      ++ (middle ++ compact (relabelled_held second change (unwrap_or m null)))) ++ drop q.end text) w.is
+      ∙ (four front (compact (relabelled_held first change v.value)) middle
+      (compact (relabelled_held second change w.value)) (drop q.end text)
+      ∙ (ap (λ l. l ++ (compact (relabelled_held first change v.value) ++ (middle
+      ++ (compact (relabelled_held second change w.value) ++ drop q.end text)))) (from_front text p.value)
+      ∙ sym (two_exchanged text parts members p q (name_of first) (name_of second) v.value w.value
+      (relabelled_held first change) (relabelled_held second change) (name_utf8 first) (name_utf8 second)
+      (names_apart first) of are here there ordered v.is w.is))))
+
+-- ---- an object
 -- for each object, it is enough to know what is made of its members
 pub of_object : (P : Tree → Type 0) (text : List ℕ) (parts : List MemberPlace)
     → ((value : Tree) → IsCompactOf text value → (members : MemberTrees) × (value ≡ object members)
@@ -241,117 +262,128 @@ of_object P text parts there made value of =
     let (members, is, are) = there value of in
     subst P (sym is) (made members (subst (IsCompactOf text) is of) are)
 
-pub either : (change : List ℕ → List ℕ) (members : MemberTrees)
-    → changed_members (codes "address") (relabelled_addresses change)
-    (changed_members (codes "geometry") (relabelled_geometries change) members)
-    ≡ changed_members (codes "geometry") (relabelled_geometries change)
-    (changed_members (codes "address") (relabelled_addresses change) members)
-either change members = changed_either (codes "address") (codes "geometry") (relabelled_addresses change)
-    (relabelled_geometries change) members refl refl
+both_bounded : (count : ℕ) (there other : Option Tree) → WhereThere (AreHeld Geometry count) there
+    → WhereThere (AreHeld Address count) other
+    → WhereThere IsArray there × AllByRecursion (IsGeometry count) (items_of there)
+    × AllByRecursion (IsAddress count) (items_of other)
+both_bounded count None None geometry address = (tt, tt, tt)
+both_bounded count None (Some w) geometry address = (tt, tt, address.1)
+both_bounded count (Some v) None geometry address = (geometry.0, geometry.1, tt)
+both_bounded count (Some v) (Some w) geometry address = (geometry.0, geometry.1, address.1)
 
-pub object_none : {S : Type 0} {L : Labelling S} (count : ℕ) (text : List ℕ) (s : S) (line line' : List ℕ)
-    (members : MemberTrees) → text ≡ compact (object members)
-    → first_named (codes "geometry") members ≡ None → first_named (codes "address") members ≡ None
-    → line' ≡ line ++ text → ObjectWalked L count s line s line' (object members)
-object_none count text s line line' members is none missing appended =
-    let nothing : boundaries (object members) ≡ [] = rw (none, missing) refl in (
-      rw (none, missing) (tt, tt, tt),
-      walks_so s line s line' [] (flat_map leaves (boundaries (object members))) (λ change. text)
-          (λ change. compact (relabelled_object change (object members))) (walks_text s line line' text appended)
-          (sym (ap (flat_map leaves) nothing))
-          (λ change. is ∙ ap (λ m. compact (object m))
-          (sym (ap (changed_members (codes "geometry") (relabelled_geometries change))
-          (changed_absent (codes "address") (relabelled_addresses change) members missing)
-          ∙ changed_absent (codes "geometry") (relabelled_geometries change) members none))),
-    )
+bounded : (first : Holder) (count : ℕ) (members : MemberTrees) → AreHeldIn first count (object members)
+    → AreHeldIn (other_than first) count (object members) → IsBounded count (object members)
+bounded Geometry count members one other =
+    both_bounded count (first_named (codes "geometry") members) (first_named (codes "address") members) one other
+bounded Address count members one other =
+    both_bounded count (first_named (codes "geometry") members) (first_named (codes "address") members) other one
 
-pub object_geometry : {S : Type 0} {L : Labelling S} (count : ℕ) (s : S) (line : List ℕ) (s' : S) (line' : List ℕ)
-    (members : MemberTrees)
-    → first_named (codes "address") members ≡ None → OneMade L Geometry count s line s' line' members
-    → ObjectWalked L count s line s' line' (object members)
-object_geometry count s line s' line' members missing (value, is, held, copies) =
-    let there : boundaries (object members) ≡ flat_map own_boundary (items_of (Some value)) =
-    rw (is, missing) (append-nil (flat_map own_boundary (items_of (Some value)))) in (
-      rw (is, missing) (held.0, held.1, tt),
-      walks_so s line s' line' (held_uses Geometry value) (flat_map leaves (boundaries (object members)))
-          (λ change. compact (object (changed_members (codes "geometry") (relabelled_geometries change) members)))
-          (λ change. compact (relabelled_object change (object members))) copies (sym (ap (flat_map leaves) there))
-          (λ change. ap (λ m. compact (object (changed_members (codes "geometry") (relabelled_geometries change) m)))
-          (sym (changed_absent (codes "address") (relabelled_addresses change) members missing))),
-    )
+-- the vertices in the order in which its members stand
+abbrev pub WalkedFrom : {S : Type 0} → Labelling S → Holder → ℕ → S → List ℕ → S → List ℕ → Tree → Type 0
+WalkedFrom L first count s line s' line' value = IsBounded count value
+    × Walks L s line s' line' (uses_in first value ++ uses_in (other_than first) value)
+    (λ change. compact (relabelled_object change value))
 
-pub object_address : {S : Type 0} {L : Labelling S} (count : ℕ) (s : S) (line : List ℕ) (s' : S) (line' : List ℕ)
-    (members : MemberTrees)
-    → first_named (codes "geometry") members ≡ None → OneMade L Address count s line s' line' members
-    → ObjectWalked L count s line s' line' (object members)
-object_address count s line s' line' members none (value, is, held, copies) =
-    let there : boundaries (object members) ≡ flat_map address_boundary (items_of (Some value)) = rw
-    (is, none) refl in (
-      rw (is, none) (tt, tt, held.1),
-      walks_so s line s' line' (held_uses Address value) (flat_map leaves (boundaries (object members)))
-          (λ change. compact (object (changed_members (codes "address") (relabelled_addresses change) members)))
-          (λ change. compact (relabelled_object change (object members))) copies (sym (ap (flat_map leaves) there))
-          (λ change. ap (λ m. compact (object m))
-          (ap (changed_members (codes "address") (relabelled_addresses change))
-          (sym (changed_absent (codes "geometry") (relabelled_geometries change) members none))
-          ∙ either change members)),
-    )
+both_walked : {S : Type 0} {L : Labelling S} (first : Holder) (count : ℕ) (text : List ℕ) (held : HeldParts) (s : S)
+    (line : List ℕ) (s₁ : S) (line₁ : List ℕ) (s₂ : S) (line₂ line₃ : List ℕ) → HasHolders text held
+    → MemberMade L text first count 0 (part_in first held) s line s₁ line₁
+    → MemberMade L text (other_than first) count (end_of 0 (part_in first held)) (part_in (other_than first) held) s₁ line₁
+    s₂ line₂ → IfSome (part_in (other_than first) held) (λ part. end_of 0 (part_in first held) ≤ part.value)
+    → line₃ ≡ line₂ ++ drop (end_of (end_of 0 (part_in first held)) (part_in (other_than first) held)) text
+    → (value : Tree) → IsCompactOf text value → WalkedFrom L first count s line s₂ line₃ value
+both_walked {L = L} first count text held s line s₁ line₁ s₂ line₂ line₃ has one two ordered back =
+    of_object (WalkedFrom L first count s line s₂ line₃) text has.parts has.listed (λ members of are.
+    let p = part_in first held in
+    let q = part_in (other_than first) held in
+    let here = one has.parts members of are (holder_part first text held has) in
+    let there = two has.parts members of are (holder_part (other_than first) text held has) in
+    let uses = uses_in first (object members) in
+    let uses₂ = uses_in (other_than first) (object members) in
+    let own : (List ℕ → List ℕ) → List ℕ = λ change. copied_to text 0 p first change (object members) in
+    let own₂ : (List ℕ → List ℕ) → List ℕ = λ change.
+    copied_to text (end_of 0 p) q (other_than first) change (object members) in
+    let rest = drop (end_of (end_of 0 p) q) text in (
+      bounded first count members here.0 there.0,
+      walks_so s line s₂ line₃ ((uses ++ uses₂) ++ []) (uses ++ uses₂) (λ change. (own change ++ own₂ change) ++ rest)
+          (λ change. compact (relabelled_object change (object members)))
+          (walks_both s line s₂ line₂ s₂ line₃ (uses ++ uses₂) [] (λ change. own change ++ own₂ change) (λ change. rest)
+          (walks_both s line s₁ line₁ s₂ line₂ uses uses₂ own own₂ here.1 there.1) (walks_text s₂ line₂ line₃ rest back))
+          (append-nil (uses ++ uses₂))
+          (λ change. object_copied text has.parts members of are change first p q (holder_part first text held has)
+          (holder_part (other_than first) text held has) ordered
+          ∙ ap (λ m. compact (object m)) (either first change members)),
+    ))
 
-pub both_bounded : (count : ℕ) (members : MemberTrees) (value other : Tree)
-    → first_named (codes "geometry") members ≡ Some value → first_named (codes "address") members ≡ Some other
-    → AreHeld Geometry count value → AreHeld Address count other → IsBounded count (object members)
-both_bounded count members value other is is₂ held held₂ = rw (is, is₂) (held.0, held.1, held₂.1)
+to_end : (text : List ℕ) (at : ℕ) → slice_range text at (length text) ≡ drop at text
+to_end text at = take_all (length text - at) (drop at text) (omega (arith, length-drop at text))
 
-pub both_uses : (members : MemberTrees) (value other : Tree) → first_named (codes "geometry") members ≡ Some value
-    → first_named (codes "address") members ≡ Some other
-    → flat_map leaves (boundaries (object members)) ≡ held_uses Geometry value ++ held_uses Address other
-both_uses members value other is is₂ = rw (is, is₂)
-    (flat_map-append leaves (flat_map own_boundary (items_of (Some value)))
-    (flat_map address_boundary (items_of (Some other))))
+pub object_walked : {S : Type 0} {L : Labelling S} (first second : Holder) (count count₂ : ℕ) (text : List ℕ)
+    (held : HeldParts) (p q : Option MemberPlace) (middle end : ℕ) (back : List ℕ) (s : S) (line : List ℕ) (s₁ : S)
+    (line₁ : List ℕ) (s₂ : S) (line₂ line₃ : List ℕ) → HasHolders text held → second ≡ other_than first
+    → p ≡ part_in first held → q ≡ part_in second held → count₂ ≡ count → middle ≡ end_of 0 p → end ≡ end_of middle q
+    → MemberMade L text first count 0 p s line s₁ line₁ → MemberMade L text second count₂ middle q s₁ line₁ s₂ line₂
+    → IfSome q (λ part. middle ≤ part.value) → back ≡ slice_range text end (length text) → line₃ ≡ line₂ ++ back
+    → (value : Tree) → IsCompactOf text value → WalkedFrom L first count s line s₂ line₃ value
+object_walked first second count count₂ text held p q middle end back s line s₁ line₁ s₂ line₂ line₃ has other is is₂ long
+    begins ends one two ordered rest more =
+    let q' = part_in (other_than first) held in
+    let q_is : q ≡ q' = is₂ ∙ ap (λ h. part_in h held) other in
+    let middle_is : middle ≡ end_of 0 (part_in first held) = begins ∙ ap (end_of 0) is in
+    both_walked first count text held s line s₁ line₁ s₂ line₂ line₃ has
+    (made_again text first first count count 0 0 (part_in first held) p s line s₁ line₁ refl refl refl is one)
+    (made_again text (other_than first) second count count₂ (end_of 0 (part_in first held)) middle q' q s₁ line₁ s₂ line₂
+    other long middle_is q_is two)
+    (subst (λ m. IfSome q' (λ part. m ≤ part.value)) middle_is
+    (subst (λ o. IfSome o (λ part. middle ≤ part.value)) q_is ordered))
+    (more ∙ ap (λ l. line₂ ++ l) (rest ∙ (to_end text end ∙ ap (λ n. drop n text) (ends ∙ (ap (λ m. end_of m q) middle_is
+    ∙ ap (end_of (end_of 0 (part_in first held))) q_is)))))
 
-pub object_in_order : {S : Type 0} {L : Labelling S} (count : ℕ) (s : S) (line : List ℕ) (s' : S) (line' : List ℕ)
-    (members : MemberTrees)
-    → TwoMade L Geometry count s line s' line' members → ObjectWalked L count s line s' line' (object members)
-object_in_order count s line s' line' members (value, other, is, is₂, held, held₂, copies) = (
-  both_bounded count members value other is is₂ held held₂,
-  walks_so s line s' line' (held_uses Geometry value ++ held_uses Address other)
-      (flat_map leaves (boundaries (object members))) (λ change. compact (relabelled_object change (object members)))
-      (λ change. compact (relabelled_object change (object members))) copies
-      (sym (both_uses members value other is is₂)) (λ change. refl),
-)
+pub both_uses : (value : Tree)
+    → uses_in Geometry value ++ uses_in Address value ≡ flat_map leaves (boundaries value)
+both_uses value = sym (flat_map-append leaves
+    (flat_map own_boundary (items_of (member_of (codes "geometry") value)))
+    (flat_map address_boundary (items_of (member_of (codes "address") value))))
 
--- by numbers
-pub object_numbered : (count : ℕ) (n : Numbering) (line : List ℕ) (n' : Numbering) (line' : List ℕ) (value : Tree)
-    → ObjectWalked NumberLabelled count n line n' line' value
+-- ---- by numbers
+pub geometries_numbered : (count : ℕ) (text : List ℕ) (held : HeldParts) (n : Numbering) (line : List ℕ) (n' : Numbering)
+    (line₁ : List ℕ) → HasHolders text held → MemberMade NumberLabelled text Geometry count 0 held.geometry n line n' line₁
+    → (value : Tree) → IsCompactOf text value → (line ≡ take (length line) line₁)
+    × Numbers n.table.items n.order.items n'.table.items n'.order.items (uses_in Geometry value)
+geometries_numbered count text held n line n' line₁ has made = of_object (λ value. (line ≡ take (length line) line₁)
+    × Numbers n.table.items n.order.items n'.table.items n'.order.items (uses_in Geometry value)) text has.parts has.listed
+    (λ members of are.
+    let t' = n'.table.items in
+    let o' = n'.order.items in
+    let own : (List ℕ → List ℕ) → List ℕ = λ change. copied_to text 0 held.geometry Geometry change (object members) in
+    let inner = numbered_walk n line n' line₁ (uses_in Geometry (object members)) own
+    (made has.parts members of are has.geometry).1 in (
+      sym (ap (take (length line)) (inner.written t' o' (extends_same t' o')) ∙ take_at line _ (length line) refl),
+      record { extends = inner.extends; numbered = inner.numbered },
+    ))
+
+pub object_in_order : (count : ℕ) (n : Numbering) (line : List ℕ) (n' : Numbering) (line' : List ℕ) (value : Tree)
+    → WalkedFrom NumberLabelled Geometry count n line n' line' value
     → ObjectMade count n.table.items n.order.items line n'.table.items n'.order.items line' value
-object_numbered count n line n' line' value made = (
-  made.0,
-  numbered_walk n line n' line' (flat_map leaves (boundaries value))
-      (λ change. compact (relabelled_object change value)) made.1,
-)
+object_in_order count n line n' line' value made =
+    let own : (List ℕ → List ℕ) → List ℕ = λ change. compact (relabelled_object change value) in (
+      made.0,
+      numbered_walk n line n' line' (flat_map leaves (boundaries value)) own
+          (walks_so n line n' line' _ _ own own made.1 (both_uses value) (λ change. refl)),
+    )
 
 pub object_out_of_order : (count count₂ : ℕ) (t o line : List ℕ) (n : Numbering) (line₁ : List ℕ) (n' : Numbering)
-    (line' : List ℕ) (members : MemberTrees) → count₂ ≡ count → line₁ ≡ line
-    → NumberedMade Geometry t o n.table.items n.order.items members
-    → TwoMade NumberLabelled Address count₂ n line₁ n' line' members
-    → ObjectMade count t o line n'.table.items n'.order.items line' (object members)
-object_out_of_order count count₂ t o line n line₁ n' line' members long back before made =
-    made_then (subst (λ k. TwoMade NumberLabelled Address k n line n' line' members) long
-    (subst (λ l. TwoMade NumberLabelled Address count₂ n l n' line' members) back made))
-  where
-    made_then : TwoMade NumberLabelled Address count n line n' line' members
-        → ObjectMade count t o line n'.table.items n'.order.items line' (object members)
-    made_then (other, value, is₂, is, held₂, held, walks) =
-        let own : (List ℕ → List ℕ) → List ℕ = λ change. compact (object (changed_members (codes "address")
-        (relabelled_addresses change) (changed_members (codes "geometry") (relabelled_geometries change) members))) in
-        let uses = held_uses Geometry value in
-        let uses₂ = held_uses Address other in
-        let copies = numbered_walk n line n' line' (uses₂ ++ uses) own walks in (
-          both_bounded count members value other is is₂ held held₂,
-          copies_so t o line n'.table.items n'.order.items line' (uses ++ uses₂)
-              (flat_map leaves (boundaries (object members))) own
-              (λ change. compact (relabelled_object change (object members)))
-              (copies_numbered t o n.table.items n.order.items line n'.table.items n'.order.items line' uses uses₂ own
-              (before value is) copies) (sym (both_uses members value other is is₂))
-              (λ change. ap (λ m. compact (object m)) (either change members)),
-        )
+    (line' : List ℕ) (value : Tree) → count₂ ≡ count → line₁ ≡ line
+    → Numbers t o n.table.items n.order.items (uses_in Geometry value)
+    → WalkedFrom NumberLabelled Address count₂ n line₁ n' line' value
+    → ObjectMade count t o line n'.table.items n'.order.items line' value
+object_out_of_order count count₂ t o line n line₁ n' line' value long back before after =
+    let made = subst (λ k. WalkedFrom NumberLabelled Address k n line n' line' value) long
+    (subst (λ l. WalkedFrom NumberLabelled Address count₂ n l n' line' value) back after) in
+    let own : (List ℕ → List ℕ) → List ℕ = λ change. compact (relabelled_object change value) in
+    let uses = uses_in Geometry value in
+    let uses₂ = uses_in Address value in (
+      made.0,
+      copies_so t o line n'.table.items n'.order.items line' (uses ++ uses₂) (flat_map leaves (boundaries value)) own own
+          (copies_numbered t o n.table.items n.order.items line n'.table.items n'.order.items line' uses uses₂ own before
+          (numbered_walk n line n' line' (uses₂ ++ uses) own made.1)) (both_uses value) (λ change. refl),
+    )

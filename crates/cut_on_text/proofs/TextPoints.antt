@@ -1,55 +1,22 @@
 -- Vertices that are found in their compact text, and copied from there.
-use Rattle.std.proofs.Common.{◌≡◌, ◌∙◌, ◌++◌, ◌<◌, ◌≤◌, ◌+◌, ◌-◌, ◌==◌, ℕ, Bool, true, false, List, [], ◌∷◌, All, Some, map, length, take, drop, get_or, slice_range, slice_index, refl, sym, ap, subst, arith, append_assoc, append-nil, length-append}
+use Rattle.std.proofs.Common.{◌≡◌, ◌∙◌, ◌++◌, ◌<◌, ◌+◌, ◌-◌, ◌==◌, ◌↔◌, ℕ, Bool, true, false, IsTrue, List, [], ◌∷◌, All, map, length, take, get_or, slice_range, slice_index, refl, sym, ap, subst, arith, append_assoc, append-nil, length-append}
 use Rattle.std.proofs.lemmas.Bool.{eqb-true, eqb-false}
-use Rattle.std.proofs.lemmas.List.{drop_all, get_or_append_left, get_or_push, map-append, take_more}
-use Rattle.std.proofs.lemmas.List.Folds.{drop_split}
-use Rattle.city_json.proofs.CompactLaws.{compact-tells}
-use Rattle.city_json.proofs.Places.{drop_one}
+use Rattle.std.proofs.lemmas.List.{get_or_append_left, get_or_push, map-append, take_more}
 use Rattle.city_json.specs.Bytes.{comma, open_bracket, close_bracket}
-use Rattle.city_json.specs.Compact.{compact, compact_items, compact_more_items}
-use Rattle.city_json.specs.Tree.{ItemTrees, array, item_trees}
+use Rattle.city_json.specs.Compact.{compact, compact_more_items}
+use Rattle.city_json.specs.CompactTexts.{IsCompactOf}
+use Rattle.city_json.specs.Tree.{Tree, ItemTrees, array, item_trees}
 use Rattle.city_grid.specs.Axes.{IsInRange, Triple}
 use Rattle.city_grid.specs.Vertex.{vertex_tree}
-use Rattle.city_feature.proofs.LineTexts.{written_vertices}
+use Rattle.city_feature.proofs.NamedTexts.{are_in_range}
 use Rattle.city_feature.specs.Feature.{AreVertices, vertices_tree}
-use Rattle.city_feature.specs.LineTexts.{SpellsVertices}
+use Rattle.city_feature.specs.Shapes.{IsArray}
 use Rattle.city_families.specs.Chosen.{point_at}
 use Rattle.cut_on_text.specs.VertexTexts.{StandAt}
-use Rattle.city_feature.proofs.OneFeature.{same_array, same_vertices}
 use Rattle.cut_on_text.proofs.TextMembers.{three}
 
 abbrev pub trees_of : List Triple → ItemTrees
 trees_of ps = item_trees (map vertex_tree ps)
-
--- ---- read one after another: with one or more vertices from here on, the text is that of those read and these
-abbrev pub ReadsOn : List ℕ → ℕ → List Triple → Type 0
-ReadsOn text at read =
-    (p : Triple) (ps : List Triple) → drop at text ≡ compact_items (trees_of (p ∷ ps)) ++ close_bracket ∷ []
-    → text ≡ compact (vertices_tree (read ++ p ∷ ps))
-
-pub reads_from : (text : List ℕ) → 0 < length text → get_or text 0 0 ≡ open_bracket → ReadsOn text 1 []
-reads_from text some opened = λ p ps rest. drop_one text 0 open_bracket some opened ∙ ap (λ l. open_bracket ∷ l) rest
-
-module _ (text : List ℕ) (at end : ℕ) (v : Triple) (onward : at < end) (within : end < length text)
-    (written : slice_range text at end ≡ compact (vertex_tree v)) (read : List Triple) (on : ReadsOn text at read) where
-  here : (mark : ℕ) → get_or text end 0 ≡ mark → drop at text ≡ compact (vertex_tree v) ++ mark ∷ drop (end + 1) text
-  here mark marked = drop_split text at end (omega (arith, onward))
-      ∙ (ap (λ l. l ++ drop end text) written ∙ ap (λ l. compact (vertex_tree v) ++ l)
-      (drop_one text end mark within marked))
-
-  pub reads_next : get_or text end 0 ≡ comma → ReadsOn text (end + 1) (read ++ v ∷ [])
-  reads_next marked = λ p ps rest.
-      on v (p ∷ ps) (here comma marked ∙ (ap (λ l. compact (vertex_tree v) ++ comma ∷ l) rest
-      ∙ sym (append_assoc (compact (vertex_tree v)) (comma ∷ compact_items (trees_of (p ∷ ps)))
-      (close_bracket ∷ []))))
-      ∙ ap (λ qs. compact (vertices_tree qs)) (sym (append_assoc read (v ∷ []) (p ∷ ps)))
-
-  pub reads_last : get_or text end 0 ≡ close_bracket → length text ≤ end + 1
-      → text ≡ compact (vertices_tree (read ++ v ∷ []))
-  reads_last marked past =
-      on v [] (here close_bracket marked ∙ (ap (λ l. compact (vertex_tree v) ++ close_bracket ∷ l)
-      (drop_all (end + 1) text past) ∙ ap (λ l. l ++ close_bracket ∷ [])
-      (sym (append-nil (compact (vertex_tree v))))))
 
 -- ---- where they begin
 pub stand_none : (text starts none : List ℕ) → none ≡ [] → starts ≡ none ++ 1 ∷ [] → StandAt text starts []
@@ -104,24 +71,20 @@ module _ (text starts starts' : List ℕ) (points : List Triple) (v : Triple) (a
   )
 
 -- ---- written anew
-written_once : (text : List ℕ) (ps qs : List Triple) → text ≡ compact (vertices_tree ps)
-    → text ≡ compact (vertices_tree qs) → All IsInRange ps → All IsInRange qs → ps ≡ qs
-written_once text ps qs is_ps is_qs range_ps range_qs =
-    let (xs, text_xs, writable_xs, are_ps) = written_vertices text ps is_ps range_ps in
-    let (ys, text_ys, writable_ys, are_qs) = written_vertices text qs is_qs range_qs in
-    let same : xs ≡ ys = same_array xs ys (ap Some (compact-tells (array xs) (array ys) writable_xs writable_ys
-    (sym text_xs ∙ text_ys))) in
-    same_vertices xs ps qs are_ps (subst (λ l. AreVertices l qs) (sym same) are_qs)
+pub array_is : (value : Tree) → IsArray value → (items : ItemTrees) × (value ≡ array items)
+array_is (array items) is = (items, refl)
+array_is other is = absurd is
 
--- the vertices of a text, and where they stand in the text that is written for them
-pub stand_anew : (text written given starts : List ℕ)
-    → (ps : List Triple) × SpellsVertices text ps × (written ≡ compact (vertices_tree ps)) × All IsInRange ps
-    → given ≡ written
-    → (qs : List Triple) × (given ≡ compact (vertices_tree qs)) × All IsInRange qs × StandAt given starts qs
-    → (points : List Triple) × SpellsVertices text points × StandAt given starts points
-stand_anew text written given starts (ps, spells, is_ps, range_ps) lent (qs, is_qs, range_qs, stand) =
-    let same : ps ≡ qs = written_once given ps qs (lent ∙ is_ps) is_qs range_ps range_qs in
-    (ps, spells, subst (StandAt given starts) (sym same) stand)
+pub vertices_made : (text : List ℕ) (is : Bool) (value : Tree) (written starts given : List ℕ)
+    → ((value : Tree) → IsCompactOf text value → IsTrue is ↔ IsArray value) → is ≡ true → IsCompactOf text value
+    → ((items : ItemTrees) → IsCompactOf text (array items) → (points : List Triple) × AreVertices items points
+    × StandAt written starts points) → given ≡ written
+    → (points : List Triple) × ((items : ItemTrees) × (value ≡ array items) × AreVertices items points)
+    × StandAt given starts points × All IsInRange points
+vertices_made text is value written starts given test so of made lent =
+    let (items, same) = array_is value ((test value of).0 so) in
+    let (points, are, stand) = made items (subst (IsCompactOf text) same of) in
+    (points, (items, same, are), subst (λ l. StandAt l starts points) (sym lent) stand, are_in_range items points are)
 
 -- ---- copied
 

@@ -1,21 +1,19 @@
 -- Two members of an object that get other values, in the object's compact text.
-use Rattle.std.proofs.Common.{◌≡◌, ◌∙◌, ◌++◌, ◌<◌, ◌≤◌, ◌+◌, ◌-◌, ℕ, zero, suc, Bool, true, false, if◌then◌else◌, List, [], ◌∷◌, Some, IsUtf8, bytes_eq, length, take, drop, get_or, slice_range, refl, sym, ap, subst, arith, append_assoc, length-append}
-use Rattle.std.proofs.lemmas.List.{append_cancel_right, drop-append-le, get_or_default, drop-take, length-take-le, take-append-le, take-append-drop}
+use Rattle.std.proofs.Common.{◌≡◌, ◌∙◌, ◌++◌, ◌<◌, ◌≤◌, ◌+◌, ◌-◌, ℕ, zero, suc, Bool, true, false, if◌then◌else◌, List, [], ◌∷◌, Some, IsUtf8, bytes_eq, length, take, drop, get_or, slice_range, refl, sym, ap, subst, arith, inl, inr}
+use Rattle.std.proofs.lemmas.List.{drop-append-le, get_or_default, drop-take, length-take-le, take-append-le, take-append-drop}
 use Rattle.std.proofs.Math.Dec.{ltb}
-use Rattle.std.proofs.lemmas.Bool.{ltb-true, ltb-false}
+use Rattle.std.proofs.lemmas.Bool.{cases_Bool, ltb-false, ltb-true}
 use Rattle.std.proofs.lemmas.Slice.Eq.{bytes_eq-Decides}
-use Rattle.city_json.proofs.CompactLaws.{compact-tells}
 use Rattle.city_json.proofs.MemberPlaces.{member_in_part}
 use Rattle.city_json.proofs.Replacing.{replaced_text}
-use Rattle.city_json.specs.Bytes.{colon, comma, open_brace, close_brace}
-use Rattle.city_json.specs.Compact.{compact, compact_members, compact_more_members, quoted}
+use Rattle.city_json.specs.Bytes.{colon, open_brace, close_brace}
+use Rattle.city_json.specs.Compact.{compact, quoted}
 use Rattle.city_json.specs.Fits.{HasDistinctNames}
 use Rattle.city_json.specs.Members.{first_named}
 use Rattle.city_json.specs.Parts.{AreParts, HasMember, replaced, with_value, IsPartNamed}
-use Rattle.city_json.specs.Tree.{Tree, MemberTrees, no_members, member, object, string}
-use Rattle.city_json.specs.Writable.{AreWritableMembers}
+use Rattle.city_json.specs.Tree.{Tree, MemberTrees, no_members, member, object}
 use Rattle.city_json.specs.declared.compacting.places.MemberPlace.{MemberPlace}
-use Rattle.city_json.proofs.NamedMembers.{first_at}
+use Rattle.city_json.proofs.NamedMembers.{first_at, parts_in_text, parts_within, same_name, writable_at}
 use Rattle.city_feature.proofs.LineTexts.{replaced_at}
 use Rattle.city_families.specs.Boundaries.{changed_members}
 use Rattle.city_json.specs.CompactTexts.{IsCompactOf}
@@ -67,16 +65,13 @@ moved front (suc k) (suc j) value d (p ∷ ps) (member n v o) are below within =
 
 -- ---- parts stand one after another
 lies_after : (front k : ℕ) (d : MemberPlace) (parts : List MemberPlace) (members : MemberTrees) → AreParts front parts members
-    → k < length parts
-    → (front ≤ (get_or parts k d).at) × ((get_or parts k d).at ≤ (get_or parts k d).value)
-    × ((get_or parts k d).value ≤ (get_or parts k d).end)
+    → k < length parts → front ≤ (get_or parts k d).at
 lies_after front k d [] members are within = absurd (omega (arith, within))
 lies_after front k d (p ∷ ps) no_members are within = absurd are
-lies_after front zero d (p ∷ ps) (member n v o) are within =
-    (omega (arith, are.0.0), omega (arith, are.0.0, are.0.1), omega (arith, are.0.2))
+lies_after front zero d (p ∷ ps) (member n v o) are within = omega (arith, are.0.0)
 lies_after front (suc k) d (p ∷ ps) (member n v o) are within =
     let later = lies_after (p.end + 1) k d ps o are.1 (omega (arith, within)) in
-    (omega (arith, later.0, are.0.0, are.0.1, are.0.2), later.1, later.2)
+    omega (arith, later, are.0.0, are.0.1, are.0.2)
 
 rises : (front j k : ℕ) (d : MemberPlace) (parts : List MemberPlace) (members : MemberTrees) → AreParts front parts members → j < k
     → k < length parts → (get_or parts j d).end < (get_or parts k d).at
@@ -84,34 +79,9 @@ rises front j k d [] members are below within = absurd (omega (arith, within))
 rises front j k d (p ∷ ps) no_members are below within = absurd are
 rises front j zero d (p ∷ ps) (member n v o) are below within = absurd (omega (arith, below))
 rises front zero (suc k) d (p ∷ ps) (member n v o) are below within = let later =
-    lies_after (p.end + 1) k d ps o are.1 (omega (arith, within)) in omega (arith, later.0)
+    lies_after (p.end + 1) k d ps o are.1 (omega (arith, within)) in omega (arith, later)
 rises front (suc j) (suc k) d (p ∷ ps) (member n v o) are below within =
     rises (p.end + 1) j k d ps o are.1 (omega (arith, below)) (omega (arith, within))
-
-split_member : (name value : List ℕ) → name ++ colon ∷ value ≡ (name ++ colon ∷ []) ++ value
-split_member name value = simp append_assoc
-
-ends_within : (front k : ℕ) (d : MemberPlace) (parts : List MemberPlace) (members : MemberTrees) → AreParts front parts members
-    → k < length parts → (get_or parts k d).end ≤ front + length (compact_members members)
-ends_within front k d [] members are within = absurd (omega (arith, within))
-ends_within front k d (p ∷ ps) no_members are within = absurd are
-ends_within front zero d (p ∷ ps) (member n v o) are within =
-    let all : length (compact_members (member n v o))
-    ≡ length (quoted n ++ colon ∷ compact v) + length (compact_more_members o) =
-    length-append (quoted n ++ colon ∷ compact v) (compact_more_members o) in
-    let one : length (quoted n ++ colon ∷ compact v) ≡ length (quoted n ++ colon ∷ []) + length (compact v) =
-    ap length (split_member (quoted n) (compact v)) ∙ length-append (quoted n ++ colon ∷ []) (compact v) in
-    omega (arith, all, one, are.0.1, are.0.2)
-ends_within front (suc k) d (p ∷ []) (member n v no_members) are within = absurd (omega (arith, within))
-ends_within front (suc k) d (p ∷ (q ∷ ps)) (member n v no_members) are within = absurd are.1
-ends_within front (suc k) d (p ∷ ps) (member n v (member n' v' o)) are within =
-    let later = ends_within (p.end + 1) k d ps (member n' v' o) are.1 (omega (arith, within)) in
-    let all : length (compact_members (member n v (member n' v' o)))
-    ≡ length (quoted n ++ colon ∷ compact v) + length (comma ∷ compact_members (member n' v' o)) =
-    length-append (quoted n ++ colon ∷ compact v) (comma ∷ compact_members (member n' v' o)) in
-    let one : length (quoted n ++ colon ∷ compact v) ≡ length (quoted n ++ colon ∷ []) + length (compact v) =
-    ap length (split_member (quoted n) (compact v)) ∙ length-append (quoted n ++ colon ∷ []) (compact v) in
-    omega (arith, later, all, one, are.0.1, are.0.2)
 
 -- ---- the texts around them
 around : (text x y : List ℕ) (p q : MemberPlace) → p.value ≤ q.value → p.end ≤ q.value → q.value ≤ length text
@@ -143,15 +113,9 @@ replaced_two : (text : List ℕ) (members : MemberTrees) (parts : List MemberPla
 replaced_two text members parts j k d x y is are below within =
     let p : MemberPlace = get_or parts j d in
     let q : MemberPlace = get_or parts k d in
-    let first = lies_after 1 j d parts members are (omega (arith, below, within)) in
-    let second = lies_after 1 k d parts members are within in
+    let first = parts_in_text text members parts j d is are (omega (arith, below, within)) in
+    let second = parts_in_text text members parts k d is are within in
     let apart = rises 1 j k d parts members are below within in
-    let inside : q.end ≤ length text = omega (
-      arith,
-      ends_within 1 k d parts members are within,
-      ap length is,
-      length-append (compact_members members) (close_brace ∷ []),
-    ) in
     let after = moved 1 k j y d parts members are below within in
     let one : with_value text q (compact y) ≡ compact (object (replaced k y members)) =
     ap (λ l. with_value l q (compact y)) is ∙ replaced_text members (open_brace ∷ []) (close_brace ∷ []) parts k d y
@@ -163,7 +127,7 @@ replaced_two text members parts j k d x y is are below within =
     sym two ∙ (ap (λ r. with_value (compact (object (replaced k y members))) r (compact x)) after.same
     ∙ (ap (λ l. with_value l p (compact x)) (sym one)
     ∙ around text (compact x) (compact y) p q (omega (arith, first, second, apart)) (omega (arith, second, apart))
-    (omega (arith, second, inside))))
+    (omega (arith, second))))
 
 -- ---- by their names
 has_kept : (k : ℕ) (n name : List ℕ) (f : Tree → Tree) (value : Tree) (members : MemberTrees) → bytes_eq n name ≡ false
@@ -206,22 +170,6 @@ changed_either n m f g (member other v o) apart apart₂ =
     by false true e e₂ later = rw (e, e₂) (ap (member other (g v)) later)
     by false false e e₂ later = rw (e, e₂) (ap (member other v) later)
 
-utf8_there : (k : ℕ) (name : List ℕ) (value : Tree) (members : MemberTrees) → AreWritableMembers members
-    → HasMember k name value members → IsUtf8 name
-utf8_there k name value no_members writable has = absurd has
-utf8_there zero name value (member other v o) writable has = subst IsUtf8 has.0 writable.0
-utf8_there (suc k) name value (member other v o) writable has = utf8_there k name value o writable.2 has
-
-abbrev content : Tree → List ℕ
-content (string text) = text
-content other = []
-
-same_name : (other name : List ℕ) → IsUtf8 other → IsUtf8 name → quoted other ++ colon ∷ [] ≡ quoted name ++ colon ∷ []
-    → other ≡ name
-same_name other name utf8 also same = ap content
-    (compact-tells (string other) (string name) utf8 also
-    (append_cancel_right (quoted other) (quoted name) (colon ∷ []) same))
-
 some_same : (v w : Tree) → Some v ≡ Some w → v ≡ w
 some_same v w e = cc
 
@@ -235,7 +183,7 @@ has_named text parts members name part value utf8 of are here is =
     let named : quoted lies.name ++ colon ∷ [] ≡ quoted name ++ colon ∷ [] = sym lies.named
     ∙ (ap (λ (p : MemberPlace). slice_range (compact (object members)) p.at p.value) here.is
     ∙ (ap (λ l. slice_range l part.at part.value) (sym of.is) ∙ here.named)) in
-    let same = same_name lies.name name (utf8_there k lies.name lies.value members of.writable lies.has) utf8 named in
+    let same = same_name lies.name name (writable_at k lies.name lies.value members of.writable lies.has).0 utf8 named in
     let has : HasMember k name lies.value members = subst (λ n. HasMember k n lies.value members) same lies.has in
     subst (λ v. HasMember k name v members) (some_same lies.value value
     (sym (first_at k name lies.value members of.distinct.0 has) ∙ is)) has
@@ -244,22 +192,20 @@ has_named text parts members name part value utf8 of are here is =
 comes_first : (j k : ℕ) (p q : MemberPlace) (parts : List MemberPlace) (members : MemberTrees) → AreParts 1 parts members
     → j < length parts → k < length parts → get_or parts j p ≡ p → get_or parts k q ≡ q → p.end ≤ q.value → (j ≡ k → ⊥)
     → j < k
-comes_first j k p q parts members are within within₂ is is₂ ordered apart = by (ltb k j) refl
+comes_first j k p q parts members are within within₂ is is₂ ordered apart = elim (cases_Bool (ltb k j)) [
+  | inl e ↦ let below : k < j = ltb-true k j e in
+      let after = rises 1 k j q parts members are below within in
+      let first = parts_within members 1 parts j q are within in
+      let second = parts_within members 1 parts k q are within₂ in
+      let p_is : get_or parts j q ≡ p = sym same ∙ is in
+      let last : p.end ≤ (get_or parts k q).value = subst (λ (r : MemberPlace). p.end ≤ r.value) (sym is₂) ordered in
+      let end : (get_or parts j q).end ≡ p.end = ap (λ (r : MemberPlace). r.end) p_is in
+      absurd (omega (arith, after, first, second, last, end))
+  | inr e ↦ let not_below = ltb-false k j e in omega (arith, not_below, apart)
+]
   where
     same : get_or parts j p ≡ get_or parts j q
     same = get_or_default parts j p q within
-
-    by : (b : Bool) → ltb k j ≡ b → j < k
-    by true e =
-        let below : k < j = ltb-true k j e in
-        let after = rises 1 k j q parts members are below within in
-        let first = lies_after 1 j q parts members are within in
-        let second = lies_after 1 k q parts members are within₂ in
-        let p_is : get_or parts j q ≡ p = sym same ∙ is in
-        let last : p.end ≤ (get_or parts k q).value = subst (λ (r : MemberPlace). p.end ≤ r.value) (sym is₂) ordered in
-        let end : (get_or parts j q).end ≡ p.end = ap (λ (r : MemberPlace). r.end) p_is in
-        absurd (omega (arith, after, first, second, last, end))
-    by false e = let not_below = ltb-false k j e in omega (arith, not_below, apart)
 
 pub two_exchanged : (text : List ℕ) (parts : List MemberPlace) (members : MemberTrees) (p q : MemberPlace) (n m : List ℕ) (v w : Tree)
     (f g : Tree → Tree) → IsUtf8 n → IsUtf8 m → bytes_eq n m ≡ false → IsCompactOf text (object members)

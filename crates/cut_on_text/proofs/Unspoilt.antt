@@ -1,5 +1,6 @@
 -- Objects with other numbers at the leaves of their boundaries can be written and fit as before.
 use Rattle.std.proofs.Common.{◌≡◌, ◌≤◌, ℕ, max, Bool, true, false, List, [], ◌∷◌, ◌++◌, Some, bytes_eq, if◌then◌else◌, refl, sym, ap, subst, ◌∙◌, arith, inl, inr}
+use Rattle.std.proofs.lemmas.Bool.{cases_Bool}
 use Rattle.std.proofs.Math.Nat.{le-max_left, le-max_right, max-le}
 use Rattle.std.proofs.lemmas.Grind.{flat_map-append}
 use Rattle.std.proofs.lemmas.List.Elements.{Contains-append_left, Contains-append_right}
@@ -130,14 +131,11 @@ in_member_kept name f (array items) kept distinct = unchanged (array items) dist
 other_named : (m n : List ℕ) (f : Tree → Tree) (ms : MemberTrees) → bytes_eq m n ≡ false
     → first_named n (changed_members m f ms) ≡ first_named n ms
 other_named m n f no_members apart = refl
-other_named m n f (member other v os) apart = by (bytes_eq other m) refl (other_named m n f os apart)
-  where
-    by : (b : Bool) → bytes_eq other m ≡ b → first_named n (changed_members m f os) ≡ first_named n os
-        → first_named n (changed_members m f (member other v os)) ≡ first_named n (member other v os)
-    by true e others =
-        let differs : bytes_eq other n ≡ false = ap (λ l. bytes_eq l n) ((bytes_eq-Decides other m).0 e) ∙ apart in
-        rw (e, differs) others
-    by false e others = rw e (ap (λ x. if bytes_eq other n then Some v else x) others)
+other_named m n f (member other v os) apart = elim (cases_Bool (bytes_eq other m)) [
+  | inl e ↦ let differs : bytes_eq other n ≡ false = ap (λ l. bytes_eq l n) ((bytes_eq-Decides other m).0 e) ∙ apart in
+      rw (e, differs) (other_named m n f os apart)
+  | inr e ↦ rw e (ap (λ x. if bytes_eq other n then Some v else x) (other_named m n f os apart))
+]
 
 other_member : (m n : List ℕ) (f : Tree → Tree) (value : Tree) → bytes_eq m n ≡ false
     → member_of n (in_member m f value) ≡ member_of n value

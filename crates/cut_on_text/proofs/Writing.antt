@@ -1,68 +1,105 @@
 -- Texts that are written piece by piece.
-use Rattle.std.proofs.Common.{◌≡◌, ◌<◌, ◌≤◌, ◌+◌, ◌++◌, ◌⊎◌, inl, inr, ℕ, zero, suc, List, [], ◌∷◌, Option, Result, Ok, Err, OnErr, OnOk, codes, length, get_or, flat_map, map, take, drop, take_all, sym, refl, ap, subst, ◌∙◌, arith, add-one, append_assoc, append-nil}
+use Rattle.std.proofs.Common.{◌≡◌, ◌<◌, ◌≤◌, ◌+◌, ◌++◌, ◌⊎◌, inl, inr, ℕ, zero, suc, true, false, List, [], ◌∷◌, Option, Result, Ok, Err, IfErr, OnErr, OnOk, length, get_or, flat_map, map, take, drop, take_all, sym, refl, ap, subst, ◌∙◌, arith, add-one, append_assoc, append-nil}
 use Rattle.std.proofs.Math.ListN.{get_or-map}
 use Rattle.std.proofs.Math.Seq.{drop-cons, take-append-add, take-append_seam}
 use Rattle.std.proofs.KnownBytes.{Appends-nil, Appends-trans}
 use Rattle.std.proofs.lemmas.Bool.{cases_lt}
 use Rattle.std.proofs.lemmas.List.{drop_all, get_or_default, length-map, nil_from_length, take-append-le}
-use Rattle.std.proofs.lemmas.Result.{err_from_is_err_and}
 use Rattle.std.specs.Io.KnownBytes.{Appends}
 use Rattle.std.specs.List.{slice_index, slice_range}
-use Rattle.std.specs.Result.{IsErrAnd}
+use Rattle.std.specs.Result.{is_err}
+use Rattle.byte_streams.specs.Failures.{after_call, one_more}
+use Rattle.byte_streams.specs.declared.fault.Fault.{Fault}
+use Rattle.byte_streams.specs.declared.fault.Fault.TheVariants.{Write}
+use Rattle.city_json.specs.Bytes.{comma}
 use Rattle.cut_on_text.specs.Made.{Makings, comma_before, family, feature_text, first_uses, listed, made_text, more_listed, vertex_at}
 use Rattle.cut_on_text.specs.Rosters.{RosterState}
 use Rattle.cut_on_text.specs.Skeletons.{LeafPlace, uses_at, woven}
-use Rattle.cut_on_text.specs.Written.{Wrote}
+use Rattle.cut_on_text.specs.Written.{Writes, Wrote, WroteSince}
 
-abbrev pub WroteFront : Option (List ℕ) → Option (List ℕ) → List ℕ → Type 0
-WroteFront old new text = (count : ℕ) × Appends old new (take count text)
-
--- what the exit of a `?` tells
-pub failed_at : {A E : Type 0} (result : Result A E) (Q : E → Type 0) → IsErrAnd result Q → (old new : Option (List ℕ))
-    (text : List ℕ) → WroteFront old new text → Wrote result old new text
-failed_at result Q is old new text some =
-    let e = err_from_is_err_and result is in subst (λ r. Wrote r old new text) (sym e.1) some
-
-front_of : (count : ℕ) (front back : List ℕ) → (n : ℕ) × (take n (front ++ back) ≡ take count front)
+pub front_of : (count : ℕ) (front back : List ℕ) → (n : ℕ) × (take n (front ++ back) ≡ take count front)
 front_of count front back = by (cases_lt (length front) count)
   where
     by : (length front < count) ⊎ (count ≤ length front) → (n : ℕ) × (take n (front ++ back) ≡ take count front)
     by (inl past) = (length front, take-append_seam front back ∙ sym (take_all count front (omega arith)))
     by (inr within) = (count, take-append-le count front back within)
 
--- of a whole text so much was written that this is left
-pub record WroteUpTo (old now : Option (List ℕ)) (whole rest : List ℕ) : Type 0 where
-  pub done : List ℕ
-  pub wrote : Appends old now done
-  pub split : whole ≡ done ++ rest
+module _ {W : Type 0} (taken : W → Option (List ℕ)) (failures : W → ℕ) where
+  abbrev State : Type 0
+  State = Result (Unit {0}) Fault
 
-pub wrote_none : (old : Option (List ℕ)) (whole : List ℕ) → WroteUpTo old old whole whole
-wrote_none old whole = record { done = []; wrote = Appends-nil old; split = refl }
+  -- a sink that has failed is left alone
+  pub writes_no_more : (s : W) (before : State) (text : List ℕ) → is_err before ≡ true
+      → Writes taken failures s before s before text
+  writes_no_more s (Ok done) text failed = absurd (cc failed)
+  writes_no_more s (Err e) text failed = λ start count front so_far.
+      let n = front_of so_far.written.0 front text in record {
+        written = (n.0, subst (Appends start (taken s)) (sym n.1) so_far.written.1);
+        failed = so_far.failed;
+        fault = so_far.fault;
+      }
 
-module _ (old now : Option (List ℕ)) (whole piece rest : List ℕ)
-    (so_far : WroteUpTo old now whole (piece ++ rest)) where
-  pub wrote_more : (new : Option (List ℕ)) → Appends now new piece → WroteUpTo old new whole rest
-  wrote_more new more = record {
-    done = so_far.done ++ piece;
-    wrote = Appends-trans old now new so_far.done piece so_far.wrote more;
-    split = so_far.split ∙ sym (append_assoc so_far.done piece rest);
+  -- one write, where none has failed
+  pub writes_piece : (s : W) (before : State) (s₁ : W) (wrote : State) (text : List ℕ) → is_err before ≡ false
+      → OnOk wrote (Appends (taken s) (taken s₁) text)
+      → OnErr wrote ((count : ℕ) × Appends (taken s) (taken s₁) (take count text))
+      → failures s₁ ≡ after_call wrote (failures s) → IfErr wrote (λ fault. fault ≡ Write)
+      → Writes taken failures s before s₁ wrote text
+  writes_piece s (Err e) s₁ wrote text none all some failed fault = absurd (cc none)
+  writes_piece s (Ok done) s₁ (Ok also) text none all some failed fault = λ start count front so_far. record {
+    written = Appends-trans start (taken s) (taken s₁) front text so_far.written all;
+    failed = failed ∙ so_far.failed;
+    fault = tt;
+  }
+  writes_piece s (Ok done) s₁ (Err e) text none all some failed fault = λ start count front so_far. record {
+    written = (
+      length front + some.0,
+      subst (Appends start (taken s₁)) (sym (take-append-add front text some.0))
+          (Appends-trans start (taken s) (taken s₁) front (take some.0 text) so_far.written some.1),
+    );
+    failed = failed ∙ ap one_more so_far.failed;
+    fault = fault;
   }
 
-  pub failed_more : (new : Option (List ℕ)) → WroteFront now new piece → WroteFront old new whole
-  failed_more new some =
-      let n = front_of some.0 piece rest in (
-        length so_far.done + n.0,
-        subst (Appends old new) (sym (ap (take (length so_far.done + n.0)) so_far.split
-            ∙ (take-append-add so_far.done (piece ++ rest) n.0 ∙ ap (λ l. so_far.done ++ l) n.1)))
-            (Appends-trans old now new so_far.done (take some.0 piece) so_far.wrote some.1),
-      )
+  pub writes_none : (s : W) (wrote : State) → Writes taken failures s wrote s wrote []
+  writes_none s wrote = λ start count front before.
+      subst (WroteSince taken failures start count s wrote) (sym (append-nil front)) before
 
-pub wrote_last : {A E : Type 0} (result : Result A E) (old now new : Option (List ℕ)) (whole rest : List ℕ)
-    → WroteUpTo old now whole rest → Wrote result now new rest → Wrote result old new whole
-wrote_last (Ok x) old now new whole rest so_far more =
-    subst (Appends old new) (sym so_far.split) (Appends-trans old now new so_far.done rest so_far.wrote more)
-wrote_last (Err e) old now new whole rest so_far some = failed_more old now whole rest []
-    (subst (WroteUpTo old now whole) (sym (append-nil rest)) so_far) new some
+  pub writes_both : (s : W) (w : State) (s₁ : W) (w₁ : State) (s₂ : W) (w₂ : State) (first second : List ℕ)
+      → Writes taken failures s w s₁ w₁ first → Writes taken failures s₁ w₁ s₂ w₂ second
+      → Writes taken failures s w s₂ w₂ (first ++ second)
+  writes_both s w s₁ w₁ s₂ w₂ first second one two = λ start count front before.
+      subst (WroteSince taken failures start count s₂ w₂) (append_assoc front first second)
+      (two start count (front ++ first) (one start count front before))
+
+  -- all that was written of a text, where nothing was before
+  pub wrote_since : (s s₁ : W) (wrote : State) (text : List ℕ) → Writes taken failures s (Ok tt) s₁ wrote text
+      → WroteSince taken failures (taken s) (failures s) s₁ wrote text
+  wrote_since s s₁ wrote text writes = writes (taken s) (failures s) []
+      (record { written = Appends-nil (taken s); failed = refl; fault = tt })
+
+  -- of a whole text so much was written that this is left
+  pub record WritesUpTo (s : W) (w : State) (s₁ : W) (w₁ : State) (whole rest : List ℕ) : Type 0 where
+    pub done : List ℕ
+    pub writes : Writes taken failures s w s₁ w₁ done
+    pub split : whole ≡ done ++ rest
+
+  pub none_yet : (s : W) (w : State) (whole : List ℕ) → WritesUpTo s w s w whole whole
+  none_yet s w whole = record { done = []; writes = writes_none s w; split = refl }
+
+  module _ (s : W) (w : State) (s₁ : W) (w₁ : State) (s₂ : W) (w₂ : State) (whole : List ℕ) where
+    pub writes_more : (piece rest : List ℕ) → WritesUpTo s w s₁ w₁ whole (piece ++ rest)
+        → Writes taken failures s₁ w₁ s₂ w₂ piece → WritesUpTo s w s₂ w₂ whole rest
+    writes_more piece rest so_far more = record {
+      done = so_far.done ++ piece;
+      writes = writes_both s w s₁ w₁ s₂ w₂ so_far.done piece so_far.writes more;
+      split = so_far.split ∙ sym (append_assoc so_far.done piece rest);
+    }
+
+    pub writes_last : (rest : List ℕ) → WritesUpTo s w s₁ w₁ whole rest → Writes taken failures s₁ w₁ s₂ w₂ rest
+        → Writes taken failures s w s₂ w₂ whole
+    writes_last rest so_far more = subst (Writes taken failures s w s₂ w₂) (sym so_far.split)
+        (writes_both s w s₁ w₁ s₂ w₂ so_far.done rest so_far.writes more)
 
 pub wrote_ok : {A E : Type 0} (result : Result A E) (old new : Option (List ℕ)) (text : List ℕ)
     → Wrote result old new text → OnOk result (Appends old new text)
@@ -70,28 +107,19 @@ wrote_ok (Ok x) old new text all = all
 wrote_ok (Err e) old new text some = tt
 
 pub wrote_some : {A E : Type 0} (result : Result A E) (old new : Option (List ℕ)) (text : List ℕ)
-    → Wrote result old new text → OnErr result (WroteFront old new text)
+    → Wrote result old new text → OnErr result ((count : ℕ) × Appends old new (take count text))
 wrote_some (Ok x) old new text all = tt
 wrote_some (Err e) old new text some = some
 
--- ---- two texts, or three
-module _ (old new : Option (List ℕ)) (first second : List ℕ) where
-  pub first_failed : WroteFront old new first → WroteFront old new (first ++ second)
-  first_failed some = failed_more old old (first ++ second) first second (wrote_none old (first ++ second)) new some
-
-  pub first_written : Appends old new first → WroteUpTo old new (first ++ second) second
-  first_written wrote = wrote_more old old (first ++ second) first second (wrote_none old (first ++ second)) new wrote
-
-module _ (old mid new : Option (List ℕ)) (first second third : List ℕ) (wrote : Appends old mid first) where
-  pub second_failed : WroteFront mid new second → WroteFront old new (first ++ (second ++ third))
-  second_failed some = failed_more old mid (first ++ (second ++ third)) second third
-      (first_written old mid first (second ++ third) wrote) new some
-
-  pub two_written : Appends mid new second → WroteUpTo old new (first ++ (second ++ third)) third
-  two_written more = wrote_more old mid (first ++ (second ++ third)) second third
-      (first_written old mid first (second ++ third) wrote) new more
-
 -- ---- lists
+pub comma_there : (place : ℕ) → 0 < place → comma ∷ [] ≡ comma_before place
+comma_there zero past = absurd (omega (arith, past))
+comma_there (suc k) past = refl
+
+pub no_comma : (place : ℕ) → place ≤ 0 → [] ≡ comma_before place
+no_comma zero none = refl
+no_comma (suc k) none = absurd (omega (arith, none))
+
 -- what is left of a list before the text of this number
 abbrev pub rest_listed : ℕ → List (List ℕ) → List ℕ
 rest_listed zero texts = listed texts
@@ -114,63 +142,60 @@ text_there text numbers k inside =
     get_or_default (map text numbers) k [] (text 0) (omega (arith, inside, length-map numbers text))
     ∙ get_or-map text numbers k 0
 
-module _ (text : ℕ → List ℕ) (numbers : List ℕ) (k : ℕ) (old now : Option (List ℕ))
-    (so_far : WroteUpTo old now (listed (map text numbers)) (rest_listed k (map text numbers))) where
-  pub listed_all : length numbers ≤ k → Appends old now (listed (map text numbers))
+module _ {W : Type 0} (taken : W → Option (List ℕ)) (failures : W → ℕ) (text : ℕ → List ℕ) (numbers : List ℕ) (k : ℕ)
+    (s : W) (w : Result (Unit {0}) Fault) (s₁ : W) (w₁ : Result (Unit {0}) Fault)
+    (so_far : WritesUpTo taken failures s w s₁ w₁ (listed (map text numbers)) (rest_listed k (map text numbers))) where
+  pub listed_all : length numbers ≤ k → Writes taken failures s w s₁ w₁ (listed (map text numbers))
   listed_all past =
       let none = listed_end (map text numbers) k (omega (arith, past, length-map numbers text)) in
-      subst (Appends old now)
-      (sym (so_far.split ∙ (ap (λ l. so_far.done ++ l) none ∙ append-nil so_far.done))) so_far.wrote
+      subst (Writes taken failures s w s₁ w₁)
+      (sym (so_far.split ∙ (ap (λ l. so_far.done ++ l) none ∙ append-nil so_far.done))) so_far.writes
 
-  module _ (inside : k < length numbers) where
-    next : WroteUpTo old now (listed (map text numbers))
-        ((comma_before k ++ text (slice_index numbers k)) ++ rest_listed (k + 1) (map text numbers))
-    next = subst (WroteUpTo old now (listed (map text numbers)))
-        (listed_step (map text numbers) k (omega (arith, inside, length-map numbers text))
-        ∙ ap (λ l. (comma_before k ++ l) ++ rest_listed (k + 1) (map text numbers))
-        (text_there text numbers k inside)) so_far
-
-    pub listed_more : (new : Option (List ℕ)) → Appends now new (comma_before k ++ text (slice_index numbers k))
-        → WroteUpTo old new (listed (map text numbers)) (rest_listed (k + 1) (map text numbers))
-    listed_more new more = wrote_more old now (listed (map text numbers))
-        (comma_before k ++ text (slice_index numbers k)) (rest_listed (k + 1) (map text numbers)) next new more
-
-    pub listed_failed : (new : Option (List ℕ)) → WroteFront now new (comma_before k ++ text (slice_index numbers k))
-        → WroteFront old new (listed (map text numbers))
-    listed_failed new some = failed_more old now (listed (map text numbers))
-        (comma_before k ++ text (slice_index numbers k)) (rest_listed (k + 1) (map text numbers)) next new some
+  pub listed_more : k < length numbers → (s₂ : W) (w₂ : Result (Unit {0}) Fault) (s₃ : W) (w₃ : Result (Unit {0}) Fault)
+      → Writes taken failures s₁ w₁ s₂ w₂ (comma_before k)
+      → Writes taken failures s₂ w₂ s₃ w₃ (text (slice_index numbers k))
+      → WritesUpTo taken failures s w s₃ w₃ (listed (map text numbers)) (rest_listed (k + 1) (map text numbers))
+  listed_more inside s₂ w₂ s₃ w₃ comma own = writes_more taken failures s w s₁ w₁ s₃ w₃ (listed (map text numbers))
+      (comma_before k ++ text (slice_index numbers k)) (rest_listed (k + 1) (map text numbers))
+      (subst (WritesUpTo taken failures s w s₁ w₁ (listed (map text numbers)))
+      (listed_step (map text numbers) k (omega (arith, inside, length-map numbers text))
+      ∙ ap (λ l. (comma_before k ++ l) ++ rest_listed (k + 1) (map text numbers)) (text_there text numbers k inside))
+      so_far) (writes_both taken failures s₁ w₁ s₂ w₂ s₃ w₃ (comma_before k) (text (slice_index numbers k)) comma own)
 
 -- ---- a text with its leaves
-module _ (text : List ℕ) (from end i : ℕ) (leaves : List LeafPlace) (label : ℕ → List ℕ) (leaf : LeafPlace)
-    (inside : i < length leaves) (is : get_or leaves i leaf ≡ leaf) (old now : Option (List ℕ)) (whole : List ℕ)
-    (so_far : WroteUpTo old now whole (woven text from end (drop i leaves) label)) where
-  woven_next : WroteUpTo old now whole
-      ((slice_range text from leaf.at ++ label leaf.vertex) ++ woven text leaf.at end (drop (i + 1) leaves) label)
-  woven_next = subst (WroteUpTo old now whole) (ap (λ l. woven text from end l label)
-      (drop-cons leaves i leaf inside ∙ ap (λ l. l ∷ drop (suc i) leaves) is)
-      ∙ (sym (append_assoc (slice_range text from leaf.at) (label leaf.vertex)
-      (woven text leaf.at end (drop (suc i) leaves) label))
-      ∙ ap (λ n. (slice_range text from leaf.at ++ label leaf.vertex) ++ woven text leaf.at end (drop n leaves) label)
-      (sym (add-one i)))) so_far
-
-  pub woven_more : (new : Option (List ℕ)) → Appends now new (slice_range text from leaf.at ++ label leaf.vertex)
-      → WroteUpTo old new whole (woven text leaf.at end (drop (i + 1) leaves) label)
-  woven_more new more = wrote_more old now whole (slice_range text from leaf.at ++ label leaf.vertex)
-      (woven text leaf.at end (drop (i + 1) leaves) label) woven_next new more
-
-  pub woven_failed : (new : Option (List ℕ)) → WroteFront now new (slice_range text from leaf.at ++ label leaf.vertex)
-      → WroteFront old new whole
-  woven_failed new some = failed_more old now whole (slice_range text from leaf.at ++ label leaf.vertex)
-      (woven text leaf.at end (drop (i + 1) leaves) label) woven_next new some
+pub woven_more : {W : Type 0} (taken : W → Option (List ℕ)) (failures : W → ℕ) (text : List ℕ) (from end i : ℕ)
+    (leaves : List LeafPlace) (label : ℕ → List ℕ) (leaf : LeafPlace) (s : W) (w : Result (Unit {0}) Fault) (s₁ : W)
+    (w₁ : Result (Unit {0}) Fault) (s₂ : W) (w₂ : Result (Unit {0}) Fault) (s₃ : W) (w₃ : Result (Unit {0}) Fault)
+    (whole : List ℕ) → i < length leaves → get_or leaves i leaf ≡ leaf
+    → WritesUpTo taken failures s w s₁ w₁ whole (woven text from end (drop i leaves) label)
+    → Writes taken failures s₁ w₁ s₂ w₂ (slice_range text from leaf.at)
+    → Writes taken failures s₂ w₂ s₃ w₃ (label leaf.vertex)
+    → WritesUpTo taken failures s w s₃ w₃ whole (woven text leaf.at end (drop (i + 1) leaves) label)
+woven_more taken failures text from end i leaves label leaf s w s₁ w₁ s₂ w₂ s₃ w₃ whole inside is so_far front number =
+    let rest = woven text leaf.at end (drop (i + 1) leaves) label in
+    let next : woven text from end (drop i leaves) label
+    ≡ (slice_range text from leaf.at ++ label leaf.vertex) ++ rest = ap (λ l. woven text from end l label)
+    (drop-cons leaves i leaf inside ∙ ap (λ l. l ∷ drop (suc i) leaves) is)
+    ∙ (sym (append_assoc (slice_range text from leaf.at) (label leaf.vertex)
+    (woven text leaf.at end (drop (suc i) leaves) label))
+    ∙ ap (λ n. (slice_range text from leaf.at ++ label leaf.vertex) ++ woven text leaf.at end (drop n leaves) label)
+    (sym (add-one i))) in
+    writes_more taken failures s w s₁ w₁ s₃ w₃ whole (slice_range text from leaf.at ++ label leaf.vertex) rest
+    (subst (WritesUpTo taken failures s w s₁ w₁ whole) next so_far)
+    (writes_both taken failures s₁ w₁ s₂ w₂ s₃ w₃ (slice_range text from leaf.at) (label leaf.vertex) front number)
 
 -- ---- a feature
-abbrev pub head_for : List ℕ → List ℕ
-head_for id = codes "{\"type\":\"CityJSONFeature\",\"id\":" ++ (id ++ codes ",\"CityObjects\":{")
-
-pub head_apart : (id objects rest : List ℕ) → head_for id ++ (objects ++ rest)
-    ≡ codes "{\"type\":\"CityJSONFeature\",\"id\":" ++ (id ++ (codes ",\"CityObjects\":{" ++ (objects ++ rest)))
-head_apart id objects rest = ap (λ l. codes "{\"type\":\"CityJSONFeature\",\"id\":" ++ l)
-    (append_assoc id (codes ",\"CityObjects\":{") (objects ++ rest))
+-- its head, its objects and the rest of it were written
+pub writes_feature : {W : Type 0} (taken : W → Option (List ℕ)) (failures : W → ℕ) (s : W) (w : Result (Unit {0}) Fault) (s₁ : W)
+    (w₁ : Result (Unit {0}) Fault) (s₂ : W) (w₂ : Result (Unit {0}) Fault) (s₃ : W) (w₃ : Result (Unit {0}) Fault)
+    (front id back objects rest : List ℕ) → Writes taken failures s w s₁ w₁ (front ++ (id ++ back))
+    → Writes taken failures s₁ w₁ s₂ w₂ objects → Writes taken failures s₂ w₂ s₃ w₃ rest
+    → Writes taken failures s w s₃ w₃ (front ++ (id ++ (back ++ (objects ++ rest))))
+writes_feature taken failures s w s₁ w₁ s₂ w₂ s₃ w₃ front id back objects rest head middle last =
+    subst (Writes taken failures s w s₃ w₃)
+    (append_assoc front (id ++ back) (objects ++ rest) ∙ ap (λ l. front ++ l) (append_assoc id back (objects ++ rest)))
+    (writes_both taken failures s w s₁ w₁ s₃ w₃ (front ++ (id ++ back)) (objects ++ rest) head
+    (writes_both taken failures s₁ w₁ s₂ w₂ s₃ w₃ objects rest middle last))
 
 -- what was written for the root at a place is the text at that place
 pub made_there : (makings : Makings) (roots : List ℕ) (texts : List (List ℕ)) (at root : ℕ)

@@ -1,15 +1,17 @@
 -- The members of a city object in whose items boundaries stand, each with its own rules.
-use Rattle.std.specs.Prelude.{ℕ, List, [], Option, Some, None, codes, if◌then◌else◌, length, ◌==◌, ◌-◌, ◌++◌, ◌∷◌}
+use Rattle.std.specs.Prelude.{ℕ, List, [], Option, Some, None, codes, if◌then◌else◌, length, slice_range, unwrap_or, ◌==◌, ◌-◌, ◌++◌, ◌∷◌}
 use Rattle.std.specs.List.{flat_map, AllByRecursion}
 use Rattle.city_json.specs.Bytes.{colon}
-use Rattle.city_json.specs.Compact.{quoted}
-use Rattle.city_json.specs.Tree.{Tree}
+use Rattle.city_json.specs.Compact.{compact, quoted}
+use Rattle.city_json.specs.Members.{member_of}
+use Rattle.city_json.specs.Tree.{Tree, null}
 use Rattle.city_json.specs.declared.compacting.places.MemberPlace.{MemberPlace}
-use Rattle.city_feature.specs.Shapes.{IsArray}
+use Rattle.city_feature.specs.Shapes.{IsArray, WhereThere}
 use Rattle.city_families.specs.Boundaries.{IsAddress, IsGeometry, address_boundary, in_items, in_member, own_boundary, relabelled_boundary}
 use Rattle.city_families.specs.Items.{items_of}
 use Rattle.city_families.specs.Leaves.{leaves}
 use Rattle.cut_on_text.specs.declared.on_text.holders.Holder.{Holder}
+use Rattle.cut_on_text.specs.declared.on_text.holders.HeldParts.{HeldParts}
 use Rattle.cut_on_text.specs.declared.on_text.holders.Holder.TheVariants.{Geometry, Address}
 
 abbrev pub name_of : Holder → List ℕ
@@ -58,3 +60,30 @@ begin_of holder value = value - length (quoted (name_of holder) ++ colon ∷ [])
 abbrev pub part_unless : Holder → ℕ → ℕ → Option MemberPlace
 part_unless holder value end =
     if end == 0 then None else Some (record { at = begin_of holder value; value = value; end = end })
+
+-- ---- of a city object, where the member may be there or not
+abbrev pub part_in : Holder → HeldParts → Option MemberPlace
+part_in Geometry held = held.geometry
+part_in Address held = held.address
+
+abbrev pub AreHeldIn : Holder → ℕ → Tree → Type 0
+AreHeldIn holder count value = WhereThere (AreHeld holder count) (member_of (name_of holder) value)
+
+abbrev pub uses_in : Holder → Tree → List ℕ
+uses_in holder value = flat_map leaves (flat_map (boundary_in holder) (items_of (member_of (name_of holder) value)))
+
+-- how far the text of the object is copied, once this part of it is
+abbrev pub end_of : ℕ → Option MemberPlace → ℕ
+end_of from None = from
+end_of from (Some part) = part.end
+
+-- what is copied up to there, with other texts at the leaves
+abbrev pub copied_to : List ℕ → ℕ → Option MemberPlace → Holder → (List ℕ → List ℕ) → Tree → List ℕ
+copied_to text from None holder change value = []
+copied_to text from (Some part) holder change value = slice_range text from part.value
+    ++ compact (relabelled_held holder change (unwrap_or (member_of (name_of holder) value) null))
+
+-- where the first member was copied up to one count, and the second up to another: the leaves of the geometries begin there
+abbrev pub split_by : Holder → ℕ → ℕ → ℕ
+split_by Geometry before between = before
+split_by Address before between = between

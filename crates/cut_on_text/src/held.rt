@@ -1,6 +1,6 @@
 //! The texts of a document's features. What each has of its own is held, or made when it is asked for; what all of them
 //! end in is held once.
-ghost use Rattle.std.specs.Prelude.{◌≡◌, ◌<◌, ◌≤◌, ◌^◌, ◌++◌, ◌∷◌, [], ℕ, List, Err, true, false, length, map, get_or, slice_range, take, IfErr, IsOk, OnErr, OnOk};
+ghost use Rattle.std.specs.Prelude.{◌≡◌, ◌<◌, ◌≤◌, ◌^◌, ◌++◌, ◌∷◌, [], ℕ, List, true, false, length, map, get_or, slice_range, take, IfErr, IfOk, IsTrue, OnErr, OnOk};
 ghost use Rattle.std.specs.Io.KnownBytes.{Appends};
 ghost use Rattle.std.specs.List.{AllByRecursion, AllZip};
 ghost use Rattle.byte_streams.specs.Failures.{after_call};
@@ -202,41 +202,44 @@ impl OwnTexts {
         }
     }
 
-    /// Moves the vertices of texts that are made by the shift. The only fault is [`Fault::Memory`], of held texts, too.
-    fn move_by(&mut self, alloc: Global, shift: Shift) -> Result<(), Fault>
-        ensures ok { OnOk result ((common : List ℕ) (features : List FeatureValue) → EndIn common self.old
+    /// Moves the vertices of texts that are made by the shift. The only fault is [`Fault::Memory`]. Whether they are made;
+    /// held texts stay.
+    fn move_by(&mut self, alloc: Global, shift: Shift) -> Result<bool, Fault>
+        ensures is { IfOk result (λ is_made. is_made ≡ are_made self.old) }
+        ensures moved { IfOk result (λ is_made. IsTrue is_made
+            → (common : List ℕ) (features : List FeatureValue) → EndIn common self.old
             → AllZip SpellsFeature (with_end common (own_texts self.old)) features
             → AllByRecursion (λ feature. IsMovable feature shift) features
             → with_end common (own_texts self.new) ≡ texts_of (map (λ feature. moved feature shift) features)) }
         ensures end { (common : List ℕ) → EndIn common self.old → EndIn common self.new }
         ensures count { length (own_texts self.new) ≡ length (own_texts self.old) }
         ensures made { are_made self.new ≡ are_made self.old }
-        ensures held { are_made self.old ≡ false → result ≡ Err Fault.Memory }
+        ensures held { are_made self.old ≡ false → self.new ≡ self.old }
         ensures failed { OnErr result (self.new ≡ self.old) }
         ensures fault { IfErr result (λ fault. fault ≡ Fault.Memory) }
     {
         match self {
-            OwnTexts::Held(_) => Err(Fault::Memory),
-            OwnTexts::Made(texts) => texts.move_by(alloc, shift),
+            OwnTexts::Held(_) => Ok(false),
+            OwnTexts::Made(texts) => {
+                texts.move_by(alloc, shift)?;
+                Ok(true)
+            }
         }
     }
 
-    /// Keeps those of the texts that are made at whose places it is true. The only fault is [`Fault::Memory`], where the
-    /// texts are held.
-    fn keep(&mut self, chosen: &[bool]) -> Result<(), Fault>
-        ensures ok { OnOk result (own_texts self.new ≡ chosen_of chosen.now (own_texts self.old)) }
+    /// Keeps those of the texts that are made at whose places it is true. Whether they are made; held texts stay.
+    fn keep(&mut self, chosen: &[bool]) -> bool
+        ensures is { result ≡ are_made self.old }
+        ensures kept { IsTrue result → own_texts self.new ≡ chosen_of chosen.now (own_texts self.old) }
         ensures end { (common : List ℕ) → EndIn common self.old → EndIn common self.new }
         ensures same { are_made self.new ≡ are_made self.old }
-        ensures made { are_made self.old ≡ true → IsOk result }
-        ensures held { are_made self.old ≡ false → result ≡ Err Fault.Memory }
-        ensures failed { OnErr result (self.new ≡ self.old) }
-        ensures fault { IfErr result (λ fault. fault ≡ Fault.Memory) }
+        ensures held { are_made self.old ≡ false → self.new ≡ self.old }
     {
         match self {
-            OwnTexts::Held(_) => Err(Fault::Memory),
+            OwnTexts::Held(_) => false,
             OwnTexts::Made(texts) => {
                 texts.keep(chosen);
-                Ok(())
+                true
             }
         }
     }
@@ -334,37 +337,32 @@ impl FeatureTexts {
     }
 
     /// Moves the vertices of texts that are made by the shift: the features are what they were, moved, where all of them
-    /// can be. Nothing is changed where it fails.
+    /// can be. Whether they are made ([`FeatureTexts::is_made`]); held texts stay. Nothing is changed where it fails.
     ///
     /// # Errors
     ///
-    /// [`Fault::Memory`] where there is not enough memory, or the texts are held ([`FeatureTexts::is_made`]).
-    pub fn move_by(&mut self, alloc: Global, shift: Shift) -> Result<(), Fault>
-        ensures ok { OnOk result ((features : List FeatureValue) → AllZip SpellsFeature (texts_in self.old) features
+    /// [`Fault::Memory`] where there is not enough memory.
+    pub fn move_by(&mut self, alloc: Global, shift: Shift) -> Result<bool, Fault>
+        ensures is { IfOk result (λ is_made. is_made ≡ self.old.is_made) }
+        ensures moved { IfOk result (λ is_made. IsTrue is_made → (features : List FeatureValue) → AllZip SpellsFeature (texts_in self.old) features
             → AllByRecursion (λ feature. IsMovable feature shift) features
             → texts_in self.new ≡ texts_of (map (λ feature. moved feature shift) features)) }
         ensures count { length self.new.own ≡ length self.old.own }
         ensures common { self.new.common ≡ self.old.common }
         ensures made { self.new.is_made ≡ self.old.is_made }
-        ensures held { self.old.is_made ≡ false → result ≡ Err Fault.Memory }
+        ensures held { self.old.is_made ≡ false → self.new ≡ self.old }
         ensures failed { OnErr result (self.new ≡ self.old) }
         ensures fault { IfErr result (λ fault. fault ≡ Fault.Memory) }
     {
         self.own.move_by(alloc, shift)
     }
 
-    /// Keeps those of the texts that are made at whose places it is true. It takes no memory. Nothing is changed where it
-    /// fails.
-    ///
-    /// # Errors
-    ///
-    /// [`Fault::Memory`] where the texts are held ([`FeatureTexts::is_made`]).
-    pub fn keep(&mut self, chosen: &[bool]) -> Result<(), Fault>
-        ensures ok { OnOk result (self.new ≡ record self.old { own = chosen_of chosen.now self.old.own }) }
-        ensures made { self.old.is_made ≡ true → IsOk result }
-        ensures held { self.old.is_made ≡ false → result ≡ Err Fault.Memory }
-        ensures failed { OnErr result (self.new ≡ self.old) }
-        ensures fault { IfErr result (λ fault. fault ≡ Fault.Memory) }
+    /// Keeps those of the texts that are made at whose places it is true. Whether they are made ([`FeatureTexts::is_made`]);
+    /// held texts stay. It takes no memory.
+    pub fn keep(&mut self, chosen: &[bool]) -> bool
+        ensures is { result ≡ self.old.is_made }
+        ensures kept { IsTrue result → self.new ≡ record self.old { own = chosen_of chosen.now self.old.own } }
+        ensures held { self.old.is_made ≡ false → self.new ≡ self.old }
     {
         self.own.keep(chosen)
     }

@@ -26,16 +26,14 @@ mod skeletons;
 mod texts;
 pub(crate) mod triples;
 
-ghost use Rattle.std.specs.Prelude.{◌≡◌, ◌<◌, ◌^◌, ℕ, List, Option, IfSome, Some, Contains, codes, length};
-ghost use Rattle.std.specs.List.{AllZip};
+ghost use Rattle.std.specs.Prelude.{◌≡◌, ◌<◌, ◌^◌, ℕ, List, Option, IfSome, Some, Contains, codes, length, unwrap_or};
 ghost use Rattle.city_json.specs.Members.{first_named};
 ghost use Rattle.city_json.specs.Parts.{AreParts};
 ghost use Rattle.city_json.specs.Triples.{HasTriples};
 ghost use Rattle.city_json.specs.ObjectTexts.{IsPlacedObject, members_of, object_of};
-ghost use Rattle.city_json.specs.Tree.{MemberTrees, Tree, member_trees, object};
+ghost use Rattle.city_json.specs.Tree.{MemberTrees, Tree, array, member_trees, no_items, object};
 ghost use Rattle.city_grid.specs.Axes.{Triple};
 ghost use Rattle.city_feature.specs.Feature.{FeatureValue};
-ghost use Rattle.city_feature.specs.LineTexts.{SpellsVertices};
 ghost use Rattle.city_feature.specs.Values.{header_value};
 ghost use Rattle.city_families.specs.Boundaries.{IsBounded};
 ghost use Rattle.city_families.specs.CityObjects.{AllBelong, AreCityObjects, IsReached, LacksChild, roots};
@@ -43,7 +41,7 @@ ghost use Rattle.city_families.specs.Cut.{AreFeatures, IsCut, IsCuttable};
 ghost use Rattle.city_families.specs.Families.{AreRelated};
 ghost use Rattle.cut_on_text.specs.FeatureText.{IsTail, tail_text};
 ghost use Rattle.city_families.specs.HeldTexts.{AreOwnParts, texts_in};
-ghost use Rattle.cut_on_text.specs.Overviews.{AreHolders, HasChildrenIn, HasParentsIn};
+ghost use Rattle.cut_on_text.specs.Overviews.{AreHolders};
 ghost use Rattle.cut_on_text.specs.OwnFeatures.{AreOwnTexts};
 ghost use Rattle.city_families.specs.Search.{InRange};
 ghost use Rattle.city_families.specs.Lines.{texts_of};
@@ -53,16 +51,16 @@ ghost use Rattle.cut_on_text.specs.VertexTexts.{HasPoints, HoldVertices, StandAt
 use crate::cuts::CutTexts;
 use crate::held::FeatureTexts;
 use byte_streams::Line;
-use city_families::{Kin, check_belonging};
+use city_families::Kin;
+use city_feature::is_array;
 use city_json::{ObjectText, Span};
 use features::{are_short, feature_texts};
-use graph::graph_of;
+use graph::kin_of;
 use headers::header_of;
 use holders::ShortHeld;
 use made::MadeTexts;
-use names::Names;
 use overview::{Overview, overview_of};
-use points::{VertexTexts, starts_of, write_anew};
+use points::{VertexTexts, Vertices, written_vertices};
 use short_parts::ShortPart;
 use skeletons::skeletons_of;
 use std::alloc::Global;
@@ -94,45 +92,10 @@ fn tail_of(alloc: Global, document: &ObjectText<'_>) -> Option<Line>
 
 /// The text of the document's vertices, of which there may be none.
 fn vertices_text<'a>(document: &'a ObjectText<'_>) -> &'a [u8]
-    ensures { (points : List Triple) → SpellsVertices result.now points → HasPoints (members_of document.now) points }
+    ensures { IsCompactOf result.now
+        (unwrap_or (first_named (codes "vertices") (members_of document.now)) (array no_items)) }
 {
     document.value_or(b"\"vertices\":", b"[]")
-}
-
-/// The city objects that lie in these parts of a text, with these children, and of which these have parents; each is in a
-/// family. `None`: undecided.
-fn kin_of(
-    alloc: Global,
-    text: &[u8],
-    places: &[ShortPart],
-    parents: Vec<bool>,
-    children: Vec<&[u8]>,
-) -> Option<Kin>
-    requires objects { (pairs : List (List ℕ × Tree)) × IsCompactOf text.now (object (member_trees pairs))
-        × AreParts 1 places.now (member_trees pairs) }
-    requires parents { AllZip (HasParentsIn text.now) places.now parents.items }
-    requires children { AllZip (HasChildrenIn text.now) places.now children.items }
-    ensures graph { IfSome result (λ kin. InRange kin.children (length kin.children)) }
-    ensures parents { IfSome result (λ kin. length kin.parents.items ≡ length kin.children) }
-    ensures kin { IfSome result (λ kin. (pairs : List (List ℕ × Tree))
-        → IsCompactOf text.now (object (member_trees pairs)) → AreParts 1 places.now (member_trees pairs)
-        → AreCityObjects (member_trees pairs)
-        × (¬ LacksChild (member_trees pairs))
-        × AllBelong (member_trees pairs)
-        × AreRelated pairs kin.children kin.parents.items) }
-{
-    let table = Names::new(alloc, text, places)?;
-    let graph = graph_of(alloc, &children, &table)?;
-    drop(children);
-    drop(table);
-    let Ok(meets) = check_belonging(alloc, &graph, &parents) else {
-        return None;
-    };
-    Some(Kin {
-        children: graph,
-        parents,
-        meets,
-    })
 }
 
 /// What the texts of the features have of their own that the families of the objects are, made when they are asked for.
@@ -204,7 +167,9 @@ fn texts_on(
         children,
         held,
     } = overview_of(alloc, objects)?;
-    let kin = kin_of(alloc, objects, &places, parents, children)?;
+    let Ok(kin) = kin_of(alloc, objects, &places, parents, children)? else {
+        return None;
+    };
     if can_be_held(objects, &places, vertices, &kin) {
         if let Some(own) = feature_texts(alloc, objects, &places, &held, vertices, &kin)? {
             return Some(FeatureTexts::new(own, tail));
@@ -250,11 +215,12 @@ pub fn cut_compacted_triples(
         return cut_on(alloc, document, &VertexTexts { text, starts });
     }
     let text = vertices_text(document);
-    if let Some(starts) = starts_of(alloc, text) {
-        return cut_on(alloc, document, &VertexTexts { text, starts });
+    if !is_array(text) {
+        return None;
     }
-    let written = write_anew(alloc, text)?;
-    let text = written.items();
-    let starts = starts_of(alloc, text)?;
+    let Ok(Vertices { text, starts }) = written_vertices(alloc, text) else {
+        return None;
+    };
+    let text = text.items();
     cut_on(alloc, document, &VertexTexts { text, starts })
 }

@@ -23,14 +23,27 @@ fn is_answer(alloc: Global, answer: Result<Option<Line>, Fault>, wanted: &str) -
     }
 }
 
+/// What is given of this own part.
+fn given_text(
+    alloc: Global,
+    own: &str,
+    shift: Shift,
+    choice: &Choice,
+    buffers: &mut OwnBuffers,
+) -> Result<Option<Line>, Fault> {
+    let mut line = Line::new(alloc);
+    line.append(own.as_bytes())?;
+    own_text(alloc, &mut line, shift, choice, buffers)
+}
+
 /// Whether this is given, in buffers that hold other texts.
 fn is_given(alloc: Global, own: &str, shift: Shift, choice: &Choice, wanted: &str) -> bool {
     let mut buffers = OwnBuffers::new(alloc);
     let mut is_so = true;
     for _ in 0..2 {
-        let answer = own_text(alloc, own.as_bytes(), shift, choice, &mut buffers);
+        let answer = given_text(alloc, own, shift, choice, &mut buffers);
         is_so &= is_answer(alloc, answer, wanted);
-        is_so &= own_text(alloc, OTHER.as_bytes(), shift, choice, &mut buffers).is_ok();
+        is_so &= given_text(alloc, OTHER, shift, choice, &mut buffers).is_ok();
     }
     is_so
 }

@@ -2,7 +2,8 @@
 use crate::answers::{gives, shift_of};
 use crate::texts::{below, filled, is_named, repeated, split};
 use byte_streams::Fault;
-use city_feature::{Choice, vertices_fault};
+use city_feature::{Choice, is_array, take_vertices};
+use city_grid::Vertex;
 use std::alloc::{AllocError, AllocGlobal, Global};
 use std::process::Abort;
 
@@ -106,10 +107,19 @@ const MANY: &str = "
 [VERTICES,[VERTICES],[1,2,3.0]] => VertexShape
 ";
 
+/// Why the items of this array are no vertices; `None`, where they are, or it is none.
+fn items_fault(alloc: Global, text: &[u8]) -> Option<Fault> {
+    if !is_array(text) {
+        return None;
+    }
+    let mut vertices: Vec<Vertex> = Vec::new(alloc);
+    take_vertices(alloc, text, &mut vertices).err()
+}
+
 fn expect_arrays(rt: &(impl Abort + AllocGlobal), table: &str) {
     for row in table.lines() {
         let (text, wanted) = split(row);
-        let fault = vertices_fault(rt.alloc(), text.as_bytes());
+        let fault = items_fault(rt.alloc(), text.as_bytes());
         assert!(rt;
             row.is_empty() || is_meant(rt.alloc(), fault, wanted),
             "{row}"

@@ -16,7 +16,7 @@ use Rattle.tile_merge.specs.declared.merging.ends.TileEnd.{TileEnd}
 use Rattle.tile_merge.specs.EndNotes.{end_of, ended_so}
 use Rattle.tile_merge.specs.Opened.{OpenState}
 use Rattle.tile_merge.specs.Rounds.{IsFeedOf, WroteTurn, WroteTurnFront}
-use Rattle.tile_merge.specs.Feeds.{FeedState, Course, behind, course_of, text_before, most_ahead, ThenComes, NotesCome, MayTake, TakesNone, TakesTurn, SomeCourse}
+use Rattle.tile_merge.specs.Feeds.{FeedState, Course, behind, course_of, text_before, most_ahead, ThenComes, NotesCome, MayTake, ReadsOn, TakesTurn, SomeCourse}
 use Rattle.tile_stream.specs.Stream.{with_newline}
 use Rattle.tile_stream.specs.Texts.{Outcome}
 use Rattle.tile_stream.specs.Unread.{Unread, most_left}
@@ -190,137 +190,75 @@ pub set_there : (queues : QueuesState) (queue : Queue) → length queues.tiles �
     → queue_of (with_queue queues 0 queue) 0 ≡ queue
 set_there queues queue one = get_or-set_same queues.tiles 0 queue _ (omega (arith, one))
 
--- a feed before and after one more note was read
+-- a feed before and after one more note was read, behind which no end note stood
 module _ {R : Type 0} (gives : Giving R) (IsWanted : FeatureValue → Type 0) (shift : Triple)
-    (places later_places count : ℕ) (last : Option TileEnd) (before after : Unread R) where
+    (places later_places count : ℕ) (last : Option TileEnd) (before after : Unread R) (queue : Queue)
+    (is_open : queue.closed ≡ false) (no_end : has_end queue.left ≡ false) where
   abbrev feed : Unread R → ℕ → ℕ → Queue → FeedState R
-  feed unread capacity lines queue = record {
+  feed unread capacity lines notes = record {
     unread = unread;
     shift = shift;
     capacity = capacity;
-    notes =
-        queue;
+    notes = notes;
     count = lines;
     last = last;
   }
 
-  abbrev Comes : Unread R → List (List ℕ) → Outcome → Type 0
-  Comes unread texts outcome = LinesMayComeTo gives IsWanted shift unread texts outcome
+  abbrev May : Unread R → ℕ → ℕ → Queue → Course → Type 0
+  May unread capacity lines notes = MayTake gives IsWanted (feed unread capacity lines notes)
 
-  module _ (queue : Queue) (is_open : queue.closed ≡ false) where
-    -- a line was read
-    module _ (text : List ℕ) (given : GivesText (LinesMayComeTo gives IsWanted shift before)
-        (LinesMayComeTo gives IsWanted shift after) text) (new : Queue) (is_new : new ≡ longer queue (LineNote text)) where
-      step : (more : List (List ℕ)) (ended : TileEnd)
-          → ThenComes false gives IsWanted shift after (count + 1) last (course_of more ended)
-          → ThenComes false gives IsWanted shift before count last (course_of (text ∷ more) ended)
-      step more ended comes = (given more ended.stop comes.0, omega (arith, comes.1))
+  abbrev Then : Unread R → ℕ → Course → Type 0
+  Then unread lines = ThenComes false gives IsWanted shift unread lines last
 
-      line_taken-open : (closed : Bool) → closed ≡ false → (texts : List (List ℕ)) (ended : TileEnd)
-          → NotesCome (ThenComes closed gives IsWanted shift after (count + 1) last) (queue.left ++ LineNote text ∷ [])
-          texts ended → NotesCome (ThenComes closed gives IsWanted shift before count last) queue.left texts ended
-      line_taken-open true is texts ended come = absurd (cc is)
-      line_taken-open false is texts ended come =
-          line_put (ThenComes false gives IsWanted shift before count last)
-          (ThenComes false gives IsWanted shift after (count + 1) last) text step queue.left texts ended come
+  -- of the open queue with these notes this was shown, whatever stands in it then
+  of_open : (lines : ℕ) (new : Queue) (to : Queue → Queue) → new ≡ to queue
+      → ((was : SomeCourse (May before places count (record { closed = false; left = queue.left })))
+      → ReadsOn (May before places count (record { closed = false; left = queue.left }))
+      (May after later_places lines (to (record { closed = false; left = queue.left }))))
+      → SomeCourse (May before places count queue)
+      → ReadsOn (May before places count queue) (May after later_places lines new)
+  of_open lines new to is_new shown =
+      let Is : Bool → Type 0 = λ closed. SomeCourse (May before places count (record { closed = closed; left = queue.left }))
+      → ReadsOn (May before places count (record { closed = closed; left = queue.left }))
+      (May after later_places lines (to (record { closed = closed; left = queue.left }))) in
+      λ was. subst (λ q. ReadsOn (May before places count queue) (May after later_places lines q)) (sym is_new)
+      (subst Is (sym is_open) shown was)
 
-      pub line_taken : TakesNone (MayTake gives IsWanted (feed before places count queue))
-          (MayTake gives IsWanted (feed after later_places (count + 1) new))
-      line_taken course come =
-          let P : Queue → Type 0 = λ q. NotesCome (ThenComes q.closed gives IsWanted shift after (count + 1) last)
-          q.left course.texts course.ended in
-          line_taken-open queue.closed is_open course.texts course.ended (subst P is_new come)
+  -- a line was read
+  pub line_read : (text : List ℕ) → GivesText (LinesMayComeTo gives IsWanted shift before)
+      (LinesMayComeTo gives IsWanted shift after) text → SomethingComes (LinesMayComeTo gives IsWanted shift after)
+      → (new : Queue) → new ≡ longer queue (LineNote text) → SomeCourse (May before places count queue)
+      → ReadsOn (May before places count queue) (May after later_places (count + 1) new)
+  line_read text given some new is_new = of_open (count + 1) new (λ q. longer q (LineNote text)) is_new (λ was. (
+    λ course come. line_put (Then before count) (Then after (count + 1)) text
+        (λ more ended comes. (given more ended.stop comes.0, omega (arith, comes.1))) queue.left course.texts
+        course.ended come,
+    line_follows (Then before count) (Then after (count + 1)) text some.0
+        (ended_so (count + 1 + length some.0) some.1.0) (some.1.1, refl) queue.left no_end was.0.texts was.0.ended was.1,
+  ))
 
-      line_some-open : (closed : Bool) → closed ≡ false → (texts : List (List ℕ)) (ended : TileEnd)
-          → has_end queue.left ≡ false → SomethingComes (LinesMayComeTo gives IsWanted shift after)
-          → NotesCome (ThenComes closed gives IsWanted shift before count last) queue.left texts ended
-          → SomeCourse (λ course. NotesCome (ThenComes closed gives IsWanted shift after (count + 1) last)
-          (queue.left ++ LineNote text ∷ []) course.texts course.ended)
-      line_some-open true is texts ended none some come = absurd (cc is)
-      line_some-open false is texts ended none some come =
-          let end = ended_so (count + 1 + length some.0) some.1.0 in
-          line_follows (ThenComes false gives IsWanted shift before count last)
-          (ThenComes false gives IsWanted shift after (count + 1) last) text some.0 end (some.1.1, refl) queue.left
-          none texts ended come
+  -- a line was read that is not chosen
+  pub nothing_read : ComesBack (LinesMayComeTo gives IsWanted shift before) (LinesMayComeTo gives IsWanted shift after)
+      → SomethingComes (LinesMayComeTo gives IsWanted shift after) → SomeCourse (May before places count queue)
+      → ReadsOn (May before places count queue) (May after later_places count queue)
+  nothing_read back some = of_open count queue (λ q. q) refl (λ was. (
+    λ course come. notes_stay (Then before count) (Then after count)
+        (λ course comes. (back course.texts course.ended.stop comes.0, comes.1)) queue.left course.texts course.ended come,
+    notes_follow (Then before count) (Then after count) some.0 (ended_so (count + length some.0) some.1.0)
+        (some.1.1, refl) queue.left no_end was.0.texts was.0.ended was.1,
+  ))
 
-      pub line_some : has_end queue.left ≡ false → SomethingComes (LinesMayComeTo gives IsWanted shift after)
-          → SomeCourse (MayTake gives IsWanted (feed before places count queue))
-          → SomeCourse (MayTake gives IsWanted (feed after later_places (count + 1) new))
-      line_some none some was =
-          let there = line_some-open queue.closed is_open was.0.texts was.0.ended none some was.1 in
-          let P : Queue → Type 0 = λ q. NotesCome (ThenComes q.closed gives IsWanted shift after (count + 1) last)
-          q.left there.0.texts there.0.ended in
-          (there.0, subst P (sym is_new) there.1)
-
-    -- a line was read that is not chosen
-    module _ (back : ComesBack (LinesMayComeTo gives IsWanted shift before) (LinesMayComeTo gives IsWanted shift after)) where
-      nothing_taken-open : (closed : Bool) → closed ≡ false → (texts : List (List ℕ)) (ended : TileEnd)
-          → NotesCome (ThenComes closed gives IsWanted shift after count last) queue.left texts ended
-          → NotesCome (ThenComes closed gives IsWanted shift before count last) queue.left texts ended
-      nothing_taken-open true is texts ended come = absurd (cc is)
-      nothing_taken-open false is texts ended come =
-          notes_stay (ThenComes false gives IsWanted shift before count last)
-          (ThenComes false gives IsWanted shift after count last)
-          (λ course comes. (back course.texts course.ended.stop comes.0, comes.1)) queue.left texts ended come
-
-      pub nothing_taken : TakesNone (MayTake gives IsWanted (feed before places count queue))
-          (MayTake gives IsWanted (feed after later_places count queue))
-      nothing_taken course come = nothing_taken-open queue.closed is_open course.texts course.ended come
-
-      nothing_some-open : (closed : Bool) → closed ≡ false → (texts : List (List ℕ)) (ended : TileEnd)
-          → has_end queue.left ≡ false → SomethingComes (LinesMayComeTo gives IsWanted shift after)
-          → NotesCome (ThenComes closed gives IsWanted shift before count last) queue.left texts ended
-          → SomeCourse (λ course. NotesCome (ThenComes closed gives IsWanted shift after count last) queue.left
-          course.texts course.ended)
-      nothing_some-open true is texts ended none some come = absurd (cc is)
-      nothing_some-open false is texts ended none some come =
-          let end = ended_so (count + length some.0) some.1.0 in
-          notes_follow (ThenComes false gives IsWanted shift before count last)
-          (ThenComes false gives IsWanted shift after count last) some.0 end (some.1.1, refl) queue.left none texts
-          ended come
-
-      pub nothing_some : has_end queue.left ≡ false → SomethingComes (LinesMayComeTo gives IsWanted shift after)
-          → SomeCourse (MayTake gives IsWanted (feed before places count queue))
-          → SomeCourse (MayTake gives IsWanted (feed after later_places count queue))
-      nothing_some none some was = nothing_some-open queue.closed is_open was.0.texts was.0.ended none some was.1
-
-    -- the end was read
-    module _ (outcome : Outcome) (over : Comes before [] outcome) (end : End)
-        (is_end : end ≡ end_of (ended_so count outcome)) (new : Queue) (is_new : new ≡ longer queue (EndNote end)) where
-      end_taken-open : (closed : Bool) → closed ≡ false → (texts : List (List ℕ)) (ended : TileEnd)
-          → NotesCome (ThenComes true gives IsWanted shift after count last) (queue.left ++ EndNote end ∷ []) texts
-          ended → NotesCome (ThenComes closed gives IsWanted shift before count last) queue.left texts ended
-      end_taken-open true is texts ended come = absurd (cc is)
-      end_taken-open false is texts ended come =
-          end_put (ThenComes false gives IsWanted shift before count last)
-          (ThenComes true gives IsWanted shift after count last) (ended_so count outcome) end is_end
-          (over, omega arith) queue.left texts ended come
-
-      pub end_taken : TakesNone (MayTake gives IsWanted (feed before places count queue))
-          (MayTake gives IsWanted (feed after later_places count new))
-      end_taken course come =
-          let P : Queue → Type 0 = λ q. NotesCome (ThenComes q.closed gives IsWanted shift after count last) q.left
-          course.texts course.ended in
-          end_taken-open queue.closed is_open course.texts course.ended (subst P is_new come)
-
-      end_some-open : (closed : Bool) → closed ≡ false → (texts : List (List ℕ)) (ended : TileEnd)
-          → has_end queue.left ≡ false
-          → NotesCome (ThenComes closed gives IsWanted shift before count last) queue.left texts ended
-          → SomeCourse (λ course. NotesCome (ThenComes true gives IsWanted shift after count last)
-          (queue.left ++ EndNote end ∷ []) course.texts course.ended)
-      end_some-open true is texts ended none come = absurd (cc is)
-      end_some-open false is texts ended none come =
-          end_follows (ThenComes false gives IsWanted shift before count last)
-          (ThenComes true gives IsWanted shift after count last) (ended_so count outcome) end is_end queue.left none
-          texts ended come
-
-      pub end_some : has_end queue.left ≡ false → SomeCourse (MayTake gives IsWanted (feed before places count queue))
-          → SomeCourse (MayTake gives IsWanted (feed after later_places count new))
-      end_some none was =
-          let there = end_some-open queue.closed is_open was.0.texts was.0.ended none was.1 in
-          let P : Queue → Type 0 = λ q. NotesCome (ThenComes q.closed gives IsWanted shift after count last) q.left
-          there.0.texts there.0.ended in
-          (there.0, subst P (sym is_new) there.1)
+  -- the end was read
+  pub end_read : (outcome : Outcome) → LinesMayComeTo gives IsWanted shift before [] outcome → (end : End)
+      → end ≡ end_of (ended_so count outcome) → (new : Queue) → new ≡ longer queue (EndNote end)
+      → SomeCourse (May before places count queue)
+      → ReadsOn (May before places count queue) (May after later_places count new)
+  end_read outcome over end is_end new is_new = of_open count new (λ q. longer q (EndNote end)) is_new (λ was. (
+    λ course come. end_put (Then before count) (ThenComes true gives IsWanted shift after count last)
+        (ended_so count outcome) end is_end (over, omega arith) queue.left course.texts course.ended come,
+    end_follows (Then before count) (ThenComes true gives IsWanted shift after count last) (ended_so count outcome) end
+        is_end queue.left no_end was.0.texts was.0.ended was.1,
+  ))
 
 -- the first text is taken of those that were read ahead
 line_first : (Then : Course → Type 0) (text : List ℕ) (others left : List Note) → left ≡ LineNote text ∷ others
@@ -355,14 +293,14 @@ line_turn gives IsWanted before queue text is same was =
 
 -- a turn that gives the text which stands first, once lines were read ahead and what was written was passed on
 module _ {R : Type 0} (gives : Giving R) (IsWanted : FeatureValue → Type 0) (before mid : FeedState R) (next : Queue)
-    (text : List ℕ) (none : TakesNone (MayTake gives IsWanted before) (MayTake gives IsWanted mid))
-    (fewer : most_ahead mid ≤ most_ahead before) (some : SomeCourse (MayTake gives IsWanted mid))
+    (text : List ℕ) (reads : ReadsOn (MayTake gives IsWanted before) (MayTake gives IsWanted mid))
+    (fewer : most_ahead mid ≤ most_ahead before)
     (first : mid.notes.left ≡ LineNote text ∷ next.left) (same : next.closed ≡ mid.notes.closed)
     (old passed new : Option (List ℕ)) (kept : Keeps old passed) where
   turn : TakesTurn gives IsWanted before (record mid { notes = next }) (Some text)
   turn =
-      let one = line_turn gives IsWanted mid next text first same some in
-      (λ course come. none (text_before text course) (one.0 course come), one.1, omega (arith, one.2, fewer))
+      let one = line_turn gives IsWanted mid next text first same reads.1 in
+      (λ course come. reads.0 (text_before text course) (one.0 course come), one.1, omega (arith, one.2, fewer))
 
   pub wrote_turn : Appends passed new (with_newline text)
       → WroteTurn gives IsWanted before (record mid { notes = next }) true old new

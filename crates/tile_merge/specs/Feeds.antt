@@ -69,6 +69,10 @@ TakesNone before after = (course : Course) → after course → before course
 abbrev pub SomeCourse : (Course → Type 0) → Type 0
 SomeCourse may = (course : Course) × may course
 
+-- lines were read: what may be ahead now may have been before, and something may
+abbrev pub ReadsOn : (Course → Type 0) → (Course → Type 0) → Type 0
+ReadsOn before after = TakesNone before after × SomeCourse after
+
 -- the end note was taken
 abbrev pub IsOver : {R : Type 0} → FeedState R → Type 0
 IsOver feed = (feed.notes.closed ≡ true) × (feed.notes.left ≡ [])

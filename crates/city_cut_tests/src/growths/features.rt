@@ -5,7 +5,7 @@ use byte_streams::{Fault, Line};
 use city_cut::{CutTexts, FeatureTexts, cut, cut_compacted_triples, cut_texts};
 use city_feature::{
     Base, Choice, Feature, Header, HeaderFault, Joined, OwnBuffers, area, feature, feature_text,
-    header, join_headers, line, own_text, selects, set_member, shifted, types, vertices_fault,
+    header, join_headers, line, own_text, selects, set_member, shifted, take_vertices, types,
 };
 use city_grid::{Shift, Vertex, append_vertex, vertex_json, write_vertex};
 use city_json::{Json, Workspace, compact_object, read};
@@ -347,12 +347,14 @@ fn texts_stay_or_are_written(rt: &(impl AllocGlobal + Eprint)) -> Result<bool, F
     Ok(is_refused && stays && gives(rt, SPACED, Shift::new(10, 20, 30), MOVED)?)
 }
 
-/// The fault of vertices is told with no value of them all read, unless memory is wanted.
-fn vertices_fault_is_told(rt: &(impl AllocGlobal + Eprint)) -> Result<bool, Fault> {
-    let vertices = b"[[1,2,3],[7,8,123456789012345678901234567890]]";
-    match vertices_fault(rt.alloc(), vertices) {
-        Some(fault) => Ok(fault == Fault::VertexRange),
-        None => refused(rt, Call("vertices_fault"), Fault::Memory),
+/// Vertices are taken up to the first that is at fault, and its fault is told.
+fn vertices_are_taken(rt: &(impl AllocGlobal + Eprint)) -> Result<bool, Fault> {
+    let text = b"[[1,2,3],[7,8,123456789012345678901234567890]]";
+    let mut vertices: Vec<Vertex> = Vec::new(rt.alloc());
+    match take_vertices(rt.alloc(), text, &mut vertices) {
+        Ok(()) => Ok(false),
+        Err(Fault::VertexRange) => Ok(vertices.len() == 1),
+        Err(fault) => refused(rt, Call("take_vertices"), fault),
     }
 }
 
@@ -365,7 +367,9 @@ fn own_part_is_given(rt: &(impl AllocGlobal + Eprint)) -> Result<bool, Fault> {
         br#"{"type":"CityJSONFeature","id":"a","CityObjects":{"a":{"type":"Road"}},"vertices":[[1,2,3]]"#;
     let moved =
         br#"{"type":"CityJSONFeature","id":"a","CityObjects":{"a":{"type":"Road"}},"vertices":[[11,22,33]]"#;
-    match own_text(rt.alloc(), own, shift, &choice, &mut buffers) {
+    let mut line = Line::new(rt.alloc());
+    line.append(own)?;
+    match own_text(rt.alloc(), &mut line, shift, &choice, &mut buffers) {
         Ok(Some(text)) => Ok(text.items() == moved.as_slice()),
         Ok(None) => Ok(false),
         Err(fault) => refused(rt, Call("own_text"), fault),
@@ -566,7 +570,7 @@ fn vertices_headers_features_and_documents(rt: HostRuntime) -> Result<(), Fault>
     expect!(rt; features_are_moved(&rt));
     expect!(rt; features_are_refused(&rt));
     expect!(rt; texts_stay_or_are_written(&rt));
-    expect!(rt; vertices_fault_is_told(&rt));
+    expect!(rt; vertices_are_taken(&rt));
     expect!(rt; own_part_is_given(&rt));
     expect!(rt; types_are_read(&rt));
     expect!(rt; choices_are_copied(&rt));

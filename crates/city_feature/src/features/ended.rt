@@ -1,5 +1,5 @@
 //! The texts of a document's features, which all end in the same: its appearance, or a brace.
-ghost use Rattle.std.specs.Prelude.{◌≡◌, ◌⊎◌, ◌++◌, ◌∷◌, [], ℕ, List, option_map, IfErr, IfOk, OnOk};
+ghost use Rattle.std.specs.Prelude.{◌≡◌, ◌⊎◌, ◌++◌, ◌∷◌, [], ℕ, List, option_map, IfErr, IfOk};
 ghost use Rattle.city_json.specs.Bytes.{close_brace};
 ghost use Rattle.city_feature.specs.Choice.{IsChosen};
 ghost use Rattle.city_feature.specs.Ended.{IsOwnPart};
@@ -15,8 +15,6 @@ use std::alloc::{AllocError, Global};
 /// Memory that goes from one text to the next.
 #[derive(Drop)]
 pub struct OwnBuffers {
-    /// For a text that is closed by a brace.
-    closed: Line,
     /// For its compact text.
     workspace: Workspace,
     /// For that of moved vertices.
@@ -27,20 +25,10 @@ impl OwnBuffers {
     /// No memory yet.
     pub fn new(alloc: Global) -> OwnBuffers {
         OwnBuffers {
-            closed: Line::new(alloc),
             workspace: Workspace::new(alloc, Line::new(alloc)),
             text: Line::new(alloc),
         }
     }
-}
-
-/// Makes of a feature's own part the text of an object.
-fn close(own: &[u8], text: &mut Line) -> Result<(), AllocError>
-    ensures { OnOk result (text.new ≡ own.now ++ close_brace ∷ []) }
-{
-    text.truncate(0);
-    text.append(own)?;
-    text.append(b"}")
 }
 
 /// What stands before the brace at the end, in memory of its own.
@@ -56,6 +44,7 @@ fn before_brace(alloc: Global, text: &[u8]) -> Result<Line, AllocError>
 
 /// What the compact text of a feature has of its own before an end that others share, a brace or an appearance and a brace,
 /// moved by the shift, where it is chosen then; none where it is not. Whatever that end is, it comes after what is given.
+/// What the line holds is lost.
 ///
 /// # Errors
 ///
@@ -63,18 +52,18 @@ fn before_brace(alloc: Global, text: &[u8]) -> Result<Line, AllocError>
 /// leaves the range when it is moved, or [`Fault::Memory`].
 pub fn own_text(
     alloc: Global,
-    own: &[u8],
+    own: &mut Line,
     shift: Shift,
     choice: &Choice,
     buffers: &mut OwnBuffers,
 ) -> Result<Option<Line>, Fault>
-    ensures ok { IfOk result (λ given. (end : List ℕ) → IsOwnPart own.now end
-        → GivesFeature (IsChosen choice.now) shift (own.now ++ end) (option_map (λ front. front ++ end) given)) }
-    ensures refused { IfErr result (λ fault. (end : List ℕ) → IsOwnPart own.now end
-        → (fault ≡ Fault.Memory) ⊎ RefusesFeatureLine shift fault (own.now ++ end)) }
+    ensures ok { IfOk result (λ given. (end : List ℕ) → IsOwnPart own.old end
+        → GivesFeature (IsChosen choice.now) shift (own.old ++ end) (option_map (λ front. front ++ end) given)) }
+    ensures refused { IfErr result (λ fault. (end : List ℕ) → IsOwnPart own.old end
+        → (fault ≡ Fault.Memory) ⊎ RefusesFeatureLine shift fault (own.old ++ end)) }
 {
-    close(own, &mut buffers.closed)?;
-    let closed = buffers.closed.items();
+    own.append(b"}")?;
+    let closed = own.items();
     let workspace = &mut buffers.workspace;
     let given = feature_text(alloc, closed, shift, choice, workspace, &mut buffers.text)?;
     let Some(place) = given else {

@@ -8,7 +8,6 @@ ghost use Rattle.city_feature.specs.Feature.{AreVertices, RefusesFirst};
 ghost use Rattle.city_feature.specs.LineTexts.{SpellsVertices};
 ghost use Rattle.city_json.specs.CompactTexts.{IsCompactOf};
 
-use crate::features::shape::is_array;
 use byte_streams::Fault;
 use city_grid::{Vertex, byte_is, spelled_vertex_at, vertex};
 use city_json::{read, value_end};
@@ -53,8 +52,12 @@ fn is_three_numbers(text: &[u8]) -> bool
     true
 }
 
-/// The vertex whose compact text this is. The only fault of a vertex in range is [`Fault::Memory`].
-fn vertex_of(alloc: Global, text: &[u8]) -> Result<Vertex, Fault>
+/// The vertex whose compact text this is.
+///
+/// # Errors
+///
+/// [`Fault::VertexShape`], [`Fault::VertexNotInteger`] or [`Fault::VertexRange`], as it is none, or [`Fault::Memory`].
+pub fn vertex_of(alloc: Global, text: &[u8]) -> Result<Vertex, Fault>
     ensures vertex { IfOk result (λ vertex. (value : Tree) → IsCompactOf text.now value → IsVertex value vertex) }
     ensures range { IfOk result IsInRange }
     ensures refusal { IfErr result (λ fault. (value : Tree) → IsCompactOf text.now value
@@ -73,7 +76,7 @@ fn vertex_of(alloc: Global, text: &[u8]) -> Result<Vertex, Fault>
 }
 
 /// What is done with the vertices of an array, one after another.
-trait TakeVertex {
+pub trait TakeVertex {
     // These were taken.
     ghost has: { Self → List Triple → Type 0 };
 
@@ -92,28 +95,17 @@ impl TakeVertex for Vec<Vertex> {
     }
 }
 
-/// They are looked at alone.
-#[derive(Drop)]
-struct Unlisted;
-
-impl TakeVertex for Unlisted {
-    ghost has = { λ unlisted taken. Unit {0} };
-
-    fn take(&mut self, _vertex: Vertex) -> Result<(), AllocError> {
-        Ok(())
-    }
-}
-
 /// Takes the vertices of the array whose compact text this is, up to the first that is at fault.
 ///
 /// # Errors
 ///
 /// Its fault, [`Fault::VertexShape`], [`Fault::VertexNotInteger`] or [`Fault::VertexRange`], or [`Fault::Memory`].
-fn take_vertices<T: TakeVertex>(alloc: Global, text: &[u8], to: &mut T) -> Result<(), Fault>
+pub fn take_vertices<T: TakeVertex>(alloc: Global, text: &[u8], to: &mut T) -> Result<(), Fault>
     requires { T.has to.old [] }
     ensures taken { OnOk result ((items : ItemTrees) → IsCompactOf text.now (array items)
         → (taken : List Triple) × T.has to.new taken × AreVertices items taken) }
-    ensures refused { IfErr result (λ fault. RefusesVertices fault text.now) }
+    ensures refused { IfErr result (λ fault. (items : ItemTrees) → IsCompactOf text.now (array items)
+        → (fault ≡ Fault.Memory) ⊎ RefusesFirst fault items) }
 {
     if text == b"[]".as_slice() {
         return Ok(());
@@ -128,24 +120,6 @@ fn take_vertices<T: TakeVertex>(alloc: Global, text: &[u8], to: &mut T) -> Resul
         at = end + 1;
     }
     Ok(())
-}
-
-/// The fault of the first vertex that is at fault in the array whose compact text this is: [`Fault::VertexShape`],
-/// [`Fault::VertexNotInteger`] or [`Fault::VertexRange`]. `None`: none is, it is no array, or out of memory.
-pub fn vertices_fault(alloc: Global, text: &[u8]) -> Option<Fault>
-    ensures { IfSome result (λ fault.
-        (items : ItemTrees) → IsCompactOf text.now (array items) → RefusesFirst fault items) }
-{
-    if !is_array(text) {
-        return None;
-    }
-    let Err(fault) = take_vertices(alloc, text, &mut Unlisted) else {
-        return None;
-    };
-    if fault == Fault::Memory {
-        return None;
-    }
-    Some(fault)
 }
 
 /// The vertices of the array whose compact text this is, however their integers are written.

@@ -18,9 +18,9 @@ pub(super) const MIN_LEN: usize = 4;
 
 /// The vertices that a text spells, and whether it is the text that would be written for them.
 #[derive(Drop)]
-pub struct SpelledVertices {
-    pub vertices: Vec<Vertex>,
-    pub as_written: bool,
+pub(super) struct SpelledVertices {
+    pub(super) vertices: Vec<Vertex>,
+    pub(super) as_written: bool,
 }
 
 #[inline(always)]
@@ -32,7 +32,7 @@ fn both(one: bool, other: bool) -> bool
 
 /// The vertices that the text spells; `None`: undecided.
 #[inline(never)]
-pub fn vertices_of(alloc: Global, text: &[u8]) -> Option<SpelledVertices>
+pub(super) fn vertices_of(alloc: Global, text: &[u8]) -> Option<SpelledVertices>
     ensures spelled { IfSome result (λ found. SpellsVertices text.now found.vertices.items) }
     ensures written { IfSome result (λ found. IsTrue found.as_written
         → text.now ≡ compact (vertices_tree found.vertices.items)) }
@@ -131,7 +131,7 @@ pub fn is_vertices_text(text: &[u8]) -> bool
 
 /// Appends the compact text of an array of the vertices.
 #[inline(never)]
-pub fn append_vertices(vertices: &[Vertex], to: &mut Line) -> Result<(), AllocError>
+pub(super) fn append_vertices(vertices: &[Vertex], to: &mut Line) -> Result<(), AllocError>
     ensures { OnOk result (to.new ≡ to.old ++ compact (vertices_tree vertices.now)) }
 {
     let [first, others @ ..] = vertices else {

@@ -10,30 +10,16 @@ ghost use Rattle.city_families.specs.Cut.{RefusesCut};
 ghost use Rattle.cut_on_text.specs.Faults.{HoldsCityObjects, RefusesObjects};
 
 use super::bounds::has_wrong_boundary;
-use super::graph::{graph_of, misses_child};
+use super::graph::kin_of;
 use super::headers::transform_there;
 use super::kin::is_array_of_texts;
-use super::names::Names;
 use super::overview::{Overview, overview_of};
-use super::points::starts_of;
+use super::points::count_vertices;
 use super::texts::{member_or, parts_of};
 use byte_streams::Fault;
-use city_families::check_belonging;
-use city_feature::{is_array, is_object, vertices_fault, vertices_of};
+use city_feature::{is_array, is_object};
 use city_json::{ObjectText, between};
 use std::alloc::Global;
-
-/// How many vertices a text spells. `None`: undecided.
-fn vertex_count(alloc: Global, text: &[u8]) -> Option<usize>
-    ensures { IfSome result (λ count. (points : List Triple) × SpellsVertices text.now points
-        × (length points ≡ count)) }
-{
-    if let Some(starts) = starts_of(alloc, text) {
-        return Some(starts.len().saturating_sub(1));
-    }
-    let found = vertices_of(alloc, text)?;
-    Some(found.vertices.len())
-}
 
 /// Whether the value whose compact text this is is a city object. `None`: undecided.
 fn is_city_object(alloc: Global, text: &[u8]) -> Option<bool>
@@ -82,15 +68,8 @@ fn objects_fault(alloc: Global, text: &[u8], vertices: usize) -> Option<Fault>
         children,
         held,
     } = overview_of(alloc, text)?;
-    let table = Names::new(alloc, text, &places)?;
-    if misses_child(alloc, &children, &table) {
-        return Some(Fault::ChildMissing);
-    }
-    let graph = graph_of(alloc, &children, &table)?;
-    match check_belonging(alloc, &graph, &parents) {
-        Err(Fault::Orphan) => return Some(Fault::Orphan),
-        Err(_) => return None,
-        Ok(_) => {}
+    if let Err(fault) = kin_of(alloc, text, &places, parents, children)? {
+        return Some(fault);
     }
     if has_wrong_boundary(alloc, text, &places, &held, vertices) {
         return Some(Fault::BoundaryIndex);
@@ -98,7 +77,18 @@ fn objects_fault(alloc: Global, text: &[u8], vertices: usize) -> Option<Fault>
     None
 }
 
-/// Why the document whose compact text this is is not cut. `None`: it is cut, or out of memory.
+/// The fault, unless it is want of memory.
+fn unless_memory(fault: Fault) -> Option<Fault>
+    ensures same { IfSome result (λ told. told ≡ fault) }
+    ensures decided { IfSome result (λ told. told ≢ Fault.Memory) }
+{
+    if fault == Fault::Memory {
+        return None;
+    }
+    Some(fault)
+}
+
+/// Why the document whose compact text this is is not cut. `None`: undecided, as where it is cut, or out of memory.
 pub fn cut_fault(alloc: Global, document: &ObjectText<'_>) -> Option<Fault>
     ensures refused { IfSome result (λ fault. RefusesCut fault (object_of document.now)) }
     ensures decided { IfSome result (λ fault. fault ≢ Fault.Memory) }
@@ -115,9 +105,8 @@ pub fn cut_fault(alloc: Global, document: &ObjectText<'_>) -> Option<Fault>
     if let Err(fault) = transform_there(alloc, document)? {
         return Some(fault);
     }
-    if let Some(fault) = vertices_fault(alloc, vertices) {
-        return Some(fault);
+    match count_vertices(alloc, vertices) {
+        Ok(count) => objects_fault(alloc, objects, count),
+        Err(fault) => unless_memory(fault),
     }
-    let count = vertex_count(alloc, vertices)?;
-    objects_fault(alloc, objects, count)
 }

@@ -1,16 +1,22 @@
 //! Which city objects are children of which, by their texts.
-ghost use Rattle.std.specs.Prelude.{◌≢◌, ℕ, List, Contains, IfSome, IsTrue, IsUtf8, Some, map, slice_get};
+ghost use Rattle.std.specs.Prelude.{◌≡◌, ◌≢◌, ℕ, List, Contains, IfErr, IfOk, IfSome, IsTrue, IsUtf8, OnSome, Some, map, slice_get};
 ghost use Rattle.std.specs.Borrow.{Bor};
-ghost use Rattle.std.specs.List.{AllByRecursion};
+ghost use Rattle.std.specs.List.{AllByRecursion, AllZip};
 ghost use Rattle.city_json.specs.Compact.{quoted};
-ghost use Rattle.city_json.specs.Tree.{string};
-ghost use Rattle.cut_on_text.specs.Graphs.{HasRow, HaveRows, NamesMissing, SomeNamesMissing};
+ghost use Rattle.city_json.specs.CompactTexts.{IsCompactOf};
+ghost use Rattle.city_json.specs.Parts.{AreParts};
+ghost use Rattle.city_json.specs.Tree.{Tree, member_trees, object, string};
+ghost use Rattle.cut_on_text.specs.Faults.{RefusesKin};
+ghost use Rattle.cut_on_text.specs.Graphs.{AreKin, HasRow, HaveRows, NamesMissing, SomeNamesMissing};
+ghost use Rattle.cut_on_text.specs.Overviews.{HasChildrenIn, HasParentsIn};
 ghost use Rattle.city_families.specs.Places.{ArePlaced};
 ghost use Rattle.city_families.specs.Table.{IsTable};
 
 use super::kin::texts_of;
 use super::names::Names;
-use city_families::Graph;
+use super::short_parts::ShortPart;
+use byte_streams::Fault;
+use city_families::{Graph, Kin, check_belonging};
 use std::alloc::Global;
 
 /// The places of these names. `None`: one is not there, or out of memory.
@@ -40,10 +46,10 @@ pub(super) fn graph_of(alloc: Global, children: &[&[u8]], table: &Names<'_>) -> 
     ensures { IfSome result (λ graph. (names : List (List ℕ)) → AllByRecursion IsUtf8 names
         → IsTable (map quoted names) table.now → HaveRows names children.now graph) }
 {
-    let mut graph = Graph::with_capacity(alloc, children.len())?;
+    let mut graph = Graph::with_capacity(alloc, children.len()).ok()?;
     for text in children {
         let row = row_of(alloc, text, table)?;
-        graph = graph.and_row(&row)?;
+        graph = graph.and_row(&row).ok()?;
     }
     Some(graph)
 }
@@ -61,26 +67,64 @@ fn is_missing(named: &[&[u8]], table: &Names<'_>) -> bool
     false
 }
 
-/// Whether a child is missing that the array of this text names. No says nothing.
-fn misses_named(alloc: Global, text: &[u8], table: &Names<'_>) -> bool
-    ensures { IsTrue result → (names : List (List ℕ)) → AllByRecursion IsUtf8 names
-        → IsTable (map quoted names) table.now → NamesMissing names text.now }
+/// The fault that a child is missing which the array of this text names. `None`: undecided.
+fn missing_name(alloc: Global, text: &[u8], table: &Names<'_>) -> Option<Fault>
+    ensures told { IfSome result (λ fault. fault ≡ Fault.ChildMissing) }
+    ensures is { OnSome result ((names : List (List ℕ)) → AllByRecursion IsUtf8 names
+        → IsTable (map quoted names) table.now → NamesMissing names text.now) }
 {
-    let Some(named) = texts_of(alloc, text) else {
-        return false;
-    };
-    is_missing(&named, table)
+    let named = texts_of(alloc, text)?;
+    if !is_missing(&named, table) {
+        return None;
+    }
+    Some(Fault::ChildMissing)
 }
 
-/// Whether a child is missing that an object names, of which the texts of the children are given. No says nothing.
-pub(super) fn misses_child(alloc: Global, children: &[&[u8]], table: &Names<'_>) -> bool
-    ensures { IsTrue result → (names : List (List ℕ)) → AllByRecursion IsUtf8 names
-        → IsTable (map quoted names) table.now → SomeNamesMissing names children.now }
+/// The fault that a child is missing which an object names, of which the texts of the children are given. `None`:
+/// undecided.
+fn missing_child(alloc: Global, children: &[&[u8]], table: &Names<'_>) -> Option<Fault>
+    ensures told { IfSome result (λ fault. fault ≡ Fault.ChildMissing) }
+    ensures is { OnSome result ((names : List (List ℕ)) → AllByRecursion IsUtf8 names
+        → IsTable (map quoted names) table.now → SomeNamesMissing names children.now) }
 {
     for text in children {
-        if misses_named(alloc, text, table) {
-            return true;
+        if let Some(fault) = missing_name(alloc, text, table) {
+            return Some(fault);
         }
     }
-    false
+    None
+}
+
+/// The city objects that lie in these parts of a text, with these children, and of which these have parents, each in a
+/// family; or why they are refused. `None`: undecided.
+pub(super) fn kin_of(
+    alloc: Global,
+    text: &[u8],
+    places: &[ShortPart],
+    parents: Vec<bool>,
+    children: Vec<&[u8]>,
+) -> Option<Result<Kin, Fault>>
+    requires objects { (pairs : List (List ℕ × Tree)) × IsCompactOf text.now (object (member_trees pairs))
+        × AreParts 1 places.now (member_trees pairs) }
+    requires parents { AllZip (HasParentsIn text.now) places.now parents.items }
+    requires children { AllZip (HasChildrenIn text.now) places.now children.items }
+    ensures kin { IfSome result (λ kin. IfOk kin (λ kin. AreKin text.now places.now kin.children kin.parents.items)) }
+    ensures refused { IfSome result (λ kin. IfErr kin (RefusesKin text.now places.now)) }
+{
+    let table = Names::new(alloc, text, places)?;
+    let Some(graph) = graph_of(alloc, &children, &table) else {
+        let fault = missing_child(alloc, &children, &table)?;
+        return Some(Err(fault));
+    };
+    drop(children);
+    drop(table);
+    match check_belonging(alloc, &graph, &parents) {
+        Ok(meets) => Some(Ok(Kin {
+            children: graph,
+            parents,
+            meets,
+        })),
+        Err(Fault::Orphan) => Some(Err(Fault::Orphan)),
+        Err(_) => None,
+    }
 }

@@ -2,7 +2,7 @@
 ghost use Rattle.std.specs.Prelude.{◌≡◌, ◌++◌, [], ◌∷◌, IfSome, OnSome};
 ghost use Rattle.city_json.specs.Bytes.{colon};
 ghost use Rattle.city_json.specs.Compact.{quoted};
-ghost use Rattle.cut_on_text.specs.Holders.{begin_of, name_of, other_than, part_unless};
+ghost use Rattle.cut_on_text.specs.Holders.{begin_of, name_of, other_than, part_in, part_unless, split_by};
 
 use city_json::MemberPlace;
 use std::marker::Model;
@@ -35,6 +35,17 @@ impl Holder {
             Holder::Address => Holder::Geometry,
         }
     }
+
+    /// How many leaves were noted before those of the geometries, where it is this member that stands first: so many were
+    /// before it, and so many after it.
+    pub(super) fn split(self, before: usize, after: usize) -> usize
+        ensures { result ≡ split_by self before after }
+    {
+        match self {
+            Holder::Geometry => before,
+            Holder::Address => after,
+        }
+    }
 }
 
 /// Where the geometries and the addresses lie in the text of a city object, if they are there.
@@ -42,6 +53,31 @@ impl Holder {
 pub(super) struct HeldParts {
     pub geometry: Option<MemberPlace>,
     pub address: Option<MemberPlace>,
+}
+
+impl HeldParts {
+    pub(super) fn part(&self, holder: Holder) -> Option<MemberPlace>
+        ensures { result ≡ part_in holder self.now }
+    {
+        match holder {
+            Holder::Geometry => self.geometry,
+            Holder::Address => self.address,
+        }
+    }
+
+    /// Which of the two stands first, where both are there.
+    pub(super) fn first(&self) -> Holder {
+        let Some(geometry) = self.geometry else {
+            return Holder::Geometry;
+        };
+        let Some(address) = self.address else {
+            return Holder::Geometry;
+        };
+        if address.at < geometry.at {
+            return Holder::Address;
+        }
+        Holder::Geometry
+    }
 }
 
 /// Where the value of a member lies that follows its name at once, in a text of less than 2^32 bytes. It ends at 0 where

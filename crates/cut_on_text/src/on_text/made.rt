@@ -19,10 +19,10 @@ ghost use Rattle.cut_on_text.specs.Made.{AreMakings, beginners, comma_before, fe
 ghost use Rattle.cut_on_text.specs.Moved.{chosen_of};
 ghost use Rattle.city_families.specs.Search.{InRange};
 ghost use Rattle.cut_on_text.specs.Skeletons.{text_at, uses_at, woven};
-ghost use Rattle.cut_on_text.specs.Written.{Wrote};
+ghost use Rattle.cut_on_text.specs.Written.{Writes};
 
 use super::moving::moved_vertices;
-use super::points::VertexTexts;
+use super::points::{VertexTexts, Vertices};
 use super::ranges::between;
 use super::skeletons::{Leaf, Skeletons};
 use crate::gathering::gather;
@@ -37,159 +37,70 @@ use std::marker::Model;
 /// As many digits as a number may have.
 const DIGITS: usize = 20;
 
-/// The text of a document's vertices, and where in it each begins.
-#[derive(Debug, Drop)]
-pub(super) struct Vertices {
-    pub text: Line,
-    pub starts: Vec<u32>,
+/// A copy of these. `None`: out of memory.
+fn copied(alloc: Global, vertices: &VertexTexts<'_>) -> Option<Vertices>
+    ensures text { IfSome result (λ copy. copy.text ≡ vertices.now.text.now) }
+    ensures starts { IfSome result (λ copy. copy.starts.items ≡ vertices.now.starts.items) }
+{
+    let mut text = Vec::with_capacity(alloc, vertices.text.len()).ok()?;
+    text.extend_from_slice(vertices.text).ok()?;
+    let mut starts = Vec::with_capacity(alloc, vertices.starts.len()).ok()?;
+    starts.extend_from_slice(&vertices.starts).ok()?;
+    Some(Vertices {
+        text: Line::from_vec(text),
+        starts,
+    })
 }
 
-impl Vertices {
-    /// A copy of these. `None`: out of memory.
-    fn copied(alloc: Global, vertices: &VertexTexts<'_>) -> Option<Vertices>
-        ensures text { IfSome result (λ copy. copy.text ≡ vertices.now.text.now) }
-        ensures starts { IfSome result (λ copy. copy.starts.items ≡ vertices.now.starts.items) }
-    {
-        let mut text = Vec::with_capacity(alloc, vertices.text.len()).ok()?;
-        text.extend_from_slice(vertices.text).ok()?;
-        let mut starts = Vec::with_capacity(alloc, vertices.starts.len()).ok()?;
-        starts.extend_from_slice(&vertices.starts).ok()?;
-        Some(Vertices {
-            text: Line::from_vec(text),
-            starts,
-        })
+/// Writes a text, unless a write failed before.
+fn write_piece<W: Sink>(text: &[u8], output: &mut W, wrote: &mut Result<(), Fault>)
+    ensures { Writes W.taken W.failures output.old wrote.old output.new wrote.new text.now }
+{
+    if wrote.is_err() {
+        return;
     }
-
-    /// The text of a vertex.
-    pub(super) fn vertex(&self, at: usize) -> &[u8]
-        requires { at + 1 < length self.now.starts.items }
-        ensures { result.now ≡ vertex_in self.now.text self.now.starts.items at }
-    {
-        let from = self.starts[at] as usize;
-        let next = self.starts[at + 1] as usize;
-        between(self.text.items(), from, next.saturating_sub(1))
-    }
+    *wrote = write_all(output, text);
 }
 
 /// Writes a number in decimal.
-fn write_number<W: Sink>(number: usize, output: &mut W) -> Result<(), Fault>
-    ensures written { Wrote result (W.taken output.old) (W.taken output.new) (decimal number) }
-    ensures failures { W.failures output.new ≡ after_call result (W.failures output.old) }
-    ensures fault { IfErr result (λ fault. fault ≡ Fault.Write) }
+fn write_number<W: Sink>(number: usize, output: &mut W, wrote: &mut Result<(), Fault>)
+    ensures { Writes W.taken W.failures output.old wrote.old output.new wrote.new (decimal number) }
 {
     let mut text = [0u8; DIGITS];
     let start = write_digits(number as u64, &mut text, DIGITS);
-    write_piece(&text[start..], output)
+    write_piece(&text[start..], output, wrote);
 }
 
-/// Writes a text.
-fn write_piece<W: Sink>(text: &[u8], output: &mut W) -> Result<(), Fault>
-    ensures written { Wrote result (W.taken output.old) (W.taken output.new) text.now }
-    ensures failures { W.failures output.new ≡ after_call result (W.failures output.old) }
-    ensures fault { IfErr result (λ fault. fault ≡ Fault.Write) }
+/// Writes a comma, unless it is the first text of a list that comes next.
+fn write_comma<W: Sink>(place: usize, output: &mut W, wrote: &mut Result<(), Fault>)
+    ensures { Writes W.taken W.failures output.old wrote.old output.new wrote.new (comma_before place) }
 {
-    match write_all(output, text) {
-        Ok(()) => return Ok(()),
-        Err(fault) => return Err(fault),
+    if place > 0 {
+        write_piece(b",", output, wrote);
     }
 }
 
-/// Writes the text up to a leaf, and the number of its vertex.
-fn write_leaf<W: Sink>(
-    text: &[u8],
-    from: usize,
-    leaf: Leaf,
-    order: &Roster,
-    output: &mut W,
-) -> Result<(), Fault>
-    requires { leaf.vertex < order.now.count }
-    ensures written { Wrote result (W.taken output.old) (W.taken output.new)
-        (slice_range text.now from leaf.at ++ decimal (place_in order.now.order leaf.vertex)) }
-    ensures failures { W.failures output.new ≡ after_call result (W.failures output.old) }
-    ensures fault { IfErr result (λ fault. fault ≡ Fault.Write) }
-{
-    write_piece(between(text, from, leaf.at()), output)?;
-    write_number(order.number(leaf.vertex()), output)
-}
-
-/// Writes the text from one place to another, in which each of these leaves has the number of its vertex.
-fn write_woven<W: Sink>(
-    text: &[u8],
-    start: usize,
-    end: usize,
-    leaves: &[Leaf],
-    order: &Roster,
-    output: &mut W,
-) -> Result<(), Fault>
-    requires { All (λ leaf. leaf.vertex < order.now.count) leaves.now }
-    ensures written { Wrote result (W.taken output.old) (W.taken output.new)
-        (woven text.now start end leaves.now (λ vertex. decimal (place_in order.now.order vertex))) }
-    ensures failures { W.failures output.new ≡ after_call result (W.failures output.old) }
-    ensures fault { IfErr result (λ fault. fault ≡ Fault.Write) }
-{
-    let mut from = start;
-    for leaf in leaves {
-        write_leaf(text, from, *leaf, order, output)?;
-        from = leaf.at();
-    }
-    write_piece(between(text, from, end), output)
-}
-
-/// Writes an object, its name before it.
+/// Writes an object, its name before it, in which each leaf has the number of its vertex.
 fn write_object<W: Sink>(
     skeletons: &Skeletons,
     at: usize,
     order: &Roster,
     output: &mut W,
-) -> Result<(), Fault>
+    wrote: &mut Result<(), Fault>,
+)
     requires at { at + 1 < length skeletons.now.places }
     requires leaves { All (λ leaf. leaf.vertex < order.now.count) skeletons.now.leaves }
-    ensures written { Wrote result (W.taken output.old) (W.taken output.new)
+    ensures { Writes W.taken W.failures output.old wrote.old output.new wrote.new
         (text_at skeletons.now (λ vertex. decimal (place_in order.now.order vertex)) at) }
-    ensures failures { W.failures output.new ≡ after_call result (W.failures output.old) }
-    ensures fault { IfErr result (λ fault. fault ≡ Fault.Write) }
 {
-    let start = skeletons.begin(at);
-    let end = skeletons.end(at);
-    write_woven(
-        skeletons.text(),
-        start,
-        end,
-        skeletons.leaves(at),
-        order,
-        output,
-    )
-}
-
-/// Writes a comma, unless it is the first text of a list that comes next.
-fn write_comma<W: Sink>(place: usize, output: &mut W) -> Result<(), Fault>
-    ensures written { Wrote result (W.taken output.old) (W.taken output.new) (comma_before place) }
-    ensures failures { W.failures output.new ≡ after_call result (W.failures output.old) }
-    ensures fault { IfErr result (λ fault. fault ≡ Fault.Write) }
-{
-    if place == 0 {
-        return Ok(());
+    let text = skeletons.text();
+    let mut from = skeletons.begin(at);
+    for leaf in skeletons.leaves(at) {
+        write_piece(between(text, from, leaf.at()), output, wrote);
+        write_number(order.number(leaf.vertex()), output, wrote);
+        from = leaf.at();
     }
-    write_piece(b",", output)
-}
-
-/// Writes an object of a feature, with a comma before it unless it is the first.
-fn write_next_object<W: Sink>(
-    skeletons: &Skeletons,
-    at: usize,
-    place: usize,
-    order: &Roster,
-    output: &mut W,
-) -> Result<(), Fault>
-    requires at { at + 1 < length skeletons.now.places }
-    requires leaves { All (λ leaf. leaf.vertex < order.now.count) skeletons.now.leaves }
-    ensures written { Wrote result (W.taken output.old) (W.taken output.new)
-        (comma_before place ++ text_at skeletons.now (λ vertex. decimal (place_in order.now.order vertex)) at) }
-    ensures failures { W.failures output.new ≡ after_call result (W.failures output.old) }
-    ensures fault { IfErr result (λ fault. fault ≡ Fault.Write) }
-{
-    write_comma(place, output)?;
-    write_object(skeletons, at, order, output)
+    write_piece(between(text, from, skeletons.end(at)), output, wrote);
 }
 
 /// Writes the objects at these places.
@@ -198,35 +109,17 @@ fn write_objects<W: Sink>(
     places: &[usize],
     order: &Roster,
     output: &mut W,
-) -> Result<(), Fault>
+    wrote: &mut Result<(), Fault>,
+)
     requires places { All (λ at. at + 1 < length skeletons.now.places) places.now }
     requires leaves { All (λ leaf. leaf.vertex < order.now.count) skeletons.now.leaves }
-    ensures written { Wrote result (W.taken output.old) (W.taken output.new)
+    ensures { Writes W.taken W.failures output.old wrote.old output.new wrote.new
         (listed (map (text_at skeletons.now (λ vertex. decimal (place_in order.now.order vertex))) places.now)) }
-    ensures failures { W.failures output.new ≡ after_call result (W.failures output.old) }
-    ensures fault { IfErr result (λ fault. fault ≡ Fault.Write) }
 {
     for place in 0..places.len() {
-        write_next_object(skeletons, places[place], place, order, output)?;
+        write_comma(place, output, wrote);
+        write_object(skeletons, places[place], order, output, wrote);
     }
-    Ok(())
-}
-
-/// Writes a vertex of a feature, with a comma before it unless it is the first.
-fn write_next_vertex<W: Sink>(
-    vertices: &Vertices,
-    at: usize,
-    place: usize,
-    output: &mut W,
-) -> Result<(), Fault>
-    requires { at + 1 < length vertices.now.starts.items }
-    ensures written { Wrote result (W.taken output.old) (W.taken output.new)
-        (comma_before place ++ vertex_in vertices.now.text vertices.now.starts.items at) }
-    ensures failures { W.failures output.new ≡ after_call result (W.failures output.old) }
-    ensures fault { IfErr result (λ fault. fault ≡ Fault.Write) }
-{
-    write_comma(place, output)?;
-    write_piece(vertices.vertex(at), output)
 }
 
 /// Writes these vertices.
@@ -234,67 +127,43 @@ fn write_vertices<W: Sink>(
     vertices: &Vertices,
     order: &[usize],
     output: &mut W,
-) -> Result<(), Fault>
+    wrote: &mut Result<(), Fault>,
+)
     requires { All (λ at. at + 1 < length vertices.now.starts.items) order.now }
-    ensures written { Wrote result (W.taken output.old) (W.taken output.new)
+    ensures { Writes W.taken W.failures output.old wrote.old output.new wrote.new
         (listed (map (vertex_in vertices.now.text vertices.now.starts.items) order.now)) }
-    ensures failures { W.failures output.new ≡ after_call result (W.failures output.old) }
-    ensures fault { IfErr result (λ fault. fault ≡ Fault.Write) }
 {
     for place in 0..order.len() {
-        write_next_vertex(vertices, order[place], place, output)?;
+        write_comma(place, output, wrote);
+        write_piece(vertices.vertex(order[place]), output, wrote);
     }
-    Ok(())
 }
 
 /// Writes what stands before the objects of a feature, whose name is given with its marks.
-fn write_head<W: Sink>(id: &[u8], output: &mut W) -> Result<(), Fault>
-    ensures written { Wrote result (W.taken output.old) (W.taken output.new)
+fn write_head<W: Sink>(id: &[u8], output: &mut W, wrote: &mut Result<(), Fault>)
+    ensures { Writes W.taken W.failures output.old wrote.old output.new wrote.new
         (codes "{\"type\":\"CityJSONFeature\",\"id\":" ++ (id.now ++ codes ",\"CityObjects\":{")) }
-    ensures failures { W.failures output.new ≡ after_call result (W.failures output.old) }
-    ensures fault { IfErr result (λ fault. fault ≡ Fault.Write) }
 {
-    write_piece(b"{\"type\":\"CityJSONFeature\",\"id\":", output)?;
-    write_piece(id, output)?;
-    write_piece(b",\"CityObjects\":{", output)
+    write_piece(b"{\"type\":\"CityJSONFeature\",\"id\":", output, wrote);
+    write_piece(id, output, wrote);
+    write_piece(b",\"CityObjects\":{", output, wrote);
 }
 
 /// Writes these vertices, and what stands between the objects of a feature and them.
-fn write_rest<W: Sink>(vertices: &Vertices, order: &[usize], output: &mut W) -> Result<(), Fault>
+fn write_rest<W: Sink>(
+    vertices: &Vertices,
+    order: &[usize],
+    output: &mut W,
+    wrote: &mut Result<(), Fault>,
+)
     requires { All (λ at. at + 1 < length vertices.now.starts.items) order.now }
-    ensures written { Wrote result (W.taken output.old) (W.taken output.new)
+    ensures { Writes W.taken W.failures output.old wrote.old output.new wrote.new
         (middle_text ++ (open_bracket
         ∷ (listed (map (vertex_in vertices.now.text vertices.now.starts.items) order.now) ++ close_bracket ∷ []))) }
-    ensures failures { W.failures output.new ≡ after_call result (W.failures output.old) }
-    ensures fault { IfErr result (λ fault. fault ≡ Fault.Write) }
 {
-    write_piece(b"},\"vertices\":[", output)?;
-    write_vertices(vertices, order, output)?;
-    write_piece(b"]", output)
-}
-
-/// Writes the feature that the object at `root` begins, up to its vertices: of the objects at these places, and of the
-/// vertices that have numbers.
-fn write_feature<W: Sink>(
-    skeletons: &Skeletons,
-    vertices: &Vertices,
-    root: usize,
-    places: &[usize],
-    order: &Roster,
-    output: &mut W,
-) -> Result<(), Fault>
-    requires root { root < length skeletons.now.places }
-    requires places { All (λ at. at + 1 < length skeletons.now.places) places.now }
-    requires leaves { All (λ leaf. leaf.vertex < order.now.count) skeletons.now.leaves }
-    requires vertices { order.now.count ≡ length vertices.now.starts.items - 1 }
-    ensures written { Wrote result (W.taken output.old) (W.taken output.new) (feature_text skeletons.now
-        (vertex_in vertices.now.text vertices.now.starts.items) root places.now order.now.order) }
-    ensures failures { W.failures output.new ≡ after_call result (W.failures output.old) }
-    ensures fault { IfErr result (λ fault. fault ≡ Fault.Write) }
-{
-    write_head(skeletons.id(root), output)?;
-    write_objects(skeletons, places, order, output)?;
-    write_rest(vertices, order.order(), output)
+    write_piece(b"},\"vertices\":[", output, wrote);
+    write_vertices(vertices, order, output, wrote);
+    write_piece(b"]", output, wrote);
 }
 
 /// Numbers the vertices of these leaves.
@@ -442,7 +311,7 @@ impl MadeTexts {
         let order = Roster::new(alloc, vertices.starts.len().saturating_sub(1))?;
         Some(MadeTexts {
             skeletons,
-            vertices: Vertices::copied(alloc, vertices)?,
+            vertices: copied(alloc, vertices)?,
             roots: beginners_of(alloc, &kin.parents)?,
             graph: kin.children,
             family,
@@ -464,6 +333,21 @@ impl MadeTexts {
         let _ = &self.roots;
     }
 
+    /// Writes the text at a place, unless a write failed before.
+    fn write_at<W: Sink>(&mut self, at: usize, output: &mut W, wrote: &mut Result<(), Fault>)
+        requires { at < length self.old }
+        ensures written { Writes W.taken W.failures output.old wrote.old output.new wrote.new (get_or self.old at []) }
+        ensures same { self.new ≡ self.old }
+    {
+        let root = self.roots[at];
+        gather(&self.graph, root, &mut self.family);
+        let places = self.family.order();
+        number_uses(&self.skeletons, places, &mut self.order);
+        write_head(self.skeletons.id(root), output, wrote);
+        write_objects(&self.skeletons, places, &self.order, output, wrote);
+        write_rest(&self.vertices, self.order.order(), output, wrote);
+    }
+
     /// Writes the text at a place.
     ///
     /// # Errors
@@ -478,17 +362,9 @@ impl MadeTexts {
         ensures fault { IfErr result (λ fault. fault ≡ Fault.Write) }
         ensures same { self.new ≡ self.old }
     {
-        let root = self.roots[at];
-        gather(&self.graph, root, &mut self.family);
-        number_uses(&self.skeletons, self.family.order(), &mut self.order);
-        write_feature(
-            &self.skeletons,
-            &self.vertices,
-            root,
-            self.family.order(),
-            &self.order,
-            output,
-        )
+        let mut wrote = Ok(());
+        self.write_at(at, output, &mut wrote);
+        wrote
     }
 
     /// Moves all vertices by the shift; one that would leave the range, and which no feature has that can be moved, stays

@@ -1,27 +1,21 @@
 //! City objects copied without their leaves, which are noted.
-ghost use Rattle.std.specs.Prelude.{◌≡◌, ◌<◌, ◌++◌, ◌∷◌, [], ℕ, List, Some, All, length, IfSome, OnSome};
+ghost use Rattle.std.specs.Prelude.{◌≡◌, ◌<◌, ◌++◌, ◌∷◌, [], All, IfSome, OnSome};
 ghost use Rattle.std.specs.List.{flat_map};
-ghost use Rattle.city_json.specs.Bytes.{colon};
-ghost use Rattle.city_json.specs.Compact.{compact, quoted};
-ghost use Rattle.city_json.specs.Members.{first_named};
-ghost use Rattle.city_json.specs.Parts.{AreParts, IsPartNamed};
-ghost use Rattle.city_json.specs.Tree.{MemberTrees, Tree, object};
-ghost use Rattle.city_json.specs.declared.compacting.places.MemberPlace.{MemberPlace};
+ghost use Rattle.city_json.specs.Compact.{compact};
+ghost use Rattle.city_json.specs.Tree.{Tree};
 ghost use Rattle.city_json.specs.CompactTexts.{IsCompactOf};
-ghost use Rattle.city_families.specs.Boundaries.{IsBounded, boundaries, changed_members, relabelled_object};
-ghost use Rattle.cut_on_text.specs.Holders.{AreHeld, held_uses, name_of, other_than, relabelled_held};
+ghost use Rattle.city_families.specs.Boundaries.{IsBounded, boundaries, relabelled_object};
 ghost use Rattle.city_families.specs.Leaves.{leaves};
 ghost use Rattle.cut_on_text.specs.Overviews.{HasHolders};
 ghost use Rattle.cut_on_text.specs.Sketches.{IsNoted};
 
 use super::drafts::{Draft, Labels};
-use super::holders::{HeldParts, Holder};
-use super::items::append_held;
+use super::holders::HeldParts;
 use super::numbers::append_between;
-use super::objects::{append_one, append_two};
+use super::objects::append_member;
 use super::skeletons::Leaf;
-use super::texts::{append_back, append_front, append_text};
-use city_json::{MemberPlace, between};
+use super::texts::append_text;
+use city_json::between;
 use std::alloc::Global;
 
 /// The leaves that were come upon, of boundaries that name vertices below a count.
@@ -91,86 +85,6 @@ impl Labels for NotedLeaves {
     }
 }
 
-/// Copies an object in which boundaries may stand in two members, of which the first part is that of `holder`: how many
-/// leaves are noted where those of the other begin.
-fn note_two(
-    alloc: Global,
-    text: &[u8],
-    first: &MemberPlace,
-    second: &MemberPlace,
-    holder: Holder,
-    notes: &mut NotedLeaves,
-    draft: &mut Draft,
-) -> Option<usize>
-    ensures count { OnSome result (notes.new.count ≡ notes.old.count) }
-    ensures made { IfSome result (λ split. (parts : List MemberPlace) (members : MemberTrees)
-        → IsCompactOf text.now (object members) → AreParts 1 parts members
-        → IsPartNamed text.now parts (quoted (name_of holder) ++ colon ∷ []) first.now
-        → IsPartNamed text.now parts (quoted (name_of (other_than holder)) ++ colon ∷ []) second.now
-        → (value other : Tree) × (first_named (name_of holder) members ≡ Some value)
-        × (first_named (name_of (other_than holder)) members ≡ Some other)
-        × AreHeld holder notes.old.count value
-        × AreHeld (other_than holder) notes.old.count other
-        × IsNoted notes.old.leaves.items draft.old.line split notes.new.leaves.items draft.new.line
-        (held_uses (other_than holder) other ++ held_uses holder value)
-        (λ change. compact (object (changed_members (name_of holder) (relabelled_held holder change)
-        (changed_members (name_of (other_than holder)) (relabelled_held (other_than holder) change) members))))) }
-{
-    let held = between(text, first.value, first.end)?;
-    let middle = between(text, first.end, second.value)?;
-    let others = between(text, second.value, second.end)?;
-    append_front(text, first, &mut draft.line)?;
-    append_held(alloc, held, holder, notes, draft)?;
-    let split = notes.leaves.len();
-    append_text(middle, &mut draft.line)?;
-    append_held(alloc, others, holder.other(), notes, draft)?;
-    append_back(text, second, &mut draft.line)?;
-    Some(split)
-}
-
-/// Copies an object with geometries and addresses, in the order of its text: how many leaves are noted where those of
-/// its geometries begin.
-fn note_both(
-    alloc: Global,
-    text: &[u8],
-    geometry: &MemberPlace,
-    address: &MemberPlace,
-    notes: &mut NotedLeaves,
-    draft: &mut Draft,
-) -> Option<usize>
-    ensures count { OnSome result (notes.new.count ≡ notes.old.count) }
-    ensures made { IfSome result (λ split. (parts : List MemberPlace) (members : MemberTrees)
-        → IsCompactOf text.now (object members) → AreParts 1 parts members
-        → IsPartNamed text.now parts (quoted (name_of Holder.Geometry) ++ colon ∷ []) geometry.now
-        → IsPartNamed text.now parts (quoted (name_of Holder.Address) ++ colon ∷ []) address.now
-        → IsBounded notes.old.count (object members)
-        × IsNoted notes.old.leaves.items draft.old.line split notes.new.leaves.items draft.new.line
-        (flat_map leaves (boundaries (object members))) (λ change. compact (relabelled_object change (object members)))) }
-{
-    if address.at < geometry.at {
-        return note_two(
-            alloc,
-            text,
-            address,
-            geometry,
-            Holder::Address,
-            notes,
-            draft,
-        );
-    }
-    let split = notes.leaves.len();
-    append_two(
-        alloc,
-        text,
-        geometry,
-        address,
-        Holder::Geometry,
-        notes,
-        draft,
-    )?;
-    Some(split)
-}
-
 /// Copies a city object without the leaves of its boundaries, which may stand in these parts: how many leaves are noted
 /// where those of its geometries begin.
 pub(super) fn note_object(
@@ -187,18 +101,13 @@ pub(super) fn note_object(
         × IsNoted notes.old.leaves.items draft.old.line split notes.new.leaves.items draft.new.line
         (flat_map leaves (boundaries value)) (λ change. compact (relabelled_object change value))) }
 {
-    let split = notes.leaves.len();
-    let Some(address) = held.address else {
-        let Some(geometry) = held.geometry else {
-            append_text(text, &mut draft.line)?;
-            return Some(split);
-        };
-        append_one(alloc, text, &geometry, Holder::Geometry, notes, draft)?;
-        return Some(split);
-    };
-    let Some(geometry) = held.geometry else {
-        append_one(alloc, text, &address, Holder::Address, notes, draft)?;
-        return Some(split);
-    };
-    note_both(alloc, text, &geometry, &address, notes, draft)
+    let first = held.first();
+    let last = first.other();
+    let before = notes.leaves.len();
+    let middle = append_member(alloc, text, 0, held.part(first), first, notes, draft)?;
+    let after = notes.leaves.len();
+    let end = append_member(alloc, text, middle, held.part(last), last, notes, draft)?;
+    let back = between(text, end, text.len())?;
+    append_text(back, &mut draft.line)?;
+    Some(first.split(before, after))
 }

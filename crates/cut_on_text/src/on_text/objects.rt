@@ -1,156 +1,110 @@
 //! The objects of a feature, copied with numbers of their own at the leaves of their boundaries.
-ghost use Rattle.std.specs.Prelude.{◌≡◌, ◌++◌, ◌∷◌, [], ℕ, List, Some, length, OnSome};
+ghost use Rattle.std.specs.Prelude.{◌≡◌, ◌++◌, ◌≤◌, ℕ, List, length, IfSome, OnSome};
 ghost use Rattle.std.specs.List.{flat_map};
-ghost use Rattle.city_json.specs.Bytes.{colon};
-ghost use Rattle.city_json.specs.Compact.{compact, quoted};
-ghost use Rattle.city_json.specs.Members.{first_named};
-ghost use Rattle.city_json.specs.Parts.{AreParts, IsPartNamed};
+ghost use Rattle.city_json.specs.Compact.{compact};
+ghost use Rattle.city_json.specs.Parts.{AreParts};
 ghost use Rattle.city_json.specs.Tree.{MemberTrees, Tree, object};
 ghost use Rattle.city_json.specs.declared.compacting.places.MemberPlace.{MemberPlace};
-ghost use Rattle.city_families.specs.Boundaries.{IsBounded, boundaries, changed_members, relabelled_object};
+ghost use Rattle.city_families.specs.Boundaries.{IsBounded, boundaries, relabelled_object};
 ghost use Rattle.city_families.specs.Copied.{Copies, Numbers};
-ghost use Rattle.cut_on_text.specs.Holders.{AreHeld, held_uses, name_of, other_than, relabelled_held};
+ghost use Rattle.cut_on_text.specs.Holders.{AreHeldIn, copied_to, end_of, other_than, uses_in};
 ghost use Rattle.city_families.specs.Leaves.{leaves};
-ghost use Rattle.cut_on_text.specs.Overviews.{HasHolders};
+ghost use Rattle.cut_on_text.specs.Overviews.{HasHolders, IsHolderPart};
 ghost use Rattle.cut_on_text.specs.Walks.{Walks};
 ghost use Rattle.city_json.specs.CompactTexts.{IsCompactOf};
 
 use super::drafts::{Draft, Labels};
 use super::holders::{HeldParts, Holder};
 use super::items::append_held;
-use super::texts::{append_back, append_front, append_text};
+use super::texts::append_text;
 use city_families::Numbering;
 use city_json::{MemberPlace, between};
 use std::alloc::Global;
 
-/// Copies an object in which boundaries stand in one member.
-pub(super) fn append_one<L: Labels>(
+/// Copies the text of an object from a place on up to the end of a member in which boundaries stand, if it is there: where
+/// that is.
+pub(super) fn append_member<L: Labels>(
     alloc: Global,
     text: &[u8],
-    part: &MemberPlace,
+    from: usize,
+    part: Option<MemberPlace>,
     holder: Holder,
     labels: &mut L,
     draft: &mut Draft,
-) -> Option<()>
+) -> Option<usize>
     ensures count { OnSome result (L.count labels.new ≡ L.count labels.old) }
+    ensures end { IfSome result (λ end. end ≡ end_of from part) }
+    ensures ordered { OnSome result (IfSome part (λ part. from ≤ part.value)) }
     ensures made { OnSome result ((parts : List MemberPlace) (members : MemberTrees)
-        → IsCompactOf text.now (object members) → AreParts 1 parts members
-        → IsPartNamed text.now parts (quoted (name_of holder) ++ colon ∷ []) part.now
-        → (value : Tree) × (first_named (name_of holder) members ≡ Some value)
-        × AreHeld holder (L.count labels.old) value
-        × Walks L.labelled labels.old draft.old.line labels.new draft.new.line
-        (held_uses holder value)
-        (λ change. compact (object (changed_members (name_of holder) (relabelled_held holder change) members)))) }
+        → IsCompactOf text.now (object members) → AreParts 1 parts members → IsHolderPart holder text.now parts part
+        → AreHeldIn holder (L.count labels.old) (object members)
+        × Walks L.labelled labels.old draft.old.line labels.new draft.new.line (uses_in holder (object members))
+        (λ change. copied_to text.now from part holder change (object members))) }
 {
+    let Some(part) = part else {
+        return Some(from);
+    };
+    let front = between(text, from, part.value)?;
     let held = between(text, part.value, part.end)?;
-    append_front(text, part, &mut draft.line)?;
+    append_text(front, &mut draft.line)?;
     append_held(alloc, held, holder, labels, draft)?;
-    append_back(text, part, &mut draft.line)
+    Some(part.end)
 }
 
-/// Copies an object in which boundaries may stand in two members. The first part is that of `holder`.
-pub(super) fn append_two<L: Labels>(
+/// Copies an object in which boundaries may stand in these members, of which the one of `first` comes first.
+fn append_members<L: Labels>(
     alloc: Global,
     text: &[u8],
-    first: &MemberPlace,
-    second: &MemberPlace,
-    holder: Holder,
+    held: &HeldParts,
+    first: Holder,
     labels: &mut L,
     draft: &mut Draft,
 ) -> Option<()>
+    requires { HasHolders text.now held.now }
     ensures count { OnSome result (L.count labels.new ≡ L.count labels.old) }
-    ensures made { OnSome result ((parts : List MemberPlace) (members : MemberTrees)
-        → IsCompactOf text.now (object members) → AreParts 1 parts members
-        → IsPartNamed text.now parts (quoted (name_of holder) ++ colon ∷ []) first.now
-        → IsPartNamed text.now parts (quoted (name_of (other_than holder)) ++ colon ∷ []) second.now
-        → (value other : Tree) × (first_named (name_of holder) members ≡ Some value)
-        × (first_named (name_of (other_than holder)) members ≡ Some other)
-        × AreHeld holder (L.count labels.old) value
-        × AreHeld (other_than holder) (L.count labels.old) other
+    ensures made { OnSome result ((value : Tree) → IsCompactOf text.now value
+        → IsBounded (L.count labels.old) value
         × Walks L.labelled labels.old draft.old.line labels.new draft.new.line
-        (held_uses holder value ++ held_uses (other_than holder) other)
-        (λ change. compact (object (changed_members (name_of holder) (relabelled_held holder change)
-        (changed_members (name_of (other_than holder)) (relabelled_held (other_than holder) change) members))))) }
+        (uses_in first value ++ uses_in (other_than first) value) (λ change. compact (relabelled_object change value))) }
 {
-    let held = between(text, first.value, first.end)?;
-    let middle = between(text, first.end, second.value)?;
-    let others = between(text, second.value, second.end)?;
-    append_front(text, first, &mut draft.line)?;
-    append_held(alloc, held, holder, labels, draft)?;
-    append_text(middle, &mut draft.line)?;
-    append_held(alloc, others, holder.other(), labels, draft)?;
-    append_back(text, second, &mut draft.line)
+    let last = first.other();
+    let middle = append_member(alloc, text, 0, held.part(first), first, labels, draft)?;
+    let end = append_member(alloc, text, middle, held.part(last), last, labels, draft)?;
+    let back = between(text, end, text.len())?;
+    append_text(back, &mut draft.line)
 }
 
-/// Numbers the vertices that stand in a member, and writes nothing.
-fn number_held(
+/// Numbers the vertices that stand in the geometries, and writes nothing.
+fn number_geometries(
     alloc: Global,
     text: &[u8],
-    part: &MemberPlace,
-    holder: Holder,
+    held: &HeldParts,
     numbering: &mut Numbering,
     draft: &mut Draft,
 ) -> Option<()>
+    requires { HasHolders text.now held.now }
     ensures long { OnSome result (length numbering.new.table.items ≡ length numbering.old.table.items) }
-    ensures made { OnSome result ((parts : List MemberPlace) (members : MemberTrees)
-        → IsCompactOf text.now (object members) → AreParts 1 parts members
-        → IsPartNamed text.now parts (quoted (name_of holder) ++ colon ∷ []) part.now
+    ensures made { OnSome result ((value : Tree) → IsCompactOf text.now value
         → (draft.new.line ≡ draft.old.line)
-        × ((value : Tree) → first_named (name_of holder) members ≡ Some value
-        → Numbers numbering.old.table.items numbering.old.order.items
-        numbering.new.table.items numbering.new.order.items (held_uses holder value))) }
+        × Numbers numbering.old.table.items numbering.old.order.items
+        numbering.new.table.items numbering.new.order.items (uses_in Holder.Geometry value)) }
 {
-    let held = between(text, part.value, part.end)?;
     let len = draft.line.items().len();
-    append_held(alloc, held, holder, numbering, draft)?;
+    append_member(
+        alloc,
+        text,
+        0,
+        held.geometry,
+        Holder::Geometry,
+        numbering,
+        draft,
+    )?;
     draft.line.truncate(len);
     Some(())
 }
 
-/// Copies an object with geometries and addresses. The vertices of the geometries are numbered first, wherever they
-/// stand.
-fn append_both(
-    alloc: Global,
-    text: &[u8],
-    geometry: &MemberPlace,
-    address: &MemberPlace,
-    numbering: &mut Numbering,
-    draft: &mut Draft,
-) -> Option<()>
-    ensures long { OnSome result (length numbering.new.table.items ≡ length numbering.old.table.items) }
-    ensures made { OnSome result ((parts : List MemberPlace) (members : MemberTrees)
-        → IsCompactOf text.now (object members) → AreParts 1 parts members
-        → IsPartNamed text.now parts (quoted (name_of Holder.Geometry) ++ colon ∷ []) geometry.now
-        → IsPartNamed text.now parts (quoted (name_of Holder.Address) ++ colon ∷ []) address.now
-        → IsBounded (length numbering.old.table.items) (object members)
-        × Copies numbering.old.table.items numbering.old.order.items draft.old.line
-        numbering.new.table.items numbering.new.order.items draft.new.line
-        (flat_map leaves (boundaries (object members))) (λ change. compact (relabelled_object change (object members)))) }
-{
-    if geometry.at < address.at {
-        return append_two(
-            alloc,
-            text,
-            geometry,
-            address,
-            Holder::Geometry,
-            numbering,
-            draft,
-        );
-    }
-    number_held(alloc, text, geometry, Holder::Geometry, numbering, draft)?;
-    append_two(
-        alloc,
-        text,
-        address,
-        geometry,
-        Holder::Address,
-        numbering,
-        draft,
-    )
-}
-
-/// Copies a city object, in which boundaries may stand in these parts.
+/// Copies a city object, in which boundaries may stand in these parts. The vertices of the geometries are numbered first,
+/// wherever they stand.
 pub(super) fn append_object(
     alloc: Global,
     text: &[u8],
@@ -166,14 +120,11 @@ pub(super) fn append_object(
         numbering.new.table.items numbering.new.order.items draft.new.line
         (flat_map leaves (boundaries value)) (λ change. compact (relabelled_object change value))) }
 {
-    let Some(address) = held.address else {
-        let Some(geometry) = held.geometry else {
-            return append_text(text, &mut draft.line);
-        };
-        return append_one(alloc, text, &geometry, Holder::Geometry, numbering, draft);
-    };
-    let Some(geometry) = held.geometry else {
-        return append_one(alloc, text, &address, Holder::Address, numbering, draft);
-    };
-    append_both(alloc, text, &geometry, &address, numbering, draft)
+    match held.first() {
+        Holder::Geometry => append_members(alloc, text, held, Holder::Geometry, numbering, draft),
+        Holder::Address => {
+            number_geometries(alloc, text, held, numbering, draft)?;
+            append_members(alloc, text, held, Holder::Address, numbering, draft)
+        }
+    }
 }

@@ -1,21 +1,24 @@
 //! The vertices of a document, by where they stand in its compact text.
-ghost use Rattle.std.specs.Prelude.{◌≡◌, ◌++◌, ◌∷◌, [], ◌≤◌, ◌<◌, ◌+◌, List, length, map, All, IfSome, OnSome};
+ghost use Rattle.std.specs.Prelude.{◌≡◌, ◌++◌, ◌∷◌, [], ◌<◌, ◌+◌, List, length, map, IfErr, IfOk, OnOk, OnSome};
 ghost use Rattle.city_json.specs.Compact.{compact, compact_more_items};
-ghost use Rattle.city_json.specs.Tree.{item_trees};
-ghost use Rattle.city_grid.specs.Axes.{IsInRange, Triple};
+ghost use Rattle.city_json.specs.CompactTexts.{IsCompactOf};
+ghost use Rattle.city_json.specs.Tree.{ItemTrees, array, item_trees};
+ghost use Rattle.city_grid.specs.Axes.{Triple};
 ghost use Rattle.city_grid.specs.Vertex.{vertex_tree};
-ghost use Rattle.city_feature.specs.Feature.{vertices_tree};
-ghost use Rattle.city_feature.specs.LineTexts.{SpellsVertices};
+ghost use Rattle.city_feature.specs.Faults.{RefusesVertices};
+ghost use Rattle.city_feature.specs.Feature.{AreVertices, vertices_tree};
 ghost use Rattle.city_families.specs.Chosen.{point_at};
-ghost use Rattle.cut_on_text.specs.VertexTexts.{StandAt};
+ghost use Rattle.cut_on_text.specs.Made.{vertex_in};
+ghost use Rattle.cut_on_text.specs.VertexTexts.{IsGrown, StandAt};
 
 use super::numbers::append_between;
+use super::ranges::between;
 use super::texts::append_text;
-use byte_streams::Line;
+use byte_streams::{Fault, Line};
 use city_families::push_place;
-use city_feature::{append_vertices, vertices_of};
-use city_grid::{byte_is, vertex_end};
-use std::alloc::Global;
+use city_feature::{TakeVertex, take_vertices};
+use city_grid::{Vertex, append_vertex};
+use std::alloc::{AllocError, Global};
 
 /// How many bytes the text of a vertex and a comma have mostly at least.
 pub(super) const COMMON_LEN: usize = 20;
@@ -28,49 +31,98 @@ pub(super) struct VertexTexts<'a> {
     pub starts: Vec<u32>,
 }
 
-/// Where the vertices begin that stand in the text as they are written, and where one after the last would. `None`:
-/// undecided.
-pub(super) fn starts_of(alloc: Global, text: &[u8]) -> Option<Vec<u32>>
-    ensures { IfSome result (λ starts. (points : List Triple) × (text.now ≡ compact (vertices_tree points))
-        × All IsInRange points × StandAt text.now starts.items points) }
-{
-    let mut starts = Vec::with_capacity(alloc, text.len() / COMMON_LEN).ok()?;
-    push_place(1, &mut starts)?;
-    if text == b"[]".as_slice() {
-        return Some(starts);
+/// The texts of vertices, each with a comma before it, and where each begins, as [`VertexTexts`] has it.
+#[derive(Debug, Drop)]
+pub(super) struct Vertices {
+    pub text: Line,
+    pub starts: Vec<u32>,
+}
+
+impl Vertices {
+    /// None, with room for so many and for texts of this length in all.
+    pub(super) fn with_room(alloc: Global, len: usize, count: usize) -> Result<Vertices, AllocError>
+        ensures { IfOk result (λ vertices. IsGrown vertices.text vertices.starts.items []) }
+    {
+        let text = Line::from_vec(Vec::with_capacity(alloc, len)?);
+        let mut starts = Vec::with_capacity(alloc, count)?;
+        push_place(1, &mut starts)?;
+        Ok(Vertices { text, starts })
     }
-    if !byte_is(text, 0, b'[') {
-        return None;
+
+    /// One more.
+    pub(super) fn push(&mut self, vertex: &Vertex) -> Result<(), AllocError>
+        ensures { OnOk result ((points : List Triple) → IsGrown self.old.text self.old.starts.items points
+            → IsGrown self.new.text self.new.starts.items (points ++ vertex.now ∷ [])) }
+    {
+        append_vertex(b',', vertex, &mut self.text)?;
+        push_place(self.text.items().len() + 1, &mut self.starts)?;
+        Ok(())
     }
-    let mut at = 1usize;
-    'vertices: loop {
-        let end = vertex_end(text, at);
-        if end == at {
-            return None;
-        }
-        push_place(end + 1, &mut starts)?;
-        if byte_is(text, end, b']') {
-            if end + 1 < text.len() {
-                return None;
-            }
-            return Some(starts);
-        }
-        if !byte_is(text, end, b',') {
-            return None;
-        }
-        at = end + 1;
+
+    /// The text of a vertex.
+    pub(super) fn vertex(&self, at: usize) -> &[u8]
+        requires { at + 1 < length self.now.starts.items }
+        ensures { result.now ≡ vertex_in self.now.text self.now.starts.items at }
+    {
+        let from = self.starts[at] as usize;
+        let next = self.starts[at + 1] as usize;
+        between(self.text.items(), from, next.saturating_sub(1))
     }
 }
 
-/// The text that is written for the vertices of a text, in which a zero may have a minus sign. `None`: undecided.
-pub(super) fn write_anew(alloc: Global, text: &[u8]) -> Option<Line>
-    ensures { IfSome result (λ line. (points : List Triple) × SpellsVertices text.now points
-        × (line ≡ compact (vertices_tree points)) × All IsInRange points) }
+impl TakeVertex for Vertices {
+    ghost has = { λ vertices taken. IsGrown vertices.text vertices.starts.items taken };
+
+    fn take(&mut self, vertex: Vertex) -> Result<(), AllocError> {
+        self.push(&vertex)
+    }
+}
+
+/// The vertices of the array whose compact text this is, written anew.
+///
+/// # Errors
+///
+/// Those of [`take_vertices`].
+pub(super) fn written_vertices(alloc: Global, text: &[u8]) -> Result<Vertices, Fault>
+    ensures { IfOk result (λ vertices. (items : ItemTrees) → IsCompactOf text.now (array items)
+        → (points : List Triple) × AreVertices items points × StandAt vertices.text vertices.starts.items points) }
 {
-    let found = vertices_of(alloc, text)?;
-    let mut line = Line::from_vec(Vec::with_capacity(alloc, text.len()).ok()?);
-    append_vertices(&found.vertices, &mut line).ok()?;
-    Some(line)
+    let mut vertices = Vertices::with_room(alloc, text.len(), text.len() / COMMON_LEN)?;
+    take_vertices(alloc, text, &mut vertices)?;
+    Ok(vertices)
+}
+
+/// How many vertices were taken.
+#[derive(Drop)]
+struct Counted {
+    count: usize,
+}
+
+impl TakeVertex for Counted {
+    ghost has = { λ counted taken. counted.count ≡ length taken };
+
+    fn take(&mut self, _vertex: Vertex) -> Result<(), AllocError> {
+        let Some(count) = self.count.checked_add(1) else {
+            return Err(AllocError);
+        };
+        self.count = count;
+        Ok(())
+    }
+}
+
+/// How many vertices the array has whose compact text this is.
+///
+/// # Errors
+///
+/// Those of [`take_vertices`].
+pub(super) fn count_vertices(alloc: Global, text: &[u8]) -> Result<usize, Fault>
+    ensures ok { IfOk result (λ count. (items : ItemTrees) → IsCompactOf text.now (array items)
+        → (points : List Triple) × AreVertices items points × (length points ≡ count)) }
+    ensures refused { IfErr result (λ fault. RefusesVertices fault text.now) }
+{
+    let mut counted = Counted { count: 0 };
+    take_vertices(alloc, text, &mut counted)?;
+    Ok(counted.count)
 }
 
 /// Appends the text of the vertex of a number.

@@ -53,7 +53,9 @@ fn push_block(text: &[u8], at: usize, starts: &mut Vec<u32>) -> Option<()>
     let mut place = at;
     'closes: while closes != 0 {
         let len = closes.trailing_zeros() as usize;
-        push_place(place + len + 2, starts)?;
+        let Ok(()) = push_place(place + len + 2, starts) else {
+            return None;
+        };
         closes = (closes >> len) >> 1;
         place += len + 1;
     }
@@ -68,7 +70,7 @@ fn push_byte(text: &[u8], at: usize, starts: &mut Vec<u32>) -> Option<()>
         ≡ starts.old.items ++ starts_behind at (slice_range text.now at (at + 1))) }
 {
     if text[at] == b']' {
-        return push_place(at + 2, starts);
+        return push_place(at + 2, starts).ok();
     }
     Some(())
 }
@@ -84,7 +86,9 @@ pub(super) fn starts_of_triples(alloc: Global, text: &[u8]) -> Option<Vec<u32>>
     }
     let last = text.len() - 1;
     let mut starts = Vec::with_capacity(alloc, text.len() / COMMON_LEN).ok()?;
-    push_place(1, &mut starts)?;
+    let Ok(()) = push_place(1, &mut starts) else {
+        return None;
+    };
     let mut at = 0usize;
     'blocks: while last - at >= BLOCK {
         push_block(text, at, &mut starts)?;

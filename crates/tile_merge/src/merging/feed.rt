@@ -4,7 +4,7 @@ ghost use Rattle.std.specs.Io.KnownBytes.{Keeps};
 ghost use Rattle.byte_streams.specs.Failures.{after_call};
 ghost use Rattle.city_feature.specs.Choice.{IsChosen};
 ghost use Rattle.tile_handoff.specs.Queues.{queue_of, empty_queue};
-ghost use Rattle.tile_merge.specs.Feeds.{MayTake, SomeCourse, TakesNone, HasFreePlace, IsAhead, most_ahead, most_lines};
+ghost use Rattle.tile_merge.specs.Feeds.{MayTake, ReadsOn, SomeCourse, HasFreePlace, IsAhead, most_ahead, most_lines};
 ghost use Rattle.tile_merge.specs.Rounds.{IsFeedOf, WroteTurn, WroteTurnFront};
 ghost use Rattle.tile_stream.specs.TileState.{most_to_come, most_texts};
 
@@ -162,9 +162,8 @@ impl<R: Source> Feed<R> {
     ) -> Result<(), Fault>
         requires { SomeCourse (MayTake R.gives (IsChosen choice.now) self.old) }
         ensures ahead { OnOk result (IsAhead self.new) }
-        ensures none { TakesNone (MayTake R.gives (IsChosen choice.now) self.old)
+        ensures reads { ReadsOn (MayTake R.gives (IsChosen choice.now) self.old)
             (MayTake R.gives (IsChosen choice.now) self.new) }
-        ensures some { SomeCourse (MayTake R.gives (IsChosen choice.now) self.new) }
         ensures fewer { most_ahead self.new ≤ most_ahead self.old }
         ensures bytes { Keeps (W.taken output.old) (W.taken output.new) }
         ensures failures { W.failures output.new ≡ after_call result (W.failures output.old) }
@@ -194,9 +193,8 @@ impl<R: Source> Feed<R> {
     fn read_line(&mut self, alloc: Global, choice: &Choice)
         requires room { HasFreePlace self.old }
         requires some { SomeCourse (MayTake R.gives (IsChosen choice.now) self.old) }
-        ensures none { TakesNone (MayTake R.gives (IsChosen choice.now) self.old)
+        ensures reads { ReadsOn (MayTake R.gives (IsChosen choice.now) self.old)
             (MayTake R.gives (IsChosen choice.now) self.new) }
-        ensures some { SomeCourse (MayTake R.gives (IsChosen choice.now) self.new) }
         ensures fewer { most_ahead self.new ≤ most_ahead self.old }
         ensures lines { most_lines self.new < most_lines self.old }
     {

@@ -1,5 +1,5 @@
 //! The features that the first line of a tile holds, moved and chosen.
-ghost use Rattle.std.specs.Prelude.{◌≡◌, ◌≤◌, ◌<◌, ◌⊎◌, ◌++◌, [], IfOk, IfErr, OnOk, length, get_or, option_map, option_to_list};
+ghost use Rattle.std.specs.Prelude.{◌≡◌, ◌≤◌, ◌<◌, ◌⊎◌, ◌++◌, [], IfOk, IfErr, OnOk, length, get_or, option_map, option_to_list, true};
 ghost use Rattle.city_families.specs.HeldTexts.{AreOwnParts, texts_in};
 ghost use Rattle.city_feature.specs.Choice.{IsChosen};
 ghost use Rattle.city_feature.specs.FeatureLine.{GivesFeature, RefusesFeatureLine};
@@ -54,6 +54,7 @@ fn made_texts(
 ) -> Result<ReadyTexts, Fault>
     requires some { 0 < length held.own }
     requires own { AreOwnParts held }
+    requires made { held.is_made ≡ true }
     ensures ok { IfOk result (λ texts.
         LinesGive (IsChosen choice.now) shift (texts_in held) texts) }
     ensures fewer { IfOk result (λ texts. length texts ≤ length (texts_in held)) }
@@ -62,7 +63,7 @@ fn made_texts(
     let mut held = held;
     let wanted = wanted_of(alloc, &mut held, shift, choice)?;
     held.move_by(alloc, shift)?;
-    held.keep(&wanted)?;
+    held.keep(&wanted);
     Ok(ReadyTexts::made(held))
 }
 
@@ -167,11 +168,5 @@ fn text_at(
 {
     buffers.own.truncate(0);
     held.append_own(alloc, at, &mut buffers.own)?;
-    own_text(
-        alloc,
-        buffers.own.items(),
-        shift,
-        choice,
-        &mut buffers.given,
-    )
+    own_text(alloc, &mut buffers.own, shift, choice, &mut buffers.given)
 }

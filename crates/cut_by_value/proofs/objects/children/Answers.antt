@@ -12,8 +12,8 @@ pub loop-member-preserved : goal.loop-member-preserved
 loop-member-preserved c =
     let all = names (members_tree c.args.objects.now) in
     let table : IsTable all c.deref.result.now = rw c.deref.ensures.value c.in_ok-table.ensures.ok in
-    let pushed : c.in-Some.longer ≡ c.loop-member.graph ++ c.in_ok-row.row.items ∷ [] =
-    c.in-Some.ensures ∙ ap (λ l. c.loop-member.graph ++ l ∷ []) c.deref-in-loop-member.ensures.value in
+    let pushed : c.in_ok-graph-2.graph ≡ c.loop-member.graph ++ c.in_ok-row.row.items ∷ [] =
+    c.in_ok-graph-2.ensures ∙ ap (λ l. c.loop-member.graph ++ l ∷ []) c.deref-in-loop-member.ensures.value in
     record {
       long = omega (arith, ap length pushed, length-append c.loop-member.graph (c.in_ok-row.row.items ∷ []), c.loop-member.invariant.long);
       rows = rows_more c.args.objects.now c.loop-member.graph _ c.in_ok-row.row.items

@@ -3,6 +3,7 @@ use Rattle.city_json.specs.Parts.{AreParts}
 use Rattle.city_json.specs.Tree.{member_trees}
 use Rattle.city_families.specs.HeldTexts.{texts_in}
 use Rattle.cut_on_text.proofs.TextDocuments.{objects_there}
+use Rattle.cut_on_text.proofs.TextFaults.{ok_told}
 use Rattle.cut_on_text.proofs.TextFeatures.{as_many_parts}
 use Rattle.city_families.proofs.Seeking.{as_many_pairs}
 use Rattle.cut_on_text.proofs.on_text.texts_on.Goals as goal
@@ -22,7 +23,8 @@ returns-in-Some-clause-texts c = λ value appearance points of stand tail.
     let there = objects_there c.args.objects.now c.in_ok-places.field-0.places.items value of
     c.in_ok-places.ensures.places in
     let objects = member_trees there.pairs in
-    let (city, lacks, belong, rel) = c.in_ok-kin.ensures.kin there.pairs there.of
+    let (city, lacks, belong, rel) = (ok_told _ c.in_ok-kin.field-0 c.in-Ok.kin c.in-Ok.is c.in_ok-kin.ensures.kin).related
+    there.pairs there.of
     (subst (λ p. AreParts 1 p objects) (sym c.deref.ensures.value) there.are) in
     let listed = subst (λ p. AreParts 1 p objects) (sym c.deref-then-can_be_held.ensures.value) there.are in
     let held = rw c.in-Some.is at c.in_ok-own.ensures in
@@ -37,7 +39,8 @@ made_texts-requires-clause-places c =
     let there = objects_there c.args.objects.now c.in_ok-places.field-0.places.items value of
     c.in_ok-places.ensures.places in
     let objects = member_trees there.pairs in
-    let (city, lacks, belong, rel) = c.in_ok-kin.ensures.kin there.pairs there.of
+    let (city, lacks, belong, rel) = (ok_told _ c.in_ok-kin.field-0 c.in-Ok.kin c.in-Ok.is c.in_ok-kin.ensures.kin).related
+    there.pairs there.of
     (subst (λ p. AreParts 1 p objects) (sym c.deref.ensures.value) there.are) in
     omega (arith, as_many_pairs there.pairs _ _ rel, as_many_parts 1 c.in_ok-places.field-0.places.items there.pairs there.are)
 
@@ -47,7 +50,8 @@ made_texts-requires-clause-objects c =
     let there = objects_there c.args.objects.now c.in_ok-places.field-0.places.items value of
     c.in_ok-places.ensures.places in
     let objects = member_trees there.pairs in
-    let (city, lacks, belong, rel) = c.in_ok-kin.ensures.kin there.pairs there.of
+    let (city, lacks, belong, rel) = (ok_told _ c.in_ok-kin.field-0 c.in-Ok.kin c.in-Ok.is c.in_ok-kin.ensures.kin).related
+    there.pairs there.of
     (subst (λ p. AreParts 1 p objects) (sym c.deref.ensures.value) there.are) in
     (there.pairs, there.of, there.are, rel)
 
@@ -56,7 +60,8 @@ returns-clause-texts c = λ value appearance points of stand tail.
     let there = objects_there c.args.objects.now c.in_ok-places.field-0.places.items value of
     c.in_ok-places.ensures.places in
     let objects = member_trees there.pairs in
-    let (city, lacks, belong, rel) = c.in_ok-kin.ensures.kin there.pairs there.of
+    let (city, lacks, belong, rel) = (ok_told _ c.in_ok-kin.field-0 c.in-Ok.kin c.in-Ok.is c.in_ok-kin.ensures.kin).related
+    there.pairs there.of
     (subst (λ p. AreParts 1 p objects) (sym c.deref.ensures.value) there.are) in
     let own = c.in_ok-own-2.ensures there.pairs appearance points stand there.of there.are rel in
     let texts = ap texts_in c.made.ensures

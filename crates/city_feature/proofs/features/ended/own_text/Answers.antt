@@ -10,12 +10,12 @@ pub returns-in_err-given-clause-refused : goal.returns-in_err-given-clause-refus
 returns-in_err-given-clause-refused c =
     let e = err_from_is_err_and c.from_residual-in_err-given.result c.from_residual-in_err-given.ensures.1 in
     rw (e.1, e.2) (λ end part. own_refused c.args.choice.now c.args.shift c.args.own.now end part c.items-closed.result.now
-    (c.items-closed.ensures ∙ c.in_ok-close.ensures) c.in_err-given.field-0.0 c.in_err-given.ensures.refusal)
+    (c.items-closed.ensures ∙ c.in_ok-append.ensures.ok) c.in_err-given.field-0.0 c.in_err-given.ensures.refusal)
 
 pub returns-in_default-clause-ok : goal.returns-in_default-clause-ok
 returns-in_default-clause-ok c = λ end part.
     let closed = c.items-closed.result.now in
-    own_none c.args.choice.now c.args.shift c.args.own.now end part closed (c.items-closed.ensures ∙ c.in_ok-close.ensures)
+    own_none c.args.choice.now c.args.shift c.args.own.now end part closed (c.items-closed.ensures ∙ c.in_ok-append.ensures.ok)
     (subst (λ o. GivesFeature (IsChosen c.args.choice.now) c.args.shift closed
     (option_map (λ place. placed_text place closed c.feature_text.new.text) o)) c.in_default.is c.in_ok-given.ensures.ok)
 
@@ -33,7 +33,7 @@ returns-clause-ok c = λ end part.
     let closed = c.items-closed.result.now in
     let text = c.feature_text.new.text in
     own_some c.args.choice.now c.args.shift c.args.own.now end part closed (placed_text c.in-Some.place closed text)
-    c.in_ok-front.front (c.items-closed.ensures ∙ c.in_ok-close.ensures)
+    c.in_ok-front.front (c.items-closed.ensures ∙ c.in_ok-append.ensures.ok)
     (subst (λ o. GivesFeature (IsChosen c.args.choice.now) c.args.shift closed
     (option_map (λ place. placed_text place closed text) o)) c.in-Some.is c.in_ok-given.ensures.ok)
     (sym c.bytes.ensures ∙ c.in_ok-front.ensures)

@@ -1,23 +1,24 @@
-use Rattle.std.proofs.Common.{◌∙◌}
-use Rattle.cut_on_text.specs.Made.{vertex_in}
-use Rattle.cut_on_text.proofs.Writing.{failed_at, listed_failed, listed_more}
+use Rattle.std.proofs.Common.{arith, map, subst}
+use Rattle.cut_on_text.specs.Made.{listed, vertex_in}
+use Rattle.cut_on_text.specs.Written.{Writes}
+use Rattle.cut_on_text.proofs.Writing.{listed_all, listed_more, none_yet}
 use Rattle.cut_on_text.proofs.on_text.made.write_vertices.Goals as goal
 
-pub returns-in_err-write_next_vertex-clause-written : goal.returns-in_err-write_next_vertex-clause-written
-returns-in_err-write_next_vertex-clause-written g c =
-    let old = g.W.Sink.taken c.args.output.now in
-    let now = g.W.Sink.taken c.loop-place.output in
-    let new = g.W.Sink.taken c.write_next_vertex.new.output in
-    failed_at c.from_residual.result _ c.from_residual.ensures.1 old new _
-    (listed_failed (vertex_in c.args.vertices.now.text c.args.vertices.now.starts.items) c.args.order.now
-    c.loop-place.place old now c.loop-place.invariant.wrote c.loop-place-test.true new
-    c.in_err-write_next_vertex.ensures.written)
+pub loop-place-init : goal.loop-place-init
+loop-place-init g c = none_yet g.W.Sink.taken g.W.Sink.failures c.args.output.now c.args.wrote.now
+    (listed (map (vertex_in c.args.vertices.now.text c.args.vertices.now.starts.items) c.args.order.now))
 
 pub loop-place-preserved : goal.loop-place-preserved
-loop-place-preserved g c = record {
-  wrote = listed_more (vertex_in c.args.vertices.now.text c.args.vertices.now.starts.items) c.args.order.now
-      c.loop-place.place (g.W.Sink.taken c.args.output.now) (g.W.Sink.taken c.loop-place.output)
-      c.loop-place.invariant.wrote c.loop-place-test.true (g.W.Sink.taken c.write_next_vertex.new.output)
-      c.in_ok-write_next_vertex.ensures.written;
-  none_failed = c.in_ok-write_next_vertex.ensures.failures ∙ c.loop-place.invariant.none_failed;
-}
+loop-place-preserved g c = listed_more g.W.Sink.taken g.W.Sink.failures
+    (vertex_in c.args.vertices.now.text c.args.vertices.now.starts.items) c.args.order.now c.loop-place.place
+    c.args.output.now c.args.wrote.now c.loop-place.output c.loop-place.wrote c.loop-place.invariant
+    c.loop-place-test.true c.write_comma.new.output c.write_comma.new.wrote c.write_piece.new.output
+    c.write_piece.new.wrote c.write_comma.ensures (subst (Writes g.W.Sink.taken g.W.Sink.failures
+    c.write_comma.new.output c.write_comma.new.wrote c.write_piece.new.output c.write_piece.new.wrote)
+    c.vertex.ensures c.write_piece.ensures)
+
+pub returns : goal.returns
+returns g c = listed_all g.W.Sink.taken g.W.Sink.failures
+    (vertex_in c.args.vertices.now.text c.args.vertices.now.starts.items) c.args.order.now c.loop-place.place
+    c.args.output.now c.args.wrote.now c.loop-place.output c.loop-place.wrote c.loop-place.invariant
+    (omega (arith, c.loop-place-test.false))

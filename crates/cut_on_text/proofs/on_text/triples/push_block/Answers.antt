@@ -9,7 +9,7 @@ closes-preserved c =
     let all = c.args.starts.now.items ++ starts_behind c.args.at (slice_range text c.args.at (c.args.at + 64)) in
     let next = place_next text (c.args.at + 64) c.closes.closes c.closes.place c.closes.starts.items all
     c.closes.invariant.place _ c.push_place.new.places.items (omega (arith, c.requires))
-    (omega (arith, c.closes.invariant.onward)) c.closes-test.true refl c.in_ok-push_place.ensures in
+    (omega (arith, c.closes.invariant.onward)) c.closes-test.true refl c.in-Ok.ensures in
     record { onward = omega (arith, c.closes.invariant.onward); place = next }
 
 pub returns : goal.returns

@@ -12,9 +12,9 @@ pub returns-clause-ok : goal.returns-clause-ok
 returns-clause-ok c =
     let held = c.args.held.now in
     let own = get_or held.own c.args.at [] in
-    let shown : c.items.result.now ≡ own =
-    c.items.ensures ∙ (c.in_ok-append_own.ensures.ok ∙ ap (λ line. line ++ own) c.truncate.ensures) in
-    let part : IsOwnPart c.items.result.now held.common = subst (λ l. IsOwnPart l held.common) (sym shown)
+    let shown : c.append_own.new.line ≡ own =
+    c.in_ok-append_own.ensures.ok ∙ ap (λ line. line ++ own) c.truncate.ensures in
+    let part : IsOwnPart c.append_own.new.line held.common = subst (λ l. IsOwnPart l held.common) (sym shown)
     (All-from_recursion (λ o. IsOwnPart o held.common) held.own c.requires.own c.args.at [] c.requires.within) in
     IfOk-weaker c.own_text.result _ _ (λ given gives.
     subst (λ line. GivesFeature (IsChosen c.args.choice.now) c.args.shift line (option_map (λ front. front ++ held.common) given))
@@ -25,9 +25,9 @@ pub returns-clause-refused : goal.returns-clause-refused
 returns-clause-refused c =
     let held = c.args.held.now in
     let own = get_or held.own c.args.at [] in
-    let shown : c.items.result.now ≡ own =
-    c.items.ensures ∙ (c.in_ok-append_own.ensures.ok ∙ ap (λ line. line ++ own) c.truncate.ensures) in
-    let part : IsOwnPart c.items.result.now held.common = subst (λ l. IsOwnPart l held.common) (sym shown)
+    let shown : c.append_own.new.line ≡ own =
+    c.in_ok-append_own.ensures.ok ∙ ap (λ line. line ++ own) c.truncate.ensures in
+    let part : IsOwnPart c.append_own.new.line held.common = subst (λ l. IsOwnPart l held.common) (sym shown)
     (All-from_recursion (λ o. IsOwnPart o held.common) held.own c.requires.own c.args.at [] c.requires.within) in
     IfErr-weaker c.own_text.result _ _ (λ fault refused.
     subst (λ line. (fault ≡ Memory) ⊎ RefusesFeatureLine c.args.shift fault line)

@@ -1,6 +1,5 @@
 use Rattle.std.proofs.Common.{◌∙◌, ◌<◌, length, map, sym, ap, subst}
 use Rattle.std.specs.List.{All}
-use Rattle.cut_on_text.specs.Made.{Makings, made_text}
 use Rattle.cut_on_text.specs.Moved.{chosen_of}
 use Rattle.cut_on_text.proofs.KeptPlaces.{all_chosen, chosen_map}
 use Rattle.cut_on_text.proofs.on_text.made.MadeTexts.keep.Goals as goal
@@ -8,14 +7,8 @@ use Rattle.cut_on_text.proofs.on_text.made.MadeTexts.keep.Goals as goal
 pub returns : goal.returns
 returns c =
     let all = c.self.inside in
-    let makings : Makings = record {
-      skeletons = all.skeletons;
-      vertices = all.vertices.text;
-      starts = all.vertices.starts.items;
-      graph = all.graph;
-    } in
-    ap (map (made_text makings)) c.keep_chosen.ensures
-    ∙ (sym (chosen_map (made_text makings) c.args.chosen.now all.roots.items)
+    ap (map _) c.keep_chosen.ensures
+    ∙ (sym (chosen_map _ c.args.chosen.now all.roots.items)
     ∙ ap (chosen_of c.args.chosen.now) c.self.view_is)
 
 pub invariant_of-self : goal.invariant_of-self

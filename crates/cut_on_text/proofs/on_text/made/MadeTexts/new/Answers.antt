@@ -1,6 +1,6 @@
-use Rattle.std.proofs.Common.{rules, ◌≡◌, ◌<◌, ◌∙◌, ℕ, List, length, sym, ap, subst, arith}
+use Rattle.std.proofs.Common.{rules, ◌≡◌, ◌<◌, ◌∙◌, length, sym, ap, subst, arith}
 use Rattle.std.specs.List.{All}
-use Rattle.cut_on_text.specs.Made.{AreMakings, beginners}
+use Rattle.cut_on_text.specs.Made.{beginners}
 use Rattle.cut_on_text.specs.Rosters.{RosterState}
 use Rattle.cut_on_text.specs.Skeletons.{SkeletonTexts}
 use Rattle.cut_on_text.proofs.Passes.{beginners_within}
@@ -25,22 +25,6 @@ invariant_of-result c =
           (λ k d below. omega (arith, c.requires.leaves k d below, count, starts, c.saturating_sub.ensures));
       objects = ap (λ (s : RosterState). s.count) c.in_ok-family.ensures ∙ objects;
       vertices = omega (arith, count, starts, c.saturating_sub.ensures, ap length c.in_ok-copied.ensures.starts);
-      document = subst (λ (s : SkeletonTexts). AreMakings (record {
-        skeletons = s;
-        vertices = c.in_ok-copied.field-0.text;
-        starts = c.in_ok-copied.field-0.starts.items;
-        graph = c.args.kin.children;
-      })) (sym c.skeletons.view_is)
-          (subst (λ (text : List ℕ). AreMakings (record {
-            skeletons = c.args.skeletons;
-            vertices = text;
-            starts = c.in_ok-copied.field-0.starts.items;
-            graph = c.args.kin.children;
-          })) (sym c.in_ok-copied.ensures.text)
-          (subst (λ (starts : List ℕ). AreMakings (record {
-            skeletons = c.args.skeletons;
-            vertices = c.args.vertices.now.text.now;
-            starts = starts;
-            graph = c.args.kin.children;
-          })) (sym c.in_ok-copied.ensures.starts) c.requires.document));
+      document = rw (c.skeletons.view_is, c.in_ok-copied.ensures.text, c.in_ok-copied.ensures.starts)
+          c.requires.document;
     }
