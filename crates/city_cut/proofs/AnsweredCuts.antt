@@ -39,6 +39,12 @@ module _ {X : Type 0} (found document : Tree) (same : found ≡ document) where
   again_refused (Ok cut) refused = tt
   again_refused (Err fault) refused = inr (subst (RefusesCut fault) same refused)
 
+-- a document that its text tells to be refused
+pub known_refused : {X : Type 0} (document : Tree) (answer : Result X Fault)
+    → IfErr answer (λ fault. RefusesCut fault document) → IfErr answer (λ fault. RefusesRead fault document)
+known_refused document (Ok cut) refused = tt
+known_refused document (Err fault) refused = inr refused
+
 -- a compact text was read, or memory ran out
 pub read_value : (text : List ℕ) (answer : Result Json Fault)
     → ((value : Tree) → IsCompactOf text value → MatchResult answer (λ again. tree again ≡ value) (λ fault. fault ≡ Memory))

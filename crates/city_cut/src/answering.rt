@@ -12,7 +12,7 @@ ghost use Rattle.city_families.specs.HeldTexts.{AreOwnParts, texts_in};
 use crate::cutting::cut_texts;
 use byte_streams::Fault;
 use city_json::{Json, ObjectText, Span, read};
-use cut_on_text::{CutTexts, cut_compacted_triples, cut_fault};
+use cut_on_text::{CutTexts, cut_known};
 use std::alloc::Global;
 
 /// Cuts the document whose compact text this is, in which triples of whole numbers may be known to stand, both as
@@ -28,11 +28,8 @@ pub fn cut_text(alloc: Global, document: &ObjectText<'_>, triples: Span) -> Resu
     ensures own { IfOk result (λ cut. AreOwnParts cut.texts) }
     ensures refused { IfErr result (λ fault. RefusesRead fault (object_of document.now)) }
 {
-    if let Some(cut) = cut_compacted_triples(alloc, document, triples) {
-        return Ok(cut);
-    }
-    if let Some(fault) = cut_fault(alloc, document) {
-        return Err(fault);
+    if let Some(told) = cut_known(alloc, document, triples) {
+        return told;
     }
     let text = document.text();
     let value = read_again(alloc, text)?;

@@ -7,7 +7,7 @@ mod cutting;
 mod laws;
 
 pub use answering::cut_text;
-pub use cut_by_value::{Cut, Features, cut};
-pub use cut_on_text::{CutTexts, FeatureTexts, cut_compacted_triples, cut_fault, triples_text};
+pub use cut_by_value::{Cut, Features, cut, drop_member, set_member};
+pub use cut_on_text::{CutTexts, FeatureTexts, cut_known, triples_text};
 pub use cutting::cut_texts;
 pub use laws::features_are_spelled_by_their_texts;

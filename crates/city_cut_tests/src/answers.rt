@@ -7,7 +7,7 @@ ghost use Rattle.city_json.specs.CompactTexts.{IsCompactOf};
 
 use crate::texts::{expect, filled, put_texts, repeated, texts_are, with_repeated};
 use byte_streams::Line;
-use city_cut::{CutTexts, cut_compacted_triples, triples_text};
+use city_cut::{CutTexts, cut_known, triples_text};
 use city_json::{MemberPlace, ObjectText, Span, Workspace, compact_object};
 use std::alloc::{AllocError, AllocGlobal, Global};
 use std::process::Abort;
@@ -52,6 +52,13 @@ fn compact_document(alloc: Global, text: &[u8]) -> Option<DocumentText>
     })
 }
 
+/// The document, cut on its compact text, in which these triples are known.
+fn known_cut(alloc: Global, document: &ObjectText<'_>, triples: Span) -> Option<CutTexts>
+    requires { HasTriples document.now.text triples }
+{
+    cut_known(alloc, document, triples)?.ok()
+}
+
 /// The document, cut on its compact text where that stands. `None`: undecided.
 pub(crate) fn quick_cut(alloc: Global, text: &[u8]) -> Option<CutTexts> {
     let mut workspace = Workspace::new(alloc, Line::new(alloc));
@@ -59,21 +66,21 @@ pub(crate) fn quick_cut(alloc: Global, text: &[u8]) -> Option<CutTexts> {
         return None;
     };
     let document = found.text(text, &workspace.line);
-    cut_compacted_triples(alloc, &document, found.triples)
+    known_cut(alloc, &document, found.triples)
 }
 
 /// The document, cut where its compact text is known, and nothing of its triples.
 fn compacted_cut(alloc: Global, document: &str) -> Option<CutTexts> {
     let given = given(alloc, document)?;
     let document = ObjectText::new(given.line.items(), &given.parts);
-    cut_compacted_triples(alloc, &document, Span { from: 0, end: 0 })
+    known_cut(alloc, &document, Span { from: 0, end: 0 })
 }
 
 /// The document, cut where its triples are known.
 fn given_cut(alloc: Global, document: &str) -> Option<CutTexts> {
     let given = given(alloc, document)?;
     let document = ObjectText::new(given.line.items(), &given.parts);
-    cut_compacted_triples(alloc, &document, given.triples)
+    known_cut(alloc, &document, given.triples)
 }
 
 fn is_some_plain(alloc: Global, answer: Option<CutTexts>, document: &str) -> bool {

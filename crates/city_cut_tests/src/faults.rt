@@ -2,15 +2,16 @@
 use crate::answers::given;
 use crate::texts::{expect, filled, with_repeated};
 use byte_streams::Fault;
-use city_cut::cut_fault;
-use city_json::ObjectText;
+use city_cut::cut_known;
+use city_json::{ObjectText, Span};
 use std::alloc::{AllocError, AllocGlobal, Global};
 use std::process::Abort;
 
 /// Why the document is refused, as its compact text tells.
 fn told(alloc: Global, document: &str) -> Option<Fault> {
     let given = given(alloc, document)?;
-    cut_fault(alloc, &ObjectText::new(given.line.items(), &given.parts))
+    let document = ObjectText::new(given.line.items(), &given.parts);
+    cut_known(alloc, &document, Span { from: 0, end: 0 })?.err()
 }
 
 /// Whether the fault of this name is told of the document, or `None`.

@@ -24,7 +24,8 @@ const OF_OTHER: &str =
 fn lines_of(alloc: Global, texts: &mut FeatureTexts) -> Result<Line, Fault> {
     let mut lines = Line::new(alloc);
     for at in 0..texts.len() {
-        texts.append_to(alloc, at, &mut lines)?;
+        texts.append_own(alloc, at, &mut lines)?;
+        lines.append(texts.common())?;
         lines.append(b"\n")?;
     }
     Ok(lines)

@@ -67,7 +67,8 @@ pub(crate) fn put_texts(stream: &mut Line, alloc: Global, cut: &mut CutTexts) ->
     print(cut.header.json(), stream)?;
     for at in 0..cut.texts.len() {
         stream.append(b" ")?;
-        cut.texts.append_to(alloc, at, stream)?;
+        cut.texts.append_own(alloc, at, stream)?;
+        stream.append(cut.texts.common())?;
     }
     Ok(())
 }

@@ -1,5 +1,6 @@
 -- The features, object by object.
 use Rattle.std.proofs.Common.{◌≡◌, ◌<◌, ◌≤◌, ◌+◌, ◌++◌, inl, inr, ℕ, zero, suc, Bool, true, false, List, [], ◌∷◌, Option, Some, None, length, get_or, take, take_all, sym, refl, subst, arith, bytes_eq}
+use Rattle.std.proofs.lemmas.Option.{same_Some}
 use Rattle.std.proofs.lemmas.List.Elements.{Contains-push_cases}
 use Rattle.std.proofs.lemmas.Slice.Eq.{bytes_eq-Decides}
 use Rattle.std.specs.List.{AllByRecursion, AllZip, Contains}
@@ -91,13 +92,10 @@ pub first_place : (objects : List (List ℕ × Tree)) (name : List ℕ) (value :
 first_place [] name value is = cc
 first_place (m ∷ ms) name value is = by (bytes_eq m.0 name) refl (λ later. first_place ms name value later)
   where
-    some_same : Some m.1 ≡ Some value → m.1 ≡ value
-    some_same e = cc
-
     by : (b : Bool) → bytes_eq m.0 name ≡ b → (first_named name (member_trees ms) ≡ Some value → (k : ℕ)
         × (k < length ms) × (name_at (member_trees ms) k ≡ name) × ((named_at ms k).1 ≡ value)) → (k : ℕ)
         × (k < length (m ∷ ms)) × (name_at (member_trees (m ∷ ms)) k ≡ name) × ((named_at (m ∷ ms) k).1 ≡ value)
-    by true e later = (0, omega arith, (bytes_eq-Decides m.0 name).0 e, some_same (rw e at is))
+    by true e later = (0, omega arith, (bytes_eq-Decides m.0 name).0 e, same_Some _ _ (rw e at is))
     by false e later = let there = later (rw e at is) in (suc there.0, omega (arith, there.1), there.2, there.3)
 
 pub bounded_more : (count : ℕ) (pairs : List (List ℕ × Tree)) (at : ℕ) (family : Family)

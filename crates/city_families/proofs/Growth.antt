@@ -3,7 +3,7 @@ use Rattle.std.proofs.Common.{◌≡◌, Some, ◌≢◌, ◌<◌, ◌≤◌, �
 use Rattle.std.proofs.lemmas.Bool.{cases_Bool, eq-eqb, eqb-false, eqb-true}
 use Rattle.std.proofs.lemmas.List.{append-nil, take_more, get_or_default, get_or_append_left, get_or-set_same, get_or-set_other}
 use Rattle.std.proofs.lemmas.List.Elements.{Contains-append_left, Contains-append_right, Contains-push, Contains-push_cases, Contains-append_cases}
-use Rattle.std.proofs.lemmas.Option.{get_or_from_slice_get, slice_get_within}
+use Rattle.std.proofs.lemmas.Option.{get_or_from_slice_get, slice_get_within, same_Some}
 use Rattle.std.proofs.lemmas.List.Sums.{sum_by-set}
 use Rattle.std.specs.List.{Contains, All, slice_get, slice_index, slice_set}
 use Rattle.city_families.specs.Reach.{Reached, itself, onward}
@@ -160,9 +160,6 @@ grows_more root new marks marks' marks'' found found' found'' i g within inside 
         isnt)
 
 -- ---- a search
-some_same : {A : Type 0} (x y : A) → Some x ≡ Some y → y ≡ x
-some_same x y e = cc
-
 -- what one thing grows to is that thing, where nothing had the mark
 pub begun_with : (mark one : ℕ) (marks marks' found : List ℕ) → Grows mark (one ∷ []) marks marks' [] found
     → All (λ m. m ≢ mark) marks → (k : ℕ) → Contains found k ↔ IsMarked marks' mark k
@@ -264,7 +261,7 @@ searches_on graph starts mark marks marks' marks'' found found' at row s within 
         let a : After graph (slice_index found at) b =
         subst (λ n. After graph n b) (stays i (omega arith) ∙ ap (λ n. slice_index found n) same) after in
         rw g.found_is (elim (g.only_found b (g.all_new b
-        (subst (λ (r : List ℕ). Contains r b) (some_same row a.0 (sym is ∙ a.1)) a.2))) [
+        (subst (λ (r : List ℕ). Contains r b) (sym (same_Some row a.0 (sym is ∙ a.1))) a.2))) [
           | inl old ↦ Contains-append_left found g.more b (s.only b old)
           | inr new ↦ Contains-append_right found g.more b new
         ])

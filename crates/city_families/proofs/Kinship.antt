@@ -9,7 +9,7 @@ use Rattle.std.specs.List.Sorted.{IsPermutation, IsSorted, IsStrictlyIncreasing}
 use Rattle.std.specs.List.{dedup}
 use Rattle.std.specs.Prelude.{eqb, ◌↔◌}
 use Rattle.std.proofs.lemmas.List.Elements.{Contains-get_or, Contains-append_left, Contains-push, Contains-push_cases}
-use Rattle.std.proofs.lemmas.Option.{slice_get_within, slice_get-get_or, slice_get_cases, get_or_from_slice_get}
+use Rattle.std.proofs.lemmas.Option.{slice_get_within, slice_get-get_or, slice_get_cases, get_or_from_slice_get, same_Some}
 use Rattle.std.proofs.lemmas.Slice.Eq.{bytes_eq-Decides}
 use Rattle.std.specs.List.{Contains, slice_get}
 use Rattle.city_json.specs.Fits.{HasDistinctNames, IsNewName}
@@ -21,9 +21,6 @@ use Rattle.city_families.specs.Items.{values}
 use Rattle.city_families.specs.Reach.{Reached, itself, onward}
 use Rattle.city_families.specs.Search.{After, InRange}
 
-pub some_same : {A : Type 0} (x y : A) → Some x ≡ Some y → x ≡ y
-some_same x y e = cc
-
 long_values : (objects : MemberTrees) → length (values objects) ≡ length (names objects)
 long_values no_members = refl
 long_values (member name value others) = let e = long_values others in omega (arith, e)
@@ -32,7 +29,7 @@ long_values (member name value others) = let e = long_values others in omega (ar
 new_apart : (name : List ℕ) (others : MemberTrees) (k : ℕ) → IsNewName name others
     → slice_get (names others) k ≢ Some name
 new_apart name no_members k new is = cc
-new_apart name (member other value others) zero new is = new.0 (sym (some_same other name is))
+new_apart name (member other value others) zero new is = new.0 (sym (same_Some other name is))
 new_apart name (member other value others) (suc k) new is = new_apart name others k new.1 is
 
 test_same : (x : List ℕ) → bytes_eq x x ≡ true
@@ -49,7 +46,7 @@ pub first_at : (objects : MemberTrees) (k : ℕ) (name : List ℕ) (value : Tree
     → slice_get (names objects) k ≡ Some name → slice_get (values objects) k ≡ Some value
     → first_named name objects ≡ Some value
 first_at no_members k name value distinct is at = cc
-first_at (member first v others) zero name value distinct is at = rw (some_same first name is, test_same name) at
+first_at (member first v others) zero name value distinct is at = rw (same_Some first name is, test_same name) at
 first_at (member first v others) (suc k) name value distinct is at =
     rw (apart_test first name (λ e. new_apart first others k distinct.0 (is ∙ ap Some (sym e))))
     (first_at others k name value distinct.1 is at)
@@ -97,7 +94,7 @@ module _ (objects : MemberTrees) (graph : List (List ℕ)) (distinct : HasDistin
   after_of_child a name child is of =
       let within = slice_get_within (names objects) a name is in
       let v = value_at a name is in
-      let same : v.0 ≡ of.0 = some_same v.0 of.0 (sym (first_at objects a name v.0 distinct is v.1) ∙ of.1) in
+      let same : v.0 ≡ of.0 = same_Some v.0 of.0 (sym (first_at objects a name v.0 distinct is v.1) ∙ of.1) in
       after_row a name child of (slice_get_or_row a (omega (arith, within, is_graph.long))) v.0 v.1 same
     where
       slice_get_or_row : (a : ℕ) → a < length graph → (row : List ℕ) × (slice_get graph a ≡ Some row)
@@ -177,7 +174,7 @@ module _ (objects : MemberTrees) (graph : List (List ℕ)) (distinct : HasDistin
         let there = names_of_places objects graph distinct is_graph root k (name_at objects root)
         (has_name_at objects root root_in) far in
         subst (IsReached objects (name_at objects root))
-        (some_same there.0 (name_at objects k) (sym there.1 ∙ has_name_at objects k k_in)) there.2,
+        (same_Some there.0 (name_at objects k) (sym there.1 ∙ has_name_at objects k k_in)) there.2,
     λ far.
         let there = places_of_names objects graph distinct is_graph root (name_at objects root) (name_at objects k)
         (has_name_at objects root root_in) far in

@@ -6,7 +6,7 @@ use Rattle.std.proofs.lemmas.List.Sorted.{searchable_from_sorted, All-permutatio
 use Rattle.std.proofs.lemmas.List.Elements.{All-map, Contains-get_or}
 use Rattle.std.proofs.lemmas.List.{get_or-map, length-map}
 use Rattle.std.proofs.lemmas.Map.Text.{is_eq-slice_cmp}
-use Rattle.std.proofs.lemmas.Option.{slice_get_within}
+use Rattle.std.proofs.lemmas.Option.{slice_get_within, same_Some}
 use Rattle.std.proofs.Math.Seq.{take-append_seam}
 use Rattle.std.proofs.lemmas.Slice.Eq.{bytes_eq-Decides}
 use Rattle.std.specs.Borrow.{Bor}
@@ -27,9 +27,6 @@ equal_names x y e = (bytes_eq-Decides x y).0 (sym (is_eq-slice_cmp x y) ∙ ap i
 
 pub same_name : (x y : List ℕ) → x ≡ y → by_bytes x y ≡ Equal
 same_name x y e = subst (λ z. by_bytes x z ≡ Equal) e (tied_itself nat_list_cmp_total x)
-
-pub some_same : (x y : List ℕ) → Some x ≡ Some y → x ≡ y
-some_same x y e = cc
 
 -- ---- a table of which the places alone are held
 pub found_named : (names : List (List ℕ)) (text : List ℕ) (parts : List MemberPlace) (order : List ℕ) (name : List ℕ)
@@ -130,7 +127,7 @@ ordered_table names text parts first order all long here moved up = record {
           rw (length-map order f) held.1,
           get_or-map f order held.0 k (f k) held.1 ∙ ap f held.2,
         ),
-        some_same _ name (sym (here k within) ∙ is),
+        same_Some _ name (sym (here k within) ∙ is),
       );
 }
   where

@@ -1,12 +1,11 @@
 -- A feature that is found on the compact text of its line.
-use Rattle.std.proofs.Common.{◌≡◌, ◌∙◌, ◌++◌, ◌<◌, ◌≤◌, ℕ, zero, suc, sym, ap, refl, subst, Bool, true, false, if◌then◌else◌, List, [], ◌∷◌, get_or, slice_range, map, All, Some, codes, IsUtf8, arith, inl, inr, ⊎_elim, cond, nat_lt}
+use Rattle.std.proofs.Common.{◌≡◌, ◌∙◌, ◌++◌, ◌<◌, ◌≤◌, ℕ, zero, suc, sym, ap, refl, Bool, true, false, if◌then◌else◌, List, [], ◌∷◌, get_or, slice_range, map, All, Some, codes, IsUtf8, arith, inl, inr, ⊎_elim, cond, nat_lt}
 use Rattle.std.proofs.lemmas.Bool.Decides.{nat_tests}
 use Rattle.std.proofs.lemmas.List.Elements.{All-tail}
 use Rattle.std.proofs.lemmas.Str.{IsUtf8-from_ascii}
 use Rattle.city_json.proofs.CompactLaws.{compact-tells}
-use Rattle.city_json.proofs.MemberPlaces.{member_in_part}
 use Rattle.city_json.proofs.Replacing.{replaced_text}
-use Rattle.city_json.proofs.NamedMembers.{equal_names, first_at, new_name, other_names, same_name, writable_at}
+use Rattle.city_json.proofs.NamedMembers.{equal_names, first_at, member_lies, new_name, other_names}
 use Rattle.city_json.specs.Bytes.{colon, minus, open_brace, close_brace}
 use Rattle.city_json.specs.Compact.{quoted, compact}
 use Rattle.city_json.specs.CompactTexts.{IsCompactOf}
@@ -14,7 +13,7 @@ use Rattle.city_json.specs.Fits.{HasDistinctNames}
 use Rattle.city_json.specs.Members.{first_named, member_of}
 use Rattle.city_json.specs.Number.{IsMinus, IsNumber, IsWhole}
 use Rattle.city_json.specs.ObjectTexts.{IsPlacedObject, PlacedObject, members_of, object_of}
-use Rattle.city_json.specs.Parts.{AreParts, HasMember, IsMemberText, replaced, with_value, IsPartNamed}
+use Rattle.city_json.specs.Parts.{AreParts, HasMember, replaced, with_value, IsPartNamed}
 use Rattle.city_json.specs.Tree.{Tree, array, object, item_trees, MemberTrees, no_members, member}
 use Rattle.city_json.specs.Writable.{IsWritable, AreWritableItems}
 use Rattle.city_json.specs.declared.compacting.places.MemberPlace.{MemberPlace}
@@ -49,23 +48,16 @@ pub found_at : (line : List ℕ) (parts : List MemberPlace) (members : MemberTre
     → IsPartNamed line parts (quoted name ++ colon ∷ []) part → IsFound line members name part
 found_at line parts members name part utf8 of are here =
     let k = here.place in
-    let at = member_in_part members (open_brace ∷ []) (close_brace ∷ []) parts k part are here.within in
-    let text = compact (object members) in
-    let lies : IsMemberText text part k members = subst (λ p. IsMemberText text p k members) here.is at in
-    let can = writable_at k lies.name lies.value members of.writable lies.has in
-    let named : quoted lies.name ++ colon ∷ [] ≡ quoted name ++ colon ∷ [] = sym lies.named
-    ∙ ap (λ l. slice_range l part.at part.value) (sym of.is) ∙ here.named in
-    let same = same_name lies.name name can.0 utf8 named in
-    let has : HasMember k name lies.value members = subst (λ n. HasMember k n lies.value members) same lies.has in
+    let (value, writable, valued, has) = member_lies line parts members name part utf8 of are here in
     record {
-      value = lies.value;
-      is = first_at k name lies.value members of.distinct.0 has;
-      writable = can.1;
-      valued = ap (λ l. slice_range l part.value part.end) of.is ∙ lies.valued;
+      value = value;
+      is = first_at k name value members of.distinct.0 has;
+      writable = writable;
+      valued = valued;
       exchanged = λ new.
-          ap (λ m. compact (object m)) (sym (replaced_at k name lies.value new members of.distinct.0 has))
+          ap (λ m. compact (object m)) (sym (replaced_at k name value new members of.distinct.0 has))
           ∙ sym (replaced_text members (open_brace ∷ []) (close_brace ∷ []) parts k part new are here.within)
-          ∙ ap (λ p. with_value text p (compact new)) here.is
+          ∙ ap (λ p. with_value (compact (object members)) p (compact new)) here.is
           ∙ ap (λ l. with_value l part (compact new)) (sym of.is);
     }
 
@@ -116,7 +108,7 @@ pub utf8 : (bs : List ℕ) → are_small bs ≡ true → IsUtf8 bs
 utf8 bs small = IsUtf8-from_ascii bs (small_at bs small)
 
 -- the vertices of a feature
-are_vertices : (ps : List Triple) → All IsInRange ps → AreReadAgain ps
+pub are_vertices : (ps : List Triple) → All IsInRange ps → AreReadAgain ps
 are_vertices [] range = tt
 are_vertices (p ∷ ps) range =
     let here = range 0 p (omega arith) in

@@ -4,7 +4,7 @@ use Rattle.city_json.proofs.CompactLaws.{compact-tells}
 use Rattle.city_json.proofs.NamedMembers.{value_there}
 use Rattle.city_json.proofs.ObjectTexts.{lies_inside, placed, value_found}
 pub use Rattle.city_json.proofs.ObjectTexts.{if_some_more}
-pub use Rattle.city_feature.proofs.features.FirstFaults.{are_in_range}
+pub use Rattle.city_feature.proofs.features.FirstFaults.{are_in_range, err_told, ok_told}
 use Rattle.city_json.specs.Bytes.{colon}
 use Rattle.city_json.specs.Compact.{quoted, compact}
 use Rattle.city_json.specs.CompactMembers.{HasParts}

@@ -6,7 +6,6 @@
 #![tactic(auto)]
 
 mod base;
-mod changes;
 mod choices;
 mod features;
 mod headers;
@@ -14,7 +13,6 @@ mod joining;
 mod kinds;
 
 pub use base::Base;
-pub use changes::{drop_member, new_member, set_member};
 pub use choices::Choice;
 pub use choices::area::Area;
 pub use choices::area::reader::area;
@@ -27,12 +25,10 @@ pub use features::lines::feature_text;
 pub use features::moving::shifted;
 pub use features::on_text::unread::triples_meet;
 pub use features::reader::feature;
-pub use features::shape::{is_array, is_object, is_text};
+pub use features::shape::{is_array, is_object};
 pub use features::writer::line;
 pub use headers::Header;
-pub use headers::reader::{
-    header, header_transform, is_city_json, is_document, is_version_2, transform_of,
-};
+pub use headers::reader::{header, header_transform, is_document};
 pub use headers::texts::holds_city;
 pub use joining::members::text_json;
 pub use joining::{HeaderFault, Joined, Shifts, join_headers};

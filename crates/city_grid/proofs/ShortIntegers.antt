@@ -15,7 +15,7 @@ use Rattle.city_json.specs.Bytes.{digit_zero, minus}
 use Rattle.city_json.specs.Number.{IsWhole}
 use Rattle.city_json.specs.Triples.{IsShortNumeral}
 
-numerals : IsNumeralModel (AllDigits 10) (digits_value 10)
+pub numerals : IsNumeralModel (AllDigits 10) (digits_value 10)
 numerals = record { to = λ ds digits. digits; from = λ ds digits. digits; same = λ ds digits. refl }
 
 -- a whole number of few digits, as it is printed

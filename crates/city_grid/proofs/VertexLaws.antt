@@ -1,13 +1,12 @@
 -- What other crates use of vertices in decimal.
-use Rattle.std.proofs.Common.{◌≡◌, ◌≤◌, ◌∙◌, ap, ℕ, ℤ, List, unsigned_abs, w64, arith}
+use Rattle.std.proofs.Common.{◌≤◌, ℤ, unsigned_abs, w64, arith}
 use Rattle.std.proofs.lemmas.Int.{fits_signed_from_abs}
 use Rattle.std.specs.Fmt.{signed_decimal}
-use Rattle.city_json.specs.Compact.{compact}
 use Rattle.city_json.specs.Number.{IsNumber}
 use Rattle.city_json.specs.Writable.{IsWritable}
 use Rattle.city_grid.specs.Axes.{Triple, Texts, Each, three, IsInRange}
 use Rattle.byte_streams.specs.Limits.{max_steps}
-use Rattle.city_grid.specs.Vertex.{IsInteger, IsVertex, SpellsVertex, vertex_tree}
+use Rattle.city_grid.specs.Vertex.{IsInteger, IsVertex, vertex_tree}
 use Rattle.city_grid.proofs.vertices.DecimalIntegers.{decimal_is_number}
 use Rattle.city_grid.proofs.vertices.WrittenVertex.{written_vertex}
 

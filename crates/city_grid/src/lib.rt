@@ -17,7 +17,7 @@ pub use shifts::{Shift, shift_of};
 pub use transforms::reader::transform;
 pub use transforms::{Transform, least_of};
 pub use vertices::reader::vertex;
-pub use vertices::spelled::{PlacedVertex, SpelledVertex, spelled_vertex_at, vertex_at};
+pub use vertices::spelled::{PlacedVertex, SpelledVertex, spelled_vertex_at};
 pub use vertices::texts::{Digits, append_vertex, byte_is, number_at, put_byte, vertex_end};
 pub use vertices::triples::{PlacedPlan, triple_plan_at, triple_vertex_at};
 pub use vertices::writer::{vertex_json, write_vertex};

@@ -14,7 +14,7 @@ use Rattle.city_json.specs.Bytes.{quotation_mark, comma, open_bracket, close_bra
 use Rattle.city_json.specs.Compact.{written, compact, compact_items, compact_more_items, compact_members}
 use Rattle.city_json.specs.CompactEnds.{IsStopped, is_stop, LeavesRun, LeavesItems, LeavesMembers, LeavesString, LeavesValue}
 use Rattle.city_json.specs.Fits.{depth, items_depth}
-use Rattle.city_json.specs.Tree.{Tree, null, boolean, number, string, array, object, ItemTrees, no_items, item}
+use Rattle.city_json.specs.Tree.{Tree, null, boolean, number, string, array, object, ItemTrees, MemberTrees, no_items, item}
 use Rattle.city_json.specs.Writable.{IsWritable, AreWritableItems}
 use Rattle.city_json.proofs.Places.{drop_one}
 use Rattle.city_json.proofs.StringEnds.{first_same, others_same}
@@ -69,84 +69,72 @@ number_other text rest tail c w other is = true_is_false (sym (number_head text 
     true_is_false : true ≡ false → ⊥
     true_is_false e = cc
 
+-- what begins with a mark is what the mark opens
+pub text_front : (value : Tree) (rest tail : List ℕ) → IsWritable value → compact value ++ rest ≡ quotation_mark ∷ tail
+    → (text : List ℕ) × (value ≡ string text)
+text_front null rest tail w is = absurd (other_head 110 quotation_mark _ tail (omega arith) is)
+text_front (boolean true) rest tail w is = absurd (other_head 116 quotation_mark _ tail (omega arith) is)
+text_front (boolean false) rest tail w is = absurd (other_head 102 quotation_mark _ tail (omega arith) is)
+text_front (number text) rest tail w is = absurd (number_other text rest tail quotation_mark w refl is)
+text_front (string text) rest tail w is = (text, refl)
+text_front (array items) rest tail w is = absurd (other_head open_bracket quotation_mark _ tail (omega arith) is)
+text_front (object members) rest tail w is = absurd (other_head open_brace quotation_mark _ tail (omega arith) is)
+
+pub array_front : (value : Tree) (rest tail : List ℕ) → IsWritable value → compact value ++ rest ≡ open_bracket ∷ tail
+    → (items : ItemTrees) × (value ≡ array items)
+array_front null rest tail w is = absurd (other_head 110 open_bracket _ tail (omega arith) is)
+array_front (boolean true) rest tail w is = absurd (other_head 116 open_bracket _ tail (omega arith) is)
+array_front (boolean false) rest tail w is = absurd (other_head 102 open_bracket _ tail (omega arith) is)
+array_front (number text) rest tail w is = absurd (number_other text rest tail open_bracket w refl is)
+array_front (string text) rest tail w is = absurd (other_head quotation_mark open_bracket _ tail (omega arith) is)
+array_front (array items) rest tail w is = (items, refl)
+array_front (object members) rest tail w is = absurd (other_head open_brace open_bracket _ tail (omega arith) is)
+
+pub object_front : (value : Tree) (rest tail : List ℕ) → IsWritable value → compact value ++ rest ≡ open_brace ∷ tail
+    → (members : MemberTrees) × (value ≡ object members)
+object_front null rest tail w is = absurd (other_head 110 open_brace _ tail (omega arith) is)
+object_front (boolean true) rest tail w is = absurd (other_head 116 open_brace _ tail (omega arith) is)
+object_front (boolean false) rest tail w is = absurd (other_head 102 open_brace _ tail (omega arith) is)
+object_front (number text) rest tail w is = absurd (number_other text rest tail open_brace w refl is)
+object_front (string text) rest tail w is = absurd (other_head quotation_mark open_brace _ tail (omega arith) is)
+object_front (array items) rest tail w is = absurd (other_head open_bracket open_brace _ tail (omega arith) is)
+object_front (object members) rest tail w is = (members, refl)
+
 pub string_leaves : (levels : ℕ) (b tail after : List ℕ) → b ≡ quotation_mark ∷ tail → LeavesString tail after
     → LeavesValue levels b after
-string_leaves levels b tail after begins leaves null rest w within stopped is =
-    absurd (other_head 110 quotation_mark _ tail (omega arith) (sym is ∙ begins))
-string_leaves levels b tail after begins leaves (boolean true) rest w within stopped is =
-    absurd (other_head 116 quotation_mark _ tail (omega arith) (sym is ∙ begins))
-string_leaves levels b tail after begins leaves (boolean false) rest w within stopped is =
-    absurd (other_head 102 quotation_mark _ tail (omega arith) (sym is ∙ begins))
-string_leaves levels b tail after begins leaves (number text) rest w within stopped is =
-    absurd (number_other text rest tail quotation_mark w refl (sym is ∙ begins))
-string_leaves levels b tail after begins leaves (string text) rest w within stopped is =
-    leaves text rest (others_same _ _ _ _ (sym begins ∙ is)
+string_leaves levels b tail after begins leaves value rest w within stopped is =
+    let (text, same) = text_front value rest tail w (sym is ∙ begins) in
+    leaves text rest (others_same _ _ _ _ (sym begins ∙ (is ∙ ap (λ v. compact v ++ rest) same))
     ∙ append_assoc (flat_map written text) (quotation_mark ∷ []) rest)
-string_leaves levels b tail after begins leaves (array items) rest w within stopped is =
-    absurd (other_head open_bracket quotation_mark _ tail (omega arith) (sym is ∙ begins))
-string_leaves levels b tail after begins leaves (object all) rest w within stopped is =
-    absurd (other_head open_brace quotation_mark _ tail (omega arith) (sym is ∙ begins))
 
 pub array_leaves : (levels : ℕ) (b tail after : List ℕ) → b ≡ open_bracket ∷ tail → LeavesItems levels tail after
     → LeavesValue (levels + 1) b after
-array_leaves levels b tail after begins leaves null rest w within stopped is =
-    absurd (other_head 110 open_bracket _ tail (omega arith) (sym is ∙ begins))
-array_leaves levels b tail after begins leaves (boolean true) rest w within stopped is =
-    absurd (other_head 116 open_bracket _ tail (omega arith) (sym is ∙ begins))
-array_leaves levels b tail after begins leaves (boolean false) rest w within stopped is =
-    absurd (other_head 102 open_bracket _ tail (omega arith) (sym is ∙ begins))
-array_leaves levels b tail after begins leaves (number text) rest w within stopped is =
-    absurd (number_other text rest tail open_bracket w refl (sym is ∙ begins))
-array_leaves levels b tail after begins leaves (string text) rest w within stopped is =
-    absurd (other_head quotation_mark open_bracket _ tail (omega arith) (sym is ∙ begins))
-array_leaves levels b tail after begins leaves (array items) rest w within stopped is =
-    leaves items rest w (omega (arith, within))
-    (others_same _ _ _ _ (sym begins ∙ is) ∙ append_assoc (compact_items items) (close_bracket ∷ []) rest)
-array_leaves levels b tail after begins leaves (object all) rest w within stopped is =
-    absurd (other_head open_brace open_bracket _ tail (omega arith) (sym is ∙ begins))
+array_leaves levels b tail after begins leaves value rest w within stopped is =
+    let (items, same) = array_front value rest tail w (sym is ∙ begins) in
+    let deep : depth value ≡ depth (array items) = ap depth same in
+    leaves items rest (subst IsWritable same w) (omega (arith, within, deep))
+    (others_same _ _ _ _ (sym begins ∙ (is ∙ ap (λ v. compact v ++ rest) same))
+    ∙ append_assoc (compact_items items) (close_bracket ∷ []) rest)
 
 pub object_leaves : (levels : ℕ) (b tail after : List ℕ) → b ≡ open_brace ∷ tail → LeavesMembers levels tail after
     → LeavesValue (levels + 1) b after
-object_leaves levels b tail after begins leaves null rest w within stopped is =
-    absurd (other_head 110 open_brace _ tail (omega arith) (sym is ∙ begins))
-object_leaves levels b tail after begins leaves (boolean true) rest w within stopped is =
-    absurd (other_head 116 open_brace _ tail (omega arith) (sym is ∙ begins))
-object_leaves levels b tail after begins leaves (boolean false) rest w within stopped is =
-    absurd (other_head 102 open_brace _ tail (omega arith) (sym is ∙ begins))
-object_leaves levels b tail after begins leaves (number text) rest w within stopped is =
-    absurd (number_other text rest tail open_brace w refl (sym is ∙ begins))
-object_leaves levels b tail after begins leaves (string text) rest w within stopped is =
-    absurd (other_head quotation_mark open_brace _ tail (omega arith) (sym is ∙ begins))
-object_leaves levels b tail after begins leaves (array items) rest w within stopped is =
-    absurd (other_head open_bracket open_brace _ tail (omega arith) (sym is ∙ begins))
-object_leaves levels b tail after begins leaves (object all) rest w within stopped is =
-    leaves all rest w (omega (arith, within))
-    (others_same _ _ _ _ (sym begins ∙ is) ∙ append_assoc (compact_members all) (close_brace ∷ []) rest)
+object_leaves levels b tail after begins leaves value rest w within stopped is =
+    let (members, same) = object_front value rest tail w (sym is ∙ begins) in
+    let deep : depth value ≡ depth (object members) = ap depth same in
+    leaves members rest (subst IsWritable same w) (omega (arith, within, deep))
+    (others_same _ _ _ _ (sym begins ∙ (is ∙ ap (λ v. compact v ++ rest) same))
+    ∙ append_assoc (compact_members members) (close_brace ∷ []) rest)
 
 -- where nothing may nest, no array and no object stands
 pub no_array : (b tail after : List ℕ) → b ≡ open_bracket ∷ tail → LeavesValue 0 b after
-no_array b tail after begins value rest w within stopped is = absurd (flat value w within (sym is ∙ begins))
-  where
-    flat : (value : Tree) → IsWritable value → depth value ≤ 0 → compact value ++ rest ≡ open_bracket ∷ tail → ⊥
-    flat null w within e = other_head 110 open_bracket _ tail (omega arith) e
-    flat (boolean true) w within e = other_head 116 open_bracket _ tail (omega arith) e
-    flat (boolean false) w within e = other_head 102 open_bracket _ tail (omega arith) e
-    flat (number text) w within e = number_other text rest tail open_bracket w refl e
-    flat (string text) w within e = other_head quotation_mark open_bracket _ tail (omega arith) e
-    flat (array items) w within e = absurd (omega (arith, within))
-    flat (object all) w within e = absurd (omega (arith, within))
+no_array b tail after begins value rest w within stopped is =
+    let (items, same) = array_front value rest tail w (sym is ∙ begins) in
+    let deep : depth value ≡ depth (array items) = ap depth same in absurd (omega (arith, within, deep))
 
 pub no_object : (b tail after : List ℕ) → b ≡ open_brace ∷ tail → LeavesValue 0 b after
-no_object b tail after begins value rest w within stopped is = absurd (flat value w within (sym is ∙ begins))
-  where
-    flat : (value : Tree) → IsWritable value → depth value ≤ 0 → compact value ++ rest ≡ open_brace ∷ tail → ⊥
-    flat null w within e = other_head 110 open_brace _ tail (omega arith) e
-    flat (boolean true) w within e = other_head 116 open_brace _ tail (omega arith) e
-    flat (boolean false) w within e = other_head 102 open_brace _ tail (omega arith) e
-    flat (number text) w within e = number_other text rest tail open_brace w refl e
-    flat (string text) w within e = other_head quotation_mark open_brace _ tail (omega arith) e
-    flat (array items) w within e = absurd (omega (arith, within))
-    flat (object all) w within e = absurd (omega (arith, within))
+no_object b tail after begins value rest w within stopped is =
+    let (members, same) = object_front value rest tail w (sym is ∙ begins) in
+    let deep : depth value ≡ depth (object members) = ap depth same in absurd (omega (arith, within, deep))
 
 pub number_runs : (text : List ℕ) → AllByRecursion (λ c. is_number_byte c ≡ true) text
     → AllByRecursion (λ c. is_stop c ≡ false) text

@@ -1,17 +1,16 @@
 -- Runs of digits, sixteen bytes at a time.
-use Rattle.std.proofs.Common.{◌≡◌, ℕ, suc, ◌+◌, ◌*◌, ◌%◌, ◌^◌, ◌<◌, ◌≤◌, Bool, true, false, not, cond, ltb, eqb, ◌&&◌, List, [], ◌∷◌, map, length, length-drop, drop, replicate, refl, sym, ap, ◌∙◌, inl, inr, arith}
+use Rattle.std.proofs.Common.{◌≡◌, ℕ, suc, ◌+◌, ◌%◌, ◌^◌, ◌<◌, ◌≤◌, Bool, true, false, not, cond, ltb, ◌&&◌, List, [], ◌∷◌, map, length, drop, replicate, refl, sym, ap, ◌∙◌, arith}
 use Rattle.std.specs.List.{prefix_len}
-use Rattle.std.proofs.lemmas.Bool.{cases_Bool, cond-true, cond-false, eq-eqb, ne_eqb}
 use Rattle.std.proofs.lemmas.Bool.Decides.{nat_tests}
 use Rattle.std.proofs.lemmas.List.{drop-drop, length-map}
-use Rattle.std.proofs.lemmas.List.Folds.{prefix_len-append}
-use Rattle.std.proofs.lemmas.List.Sums.{prefix_len-le-length}
-use Rattle.std.proofs.lemmas.Simd.{chunk-drop, length-chunk, first_set_mask_l, zip2_splat, zip2_splat_left, zip2-map, map-map, mask_l-mod}
+use Rattle.std.proofs.lemmas.Simd.{zip2_splat, zip2_splat_left, zip2-map, map-map, mask_l-mod}
 use lib.Bits.{bit_or}
 use lib.Count.{count_trailing_zeros}
 use lib.Lanes.{chunk, mask_l, top, zip2}
 use Rattle.std.specs.Char.{is_ascii_digit}
 use Rattle.city_json.specs.NumberAt.{past_digits}
+use Rattle.city_json.proofs.PlainRuns.{twice}
+use Rattle.city_json.proofs.Runs.{run_goes_on, run_stops}
 
 abbrev is_stop : ℕ → Bool
 is_stop b = not (is_ascii_digit b)
@@ -48,57 +47,17 @@ digit_mask bytes long =
     ∙ ap (λ (f : ℕ → Bool). map f bytes) (λ i b. top-lane b i))
     ∙ mask_l-mod (map is_stop bytes) 64 (omega (arith, length-map bytes is_stop))
 
-twice : (b : Bool) → not (not b) ≡ b
-twice true = refl
-twice false = refl
+module _ (bytes : List ℕ) (at : ℕ) where
+  abbrev stops : ℕ
+  stops = mask_l (map is_stop (chunk at 16 bytes))
 
-all_digits : (bytes : List ℕ) → prefix_len is_ascii_digit bytes ≡ length bytes → mask_l (map is_stop bytes) ≡ 0
-all_digits [] e = refl
-all_digits (b ∷ bytes) e =
-    elim (cases_Bool (is_ascii_digit b)) [
-      | inl plain ↦ (let rest = all_digits bytes
-          (omega (arith, sym (cond-true (is_ascii_digit b) (1 + prefix_len is_ascii_digit bytes) 0 plain) ∙ e)) in
-          ap (λ t. cond (not t) 1 0 + 2 * mask_l (map is_stop bytes)) plain ∙ ap (λ m. 0 + 2 * m) rest)
-      | inr stop ↦ (let no = sym (cond-false (is_ascii_digit b) (1 + prefix_len is_ascii_digit bytes) 0 stop) ∙ e in
-          absurd (omega arith))
-    ]
-
-module _ (bytes : List ℕ) (at : ℕ) (room : at + 16 ≤ length bytes) where
-  in_vector : cond (eqb (mask_l (map is_stop (chunk at 16 bytes))) 0) 16
-      (count_trailing_zeros 64 (mask_l (map is_stop (chunk at 16 bytes))))
-      ≡ prefix_len is_ascii_digit (chunk at 16 bytes)
-  in_vector =
-      first_set_mask_l is_stop (chunk at 16 bytes) 16 (length-chunk at 16 bytes room) (omega arith)
-      ∙ ap (λ (p : ℕ → Bool). prefix_len p (chunk at 16 bytes)) (λ i b. twice (is_ascii_digit b) i)
-
-  split : prefix_len is_ascii_digit (drop at bytes)
-      ≡ cond (eqb (prefix_len is_ascii_digit (chunk at 16 bytes)) (length (chunk at 16 bytes)))
-      (length (chunk at 16 bytes) + prefix_len is_ascii_digit (drop (at + 16) bytes))
-      (prefix_len is_ascii_digit (chunk at 16 bytes))
-  split = ap (prefix_len is_ascii_digit) (chunk-drop at 16 bytes)
-      ∙ prefix_len-append is_ascii_digit (chunk at 16 bytes) (drop (at + 16) bytes)
-
-  pub digits_go_on : mask_l (map is_stop (chunk at 16 bytes)) ≡ 0
+  pub digits_go_on : at + 16 ≤ length bytes → stops ≡ 0
       → prefix_len is_ascii_digit (drop at bytes) ≡ 16 + prefix_len is_ascii_digit (drop (at + 16) bytes)
-  digits_go_on none =
-      let long = length-chunk at 16 bytes room in
-      let whole = sym in_vector ∙ cond-true _ _ _ (eq-eqb _ 0 none) in
-      split ∙ cond-true _ _ _ (eq-eqb _ _ (whole ∙ sym long))
-      ∙ ap (λ n. n + prefix_len is_ascii_digit (drop (at + 16) bytes)) long
+  digits_go_on room none = run_goes_on is_ascii_digit is_stop (λ b. twice (is_ascii_digit b)) bytes at room none
 
-  pub digits_stop : 0 < mask_l (map is_stop (chunk at 16 bytes))
-      → prefix_len is_ascii_digit (drop at bytes) ≡ count_trailing_zeros 64 (mask_l (map is_stop (chunk at 16 bytes)))
-  digits_stop some =
-      let mask = mask_l (map is_stop (chunk at 16 bytes)) in
-      let set : mask ≡ 0 → ⊥ = λ e. omega arith in
-      split ∙ cond-false _ _ _ (ne_eqb _ _
-      (λ (e : prefix_len is_ascii_digit (chunk at 16 bytes) ≡ length (chunk at 16 bytes)).
-      set (all_digits (chunk at 16 bytes) e)))
-      ∙ sym in_vector ∙ cond-false _ _ _ (ne_eqb mask 0 set)
-
-pub digits_within : (bytes : List ℕ) (at : ℕ) → at ≤ length bytes
-    → at + prefix_len is_ascii_digit (drop at bytes) ≤ length bytes
-digits_within bytes at h = omega (arith, prefix_len-le-length is_ascii_digit (drop at bytes), length-drop at bytes)
+  pub digits_stop : at + 16 ≤ length bytes → 0 < stops
+      → prefix_len is_ascii_digit (drop at bytes) ≡ count_trailing_zeros 64 stops
+  digits_stop room some = run_stops is_ascii_digit is_stop (λ b. twice (is_ascii_digit b)) bytes at room some
 
 -- the digits at the front
 pub past_is : (bytes : List ℕ) → drop (prefix_len is_ascii_digit bytes) bytes ≡ past_digits bytes

@@ -1,8 +1,8 @@
 -- The members of an object that stands in front of other bytes.
-use Rattle.std.proofs.Common.{◌≡◌, ◌≢◌, ◌++◌, ◌∙◌, ◌≤◌, ◌<◌, ◌+◌, ◌-◌, ℕ, List, [], ◌∷◌, length, take, drop, get_or, slice_range, refl, ap, sym, subst, arith, append_assoc, append-nil, length-append, true, false}
+use Rattle.std.proofs.Common.{◌≡◌, ◌≢◌, ◌++◌, ◌∙◌, ◌≤◌, ◌<◌, ◌+◌, ◌-◌, ℕ, List, [], ◌∷◌, length, take, drop, get_or, slice_range, refl, ap, sym, subst, arith, append_assoc, append-nil, length-append}
 use Rattle.std.proofs.lemmas.List.{drop-drop, take-append-drop}
 use Rattle.byte_streams.specs.Limits.{max_depth}
-use Rattle.city_json.proofs.CompactEnds.{number_other, other_head}
+use Rattle.city_json.proofs.CompactEnds.{object_front, other_head}
 use Rattle.city_json.proofs.MemberEnds.{more_members_stopped}
 use Rattle.city_json.proofs.StringEnds.{first_same, others_same}
 use Rattle.city_json.proofs.PassParts as pass
@@ -14,7 +14,7 @@ use Rattle.city_json.specs.CompactMembers.{HasNoMember, HasParts, LeavesMember}
 use Rattle.city_json.specs.CompactTexts.{IsCompactOf}
 use Rattle.city_json.specs.Fits.{depth, members_depth}
 use Rattle.city_json.specs.Parts.{IsPart, AreParts}
-use Rattle.city_json.specs.Tree.{Tree, null, boolean, number, string, array, object, MemberTrees, no_members, member}
+use Rattle.city_json.specs.Tree.{Tree, object, MemberTrees, no_members, member}
 use Rattle.city_json.specs.Writable.{IsWritable, AreWritableMembers}
 use Rattle.city_json.specs.declared.compacting.places.MemberPlace.{MemberPlace}
 use Rattle.city_json.specs.FrontMembers.{EndsAfter, GoesOn, GoneTo, HasFrontParts, HasNoObject, AllLieIn, MembersLeft}
@@ -111,17 +111,6 @@ members_go_on text at part parts new on leaves inside other pushed all rest w wi
     more_left text rest at part parts new all left.name left.first left.others left.writable left.within left.whole
     (member_taken text rest at part parts all left leaves) inside other pushed
 
--- what begins with a brace is an object
-object_of : (value : Tree) (rest tail : List ℕ) → IsWritable value → compact value ++ rest ≡ open_brace ∷ tail
-    → (members : MemberTrees) × (value ≡ object members)
-object_of null rest tail w is = absurd (other_head 110 open_brace _ tail (omega arith) is)
-object_of (boolean true) rest tail w is = absurd (other_head 116 open_brace _ tail (omega arith) is)
-object_of (boolean false) rest tail w is = absurd (other_head 102 open_brace _ tail (omega arith) is)
-object_of (number text) rest tail w is = absurd (number_other text rest tail open_brace w refl is)
-object_of (string text) rest tail w is = absurd (other_head quotation_mark open_brace _ tail (omega arith) is)
-object_of (array items) rest tail w is = absurd (other_head 91 open_brace _ tail (omega arith) is)
-object_of (object members) rest tail w is = (members, refl)
-
 of_members : (text : List ℕ) (parts : List MemberPlace) (end : ℕ) (value : Tree) (rest : List ℕ) (members : MemberTrees)
     → value ≡ object members → IsWritable value → depth value ≤ max_depth → text ≡ compact value ++ rest
     → AllLieIn text parts end
@@ -135,7 +124,7 @@ of_members text parts end value rest members is_object w within is on =
 pub has_front_parts : (text : List ℕ) (parts : List MemberPlace) (end : ℕ) → 0 < length text → get_or text 0 0 ≡ open_brace
     → AllLieIn text parts end → HasFrontParts text parts end
 has_front_parts text parts end inside opens on = λ value rest w within is.
-    let found = object_of value rest (drop 1 text) w (sym is ∙ drop_one text 0 open_brace inside opens) in
+    let found = object_front value rest (drop 1 text) w (sym is ∙ drop_one text 0 open_brace inside opens) in
     of_members text parts end value rest found.0 found.1 w within is on
 
 -- ---- an object that begins at a place

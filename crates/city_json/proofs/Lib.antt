@@ -42,6 +42,7 @@ pub mod PlainRuns
 mod PrintedParts
 pub mod ReadString
 pub mod Replacing
+pub mod Runs
 pub mod ScalarRuns
 pub mod Scanning
 pub mod Sieving

@@ -14,7 +14,7 @@ slice_here front middle back text from to is begins ends =
     ∙ (ap (take (to - from)) (drop_at front (middle ++ back) from (sym begins))
     ∙ take_at middle back (to - from) (omega arith))
 
-split_next : (front one others back : List ℕ)
+pub split_next : (front one others back : List ℕ)
     → front ++ ((one ++ comma ∷ others) ++ back) ≡ (front ++ (one ++ comma ∷ [])) ++ (others ++ back)
 split_next front one others back = simp append_assoc
 
@@ -23,12 +23,12 @@ split_name : (front name value others back : List ℕ)
     ++ ((name ++ colon ∷ []) ++ (value ++ (others ++ back)))
 split_name front name value others back = simp append_assoc
 
-split_value : (front name value others back : List ℕ)
+pub split_value : (front name value others back : List ℕ)
     → front ++ (((name ++ colon ∷ value) ++ others) ++ back) ≡ (front ++ (name ++ colon ∷ []))
     ++ (value ++ (others ++ back))
 split_value front name value others back = simp append_assoc
 
-split_member : (name value : List ℕ) → name ++ colon ∷ value ≡ (name ++ colon ∷ []) ++ value
+pub split_member : (name value : List ℕ) → name ++ colon ∷ value ≡ (name ++ colon ∷ []) ++ value
 split_member name value = simp append_assoc
 
 pub member_in_part : (members : MemberTrees) (front back : List ℕ) (parts : List MemberPlace) (k : ℕ) (d : MemberPlace)

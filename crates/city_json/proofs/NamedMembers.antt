@@ -1,5 +1,6 @@
 -- Members of an object that are found by their names, in the parts of its compact text.
 use Rattle.std.proofs.Common.{◌≡◌, ◌≢◌, ◌∙◌, ◌++◌, ◌<◌, ◌≤◌, ◌+◌, ℕ, zero, suc, Bool, true, false, if◌then◌else◌, List, [], ◌∷◌, Option, Some, None, IsUtf8, bytes_eq, length, get_or, slice_range, refl, sym, ap, subst, arith, length-append, inl, inr}
+use Rattle.std.proofs.lemmas.Option.{same_Some}
 use Rattle.std.proofs.lemmas.Bool.{cases_Bool}
 use Rattle.std.proofs.lemmas.List.{append_cancel_right}
 use Rattle.std.proofs.lemmas.Slice.Eq.{bytes_eq-Decides}
@@ -67,12 +68,9 @@ pub named_place : (name : List ℕ) (value : Tree) (members : MemberTrees) → f
     × HasMember k name value members
 named_place name value no_members is = cc
 named_place name value (member other v others) is = elim (cases_Bool (bytes_eq other name)) [
-  | inl e ↦ (0, ((bytes_eq-Decides other name).0 e, some_same (rw e at is)))
+  | inl e ↦ (0, ((bytes_eq-Decides other name).0 e, same_Some _ _ (rw e at is)))
   | inr e ↦ let there = (named_place name value others) (rw e at is) in (suc there.0, there.1)
 ]
-  where
-    some_same : Some v ≡ Some value → v ≡ value
-    some_same e = cc
 
 pub has_within : (k front : ℕ) (name : List ℕ) (value : Tree) (members : MemberTrees) (parts : List MemberPlace)
     → HasMember k name value members → AreParts front parts members → k < length parts
@@ -98,23 +96,17 @@ distinct_named name no_members value all is = cc
 distinct_named name (member other v os) value all is =
     by (bytes_eq other name) refl (λ later. distinct_named name os value all.1 later)
   where
-    some_same : Some v ≡ Some value → v ≡ value
-    some_same e = cc
-
     by : (b : Bool) → bytes_eq other name ≡ b → (first_named name os ≡ Some value → IsDistinct value) → IsDistinct value
-    by true e later = subst IsDistinct (some_same (rw e at is)) all.0
+    by true e later = subst IsDistinct (same_Some _ _ (rw e at is)) all.0
     by false e later = later (rw e at is)
 
 pub depth_named : (name : List ℕ) (value : Tree) (members : MemberTrees) → first_named name members ≡ Some value
     → depth value ≤ members_depth members
 depth_named name value no_members is = cc
 depth_named name value (member other v others) is = elim (cases_Bool (bytes_eq other name)) [
-  | inl e ↦ let same : depth v ≡ depth value = ap depth (some_same (rw e at is)) in omega (arith, same)
+  | inl e ↦ let same : depth v ≡ depth value = ap depth (same_Some _ _ (rw e at is)) in omega (arith, same)
   | inr e ↦ let deep = (depth_named name value others) (rw e at is) in omega (arith, deep)
 ]
-  where
-    some_same : Some v ≡ Some value → v ≡ value
-    some_same e = cc
 
 -- ---- where parts lie
 pub parts_within : (members : MemberTrees) (front : ℕ) (parts : List MemberPlace) (k : ℕ) (d : MemberPlace)
@@ -168,6 +160,25 @@ absent_there text parts members given other written are named none = by (first_n
         (λ l. slice_range l (get_or parts there.0 d).at (get_or parts there.0 d).value) written
         ∙ (lies.named ∙ (ap (λ n. quoted n ++ colon ∷ []) same ∙ sym named))))
 
+-- what lies in a part of this name
+pub member_lies : (text : List ℕ) (parts : List MemberPlace) (members : MemberTrees) (name : List ℕ) (part : MemberPlace)
+    → IsUtf8 name → IsCompactOf text (object members) → AreParts 1 parts members
+    → (here : IsPartNamed text parts (quoted name ++ colon ∷ []) part) → (value : Tree) × IsWritable value
+    × (slice_range text part.value part.end ≡ compact value) × HasMember here.place name value members
+member_lies text parts members name part utf8 of are here =
+    let k = here.place in
+    let at = member_in_part members (open_brace ∷ []) (close_brace ∷ []) parts k part are here.within in
+    let there : IsMemberText (compact (object members)) part k members =
+    subst (λ p. IsMemberText (compact (object members)) p k members) here.is at in
+    let can = writable_at k there.name there.value members of.writable there.has in
+    let same = same_name there.name name can.0 utf8
+    (sym there.named ∙ ap (λ l. slice_range l part.at part.value) (sym of.is) ∙ here.named) in (
+      there.value,
+      can.1,
+      ap (λ l. slice_range l part.value part.end) of.is ∙ there.valued,
+      subst (λ n. HasMember k n there.value members) same there.has,
+    )
+
 -- the first member of this name has this value, and the text is its compact text
 pub record HasValue (members : MemberTrees) (name text : List ℕ) : Type 0 where
   pub value : Tree
@@ -179,24 +190,16 @@ pub value_there : (text : List ℕ) (parts : List MemberPlace) (members : Member
     → IsPartNamed text parts (quoted name ++ colon ∷ []) part → given ≡ slice_range text part.value part.end
     → HasValue members name given
 value_there text parts members name part given utf8 of are here lies =
-    let k = here.place in
-    let at = member_in_part members (open_brace ∷ []) (close_brace ∷ []) parts k part are here.within in
-    let whole = compact (object members) in
-    let there : IsMemberText whole part k members = subst (λ p. IsMemberText whole p k members) here.is at in
-    let can = writable_at k there.name there.value members of.writable there.has in
-    let named : quoted there.name ++ colon ∷ [] ≡ quoted name ++ colon ∷ [] = sym there.named
-    ∙ ap (λ l. slice_range l part.at part.value) (sym of.is) ∙ here.named in
-    let same = same_name there.name name can.0 utf8 named in
-    let has : HasMember k name there.value members = subst (λ n. HasMember k n there.value members) same there.has in
-    let is = first_at k name there.value members of.distinct.0 has in
-    let deep = depth_named name there.value members is in
+    let (value, writable, valued, has) = member_lies text parts members name part utf8 of are here in
+    let is = first_at here.place name value members of.distinct.0 has in
+    let deep = depth_named name value members is in
     record {
-      value = there.value;
+      value = value;
       is = is;
       of = record {
-        is = lies ∙ (ap (λ l. slice_range l part.value part.end) of.is ∙ there.valued);
-        writable = can.1;
-        distinct = distinct_named name members there.value of.distinct.1 is;
+        is = lies ∙ valued;
+        writable = writable;
+        distinct = distinct_named name members value of.distinct.1 is;
         within = omega (arith, deep, of.within);
       };
     }

@@ -1,5 +1,6 @@
 -- The compact text of an object in which one member's value was exchanged.
 use Rattle.std.proofs.Common.{◌≡◌, ◌++◌, ◌∙◌, ◌<◌, ◌+◌, ℕ, zero, suc, List, [], ◌∷◌, length, take, drop, get_or, refl, ap, sym, subst, arith, append_assoc, length-append}
+use Rattle.city_json.proofs.MemberPlaces.{split_next, split_value, split_member}
 use Rattle.std.proofs.lemmas.List.{take_at, drop_at, length_push}
 use Rattle.city_json.specs.Bytes.{comma, colon}
 use Rattle.city_json.specs.Compact.{quoted, compact, compact_members, compact_more_members}
@@ -23,18 +24,6 @@ more_of : (k : ℕ) (w : Tree) (n : List ℕ) (v : Tree) (o : MemberTrees)
 more_of zero w n v o = refl
 more_of (suc k) w n v o = refl
 
-split_next : (front one others back : List ℕ)
-    → front ++ ((one ++ comma ∷ others) ++ back) ≡ (front ++ (one ++ comma ∷ [])) ++ (others ++ back)
-split_next front one others back = simp append_assoc
-
-split_here : (front name value others back : List ℕ)
-    → front ++ (((name ++ colon ∷ value) ++ others) ++ back) ≡ (front ++ (name ++ colon ∷ []))
-    ++ (value ++ (others ++ back))
-split_here front name value others back = simp append_assoc
-
-split_member : (name value : List ℕ) → name ++ colon ∷ value ≡ (name ++ colon ∷ []) ++ value
-split_member name value = simp append_assoc
-
 pub replaced_text : (members : MemberTrees) (front back : List ℕ) (parts : List MemberPlace) (k : ℕ) (d : MemberPlace) (w : Tree)
     → AreParts (length front) parts members → k < length parts
     → with_value (front ++ (compact_members members ++ back)) (get_or parts k d) (compact w) ≡ front
@@ -47,10 +36,10 @@ replaced_text (member n v o) front back (p ∷ ps) zero d w are within =
     let text : List ℕ = front ++ (compact_members (member n v o) ++ back) in
     let split : front ++ (((quoted n ++ colon ∷ compact v) ++ compact_more_members o) ++ back)
     ≡ (front ++ (quoted n ++ colon ∷ [])) ++ (compact v ++ (compact_more_members o ++ back)) =
-    split_here front (quoted n) (compact v) (compact_more_members o) back in
+    split_value front (quoted n) (compact v) (compact_more_members o) back in
     let joined : (front ++ (quoted n ++ colon ∷ [])) ++ (compact w ++ (compact_more_members o ++ back)) ≡ front
     ++ (((quoted n ++ colon ∷ compact w) ++ compact_more_members o) ++ back) =
-    sym (split_here front (quoted n) (compact w) (compact_more_members o) back) in
+    sym (split_value front (quoted n) (compact w) (compact_more_members o) back) in
     let begins : p.value ≡ length (front ++ (quoted n ++ colon ∷ [])) = are.0.1
     ∙ sym (length-append front (quoted n ++ colon ∷ [])) in
     replace_here (front ++ (quoted n ++ colon ∷ [])) (compact v) (compact_more_members o ++ back)

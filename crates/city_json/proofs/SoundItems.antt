@@ -63,32 +63,48 @@ pub record FoundMember (levels : ℕ) (name : List ℕ) (value : Tree) (b rest :
   pub spells : SpellsMember name (SpellsValue value) text
   pub within : depth value ≤ levels
 
+-- what stands behind other white space, and a comma before that
+module _ (One More : List ℕ → Type 0) (first more : List ℕ)
+    (one : (w : List ℕ) → IsBlank w → One (w ++ first)) (others : More more) where
+  inner_spells : (w : List ℕ) → IsBlank w → (a b : List ℕ) × (w ++ (first ++ more) ≡ a ++ b) × One a × More b
+  inner_spells w blank = (w ++ first, more, sym (append_assoc w first more), one w blank, others)
+
+  comma_spells : (w : List ℕ) → IsBlank w
+      → (a b : List ℕ) × (comma ∷ (w ++ (first ++ more)) ≡ comma ∷ (a ++ b)) × One a × More b
+  comma_spells w blank =
+      (w ++ first, more, ap (λ l. comma ∷ l) (sym (append_assoc w first more)), one w blank, others)
+
+-- white space behind an item or a member, and then the mark that closes all, or a comma and what follows
+module _ (text b behind : List ℕ) (splits : b ≡ text ++ behind) where
+  abbrev white : List ℕ
+  white = (after_white-splits behind).white
+
+  closed_splits : (mark : ℕ) (rest : List ℕ) → after_white behind ≡ mark ∷ rest
+      → b ≡ ((text ++ white) ++ []) ++ mark ∷ rest
+  closed_splits mark rest closes = splits ∙ (ap (λ l. text ++ l) ((after_white-splits behind).splits
+      ∙ ap (λ l. white ++ l) closes) ∙ simp (append_assoc, append-nil))
+
+  further_splits : (after inner rest : List ℕ) (mark : ℕ) → after_white behind ≡ comma ∷ after
+      → after_white after ≡ inner ++ mark ∷ rest
+      → b ≡ ((text ++ white) ++ comma ∷ ((after_white-splits after).white ++ inner)) ++ mark ∷ rest
+  further_splits after inner rest mark goes next = splits ∙ (ap (λ l. text ++ l) ((after_white-splits behind).splits
+      ∙ ap (λ l. white ++ l) (goes ∙ ap (λ l. comma ∷ l) ((after_white-splits after).splits
+      ∙ ap (λ l. (after_white-splits after).white ++ l) next))) ∙ simp append_assoc)
+
 -- the last item, white space, and the bracket
 pub items-last : (levels : ℕ) (value : Tree) (b behind rest : List ℕ) → Found levels value b behind
     → after_white behind ≡ close_bracket ∷ rest → FoundItems levels (item value no_items) b rest
 items-last levels value b behind rest found closes =
     let white = after_white-splits behind in
-    let text = found.text ++ white.white in
     let spaced : (w : List ℕ) → IsBlank w → Spaced (SpellsValue value) (w ++ (found.text ++ white.white)) =
     λ w blank. (w, found.text, white.white, refl, blank, found.spells, white.blank) in
     record {
-      inner = found.text ++ white.white;
-      splits = found.splits ∙ (ap (λ l. found.text ++ l) (white.splits ∙ ap (λ l. white.white ++ l) closes)
-          ∙ simp append_assoc);
-      spells = λ w blank. (
-        w ++ (found.text ++ white.white),
-        [],
-        sym (append-nil (w ++ (found.text ++ white.white))),
-        spaced w blank,
-        refl,
-      );
-      more = λ w blank. (
-        w ++ (found.text ++ white.white),
-        [],
-        ap (λ l. comma ∷ l) (sym (append-nil (w ++ (found.text ++ white.white)))),
-        spaced w blank,
-        refl,
-      );
+      inner = (found.text ++ white.white) ++ [];
+      splits = closed_splits found.text b behind found.splits close_bracket rest closes;
+      spells = inner_spells (Spaced (SpellsValue value)) (SpellsMoreItems no_items) (found.text ++ white.white) [] spaced
+          refl;
+      more = comma_spells (Spaced (SpellsValue value)) (SpellsMoreItems no_items) (found.text ++ white.white) [] spaced
+          refl;
       within = omega (arith, found.within);
     }
 
@@ -102,28 +118,14 @@ items-next levels value others b behind after rest found goes next =
     let tail : List ℕ = comma ∷ (then.white ++ next.inner) in
     let spaced : (w : List ℕ) → IsBlank w → Spaced (SpellsValue value) (w ++ (found.text ++ white.white)) =
     λ w blank. (w, found.text, white.white, refl, blank, found.spells, white.blank) in
-    let further : SpellsMoreItems others (comma ∷ (then.white ++ next.inner)) = next.more then.white then.blank in
-    let joined : (w : List ℕ) → w ++ (found.text ++ (white.white ++ comma ∷ (then.white ++ next.inner)))
-    ≡ (w ++ (found.text ++ white.white)) ++ comma ∷ (then.white ++ next.inner) = λ w. simp append_assoc in
+    let further : SpellsMoreItems others tail = next.more then.white then.blank in
     record {
-      inner = found.text ++ (white.white ++ comma ∷ (then.white ++ next.inner));
-      splits = found.splits ∙ (ap (λ l. found.text ++ l) (white.splits
-          ∙ ap (λ l. white.white ++ l) (goes
-          ∙ ap (λ l. comma ∷ l) (then.splits ∙ ap (λ l. then.white ++ l) next.splits))) ∙ simp append_assoc);
-      spells = λ w blank. (
-        w ++ (found.text ++ white.white),
-        comma ∷ (then.white ++ next.inner),
-        joined w,
-        spaced w blank,
-        further,
-      );
-      more = λ w blank. (
-        w ++ (found.text ++ white.white),
-        comma ∷ (then.white ++ next.inner),
-        ap (λ l. comma ∷ l) (joined w),
-        spaced w blank,
-        further,
-      );
+      inner = (found.text ++ white.white) ++ tail;
+      splits = further_splits found.text b behind found.splits after next.inner rest close_bracket goes next.splits;
+      spells = inner_spells (Spaced (SpellsValue value)) (SpellsMoreItems others) (found.text ++ white.white) tail spaced
+          further;
+      more = comma_spells (Spaced (SpellsValue value)) (SpellsMoreItems others) (found.text ++ white.white) tail spaced
+          further;
       within = omega (arith, found.within, next.within);
     }
 
@@ -132,26 +134,14 @@ pub members-last : (levels : ℕ) (name : List ℕ) (value : Tree) (b behind res
     → FoundMembers levels (member name value no_members) b rest
 members-last levels name value b behind rest found closes =
     let white = after_white-splits behind in
-    let spaced : (w : List ℕ) → IsBlank w → SpellsMember name (SpellsValue value) (w ++ (found.text ++ white.white)) =
+    let One : List ℕ → Type 0 = SpellsMember name (SpellsValue value) in
+    let spaced : (w : List ℕ) → IsBlank w → One (w ++ (found.text ++ white.white)) =
     λ w blank. member_wider name (SpellsValue value) w white.white found.text blank white.blank found.spells in
     record {
-      inner = found.text ++ white.white;
-      splits = found.splits ∙ (ap (λ l. found.text ++ l) (white.splits ∙ ap (λ l. white.white ++ l) closes)
-          ∙ simp append_assoc);
-      spells = λ w blank. (
-        w ++ (found.text ++ white.white),
-        [],
-        sym (append-nil (w ++ (found.text ++ white.white))),
-        spaced w blank,
-        refl,
-      );
-      more = λ w blank. (
-        w ++ (found.text ++ white.white),
-        [],
-        ap (λ l. comma ∷ l) (sym (append-nil (w ++ (found.text ++ white.white)))),
-        spaced w blank,
-        refl,
-      );
+      inner = (found.text ++ white.white) ++ [];
+      splits = closed_splits found.text b behind found.splits close_brace rest closes;
+      spells = inner_spells One (SpellsMoreMembers no_members) (found.text ++ white.white) [] spaced refl;
+      more = comma_spells One (SpellsMoreMembers no_members) (found.text ++ white.white) [] spaced refl;
       within = omega (arith, found.within);
     }
 
@@ -161,30 +151,16 @@ pub members-next : (levels : ℕ) (name : List ℕ) (value : Tree) (others : Mem
 members-next levels name value others b behind after rest found goes next =
     let white = after_white-splits behind in
     let then = after_white-splits after in
-    let spaced : (w : List ℕ) → IsBlank w → SpellsMember name (SpellsValue value) (w ++ (found.text ++ white.white)) =
+    let tail : List ℕ = comma ∷ (then.white ++ next.inner) in
+    let One : List ℕ → Type 0 = SpellsMember name (SpellsValue value) in
+    let spaced : (w : List ℕ) → IsBlank w → One (w ++ (found.text ++ white.white)) =
     λ w blank. member_wider name (SpellsValue value) w white.white found.text blank white.blank found.spells in
-    let further : SpellsMoreMembers others (comma ∷ (then.white ++ next.inner)) = next.more then.white then.blank in
-    let joined : (w : List ℕ) → w ++ (found.text ++ (white.white ++ comma ∷ (then.white ++ next.inner)))
-    ≡ (w ++ (found.text ++ white.white)) ++ comma ∷ (then.white ++ next.inner) = λ w. simp append_assoc in
+    let further : SpellsMoreMembers others tail = next.more then.white then.blank in
     record {
-      inner = found.text ++ (white.white ++ comma ∷ (then.white ++ next.inner));
-      splits = found.splits ∙ (ap (λ l. found.text ++ l) (white.splits
-          ∙ ap (λ l. white.white ++ l) (goes
-          ∙ ap (λ l. comma ∷ l) (then.splits ∙ ap (λ l. then.white ++ l) next.splits))) ∙ simp append_assoc);
-      spells = λ w blank. (
-        w ++ (found.text ++ white.white),
-        comma ∷ (then.white ++ next.inner),
-        joined w,
-        spaced w blank,
-        further,
-      );
-      more = λ w blank. (
-        w ++ (found.text ++ white.white),
-        comma ∷ (then.white ++ next.inner),
-        ap (λ l. comma ∷ l) (joined w),
-        spaced w blank,
-        further,
-      );
+      inner = (found.text ++ white.white) ++ tail;
+      splits = further_splits found.text b behind found.splits after next.inner rest close_brace goes next.splits;
+      spells = inner_spells One (SpellsMoreMembers others) (found.text ++ white.white) tail spaced further;
+      more = comma_spells One (SpellsMoreMembers others) (found.text ++ white.white) tail spaced further;
       within = omega (arith, found.within, next.within);
     }
 

@@ -28,7 +28,7 @@ slice_next text at end onward within =
     slice_more text at (at + 1) end (omega arith) (omega arith)
     ∙ ap (λ l. l ++ slice_range text (at + 1) end) (slice_one text at (get_or text at 0) (omega arith) refl)
 
-slice_length : (text : List ℕ) (at end : ℕ) → end ≤ length text → length (slice_range text at end) ≡ end - at
+pub slice_length : (text : List ℕ) (at end : ℕ) → end ≤ length text → length (slice_range text at end) ≡ end - at
 slice_length text at end within = length-take-le (end - at) (drop at text) (omega (arith, length-drop at text))
 
 all_digits : (n : ℕ) (text : List ℕ) (at end : ℕ) → end ≡ at + n → end ≤ length text
@@ -109,7 +109,7 @@ short_negative text at end onward within few between is first =
     }
 
 -- ---- three numbers
-mark_slice : (text found : List ℕ) (at end mark : ℕ) → at < length text → get_or text at 0 ≡ mark → at + 1 ≤ end
+pub mark_slice : (text found : List ℕ) (at end mark : ℕ) → at < length text → get_or text at 0 ≡ mark → at + 1 ≤ end
     → slice_range text (at + 1) end ≡ found → slice_range text at end ≡ mark ∷ found
 mark_slice text found at end mark within is onward rest =
     slice_more text at (at + 1) end (omega arith) onward
@@ -120,7 +120,7 @@ run_slice : (text found : List ℕ) (at middle end : ℕ) → at ≤ middle → 
 run_slice text found at middle end onward more rest =
     slice_more text at middle end onward more ∙ ap (λ l. slice_range text at middle ++ l) rest
 
-regroup : (x y z : List ℕ) → x ++ (comma ∷ (y ++ (comma ∷ (z ++ close_bracket ∷ []))))
+pub regroup : (x y z : List ℕ) → x ++ (comma ∷ (y ++ (comma ∷ (z ++ close_bracket ∷ []))))
     ≡ (x ++ (comma ∷ (y ++ (comma ∷ (z ++ []))))) ++ close_bracket ∷ []
 regroup x y z = simp (append_assoc, append-nil)
 

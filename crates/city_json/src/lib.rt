@@ -19,8 +19,8 @@ pub use byte_streams::{
 };
 pub use compacting::{
     CompactObject, MemberPlace, PlacedMembers, Span, TextPlace, Workspace, between, colon_after,
-    compact_object, end_after, is_between, members_at, members_of_compact, part_named, string_end,
-    value_end, value_place,
+    compact_object, end_after, members_at, members_of_compact, part_named, string_end, value_end,
+    value_place,
 };
 pub use comparing::same;
 pub use json::{Items, Json, Member, Members};

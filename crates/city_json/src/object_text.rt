@@ -52,28 +52,11 @@ impl<'a> ObjectText<'a> {
         self.parts
     }
 
-    /// Where the member of this name lies, which is given as it stands in the text, with its marks and its colon. None
-    /// exactly where there is no member of the name.
-    pub fn part(&self, name: &[u8]) -> Option<MemberPlace>
-        ensures some { IfSome result (IsPartNamed self.now.text self.now.parts name.now) }
-        ensures none { IfNone result (HasNone name.now self.now) }
-    {
-        part_named(self.text, self.parts, name)
-    }
-
-    /// The compact text of the value of the member of this name. None exactly where there is no member of the name.
-    pub fn value(&self, name: &[u8]) -> Option<&'a [u8]>
-        ensures some { IfSome result (λ found. IsValueOf name.now self.now found.now) }
-        ensures none { IfNone result (HasNone name.now self.now) }
-    {
-        let part = self.part(name)?;
-        between(self.text, part.value, part.end)
-    }
-
-    /// Where the member of this name lies, as [`part`](ObjectText::part). It is looked for first at this place among the
-    /// members, counted from 0, where most writers put it.
+    /// Where the member of this name lies, which is given as it stands in the text, with its marks and its colon. It is
+    /// looked for first at this place among the members, counted from 0, where most writers put it. None exactly where there
+    /// is no member of the name.
     #[inline(always)]
-    pub fn usual_part(&self, place: usize, name: &[u8]) -> Option<MemberPlace>
+    pub fn part(&self, place: usize, name: &[u8]) -> Option<MemberPlace>
         ensures some { IfSome result (IsPartNamed self.now.text self.now.parts name.now) }
         ensures none { IfNone result (HasNone name.now self.now) }
     {
@@ -83,35 +66,25 @@ impl<'a> ObjectText<'a> {
                 return Some(part);
             }
         }
-        self.part(name)
+        part_named(self.text, self.parts, name)
     }
 
     /// The compact text of the value of that member.
     #[inline(always)]
-    pub fn usual_value(&self, place: usize, name: &[u8]) -> Option<&'a [u8]>
+    pub fn value(&self, place: usize, name: &[u8]) -> Option<&'a [u8]>
         ensures some { IfSome result (λ found. IsValueOf name.now self.now found.now) }
         ensures none { IfNone result (HasNone name.now self.now) }
     {
-        let part = self.usual_part(place, name)?;
+        let part = self.part(place, name)?;
         between(self.text, part.value, part.end)
     }
 
     /// The same, or another text where there is no member of the name.
     #[inline(always)]
-    pub fn usual_value_or<'b>(&'b self, place: usize, name: &[u8], other: &'b [u8]) -> &'b [u8]
+    pub fn value_or<'b>(&'b self, place: usize, name: &[u8], other: &'b [u8]) -> &'b [u8]
         ensures { IsValueOr name.now self.now other.now result.now }
     {
-        match self.usual_value(place, name) {
-            Some(value) => value,
-            None => other,
-        }
-    }
-
-    /// [`value`](ObjectText::value), or another text where there is no member of the name.
-    pub fn value_or<'b>(&'b self, name: &[u8], other: &'b [u8]) -> &'b [u8]
-        ensures { IsValueOr name.now self.now other.now result.now }
-    {
-        match self.value(name) {
+        match self.value(place, name) {
             Some(value) => value,
             None => other,
         }

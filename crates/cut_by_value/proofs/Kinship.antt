@@ -4,7 +4,7 @@ use Rattle.std.proofs.lemmas.Bool.{eqb-true, eqb-false}
 use Rattle.std.proofs.Math.ListN.{get_or-map}
 use Rattle.std.proofs.lemmas.List.{get_or_default, get_or_push, get_or_append_left, length-map, map-append, map_more, take_more}
 use Rattle.std.proofs.lemmas.List.Elements.{All-from_recursion, Contains-append_left, Contains-push_cases}
-use Rattle.std.proofs.lemmas.Option.{slice_get_within, slice_get-map, slice_get_read, get_or_from_slice_get}
+use Rattle.std.proofs.lemmas.Option.{slice_get_within, slice_get-map, slice_get_read, get_or_from_slice_get, same_Some}
 use Rattle.std.specs.List.{AllByRecursion, Contains, slice_get}
 use Rattle.city_json.specs.Members.{names}
 use Rattle.city_json.specs.declared.json.Json.{Json}
@@ -13,7 +13,7 @@ use Rattle.city_json.specs.Tree.{Tree, tree, members_tree, named_tree, string, M
 use Rattle.city_families.specs.CityObjects.{children, has_parents}
 use Rattle.city_families.specs.Places.{ArePlaced}
 use Rattle.city_families.specs.Items.{values}
-use Rattle.city_families.proofs.Kinship.{placed_more, some_same}
+use Rattle.city_families.proofs.Kinship.{placed_more}
 
 pub placed_skip : (all : List (List ℕ)) (named : List Tree) (places : List ℕ) (value : Tree)
     → ArePlaced all named places → ((name : List ℕ) → value ≢ string name) → ArePlaced all (named ++ value ∷ []) places
@@ -78,7 +78,7 @@ rows_more objects graph graph' row i m value rows long within at is placed pushe
         let own : slice_get objects i ≡ Some m = slice_get_read objects (length objects) i m refl within at in
         let is_value : slice_get (values (members_tree objects)) a ≡ Some (named_tree m).1 =
         rw (values_map objects, slice_get-map, same, own) refl in
-        let is_object : value ≡ one_object = is ∙ some_same (named_tree m).1 one_object (sym is_value ∙ of) in
+        let is_object : value ≡ one_object = is ∙ same_Some (named_tree m).1 one_object (sym is_value ∙ of) in
         subst (λ (v : List ℕ). ArePlaced (names (members_tree objects)) (children one_object) v) is_row
         (subst (λ t. ArePlaced (names (members_tree objects)) (children t) row) is_object placed)
     by a r one_object false e there of =

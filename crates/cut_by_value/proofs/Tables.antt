@@ -6,7 +6,7 @@ use Rattle.std.proofs.lemmas.List.Sorted.{searchable_from_sorted, All-permutatio
 use Rattle.std.proofs.lemmas.List.Elements.{Contains-get_or}
 use Rattle.std.proofs.lemmas.Bool.{eqb-true, eqb-false}
 use Rattle.std.proofs.lemmas.List.{get_or_push, get_or_append_left}
-use Rattle.std.proofs.lemmas.Option.{slice_get_within}
+use Rattle.std.proofs.lemmas.Option.{slice_get_within, same_Some}
 use Rattle.std.specs.Borrow.{Bor}
 use Rattle.std.specs.List.{Contains, HoldsAt, slice_get}
 use Rattle.std.specs.List.Sorted.{IsPartitionPoint, IsNonDecreasingBy, IsPermutation, IsSorted}
@@ -15,7 +15,7 @@ use Rattle.city_json.specs.declared.json.Member.{Member}
 use Rattle.city_json.specs.Members.{names}
 use Rattle.city_json.specs.Tree.{members_tree, named_tree}
 use Rattle.city_families.specs.Table.{IsTable}
-use Rattle.city_families.proofs.Tables.{by_bytes, equal_names, same_name, some_same}
+use Rattle.city_families.proofs.Tables.{by_bytes, equal_names, same_name}
 
 pub found_place : (names : List (List ℕ)) (pairs : List (Bor (List ℕ) × ℕ)) (name : List ℕ) (at : ℕ)
     (d : Bor (List ℕ) × ℕ) → IsTable names pairs → at < length pairs
@@ -85,7 +85,7 @@ table_of_listed names pairs sorted listed long moved up = record {
           get_or pairs k d,
           Contains-permutation pairs sorted (get_or pairs k d) moved
               (Contains-get_or pairs k d within),
-          some_same _ name (sym (listed k d within).1 ∙ is),
+          same_Some _ name (sym (listed k d within).1 ∙ is),
         )
 
 pub names_map : (objects : List Member) → names (members_tree objects) ≡ map (λ m. (named_tree m).0) objects

@@ -13,11 +13,11 @@ ghost use Rattle.city_families.specs.Assembled.{IsAssembled};
 ghost use Rattle.city_families.specs.Relabelling.{own_text};
 
 use crate::boundaries::number_object;
+use crate::changes::new_member;
 use crate::relabelling::relabelled_object;
 use crate::values::{name_of, value_of};
 use byte_streams::Fault;
 use city_families::Numbering;
-use city_feature::new_member;
 use city_grid::{vertex, write_vertex};
 use city_json::{Items, Json, Member, Members};
 use std::alloc::Global;

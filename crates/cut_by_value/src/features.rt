@@ -18,11 +18,12 @@ ghost use Rattle.city_families.specs.Items.{values};
 ghost use Rattle.city_families.specs.Places.{IsFamily, name_at};
 
 use crate::assembling::{Assembled, assemble};
+use crate::changes::set_member;
 use crate::keeping::Keep;
 use crate::values::name_of;
 use byte_streams::Fault;
 use city_families::{Family, Kin, Numbering, family_at, no_marks};
-use city_feature::{Feature, feature, set_member, text_json};
+use city_feature::{Feature, feature, text_json};
 use city_json::{Json, Member, Str};
 use std::alloc::Global;
 

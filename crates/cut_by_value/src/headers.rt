@@ -6,8 +6,9 @@ ghost use Rattle.city_feature.specs.Changes.{changed_member};
 ghost use Rattle.city_feature.specs.Header.{HasGrid};
 ghost use Rattle.city_families.specs.Cut.{HasFrame, header_tree, without_appearance};
 
+use crate::changes::{drop_member, set_member};
 use byte_streams::Fault;
-use city_feature::{Header, drop_member, header, set_member};
+use city_feature::{Header, header};
 use city_json::Json;
 use std::alloc::Global;
 

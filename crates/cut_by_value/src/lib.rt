@@ -5,6 +5,7 @@
 
 mod assembling;
 mod boundaries;
+mod changes;
 mod cuts;
 mod cutting;
 mod documents;
@@ -17,5 +18,6 @@ mod objects;
 mod relabelling;
 mod values;
 
+pub use changes::{drop_member, set_member};
 pub use cuts::{Cut, Features, OpenCut};
 pub use cutting::{cut, open_cut};

@@ -9,10 +9,10 @@ ghost use Rattle.city_families.specs.Boundaries.{relabelled_part};
 ghost use Rattle.city_families.specs.Leaves.{relabelled, relabelled_items};
 ghost use Rattle.city_families.specs.Relabelling.{own_text};
 
+use crate::changes::new_member;
 use crate::leaves::index;
 use crate::values::{name_of, value_of};
 use byte_streams::Fault;
-use city_feature::new_member;
 use city_json::{Items, Json, Member, Members, NumText};
 use itoa::Buffer;
 use std::alloc::Global;

@@ -112,7 +112,7 @@ one_is_none text given parts at is listed here test none value of = (
   λ never. absurd (not_both false never refl),
   λ holds.
       let all = listed_there text parts value listed of in
-      let there = value_there text given parts at here.part all.pairs here.within here.lies all.of all.are in
+      let there = value_there text given parts at here.part all.pairs here.within here.lies all.are.0 all.are.1 in
       let city = city_at all.pairs at (city_in all.pairs value all.is holds) there.0 in
       absurd (not_both is ((test (named_at all.pairs at).1 there.2).1 city) none),
 )
@@ -124,11 +124,11 @@ pub all_hold : (text : List ℕ) (parts : List MemberPlace) (at : ℕ)
 all_hold text parts at listed checked past value of = (
   λ so.
       let all = listed_there text parts value listed of in
-      let many = as_many_parts 1 parts all.pairs all.are in (
+      let many = as_many_parts 1 parts all.pairs all.are.1 in (
         member_trees all.pairs,
         all.is,
         subst (λ l. AreCityObjects (member_trees l)) (take_all at all.pairs (omega (arith, many, past)))
-            (checked all.pairs all.of all.are),
+            (checked all.pairs all.are.0 all.are.1),
       ),
   λ holds. refl,
 )

@@ -1,11 +1,11 @@
 -- Nested arrays that are copied with numbers of their own.
-use Rattle.std.proofs.Common.{◌≡◌, ◌++◌, ◌∙◌, ◌<◌, ◌+◌, ℕ, List, [], ◌∷◌, true, false, length, drop, get_or, inl, inr, refl, ap, sym, subst, arith, append_assoc, append-nil, length-drop}
-use Rattle.city_json.specs.Bytes.{comma, close_bracket, open_bracket, open_brace, quotation_mark}
+use Rattle.std.proofs.Common.{◌≡◌, ◌++◌, ◌∙◌, ◌<◌, ◌+◌, ℕ, List, [], ◌∷◌, length, drop, get_or, inl, inr, refl, ap, sym, subst, arith, append_assoc, append-nil, length-drop}
+use Rattle.city_json.specs.Bytes.{comma, close_bracket, open_bracket}
 use Rattle.city_json.specs.Compact.{compact, compact_items, compact_more_items}
 use Rattle.city_json.specs.CompactEnds.{IsStopped}
-use Rattle.city_json.proofs.CompactEnds.{items_none, items_some, number_other, other_head}
-use Rattle.city_json.specs.Tree.{Tree, null, boolean, number, string, array, object, ItemTrees, no_items, item}
-use Rattle.city_json.specs.Writable.{AreWritableItems}
+use Rattle.city_json.proofs.CompactEnds.{array_front, items_none, items_some, other_head}
+use Rattle.city_json.specs.Tree.{Tree, ItemTrees, no_items, item}
+use Rattle.city_json.specs.Writable.{AreWritableItems, IsWritable}
 use Rattle.city_json.proofs.Places.{drop_one}
 use Rattle.city_json.proofs.StringEnds.{first_same, others_same}
 use Rattle.city_families.specs.Copied.{CopiesItems, CopiesPart}
@@ -17,21 +17,12 @@ pub part_array : {S : Type 0} {L : Labelling S} (count : ℕ) (s : S) (line line
     → line₁ ≡ line ++ open_bracket ∷ []
     → CopiesItems count tail after (Walks L s line₁ s' line')
     → CopiesPart count b after (Walks L s line s' line')
-part_array count s line line₁ s' line' b tail after begins opened made null rest w stopped is =
-    absurd (other_head 110 open_bracket _ tail (omega arith) (sym is ∙ begins))
-part_array count s line line₁ s' line' b tail after begins opened made (boolean true) rest w stopped is =
-    absurd (other_head 116 open_bracket _ tail (omega arith) (sym is ∙ begins))
-part_array count s line line₁ s' line' b tail after begins opened made (boolean false) rest w stopped is =
-    absurd (other_head 102 open_bracket _ tail (omega arith) (sym is ∙ begins))
-part_array count s line line₁ s' line' b tail after begins opened made (number text) rest w stopped is =
-    absurd (number_other text rest tail open_bracket w refl (sym is ∙ begins))
-part_array count s line line₁ s' line' b tail after begins opened made (string text) rest w stopped is =
-    absurd (other_head quotation_mark open_bracket _ tail (omega arith) (sym is ∙ begins))
-part_array count s line line₁ s' line' b tail after begins opened made (object all) rest w stopped is =
-    absurd (other_head open_brace open_bracket _ tail (omega arith) (sym is ∙ begins))
-part_array count s line line₁ s' line' b tail after begins opened made (array items) rest w stopped is =
-    let inner = made items rest w (others_same _ _ _ _ (sym begins ∙ is)
-    ∙ append_assoc (compact_items items) (close_bracket ∷ []) rest) in (
+part_array {L = L} count s line line₁ s' line' b tail after begins opened made value rest w stopped is =
+    let (items, same) = array_front value rest tail w (sym is ∙ begins) in
+    let inner = made items rest (subst IsWritable same w) (others_same _ _ _ _
+    (sym begins ∙ (is ∙ ap (λ v. compact v ++ rest) same)) ∙ append_assoc (compact_items items) (close_bracket ∷ []) rest)
+    in subst (λ v. (after ≡ rest) × IsNested count v
+    × Walks L s line s' line' (leaves v) (λ change. compact (relabelled change v))) (sym same) (
       inner.0,
       inner.1,
       walks_both s line s line₁ s' line' [] (item_leaves items) (λ change. open_bracket ∷ [])

@@ -15,7 +15,7 @@ use Rattle.city_json.specs.Tree.{Tree, MemberTrees, no_members, member, item_tre
 use Rattle.city_json.specs.Writable.{AreWritableMembers, IsWritable}
 use Rattle.city_grid.specs.Axes.{IsInRange, Triple, sum, triple}
 use Rattle.city_grid.specs.Vertex.{vertex_tree}
-use Rattle.city_feature.proofs.LineTexts.{utf8}
+use Rattle.city_feature.proofs.LineTexts.{are_vertices, utf8}
 use Rattle.city_feature.specs.Changes.{with_member}
 use Rattle.city_feature.specs.Feature.{AreVertices, FeatureValue, IsMovable, moved, moved_vertices, vertices_tree}
 use Rattle.city_feature.specs.FeatureLine.{SpellsFeature}
@@ -35,7 +35,7 @@ use Rattle.city_families.proofs.FeatureParts.{chosen_are_those}
 use Rattle.city_feature.proofs.OneFeature.{same_array, same_vertices}
 use Rattle.cut_on_text.proofs.OwnVertices.{labels_below, no_more}
 use Rattle.cut_on_text.proofs.TextFeatures.{feature_text}
-use Rattle.cut_on_text.proofs.SpelledFeatures.{are_vertices, vertex_items_good}
+use Rattle.cut_on_text.proofs.SpelledFeatures.{vertex_items_good}
 use Rattle.cut_on_text.proofs.Unspoilt.{objects_relabelled, those_kept}
 use Rattle.cut_on_text.proofs.MadeFeatures as made
 

@@ -8,7 +8,7 @@ use Rattle.std.specs.List.{flat_map}
 use Rattle.city_json.specs.Bytes.{colon}
 use Rattle.city_json.specs.Compact.{compact, quoted}
 use Rattle.city_json.specs.Parts.{AreParts}
-use Rattle.city_json.specs.Tree.{Tree, member_trees, object}
+use Rattle.city_json.specs.Tree.{Tree, member_trees}
 use Rattle.city_json.specs.declared.compacting.places.MemberPlace.{MemberPlace}
 use Rattle.city_json.specs.CompactTexts.{IsCompactOf}
 use Rattle.city_families.specs.Boundaries.{IsBounded, boundaries, relabelled_object}
@@ -17,26 +17,23 @@ use Rattle.city_families.specs.Leaves.{leaves}
 use Rattle.cut_on_text.specs.Skeletons.{AreSkeletons, IsSkeleton, LeafPlace, SkeletonPlace, SkeletonTexts, no_place, place_at, woven}
 use Rattle.cut_on_text.specs.Sketches.{ArePlaced, IsNoted, IsSketch, vertices_of}
 use Rattle.cut_on_text.proofs.NoteWalks.{noted_after, noted_so}
-use Rattle.cut_on_text.proofs.TextFeatures.{as_many_parts, value_there}
+use Rattle.cut_on_text.proofs.TextFeatures.{as_many_parts}
 use Rattle.cut_on_text.proofs.Woven.{slice_end, slice_front, slice_middle, woven_front}
 
 -- ---- one object
 
 -- an object whose name was written after a line, then a colon, and then its text without its leaves
-pub sketched : (count at : ℕ) (text given id : List ℕ) (noted : List LeafPlace) (line line₁ line₂ : List ℕ)
-    (noted' : List LeafPlace) (line' : List ℕ) (start : SkeletonPlace) (split : ℕ) (parts : List MemberPlace) (d : MemberPlace)
-    (pairs : List (List ℕ × Tree)) → at < length parts
-    → given ≡ slice_range text (get_or parts at d).value (get_or parts at d).end
-    → IsCompactOf text (object (member_trees pairs)) → AreParts 1 parts (member_trees pairs)
+pub sketched : (count at : ℕ) (given id : List ℕ) (noted : List LeafPlace) (line line₁ line₂ : List ℕ)
+    (noted' : List LeafPlace) (line' : List ℕ) (start : SkeletonPlace) (split : ℕ) (pairs : List (List ℕ × Tree))
+    → IsCompactOf given (named_at pairs at).1
     → id ≡ quoted (named_at pairs at).0 → line₁ ≡ line ++ id → line₂ ≡ line₁ ++ colon ∷ []
     → ((value : Tree) → IsCompactOf given value → IsBounded count value × IsNoted noted line₂ split noted' line'
     (flat_map leaves (boundaries value)) (λ change. compact (relabelled_object change value)))
     → start.text ≡ length line → start.name ≡ length line₁ → start.leaves ≡ length noted → start.split ≡ split
     → IsSketch count noted line start noted' line' (named_at pairs at)
-sketched count at text given id noted line line₁ line₂ noted' line' start split parts d pairs within lies of are id_is
-    first second made begin name begins splits =
-    let there = value_there text given parts at d pairs within lies of are in
-    let (bounded, notes) = made (named_at pairs at).1 there.2 in
+sketched count at given id noted line line₁ line₂ noted' line' start split pairs there id_is first second made begin name
+    begins splits =
+    let (bounded, notes) = made (named_at pairs at).1 there in
     let quoted_name = quoted (named_at pairs at).0 in
     let named : line₁ ≡ line ++ quoted_name = first ∙ ap (λ l. line ++ l) id_is in
     let before : line₂ ≡ line ++ (quoted_name ++ colon ∷ []) =

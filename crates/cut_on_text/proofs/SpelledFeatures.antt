@@ -16,13 +16,13 @@ use Rattle.city_json.specs.Grammar.{Spells}
 use Rattle.city_json.specs.Members.{first_named, member_of}
 use Rattle.city_json.specs.Tree.{Tree, null, boolean, number, string, array, object, ItemTrees, no_items, MemberTrees, no_members, member, item_trees, member_trees}
 use Rattle.city_json.specs.Writable.{AreWritableItems, AreWritableMembers, IsWritable}
-use Rattle.city_grid.proofs.VertexLaws.{vertex_is_read, vertex_is_writable}
+use Rattle.city_grid.proofs.VertexLaws.{vertex_is_writable}
 use Rattle.city_grid.specs.Axes.{IsInRange, Triple}
 use Rattle.city_grid.specs.Vertex.{vertex_tree}
-use Rattle.city_feature.proofs.LineTexts.{utf8}
+use Rattle.city_feature.proofs.LineTexts.{utf8, are_vertices}
 use Rattle.city_feature.proofs.EndedTexts.{last_text}
 use Rattle.city_feature.specs.Ended.{IsAppearanceEnd, IsOwnPart}
-use Rattle.city_feature.specs.Feature.{AreReadAgain, AreVertices, FeatureValue, IsFeature, item_count, vertices_tree}
+use Rattle.city_feature.specs.Feature.{AreVertices, FeatureValue, IsFeature, item_count, vertices_tree}
 use Rattle.city_feature.specs.FeatureLine.{SpellsFeature}
 use Rattle.city_feature.specs.Header.{HeaderValue}
 use Rattle.city_families.specs.Boundaries.{relabelled_objects}
@@ -95,12 +95,6 @@ roots_utf8 (member id o others) all = by (has_parents o) (roots_utf8 others all.
     by false more = (all.0, more)
 
 -- ---- vertices
-pub are_vertices : (ps : List Triple) → All IsInRange ps → AreReadAgain ps
-are_vertices [] range = tt
-are_vertices (p ∷ ps) range =
-    let here = range 0 p (omega arith) in
-    (vertex_is_read p here, here, are_vertices ps (All-tail IsInRange p ps range))
-
 pub vertex_items_good : (ps : List Triple) → All IsInRange ps → AreWritableItems (item_trees (map vertex_tree ps))
     × AreDistinctItems (item_trees (map vertex_tree ps)) × (items_depth (item_trees (map vertex_tree ps)) ≤ 1)
 vertex_items_good [] range = (tt, tt, omega arith)

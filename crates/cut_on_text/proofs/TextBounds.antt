@@ -1,5 +1,5 @@
 -- City objects of which a boundary is none.
-use Rattle.std.proofs.Common.{◌≡◌, ◌∙◌, ◌<◌, ℕ, zero, suc, List, [], ◌∷◌, Option, Some, length, get_or, slice_range, ap, subst, arith}
+use Rattle.std.proofs.Common.{◌≡◌, ◌<◌, ℕ, zero, suc, List, [], ◌∷◌, Option, Some, length, slice_range, subst, arith}
 use Rattle.std.specs.List.{AllByRecursion}
 use Rattle.city_json.specs.Members.{first_named}
 use Rattle.city_json.specs.Parts.{AreParts}
@@ -9,12 +9,12 @@ use Rattle.city_feature.specs.Shapes.{IsArray, WhereThere}
 use Rattle.city_json.specs.CompactTexts.{IsCompactOf}
 use Rattle.city_families.specs.Boundaries.{IsAddress, IsBounded, IsGeometry}
 use Rattle.city_families.specs.Chosen.{named_at}
+use Rattle.cut_on_text.specs.PlacedObjects.{IsObjectAt}
 use Rattle.cut_on_text.specs.Holders.{AreHeld, name_of}
 use Rattle.city_families.specs.Items.{items_of, values}
 use Rattle.cut_on_text.specs.Overviews.{IsHolderPart}
 use Rattle.cut_on_text.specs.declared.on_text.holders.Holder.{Holder}
 use Rattle.cut_on_text.specs.declared.on_text.holders.Holder.TheVariants.{Geometry, Address}
-use Rattle.cut_on_text.proofs.TextFeatures.{value_there}
 use Rattle.cut_on_text.proofs.TextObjects.{is_found, name_utf8}
 use Rattle.cut_on_text.proofs.TextMembers.{member_there}
 
@@ -46,12 +46,8 @@ all_at P (p ∷ ps) zero all within = all.0
 all_at P (p ∷ ps) (suc k) all within = all_at P ps k all.1 (omega (arith, within))
 
 -- the object at a place is at fault, so the objects are
-pub object_wrong : (count : ℕ) (text given : List ℕ) (places : List MemberPlace) (at : ℕ) (part d : MemberPlace)
-    → at < length places → part ≡ get_or places at d → given ≡ slice_range text part.value part.end
+pub object_wrong : (count : ℕ) (name given : List ℕ) (at : ℕ)
     → ((value : Tree) → IsCompactOf given value → IsBounded count value → ⊥) → (pairs : List (List ℕ × Tree))
-    → IsCompactOf text (object (member_trees pairs)) → AreParts 1 places (member_trees pairs)
-    → AllByRecursion (IsBounded count) (values (member_trees pairs)) → ⊥
-object_wrong count text given places at part d within here lies wrong pairs of are all =
-    let there = value_there text given places at d pairs within
-    (lies ∙ ap (λ (p : MemberPlace). slice_range text p.value p.end) here) of are in
+    → IsObjectAt pairs at name given → AllByRecursion (IsBounded count) (values (member_trees pairs)) → ⊥
+object_wrong count name given at wrong pairs there all =
     wrong (named_at pairs at).1 there.2 (all_at (IsBounded count) pairs at all there.0)

@@ -1,17 +1,17 @@
 -- Arrays of geometries and of addresses that are copied from their compact texts.
-use Rattle.std.proofs.Common.{◌≡◌, ◌∙◌, ◌++◌, ◌<◌, ◌≤◌, ◌+◌, ℕ, true, false, List, [], ◌∷◌, length, drop, get_or, slice_range, refl, sym, ap, subst, arith, append_assoc, append-nil, length-drop, inl, inr}
+use Rattle.std.proofs.Common.{◌≡◌, ◌∙◌, ◌++◌, ◌<◌, ◌≤◌, ◌+◌, ℕ, List, [], ◌∷◌, length, drop, get_or, slice_range, refl, sym, ap, subst, arith, append_assoc, append-nil, length-drop, inl, inr}
 use Rattle.std.proofs.lemmas.Grind.{flat_map-append}
 use Rattle.std.specs.List.{flat_map, AllByRecursion}
-use Rattle.city_json.proofs.CompactEnds.{items_some, number_other, other_head}
+use Rattle.city_json.proofs.CompactEnds.{array_front, items_some, other_head}
 use Rattle.city_json.proofs.Places.{drop_one}
 use Rattle.city_json.proofs.StringEnds.{first_same, others_same}
-use Rattle.city_json.specs.Bytes.{comma, open_bracket, close_bracket, open_brace, quotation_mark}
+use Rattle.city_json.specs.Bytes.{comma, open_bracket, close_bracket}
 use Rattle.city_json.specs.Compact.{compact, compact_items, compact_more_items}
 use Rattle.city_json.specs.CompactEnds.{IsStopped, LeavesValue}
 use Rattle.city_json.specs.Fits.{AreDistinctItems, depth, items_depth}
 use Rattle.byte_streams.specs.Limits.{max_depth}
 use Rattle.city_json.specs.Tree.{Tree, null, boolean, number, string, array, object, ItemTrees, no_items, item}
-use Rattle.city_json.specs.Writable.{AreWritableItems, IsWritable}
+use Rattle.city_json.specs.Writable.{AreWritableItems}
 use Rattle.city_families.specs.Boundaries.{IsBounded, boundaries, changed_items, relabelled_object}
 use Rattle.city_families.specs.Copied.{Copies}
 use Rattle.cut_on_text.specs.Holders.{AreHeld, IsHeld, IsShaped, boundary_in, held_uses, relabelled_held, relabelled_in}
@@ -49,22 +49,13 @@ shaped Geometry items = tt
 shaped Address items = tt
 
 -- ---- geometries or addresses, one after another
-array_here : (value : Tree) (tail : List ℕ) → IsWritable value → compact value ≡ open_bracket ∷ tail
-    → (items : ItemTrees) × (value ≡ array items)
-array_here null tail w is = absurd (other_head 110 open_bracket _ tail (omega arith) is)
-array_here (boolean true) tail w is = absurd (other_head 116 open_bracket _ tail (omega arith) is)
-array_here (boolean false) tail w is = absurd (other_head 102 open_bracket _ tail (omega arith) is)
-array_here (number text) tail w is = absurd (number_other text [] tail open_bracket w refl (append-nil text ∙ is))
-array_here (string text) tail w is = absurd (other_head quotation_mark open_bracket _ tail (omega arith) is)
-array_here (array items) tail w is = (items, refl)
-array_here (object members) tail w is = absurd (other_head open_brace open_bracket _ tail (omega arith) is)
-
 -- for each array, it is enough to know what is made of it
 pub of_array : (P : Tree → Type 0) (text : List ℕ) → 0 < length text → get_or text 0 0 ≡ open_bracket
     → ((items : ItemTrees) → IsCompactOf text (array items) → P (array items)) → (value : Tree) → IsCompactOf text value
     → P value
 of_array P text some here made value of =
-    let there = array_here value (drop 1 text) of.writable (sym of.is ∙ drop_one text 0 open_bracket some here) in
+    let there = array_front value [] (drop 1 text) of.writable
+    (append-nil (compact value) ∙ (sym of.is ∙ drop_one text 0 open_bracket some here)) in
     subst P (sym there.1) (made there.0 (subst (IsCompactOf text) there.1 of))
 
 items_there : (text : List ℕ) (items : ItemTrees) → 0 < length text → get_or text 0 0 ≡ open_bracket

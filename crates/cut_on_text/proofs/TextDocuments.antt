@@ -19,6 +19,7 @@ use Rattle.city_feature.specs.Shapes.{IsArray, IsObject, WhereThere}
 use Rattle.city_families.specs.Boundaries.{IsBounded}
 use Rattle.city_families.specs.CityObjects.{AllBelong, AreCityObjects, IsReached, LacksChild, objects_of, roots, vertices_of}
 use Rattle.city_families.specs.Cut.{AreFeatures, HasFrame, IsCut, IsCuttable, IsDocument, header_tree}
+use Rattle.cut_on_text.specs.PlacedObjects.{AreObjects, PlacedObjects}
 use Rattle.cut_on_text.specs.FeatureText.{tail_text}
 use Rattle.cut_on_text.specs.HeaderText.{HasHeader}
 use Rattle.city_families.specs.Items.{items_in, members_in}
@@ -150,29 +151,31 @@ whole document value grid objects items points appearance features distinct has 
     )
 
 -- ---- the city objects
-pub record ObjectsThere (objects : List ℕ) (places : List MemberPlace) (value : Tree) : Type 0 where
+pub record ObjectsThere (Are : List (List ℕ × Tree) → Type 0) (value : Tree) : Type 0 where
   pub pairs : List (List ℕ × Tree)
   pub is : value ≡ object (member_trees pairs)
-  pub of : IsCompactOf objects (object (member_trees pairs))
-  pub are : AreParts 1 places (member_trees pairs)
+  pub are : Are pairs
 
-pub listed_there : (objects : List ℕ) (places : List MemberPlace) (value : Tree)
-    → ((v : Tree) → IsCompactOf objects v → (members : MemberTrees) × (v ≡ object members) × AreParts 1 places members)
-    → IsCompactOf objects value → ObjectsThere objects places value
-listed_there objects places value listed of =
+pub listed_there : (text : List ℕ) (places : List MemberPlace) (value : Tree)
+    → ((v : Tree) → IsCompactOf text v → (members : MemberTrees) × (v ≡ object members) × AreParts 1 places members)
+    → IsCompactOf text value → ObjectsThere (λ pairs. IsCompactOf text (object (member_trees pairs))
+    × AreParts 1 places (member_trees pairs)) value
+listed_there text places value listed of =
     let (inner, is_object, placed) = listed value of in
     record {
       pairs = pairs_of inner;
       is = is_object ∙ ap object (sym (pairs_are inner));
-      of = subst (λ m. IsCompactOf objects (object m)) (sym (pairs_are inner))
-          (subst (IsCompactOf objects) is_object of);
-      are = subst (AreParts 1 places) (sym (pairs_are inner)) placed;
+      are = (
+        subst (λ m. IsCompactOf text (object m)) (sym (pairs_are inner)) (subst (IsCompactOf text) is_object of),
+        subst (AreParts 1 places) (sym (pairs_are inner)) placed,
+      );
     }
 
-pub objects_there : (objects : List ℕ) (places : List MemberPlace) (value : Tree) → IsCompactOf objects value
-    → HasParts objects places → ObjectsThere objects places value
-objects_there objects places value of listed =
-    listed_there objects places value (λ v fits. listed v fits.writable fits.within fits.is) of
+pub objects_there : (objects placed : PlacedObjects) (value : Tree) → objects ≡ placed → IsCompactOf placed.text value
+    → HasParts placed.text placed.places → ObjectsThere (AreObjects objects) value
+objects_there objects placed value same of listed =
+    subst (λ (o : PlacedObjects). ObjectsThere (AreObjects o) value) (sym same)
+    (listed_there placed.text placed.places value (λ v fits. listed v fits.writable fits.within fits.is) of)
 
 -- a document without vertices or city objects has none
 pub empty_array : IsCompactOf (open_bracket ∷ close_bracket ∷ []) (array no_items)

@@ -1,14 +1,12 @@
 -- Why a document is not cut, found on its compact text.
-use Rattle.std.proofs.Common.{◌≡◌, ◌∙◌, ◌<◌, ◌⊎◌, ◌↔◌, inl, inr, ℕ, zero, suc, Bool, true, false, IsTrue, List, [], ◌∷◌, Option, Some, None, Result, Ok, Err, IfErr, IfOk, IfSome, IsUtf8, length, map, unwrap_or, refl, sym, ap, subst, arith, codes}
+use Rattle.std.proofs.Common.{◌≡◌, ◌∙◌, ◌<◌, ◌⊎◌, ◌↔◌, inl, inr, ℕ, zero, suc, Bool, true, false, IsTrue, List, [], ◌∷◌, Option, Some, None, IfSome, IsUtf8, length, map, unwrap_or, refl, sym, ap, subst, arith, codes}
 use Rattle.std.specs.Borrow.{Bor}
 use Rattle.std.specs.List.{AllByRecursion, AllZip, Contains}
 use Rattle.byte_streams.specs.declared.fault.Fault.{Fault}
 use Rattle.byte_streams.specs.declared.fault.Fault.TheVariants.{NotCityJson, Version, NoTransform, Decimal, ScaleNotPositive, ChildMissing, Orphan, BoundaryIndex, Memory}
 use Rattle.city_json.specs.Compact.{quoted}
 use Rattle.city_json.specs.Members.{first_named, member_of, names}
-use Rattle.city_json.specs.Parts.{AreParts}
 use Rattle.city_json.specs.Tree.{Tree, ItemTrees, MemberTrees, array, no_items, no_members, member_trees, null, object, string}
-use Rattle.city_json.specs.declared.compacting.places.MemberPlace.{MemberPlace}
 use Rattle.city_grid.specs.Axes.{Triple}
 use Rattle.city_grid.specs.Transform.{Grid}
 use Rattle.city_feature.specs.Feature.{AreVertices, RefusesFirst, item_count}
@@ -19,6 +17,7 @@ use Rattle.city_families.specs.Chosen.{named_at}
 use Rattle.city_families.specs.CityObjects.{AreCityObjects, LacksChild, objects_of, vertices_of}
 use Rattle.city_families.specs.Cut.{HasFrame, HasValidVertices, IsDocument, RefusesCut, RefusesFrame, header_tree}
 use Rattle.cut_on_text.specs.Faults.{HoldsCityObjects, RefusesObjects}
+use Rattle.cut_on_text.specs.PlacedObjects.{AreObjects, PlacedObjects}
 use Rattle.cut_on_text.specs.Graphs.{SomeNamesMissing}
 use Rattle.city_families.specs.Items.{items_of, members_in, values}
 use Rattle.cut_on_text.specs.Kin.{HasChildrenText}
@@ -63,16 +62,15 @@ zip_within R (x ∷ xs) (y ∷ ys) zero zip within = omega arith
 zip_within R (x ∷ xs) (y ∷ ys) (suc k) zip within =
     let later = zip_within R xs ys k zip.1 (omega (arith, within)) in omega (arith, later)
 
-pub child_missing : (text : List ℕ) (places : List MemberPlace) (given : List (Bor (List ℕ)))
-    (table : List (Bor (List ℕ) × ℕ)) (pairs : List (List ℕ × Tree)) → AllZip (HasChildrenIn text) places given
+pub child_missing : (objects : PlacedObjects) (given : List (Bor (List ℕ))) (table : List (Bor (List ℕ) × ℕ))
+    (pairs : List (List ℕ × Tree)) → AllZip (HasChildrenIn objects.text) objects.places given
     → IsTable (map (λ (pair : List ℕ × Tree). quoted pair.0) pairs) table
     → ((all : List (List ℕ)) → AllByRecursion IsUtf8 all → IsTable (map quoted all) table → SomeNamesMissing all given)
-    → IsCompactOf text (object (member_trees pairs)) → AreParts 1 places (member_trees pairs)
-    → LacksChild (member_trees pairs)
-child_missing text places given table pairs texts listed missing of are =
+    → AreObjects objects pairs → LacksChild (member_trees pairs)
+child_missing objects given table pairs texts listed missing (of, are) =
     let (one, among, lacks) = missing (names (member_trees pairs)) (names_utf8 pairs of.writable)
     (subst (λ l. IsTable l table) (quoted_names pairs) listed) in
-    let said = said_all HasChildrenText text places given pairs texts of are in
+    let said = said_all HasChildrenText objects.text objects.places given pairs texts of are in
     let within = zip_within (λ (x : Bor (List ℕ)) (pair : List ℕ × Tree). HasChildrenText pair.1 x) given pairs among.0
     said among.1 in
     let here = zip_at (λ (x : Bor (List ℕ)) (pair : List ℕ × Tree). HasChildrenText pair.1 x) given pairs among.0 one
@@ -107,14 +105,6 @@ pub if_both : {A : Type 0} {P Q R : A → Type 0} (answer : Option A) → IfSome
     → ((x : A) → P x → Q x → R x) → IfSome answer R
 if_both (Some x) one other both = both x one other
 if_both None one other both = tt
-
-pub ok_told : {A E : Type 0} (P : A → Type 0) (answer : Result A E) (value : A) → answer ≡ Ok value → IfOk answer P
-    → P value
-ok_told {A = A} {E = E} P answer value is holds = subst (λ (a : Result A E). IfOk a P) is holds
-
-pub err_told : {A E : Type 0} (P : E → Type 0) (answer : Result A E) (fault : E) → answer ≡ Err fault → IfErr answer P
-    → P fault
-err_told {A = A} {E = E} P answer fault is holds = subst (λ (a : Result A E). IfErr a P) is holds
 
 -- ---- the document
 object_or : (there : Option Tree) → WhereThere IsObject there → AreCityObjects (members_in there)

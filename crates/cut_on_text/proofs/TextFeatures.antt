@@ -20,6 +20,7 @@ use Rattle.city_families.specs.Boundaries.{IsBounded, boundaries, relabelled_obj
 use Rattle.city_families.specs.Chosen.{named_at, point_at}
 use Rattle.city_families.specs.Copied.{Copies}
 use Rattle.city_families.specs.Cut.{IsFeatureOf, feature_tree, last_members}
+use Rattle.cut_on_text.specs.PlacedObjects.{IsObjectAt}
 use Rattle.cut_on_text.specs.FeatureText.{head_text, middle_text, tail_text}
 use Rattle.city_families.specs.Leaves.{leaves}
 use Rattle.city_families.specs.HeldTexts.{HasGrown}
@@ -60,39 +61,25 @@ value_fits (p ∷ ps) (suc k) name text value has writable distinct within is =
 named_split : (name value : List ℕ) → (name ++ colon ∷ []) ++ value ≡ name ++ colon ∷ value
 named_split name value = simp append_assoc
 
-pub named_made : (count : ℕ) (text name given t o line line₁ t' o' line₂ : List ℕ) (parts : List MemberPlace) (at : ℕ)
-    (part d : MemberPlace) (pairs : List (List ℕ × Tree)) → at < length parts → part ≡ get_or parts at d
-    → name ≡ slice_range text part.at part.value → given ≡ slice_range text part.value part.end
+pub named_made : (count : ℕ) (name given t o line line₁ t' o' line₂ : List ℕ) (at : ℕ) (pairs : List (List ℕ × Tree))
     → line₁ ≡ line ++ name → ((value : Tree) → IsCompactOf given value → ObjectMade count t o line₁ t' o' line₂ value)
-    → IsCompactOf text (object (member_trees pairs)) → AreParts 1 parts (member_trees pairs)
+    → IsObjectAt pairs at name given
     → (at < length pairs) × IsBounded count (named_at pairs at).1
     × Copies t o line t' o' line₂ (flat_map leaves (boundaries (named_at pairs at).1))
     (λ change. quoted (named_at pairs at).0 ++ colon ∷ compact (relabelled_object change (named_at pairs at).1))
-named_made count text name given t o line line₁ t' o' line₂ parts at part d pairs within here named lies front made of
-    are =
-    let found = member_in_part (member_trees pairs) (open_brace ∷ []) (close_brace ∷ []) parts at d are within in
-    let whole = compact (object (member_trees pairs)) in
-    let given_is : given ≡ compact found.value =
-    lies ∙ (ap (λ l. slice_range l part.value part.end) of.is
-    ∙ (ap (λ (p : MemberPlace). slice_range (compact (object (member_trees pairs))) p.value p.end) here ∙ found.valued)) in
-    let name_is : name ≡ quoted found.name ++ colon ∷ [] =
-    named ∙ (ap (λ l. slice_range l part.at part.value) of.is
-    ∙ (ap (λ (p : MemberPlace). slice_range (compact (object (member_trees pairs))) p.at p.value) here ∙ found.named)) in
-    let fits = value_fits pairs at found.name given found.value found.has of.writable of.distinct.1
-    (omega (arith, of.within)) given_is in
-    let inner = made (named_at pairs at).1 fits.2 in
+named_made count name given t o line line₁ t' o' line₂ at pairs front made there =
+    let inner = made (named_at pairs at).1 there.2 in
     let first = copies_text t o line line₁ name front in
     let both = copies_both t o line t o line₁ t' o' line₂ [] (flat_map leaves (boundaries (named_at pairs at).1))
     (λ change. name) (λ change. compact (relabelled_object change (named_at pairs at).1)) first inner.1 in (
-      fits.0,
+      there.0,
       inner.0,
       copies_so t o line t' o' line₂ (flat_map leaves (boundaries (named_at pairs at).1))
           (flat_map leaves (boundaries (named_at pairs at).1))
           (λ change. name ++ compact (relabelled_object change (named_at pairs at).1))
           (λ change. quoted (named_at pairs at).0 ++ colon ∷ compact (relabelled_object change (named_at pairs at).1))
           both refl
-          (λ change. ap (λ l. l ++ compact (relabelled_object change (named_at pairs at).1))
-          (name_is ∙ ap (λ n. quoted n ++ colon ∷ []) fits.1)
+          (λ change. ap (λ l. l ++ compact (relabelled_object change (named_at pairs at).1)) there.1
           ∙ named_split (quoted (named_at pairs at).0) (compact (relabelled_object change (named_at pairs at).1))),
     )
 

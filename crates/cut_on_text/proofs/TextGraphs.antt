@@ -1,35 +1,30 @@
 -- The children of city objects, found by the texts of their names.
 use Rattle.std.proofs.Common.{◌≡◌, ◌∙◌, ◌++◌, ◌<◌, ◌+◌, ℕ, zero, suc, Bool, List, [], ◌∷◌, Option, Some, None, IsUtf8, length, map, take, get_or, unwrap_or, refl, sym, ap, subst, arith, codes}
 use Rattle.std.proofs.lemmas.List.{get_or_default, length-map, map-append, take_more}
-use Rattle.std.proofs.lemmas.Option.{slice_get-map, slice_get-get_or}
+use Rattle.std.proofs.lemmas.Option.{slice_get-map, slice_get-get_or, same_Some}
 use Rattle.std.specs.Borrow.{Bor}
 use Rattle.std.specs.List.{AllByRecursion, AllZip, Contains, slice_get}
 use Rattle.city_json.proofs.CompactLaws.{compact-tells}
 use Rattle.city_json.specs.Compact.{quoted}
 use Rattle.city_json.specs.Members.{member_of, names}
-use Rattle.city_json.specs.Parts.{AreParts}
 use Rattle.city_json.specs.Tree.{Tree, null, boolean, number, string, array, object, no_items, member_trees}
 use Rattle.city_json.specs.Writable.{AreWritableMembers}
-use Rattle.city_json.specs.declared.compacting.places.MemberPlace.{MemberPlace}
 use Rattle.city_feature.specs.Shapes.{WhereThere}
 use Rattle.city_families.specs.Chosen.{named_at}
 use Rattle.city_families.specs.CityObjects.{AreCityObjects, AreTexts, children, has_parents}
 use Rattle.city_families.specs.Families.{AreRelated}
+use Rattle.cut_on_text.specs.PlacedObjects.{AreObjects, PlacedObjects}
 use Rattle.cut_on_text.specs.Graphs.{HasRow, HaveRows, NamesMissing, SomeNamesMissing}
 use Rattle.city_families.specs.Items.{item_list, items_of, values}
 use Rattle.cut_on_text.specs.Kin.{AreQuoted, HasChildrenText, HasParents, IsQuoted}
 use Rattle.cut_on_text.specs.Overviews.{HasChildrenIn, HasParentsIn}
 use Rattle.city_families.specs.Places.{ArePlaced}
 use Rattle.city_families.specs.Table.{IsTable}
-use Rattle.city_json.specs.CompactTexts.{IsCompactOf}
 use Rattle.city_families.proofs.FeatureList.{zip_long}
 use Rattle.city_families.proofs.Kinship.{names_pairs, placed_more}
 use Rattle.cut_on_text.proofs.TextNames.{are_texts}
 use Rattle.cut_on_text.proofs.TextOverviews.{said_all}
 use Rattle.city_families.proofs.Seeking.{zip_push}
-
-some_same : {A : Type 0} (x y : A) → Some x ≡ Some y → x ≡ y
-some_same x y e = cc
 
 string_same : (a b : List ℕ) → string a ≡ string b → a ≡ b
 string_same a b same = ap content same
@@ -71,7 +66,7 @@ name_at_place [] b quotes utf8 is = cc
 name_at_place (n ∷ ns) zero quotes utf8 is = record {
   name = n;
   is_there = refl;
-  is_text = sym (some_same (quoted n) quotes is);
+  is_text = sym (same_Some (quoted n) quotes is);
   utf8 = utf8.0;
 }
 name_at_place (n ∷ ns) (suc b) quotes utf8 is =
@@ -257,8 +252,8 @@ rows_at all [] [] zip a row value here there = cc
 rows_at all [] (p ∷ ps) zip a row value here there = absurd zip
 rows_at all (r ∷ rs) [] zip a row value here there = absurd zip
 rows_at all (r ∷ rs) (p ∷ ps) zip zero row value here there =
-    subst (λ (v : List ℕ). ArePlaced all (children value) v) (some_same r row here)
-    (subst (λ v. ArePlaced all (children v) r) (some_same p.1 value there) zip.0.1)
+    subst (λ (v : List ℕ). ArePlaced all (children value) v) (same_Some r row here)
+    (subst (λ v. ArePlaced all (children v) r) (same_Some p.1 value there) zip.0.1)
 rows_at all (r ∷ rs) (p ∷ ps) zip (suc a) row value here there = rows_at all rs ps zip.1 a row value here there
 
 city_objects_are : (all : List (List ℕ)) (parents : List Bool) (graph : List (List ℕ))
@@ -284,20 +279,22 @@ names_utf8 [] w = tt
 names_utf8 (p ∷ ps) w = (w.0, names_utf8 ps w.2)
 
 -- the objects have these children, and of them these have parents
-pub related : (text : List ℕ) (places : List MemberPlace) (parents : List Bool) (given lent : List (Bor (List ℕ)))
+pub related : (objects : PlacedObjects) (parents : List Bool) (given lent : List (Bor (List ℕ)))
     (graph : List (List ℕ)) (table : List (Bor (List ℕ) × ℕ))
-    → AllZip (HasParentsIn text) places parents → AllZip (HasChildrenIn text) places given → lent ≡ given
-    → ((pairs : List (List ℕ × Tree)) → IsCompactOf text (object (member_trees pairs))
-    → AreParts 1 places (member_trees pairs) → IsTable (map (λ (pair : List ℕ × Tree). quoted pair.0) pairs) table)
+    → AllZip (HasParentsIn objects.text) objects.places parents → AllZip (HasChildrenIn objects.text) objects.places given
+    → lent ≡ given
+    → ((pairs : List (List ℕ × Tree)) → AreObjects objects pairs
+    → IsTable (map (λ (pair : List ℕ × Tree). quoted pair.0) pairs) table)
     → ((all : List (List ℕ)) → AllByRecursion IsUtf8 all → IsTable (map quoted all) table → HaveRows all lent graph)
-    → (pairs : List (List ℕ × Tree)) → IsCompactOf text (object (member_trees pairs))
-    → AreParts 1 places (member_trees pairs) → AreRelated pairs graph parents × AreCityObjects (member_trees pairs)
-related text places parents given lent graph table in_parts texts same tabled rows pairs of are =
+    → (pairs : List (List ℕ × Tree)) → AreObjects objects pairs
+    → AreRelated pairs graph parents × AreCityObjects (member_trees pairs)
+related objects parents given lent graph table in_parts texts same tabled rows pairs are =
+    let (of, listed) = are in
     let all = names (member_trees pairs) in
-    let said = said_all HasParents text places parents pairs in_parts of are in
-    let found = rows_are all given graph pairs (said_all HasChildrenText text places given pairs texts of are)
+    let said = said_all HasParents objects.text objects.places parents pairs in_parts of listed in
+    let found = rows_are all given graph pairs (said_all HasChildrenText objects.text objects.places given pairs texts of listed)
     (subst (λ l. HaveRows all l graph) same (rows all (names_utf8 pairs of.writable)
-    (subst (λ l. IsTable l table) (quoted_names pairs) (tabled pairs of are)))) in (
+    (subst (λ l. IsTable l table) (quoted_names pairs) (tabled pairs are)))) in (
       record {
         differ = of.distinct.0;
         linked = record {

@@ -1,5 +1,6 @@
 -- The members of an object that lie in its compact text, and how they are exchanged.
 use Rattle.std.proofs.Common.{◌≡◌, ◌∙◌, ◌++◌, ◌≤◌, ◌-◌, ℕ, List, [], Option, Some, None, OnSome, bytes_eq, length, take, drop, slice_range, refl, sym, ap, subst, arith, append_assoc, append-nil, length-append, length-drop, inl, inr}
+use Rattle.std.proofs.lemmas.Option.{same_Some}
 use Rattle.std.proofs.lemmas.Bool.{cases_Bool}
 use Rattle.std.proofs.lemmas.List.{take_at}
 use Rattle.std.proofs.lemmas.Slice.Eq.{bytes_eq-Decides}
@@ -45,24 +46,18 @@ changed_with name f value (member other v others) differ is = elim (cases_Bool (
   | inl e ↦ let same : other ≡ name = (bytes_eq-Decides other name).0 e in
       let none : first_named name others ≡ None =
       new_none name others (subst (λ n. IsNewName n others) same differ.0) in
-      rw e (ap (λ t. member other (f t) (changed_members name f others)) (some_same (rw e at is))
+      rw e (ap (λ t. member other (f t) (changed_members name f others)) (same_Some _ _ (rw e at is))
       ∙ ap (member other (f value)) (changed_absent name f others none))
   | inr e ↦ rw e (ap (member other v) ((changed_with name f value others differ.1) (rw e at is)))
 ]
-  where
-    some_same : Some v ≡ Some value → v ≡ value
-    some_same e = cc
 
 pub with_same : (name : List ℕ) (value : Tree) (members : MemberTrees) → first_named name members ≡ Some value
     → with_named name value members ≡ members
 with_same name value no_members is = cc
 with_same name value (member other v others) is = elim (cases_Bool (bytes_eq other name)) [
-  | inl e ↦ rw e (ap (λ t. member other t others) (sym (some_same (rw e at is))))
+  | inl e ↦ rw e (ap (λ t. member other t others) (sym (same_Some _ _ (rw e at is))))
   | inr e ↦ rw e (ap (member other v) ((with_same name value others) (rw e at is)))
 ]
-  where
-    some_same : Some v ≡ Some value → v ≡ value
-    some_same e = cc
 
 -- ---- the text around a member, and its value between
 pub walks_exchanged : {S : Type 0} {L : Labelling S} (s : S) (line line₁ : List ℕ) (s' : S)

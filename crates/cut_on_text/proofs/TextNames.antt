@@ -1,12 +1,12 @@
 -- The texts in an array, found in its compact text, and what they tell of a city object.
-use Rattle.std.proofs.Common.{◌≡◌, ◌∙◌, ◌++◌, ◌<◌, ◌≤◌, ◌+◌, ℕ, suc, Bool, true, false, List, [], ◌∷◌, Option, Some, None, length, drop, get_or, slice_range, unwrap_or, refl, sym, ap, subst, arith, rules, codes, append_assoc}
+use Rattle.std.proofs.Common.{◌≡◌, ◌∙◌, ◌++◌, ◌<◌, ◌≤◌, ◌+◌, ℕ, suc, Bool, false, List, [], ◌∷◌, Option, Some, None, length, drop, get_or, slice_range, unwrap_or, refl, sym, ap, subst, arith, rules, codes, append_assoc}
 use Rattle.std.specs.Borrow.{Bor}
 use Rattle.std.specs.List.{AllZip, flat_map}
 use Rattle.std.specs.Prelude.{nat_eq, not}
-use Rattle.city_json.proofs.CompactEnds.{items_some, number_other, other_head}
+use Rattle.city_json.proofs.CompactEnds.{items_some, other_head, text_front}
 use Rattle.city_json.proofs.Places.{drop_one}
 use Rattle.city_json.proofs.StringEnds.{others_same}
-use Rattle.city_json.specs.Bytes.{comma, close_bracket, open_bracket, open_brace, quotation_mark}
+use Rattle.city_json.specs.Bytes.{comma, close_bracket, quotation_mark}
 use Rattle.city_json.specs.Compact.{compact, compact_items, compact_more_items, quoted, written}
 use Rattle.city_json.specs.CompactEnds.{LeavesString}
 use Rattle.city_json.specs.Members.{first_named}
@@ -57,42 +57,26 @@ pub record TextTaken (after : List ℕ) (first : Tree) (others : ItemTrees) (one
   pub is_quoted : IsQuoted one first
   pub is_after : after ≡ compact_more_items others ++ close_bracket ∷ []
 
-content_first : (text more end : List ℕ) → ((flat_map written text ++ quotation_mark ∷ []) ++ more) ++ end
-    ≡ flat_map written text ++ quotation_mark ∷ (more ++ end)
-content_first text more end = simp append_assoc
-
 pub text_taken : (text : List ℕ) (at end : ℕ) (first : Tree) (others : ItemTrees) (one : Bor (List ℕ))
     → at < length text → get_or text at 0 ≡ quotation_mark → at + 1 ≤ end → end ≤ length text
     → LeavesString (drop (at + 1) text) (drop end text) → one.now ≡ slice_range text at end → IsWritable first
     → drop at text ≡ compact_items (item first others) ++ close_bracket ∷ []
     → TextTaken (drop end text) first others one
-text_taken text at end null others one inside mark onward within leaves lies w is =
-    absurd (other_head 110 quotation_mark _ _ (omega arith) (sym is ∙ drop_one text at quotation_mark inside mark))
-text_taken text at end (boolean true) others one inside mark onward within leaves lies w is =
-    absurd (other_head 116 quotation_mark _ _ (omega arith) (sym is ∙ drop_one text at quotation_mark inside mark))
-text_taken text at end (boolean false) others one inside mark onward within leaves lies w is =
-    absurd (other_head 102 quotation_mark _ _ (omega arith) (sym is ∙ drop_one text at quotation_mark inside mark))
-text_taken text at end (number digits) others one inside mark onward within leaves lies w is =
-    absurd (number_other digits (compact_more_items others ++ close_bracket ∷ []) _ quotation_mark w refl
-    (sym (is ∙ append_assoc digits (compact_more_items others) (close_bracket ∷ []))
-    ∙ drop_one text at quotation_mark inside mark))
-text_taken text at end (array items) others one inside mark onward within leaves lies w is =
-    absurd (other_head open_bracket quotation_mark _ _ (omega arith)
-    (sym is ∙ drop_one text at quotation_mark inside mark))
-text_taken text at end (object members) others one inside mark onward within leaves lies w is =
-    absurd (other_head open_brace quotation_mark _ _ (omega arith)
-    (sym is ∙ drop_one text at quotation_mark inside mark))
-text_taken text at end (string content) others one inside mark onward within leaves lies w is =
+text_taken text at end first others one inside mark onward within leaves lies w is =
     let left : List ℕ = compact_more_items others ++ close_bracket ∷ [] in
-    let inner = others_same _ _ _ _ (sym (drop_one text at quotation_mark inside mark) ∙ is) in
+    let here : drop at text ≡ compact first ++ left = is
+    ∙ append_assoc (compact first) (compact_more_items others) (close_bracket ∷ []) in
+    let (content, same) = text_front first left (drop (at + 1) text) w
+    (sym here ∙ drop_one text at quotation_mark inside mark) in
+    let there : drop at text ≡ quoted content ++ left = here ∙ ap (λ v. compact v ++ left) same in
     let after : drop end text ≡ left = leaves content left
-    (inner ∙ content_first content (compact_more_items others) (close_bracket ∷ [])) in
+    (others_same _ _ _ _ (sym (drop_one text at quotation_mark inside mark) ∙ there)
+    ∙ append_assoc (flat_map written content) (quotation_mark ∷ []) left) in
     record {
-      is_quoted = (
+      is_quoted = subst (IsQuoted one) (sym same) (
         lies ∙ slice_first text (quoted content) at end (omega (arith, onward)) within
-            (is ∙ (append_assoc (quoted content) (compact_more_items others) (close_bracket ∷ [])
-            ∙ ap (λ l. quoted content ++ l) (sym after))),
-        w,
+            (there ∙ ap (λ l. quoted content ++ l) (sym after)),
+        subst IsWritable same w,
       );
       is_after = after;
     }

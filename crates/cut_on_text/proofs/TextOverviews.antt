@@ -1,5 +1,6 @@
 -- What is looked at of each city object.
 use Rattle.std.proofs.Common.{◌≡◌, ◌∙◌, ◌++◌, ◌<◌, ℕ, suc, List, [], ◌∷◌, get_or, length, slice_range, refl, ap, sym, subst, arith}
+use Rattle.city_json.proofs.NamedMembers.{some_part}
 use Rattle.std.specs.List.{AllZip}
 use Rattle.city_json.specs.CompactMembers.{HasParts}
 use Rattle.city_json.specs.Parts.{AreParts}
@@ -66,10 +67,6 @@ zip_from R (x ∷ xs) (y ∷ ys) e long each = (
   each 0 x (omega arith),
   zip_from R xs ys e (omega (arith, long)) (λ i d within. each (suc i) d (omega (arith, within))),
 )
-
-some_part : (parts : List MemberPlace) (k : ℕ) → k < length parts → MemberPlace
-some_part [] k within = absurd (omega (arith, within))
-some_part (p ∷ ps) k within = p
 
 said_there : {A : Type 0} (R : Tree → A → Type 0) (text : List ℕ) (places : List MemberPlace) (found : List A)
     (pairs : List (List ℕ × Tree)) (i : ℕ) (d : A)

@@ -1,8 +1,8 @@
 -- Triples of whole numbers in their compact text are vertices, and closing brackets tell where they begin.
-use Rattle.std.proofs.Common.{◌≡◌, ◌⊎◌, ◌≢◌, ◌∙◌, ◌++◌, ◌<◌, ◌≤◌, ◌+◌, ◌-◌, ◌/◌, ◌^◌, ℕ, zero, suc, false, not, cond, List, [], ◌∷◌, All, map, length, take, drop, get_or, slice_range, slice_index, refl, sym, ap, subst, arith, append_assoc, append-nil, length-append, length-drop, inl, inr}
+use Rattle.std.proofs.Common.{◌≡◌, ◌⊎◌, ◌≢◌, ◌∙◌, ◌++◌, ◌<◌, ◌≤◌, ◌+◌, ◌-◌, ◌/◌, ◌^◌, ℕ, zero, suc, false, not, cond, List, [], ◌∷◌, All, map, length, take, drop, get_or, slice_range, slice_index, refl, sym, ap, subst, arith, append_assoc, append-nil, length-append, inl, inr}
 use Rattle.std.proofs.lemmas.Bool.{cases_Bool, cond-true, cond-false}
 use Rattle.std.proofs.lemmas.Bool.Decides.{nat_tests}
-use Rattle.std.proofs.lemmas.List.{drop-drop, drop-take, length-take-le}
+use Rattle.std.proofs.lemmas.List.{drop-drop, drop-take}
 use Rattle.std.proofs.lemmas.List.Edits.{between_none}
 use Rattle.std.proofs.lemmas.Simd.{trailing_mask_l}
 use Rattle.std.proofs.lemmas.Str.Parse.{digit_from_value}
@@ -26,6 +26,7 @@ use Rattle.city_families.specs.Chosen.{point_at}
 use Rattle.cut_on_text.specs.TripleStarts.{IsTriplesArray, is_close, starts_behind}
 use Rattle.cut_on_text.specs.VertexTexts.{StandAt}
 use Rattle.cut_on_text.proofs.TextPoints.{trees_of}
+use Rattle.city_json.proofs.Triples.{slice_length}
 
 -- ---- the first closing bracket of a block
 abbrev open_len : List ℕ → ℕ
@@ -69,9 +70,6 @@ none_close at (b ∷ bs) none = elim (cases_Bool (is_close b)) [
       let down : ◌≡◌ {A = ℕ} (cond (is_close b) 1 0) 0 = cond-false (is_close b) 1 0 clear in
       cond-false (is_close b) _ _ clear ∙ none_close (at + 1) bs (omega (arith, down, none))
 ]
-
-slice_length : (text : List ℕ) (at end : ℕ) → end ≤ length text → length (slice_range text at end) ≡ end - at
-slice_length text at end within = length-take-le (end - at) (drop at text) (omega (arith, length-drop at text))
 
 -- the rest of a block is gone through from one closing bracket to the next
 pub record IsPlace (text : List ℕ) (end marks place : ℕ) (starts all : List ℕ) : Type 0 where

@@ -1,10 +1,10 @@
 -- Two members of an object that get other values, in the object's compact text.
 use Rattle.std.proofs.Common.{◌≡◌, ◌∙◌, ◌++◌, ◌<◌, ◌≤◌, ◌+◌, ◌-◌, ℕ, zero, suc, Bool, true, false, if◌then◌else◌, List, [], ◌∷◌, Some, IsUtf8, bytes_eq, length, take, drop, get_or, slice_range, refl, sym, ap, subst, arith, inl, inr}
+use Rattle.std.proofs.lemmas.Option.{same_Some}
 use Rattle.std.proofs.lemmas.List.{drop-append-le, get_or_default, drop-take, length-take-le, take-append-le, take-append-drop}
 use Rattle.std.proofs.Math.Dec.{ltb}
 use Rattle.std.proofs.lemmas.Bool.{cases_Bool, ltb-false, ltb-true}
 use Rattle.std.proofs.lemmas.Slice.Eq.{bytes_eq-Decides}
-use Rattle.city_json.proofs.MemberPlaces.{member_in_part}
 use Rattle.city_json.proofs.Replacing.{replaced_text}
 use Rattle.city_json.specs.Bytes.{colon, open_brace, close_brace}
 use Rattle.city_json.specs.Compact.{compact, quoted}
@@ -13,7 +13,7 @@ use Rattle.city_json.specs.Members.{first_named}
 use Rattle.city_json.specs.Parts.{AreParts, HasMember, replaced, with_value, IsPartNamed}
 use Rattle.city_json.specs.Tree.{Tree, MemberTrees, no_members, member, object}
 use Rattle.city_json.specs.declared.compacting.places.MemberPlace.{MemberPlace}
-use Rattle.city_json.proofs.NamedMembers.{first_at, parts_in_text, parts_within, same_name, writable_at}
+use Rattle.city_json.proofs.NamedMembers.{first_at, member_lies, parts_in_text, parts_within}
 use Rattle.city_feature.proofs.LineTexts.{replaced_at}
 use Rattle.city_families.specs.Boundaries.{changed_members}
 use Rattle.city_json.specs.CompactTexts.{IsCompactOf}
@@ -170,23 +170,14 @@ changed_either n m f g (member other v o) apart apart₂ =
     by false true e e₂ later = rw (e, e₂) (ap (member other (g v)) later)
     by false false e e₂ later = rw (e, e₂) (ap (member other v) later)
 
-some_same : (v w : Tree) → Some v ≡ Some w → v ≡ w
-some_same v w e = cc
-
 has_named : (text : List ℕ) (parts : List MemberPlace) (members : MemberTrees) (name : List ℕ) (part : MemberPlace) (value : Tree)
     → IsUtf8 name → IsCompactOf text (object members) → AreParts 1 parts members
     → (here : IsPartNamed text parts (quoted name ++ colon ∷ []) part) → first_named name members ≡ Some value
     → HasMember here.place name value members
 has_named text parts members name part value utf8 of are here is =
-    let k = here.place in
-    let lies = member_in_part members (open_brace ∷ []) (close_brace ∷ []) parts k part are here.within in
-    let named : quoted lies.name ++ colon ∷ [] ≡ quoted name ++ colon ∷ [] = sym lies.named
-    ∙ (ap (λ (p : MemberPlace). slice_range (compact (object members)) p.at p.value) here.is
-    ∙ (ap (λ l. slice_range l part.at part.value) (sym of.is) ∙ here.named)) in
-    let same = same_name lies.name name (writable_at k lies.name lies.value members of.writable lies.has).0 utf8 named in
-    let has : HasMember k name lies.value members = subst (λ n. HasMember k n lies.value members) same lies.has in
-    subst (λ v. HasMember k name v members) (some_same lies.value value
-    (sym (first_at k name lies.value members of.distinct.0 has) ∙ is)) has
+    let (found, writable, valued, has) = member_lies text parts members name part utf8 of are here in
+    subst (λ v. HasMember here.place name v members)
+    (same_Some found value (sym (first_at here.place name found members of.distinct.0 has) ∙ is)) has
 
 -- the place of the one comes first
 comes_first : (j k : ℕ) (p q : MemberPlace) (parts : List MemberPlace) (members : MemberTrees) → AreParts 1 parts members

@@ -17,7 +17,7 @@ use Rattle.cut_on_text.specs.Rosters.{RosterState}
 use Rattle.cut_on_text.specs.Skeletons.{LeafPlace, uses_at, woven}
 use Rattle.cut_on_text.specs.Written.{Writes, Wrote, WroteSince}
 
-pub front_of : (count : ℕ) (front back : List ℕ) → (n : ℕ) × (take n (front ++ back) ≡ take count front)
+front_of : (count : ℕ) (front back : List ℕ) → (n : ℕ) × (take n (front ++ back) ≡ take count front)
 front_of count front back = by (cases_lt (length front) count)
   where
     by : (length front < count) ⊎ (count ≤ length front) → (n : ℕ) × (take n (front ++ back) ≡ take count front)

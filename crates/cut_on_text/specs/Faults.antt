@@ -3,10 +3,8 @@ use Rattle.std.specs.Prelude.{◌≡◌, ℕ, List}
 use Rattle.std.specs.List.{AllByRecursion}
 use Rattle.byte_streams.specs.declared.fault.Fault.{Fault}
 use Rattle.byte_streams.specs.declared.fault.Fault.TheVariants.{ChildMissing, Orphan, BoundaryIndex}
-use Rattle.city_json.specs.CompactTexts.{IsCompactOf}
-use Rattle.city_json.specs.Parts.{AreParts}
 use Rattle.city_json.specs.Tree.{Tree, MemberTrees, member_trees, object}
-use Rattle.city_json.specs.declared.compacting.places.MemberPlace.{MemberPlace}
+use Rattle.cut_on_text.specs.PlacedObjects.{AreObjects, PlacedObjects}
 use Rattle.city_families.specs.Boundaries.{IsBounded}
 use Rattle.city_families.specs.CityObjects.{AreCityObjects, HasOrphan, LacksChild}
 use Rattle.city_families.specs.Items.{values}
@@ -23,7 +21,7 @@ RefusesObjects BoundaryIndex count objects =
     (¬ LacksChild objects) × (¬ HasOrphan objects) × ¬ AllByRecursion (IsBounded count) (values objects)
 RefusesObjects other count objects = ⊥
 
--- so are the objects that lie in these parts of a text, of however many vertices
-abbrev pub RefusesKin : List ℕ → List MemberPlace → Fault → Type 0
-RefusesKin text places fault = (count : ℕ) (pairs : List (List ℕ × Tree)) → IsCompactOf text (object (member_trees pairs))
-    → AreParts 1 places (member_trees pairs) → RefusesObjects fault count (member_trees pairs)
+-- so are these objects, of however many vertices
+abbrev pub RefusesKin : PlacedObjects → Fault → Type 0
+RefusesKin objects fault = (count : ℕ) (pairs : List (List ℕ × Tree)) → AreObjects objects pairs
+    → RefusesObjects fault count (member_trees pairs)

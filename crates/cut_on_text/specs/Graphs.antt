@@ -2,9 +2,8 @@
 use Rattle.std.specs.Prelude.{◌≡◌, ℕ, Bool, List, Some, Contains, length}
 use Rattle.std.specs.Borrow.{Bor}
 use Rattle.std.specs.List.{AllZip}
-use Rattle.city_json.specs.Parts.{AreParts}
-use Rattle.city_json.specs.Tree.{Tree, member_trees, object, string}
-use Rattle.city_json.specs.declared.compacting.places.MemberPlace.{MemberPlace}
+use Rattle.city_json.specs.Tree.{Tree, member_trees, string}
+use Rattle.cut_on_text.specs.PlacedObjects.{AreObjects, PlacedObjects}
 use Rattle.city_families.specs.CityObjects.{AllBelong, AreCityObjects, AreTexts, LacksChild}
 use Rattle.city_families.specs.Families.{AreRelated}
 use Rattle.city_families.specs.Items.{items_of}
@@ -30,12 +29,10 @@ NamesMissing names text = (value : Tree) → IsCompactOf text value
 abbrev pub SomeNamesMissing : List (List ℕ) → List (Bor (List ℕ)) → Type 0
 SomeNamesMissing names texts = (text : Bor (List ℕ)) × Contains texts text × NamesMissing names text.now
 
--- of the objects that lie in these parts of a text, the places of their children, and whether each has parents; each is in
--- a family
-pub record AreKin (text : List ℕ) (places : List MemberPlace) (children : List (List ℕ)) (parents : List Bool) : Type 0 where
+-- of these objects, the places of their children, and whether each has parents; each is in a family
+pub record AreKin (objects : PlacedObjects) (children : List (List ℕ)) (parents : List Bool) : Type 0 where
   pub range : InRange children (length children)
   pub long : length parents ≡ length children
-  pub related : (pairs : List (List ℕ × Tree)) → IsCompactOf text (object (member_trees pairs))
-      → AreParts 1 places (member_trees pairs)
+  pub related : (pairs : List (List ℕ × Tree)) → AreObjects objects pairs
       → AreCityObjects (member_trees pairs) × (¬ LacksChild (member_trees pairs)) × AllBelong (member_trees pairs)
       × AreRelated pairs children parents

@@ -11,6 +11,7 @@ pub mod NumberWalks
 pub mod Overviews
 pub mod OwnFeatures
 pub mod OwnTexts
+pub mod PlacedObjects
 pub mod Rosters
 pub mod Skeletons
 pub mod Sketches

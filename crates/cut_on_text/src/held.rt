@@ -317,16 +317,11 @@ impl FeatureTexts {
 
     /// How many texts there are.
     pub fn len(&self) -> usize
-        ensures { result ≡ length self.now.own }
-    {
-        self.own.len()
-    }
-
-    /// Tells a proof that a count of the texts does not run over, and does nothing.
-    pub fn known(&self)
-        ensures { length self.now.own < 2 ^ 63 }
+        ensures count { result ≡ length self.now.own }
+        ensures few { result < 2 ^ 63 }
     {
         self.own.known();
+        self.own.len()
     }
 
     /// Whether the texts are made when they are asked for.
@@ -402,25 +397,5 @@ impl FeatureTexts {
         ensures same { self.new ≡ self.old }
     {
         self.own.append(alloc, at, line)
-    }
-
-    /// Appends the text at a place. The only fault is [`Fault::Memory`], after which some first bytes of the text may have
-    /// been appended.
-    pub fn append_to(&mut self, alloc: Global, at: usize, line: &mut Line) -> Result<(), Fault>
-        requires { at < length self.old.own }
-        ensures ok { OnOk result (line.new ≡ line.old ++ (get_or self.old.own at [] ++ self.old.common)) }
-        ensures some { OnErr result ((count : ℕ)
-            × (line.new ≡ line.old ++ take count (get_or self.old.own at [] ++ self.old.common))) }
-        ensures fault { IfErr result (λ fault. fault ≡ Fault.Memory) }
-        ensures same { self.new ≡ self.old }
-    {
-        match self.append_own(alloc, at, line) {
-            Ok(()) => {}
-            Err(fault) => return Err(fault),
-        }
-        match append_held(self.common(), line) {
-            Ok(()) => return Ok(()),
-            Err(fault) => return Err(fault),
-        }
     }
 }

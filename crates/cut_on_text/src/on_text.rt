@@ -4,8 +4,9 @@
 //! the document is cut by its value.
 
 mod bounds;
+mod city_objects;
 mod drafts;
-pub(crate) mod faults;
+mod faults;
 mod features;
 mod graph;
 mod headers;
@@ -26,22 +27,21 @@ mod skeletons;
 mod texts;
 pub(crate) mod triples;
 
-ghost use Rattle.std.specs.Prelude.{◌≡◌, ◌<◌, ◌^◌, ℕ, List, Option, IfSome, Some, Contains, codes, length, unwrap_or};
+ghost use Rattle.std.specs.Prelude.{◌≡◌, ◌≢◌, ◌<◌, ◌^◌, ℕ, List, Option, IfErr, IfOk, IfSome, Some, Contains, codes, length};
 ghost use Rattle.city_json.specs.Members.{first_named};
-ghost use Rattle.city_json.specs.Parts.{AreParts};
 ghost use Rattle.city_json.specs.Triples.{HasTriples};
 ghost use Rattle.city_json.specs.ObjectTexts.{IsPlacedObject, members_of, object_of};
-ghost use Rattle.city_json.specs.Tree.{MemberTrees, Tree, array, member_trees, no_items, object};
+ghost use Rattle.city_json.specs.Tree.{MemberTrees, Tree, member_trees, object};
 ghost use Rattle.city_grid.specs.Axes.{Triple};
 ghost use Rattle.city_feature.specs.Feature.{FeatureValue};
 ghost use Rattle.city_feature.specs.Values.{header_value};
 ghost use Rattle.city_families.specs.Boundaries.{IsBounded};
 ghost use Rattle.city_families.specs.CityObjects.{AllBelong, AreCityObjects, IsReached, LacksChild, roots};
-ghost use Rattle.city_families.specs.Cut.{AreFeatures, IsCut, IsCuttable};
+ghost use Rattle.city_families.specs.Cut.{AreFeatures, IsCut, IsCuttable, RefusesCut};
 ghost use Rattle.city_families.specs.Families.{AreRelated};
 ghost use Rattle.cut_on_text.specs.FeatureText.{IsTail, tail_text};
 ghost use Rattle.city_families.specs.HeldTexts.{AreOwnParts, texts_in};
-ghost use Rattle.cut_on_text.specs.Overviews.{AreHolders};
+ghost use Rattle.cut_on_text.specs.PlacedObjects.{AreObjects};
 ghost use Rattle.cut_on_text.specs.OwnFeatures.{AreOwnTexts};
 ghost use Rattle.city_families.specs.Search.{InRange};
 ghost use Rattle.city_families.specs.Lines.{texts_of};
@@ -50,21 +50,21 @@ ghost use Rattle.cut_on_text.specs.VertexTexts.{HasPoints, HoldVertices, StandAt
 
 use crate::cuts::CutTexts;
 use crate::held::FeatureTexts;
-use byte_streams::Line;
+use byte_streams::{Fault, Line};
 use city_families::Kin;
 use city_feature::is_array;
 use city_json::{ObjectText, Span};
+use city_objects::CityObjects;
+use faults::cut_fault;
 use features::{are_short, feature_texts};
 use graph::kin_of;
 use headers::header_of;
-use holders::ShortHeld;
 use made::MadeTexts;
 use overview::{Overview, overview_of};
 use points::{VertexTexts, Vertices, written_vertices};
-use short_parts::ShortPart;
 use skeletons::skeletons_of;
 use std::alloc::Global;
-use texts::append_text;
+use texts::{append_text, objects_text, vertices_text};
 use triples::{starts_of_triples, triples_text};
 
 /// Tells a proof that the document's text is compact, and does nothing.
@@ -80,7 +80,7 @@ fn tail_of(alloc: Global, document: &ObjectText<'_>) -> Option<Line>
     ensures { IfSome result (λ tail. tail ≡ tail_text (first_named (codes "appearance") (members_of document.now))) }
 {
     let mut tail = Line::new(alloc);
-    let Some(appearance) = document.value(b"\"appearance\":") else {
+    let Some(appearance) = document.value(4, b"\"appearance\":") else {
         append_text(b"}", &mut tail)?;
         return Some(tail);
     };
@@ -90,65 +90,53 @@ fn tail_of(alloc: Global, document: &ObjectText<'_>) -> Option<Line>
     Some(tail)
 }
 
-/// The text of the document's vertices, of which there may be none.
-fn vertices_text<'a>(document: &'a ObjectText<'_>) -> &'a [u8]
-    ensures { IsCompactOf result.now
-        (unwrap_or (first_named (codes "vertices") (members_of document.now)) (array no_items)) }
-{
-    document.value_or(b"\"vertices\":", b"[]")
-}
-
 /// What the texts of the features have of their own that the families of the objects are, made when they are asked for.
 /// `None`: undecided.
 fn made_texts(
     alloc: Global,
-    text: &[u8],
-    places: Vec<ShortPart>,
-    held: Vec<ShortHeld>,
+    objects: CityObjects<'_>,
     vertices: &VertexTexts<'_>,
     kin: Kin,
 ) -> Option<MadeTexts>
-    requires holders { AreHolders text.now places.items held.items }
-    requires places { length kin.children ≡ length places.items }
+    requires places { length kin.children ≡ length objects.places }
     requires graph { InRange kin.children (length kin.children) }
     requires parents { length kin.parents.items ≡ length kin.children }
-    requires objects { (pairs : List (List ℕ × Tree)) × IsCompactOf text.now (object (member_trees pairs))
-        × AreParts 1 places.items (member_trees pairs) × AreRelated pairs kin.children kin.parents.items }
+    requires objects { (pairs : List (List ℕ × Tree)) × AreObjects objects pairs
+        × AreRelated pairs kin.children kin.parents.items }
     requires vertices { HoldVertices vertices.now.text.now vertices.now.starts.items }
     ensures { IfSome result (λ own. (pairs : List (List ℕ × Tree)) (appearance : Option Tree) (points : List Triple)
         → StandAt vertices.now.text.now vertices.now.starts.items points
-        → IsCompactOf text.now (object (member_trees pairs)) → AreParts 1 places.items (member_trees pairs)
+        → AreObjects objects.entry pairs
         → AreRelated pairs kin.children kin.parents.items
         → AreOwnTexts (member_trees pairs) appearance points own) }
 {
     let count = vertices.starts.len().saturating_sub(1);
-    let skeletons = skeletons_of(alloc, text, &places, &held, count)?;
-    drop(places);
-    drop(held);
+    let skeletons = skeletons_of(alloc, &objects, count)?;
+    drop(objects);
     MadeTexts::new(alloc, skeletons, vertices, kin)
 }
 
 /// Whether the texts of the features may be held: no object stands in two of them, and what they have beside their
 /// objects is not the most of them.
-fn can_be_held(text: &[u8], places: &[ShortPart], vertices: &VertexTexts<'_>, kin: &Kin) -> bool {
+fn can_be_held(objects: &CityObjects<'_>, vertices: &VertexTexts<'_>, kin: &Kin) -> bool {
     if kin.meets {
         return false;
     }
-    !are_short(text, places, vertices)
+    !are_short(objects, vertices)
 }
 
 /// The texts of the features of the city objects whose compact text this is, on these vertices. Each ends in `tail`.
 fn texts_on(
     alloc: Global,
-    objects: &[u8],
+    text: &[u8],
     vertices: &VertexTexts<'_>,
     tail: Line,
 ) -> Option<FeatureTexts>
-    requires objects { (value : Tree) × IsCompactOf objects.now value }
+    requires objects { (value : Tree) × IsCompactOf text.now value }
     requires vertices { HoldVertices vertices.now.text.now vertices.now.starts.items }
     requires tail { IsTail tail }
     ensures texts { IfSome result (λ texts. (value : Tree) (appearance : Option Tree) (points : List Triple)
-        → IsCompactOf objects.now value → StandAt vertices.now.text.now vertices.now.starts.items points
+        → IsCompactOf text.now value → StandAt vertices.now.text.now vertices.now.starts.items points
         → tail ≡ tail_text appearance
         → (members : MemberTrees) × (value ≡ object members)
         × AreCityObjects members
@@ -166,16 +154,17 @@ fn texts_on(
         parents,
         children,
         held,
-    } = overview_of(alloc, objects)?;
-    let Ok(kin) = kin_of(alloc, objects, &places, parents, children)? else {
+    } = overview_of(alloc, text)?;
+    let objects = CityObjects::new(text, places, held);
+    let Ok(kin) = kin_of(alloc, &objects, parents, children)? else {
         return None;
     };
-    if can_be_held(objects, &places, vertices, &kin) {
-        if let Some(own) = feature_texts(alloc, objects, &places, &held, vertices, &kin)? {
+    if can_be_held(&objects, vertices, &kin) {
+        if let Some(own) = feature_texts(alloc, &objects, vertices, &kin)? {
             return Some(FeatureTexts::new(own, tail));
         }
     }
-    let own = made_texts(alloc, objects, places, held, vertices, kin)?;
+    let own = made_texts(alloc, objects, vertices, kin)?;
     Some(FeatureTexts::made(own, tail))
 }
 
@@ -190,16 +179,15 @@ fn cut_on(alloc: Global, document: &ObjectText<'_>, vertices: &VertexTexts<'_>) 
         × (texts_in cut.texts ≡ texts_of features)) }
 {
     known(document);
-    let objects = document.value_or(b"\"CityObjects\":", b"{}");
+    let objects = objects_text(document);
     let tail = tail_of(alloc, document)?;
     let header = header_of(alloc, document)?;
     let texts = texts_on(alloc, objects, vertices, tail)?;
     Some(CutTexts { header, texts })
 }
 
-/// Cuts the document whose compact text this is, in which triples of whole numbers may be known to stand, both as
-/// [`city_json::compact_object`] gives them. `None`: undecided, or out of memory.
-pub fn cut_compacted_triples(
+/// Cuts the document, in which triples of whole numbers may be known to stand. `None`: undecided, or out of memory.
+fn cut_compacted_triples(
     alloc: Global,
     document: &ObjectText<'_>,
     triples: Span,
@@ -223,4 +211,26 @@ pub fn cut_compacted_triples(
     };
     let text = text.items();
     cut_on(alloc, document, &VertexTexts { text, starts })
+}
+
+/// What its compact text tells of a document, in which triples of whole numbers may be known to stand, both as
+/// [`city_json::compact_object`] gives them: it is cut, or refused for a fault that is not want of memory. `None`: out of
+/// memory, or undecided.
+pub fn cut_known(
+    alloc: Global,
+    document: &ObjectText<'_>,
+    triples: Span,
+) -> Option<Result<CutTexts, Fault>>
+    requires { HasTriples document.now.text triples }
+    ensures cut { IfSome result (λ told. IfOk told (λ cut. IsCuttable (object_of document.now)
+        × (features : List FeatureValue) × IsCut (object_of document.now) (header_value cut.header) features
+        × (texts_in cut.texts ≡ texts_of features))) }
+    ensures own { IfSome result (λ told. IfOk told (λ cut. AreOwnParts cut.texts)) }
+    ensures refused { IfSome result (λ told. IfErr told (λ fault. RefusesCut fault (object_of document.now))) }
+    ensures decided { IfSome result (λ told. IfErr told (λ fault. fault ≢ Fault.Memory)) }
+{
+    if let Some(cut) = cut_compacted_triples(alloc, document, triples) {
+        return Some(Ok(cut));
+    }
+    Some(Err(cut_fault(alloc, document)?))
 }

@@ -5,8 +5,6 @@
 #[cfg(test)]
 mod answers;
 #[cfg(test)]
-mod changes;
-#[cfg(test)]
 mod choices;
 #[cfg(test)]
 mod ended;

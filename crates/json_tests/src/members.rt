@@ -68,7 +68,8 @@ const VALUED: [Valued; 10] = [
     (b"{\"\":{},\"a\":[]}", b"\"\":", Some(b"{}")),
 ];
 
-/// Whether the text of the value of the member of a name is given, and that it is not there where it is not.
+/// Whether the text of the value of the member of a name is given, and that it is not there where it is not, wherever it is
+/// looked for first.
 fn is_given(alloc: Global, text: &[u8], name: &[u8], wanted: Option<&[u8]>) -> bool {
     let mut workspace = Workspace::new(alloc, Line::new(alloc));
     let Ok(Some(object)) = compact_object(alloc, text, &mut workspace) else {
@@ -76,9 +77,15 @@ fn is_given(alloc: Global, text: &[u8], name: &[u8], wanted: Option<&[u8]>) -> b
     };
     let line = object.text(text, &workspace.line);
     let other = b"another text".as_slice();
-    line.value(name).unwrap_or(other) == wanted.unwrap_or(other)
-        && line.value_or(name, other) == wanted.unwrap_or(other)
-        && line.part(name).is_some() == wanted.is_some()
+    for place in 0..3 {
+        if line.value(place, name).unwrap_or(other) != wanted.unwrap_or(other)
+            || line.value_or(place, name, other) != wanted.unwrap_or(other)
+            || line.part(place, name).is_some() != wanted.is_some()
+        {
+            return false;
+        }
+    }
+    true
 }
 
 #[test]

@@ -15,4 +15,4 @@ pub use filter::{filter_stream, filter_tile, pass_on};
 pub use laws::tape_leaves_one_list;
 pub use lines::{Lines, NumberedLine};
 pub use tile_reader::{Head, Passed, ReadyTexts, TileReader};
-pub use writing::{write_line, write_parts, write_text};
+pub use writing::{write_line, write_text};

@@ -141,7 +141,8 @@ impl<R: Source> TileReader<R> {
         let line = self.lines.leave_line(count);
         match first {
             Ok(FirstLine { header, texts }) => {
-                texts.known();
+                // that there are fewer than 2^63 bounds what may come
+                let _ = texts.len();
                 self.held = Held { line, texts };
                 Ok(Head { header, line })
             }

@@ -34,7 +34,7 @@ pub fn write_line<W: Sink>(output: &mut W, mut line: Line) -> Result<Line, Fault
 /// # Errors
 ///
 /// [`Fault::Write`] where a write failed; some first bytes of the line were written then.
-pub fn write_parts<W: Sink>(own: &[u8], common: &[u8], output: &mut W) -> Result<(), Fault>
+pub(crate) fn write_parts<W: Sink>(own: &[u8], common: &[u8], output: &mut W) -> Result<(), Fault>
     ensures ok { OnOk result (Appends (W.taken output.old) (W.taken output.new)
         (with_newline (own.now ++ common.now))) }
     ensures some { OnErr result ((count : ℕ) × Appends (W.taken output.old) (W.taken output.new)

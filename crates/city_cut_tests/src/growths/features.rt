@@ -2,10 +2,10 @@
 
 use crate::growths::values::{is_after, is_printed};
 use byte_streams::{Fault, Line};
-use city_cut::{CutTexts, FeatureTexts, cut, cut_compacted_triples, cut_texts};
+use city_cut::{CutTexts, FeatureTexts, cut, cut_known, cut_texts, set_member};
 use city_feature::{
     Base, Choice, Feature, Header, HeaderFault, Joined, OwnBuffers, area, feature, feature_text,
-    header, join_headers, line, own_text, selects, set_member, shifted, take_vertices, types,
+    header, join_headers, line, own_text, selects, shifted, take_vertices, types,
 };
 use city_grid::{Shift, Vertex, append_vertex, vertex_json, write_vertex};
 use city_json::{Json, Workspace, compact_object, read};
@@ -484,7 +484,8 @@ fn is_building(alloc: Global, texts: &mut FeatureTexts) -> Result<bool, Fault> {
         return Ok(false);
     }
     let mut text = Line::new(alloc);
-    texts.append_to(alloc, 0, &mut text)?;
+    texts.append_own(alloc, 0, &mut text)?;
+    text.append(texts.common())?;
     Ok(text.items() == BUILDING.as_bytes())
 }
 
@@ -510,11 +511,11 @@ fn cut_at_once(rt: &(impl AllocGlobal + Eprint), text: &[u8]) -> Result<CutTexts
         return Err(Fault::Memory);
     };
     let document = found.text(text, &workspace.line);
-    let Some(cut) = cut_compacted_triples(rt.alloc(), &document, found.triples) else {
-        wanted(rt, Call("cut_compacted_triples"));
+    let Some(told) = cut_known(rt.alloc(), &document, found.triples) else {
+        wanted(rt, Call("cut_known"));
         return Err(Fault::Memory);
     };
-    Ok(cut)
+    told
 }
 
 fn document_is_cut_at_once(rt: &(impl AllocGlobal + Eprint)) -> Result<bool, Fault> {
@@ -541,7 +542,8 @@ fn are_shared(alloc: Global, texts: &mut FeatureTexts) -> Result<bool, Fault> {
             return Ok(false);
         }
         let mut text = Line::new(alloc);
-        texts.append_to(alloc, at, &mut text)?;
+        texts.append_own(alloc, at, &mut text)?;
+        text.append(texts.common())?;
         if text.items() != OF_SHARED[at].as_bytes() {
             return Ok(false);
         }

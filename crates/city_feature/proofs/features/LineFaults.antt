@@ -1,5 +1,6 @@
 -- Why a feature's line is refused, by the texts of its members.
 use Rattle.std.proofs.Common.{◌≡◌, ◌∙◌, ◌↔◌, ◌++◌, ◌∷◌, [], ℕ, Bool, List, false, Option, Some, None, IsTrue, codes, slice_range, unwrap_or, ap, sym, subst, refl, inl, inr}
+use Rattle.std.proofs.lemmas.Option.{same_Some}
 use Rattle.byte_streams.specs.declared.fault.Fault.{Fault}
 use Rattle.city_json.proofs.CompactLaws.{compact-tells}
 use Rattle.city_json.proofs.ObjectTexts.{value_found}
@@ -104,9 +105,6 @@ array_there (Some (array items)) is = (items, refl)
 array_there other is = absurd is
 
 -- ---- the vertices
-some_same : {a b : Tree} → Some a ≡ Some b → a ≡ b
-some_same same = cc
-
 module _ (there : PlacedObject) (placed : IsPlacedObject there) (shape : HasFeatureShape (object_of there))
     (part : MemberPlace) (here : IsPartNamed there.text there.parts (quoted (codes "vertices") ++ colon ∷ []) part) where
   abbrev text : List ℕ
@@ -119,7 +117,7 @@ module _ (there : PlacedObject) (placed : IsPlacedObject there) (shape : HasFeat
       let (value, is, of) = value_found there placed (quoted name ++ colon ∷ []) part here text refl name
       (utf8 name refl) refl in
       let (items, first) = array_there (first_named name (members_of there)) shape.3 in
-      (items, first, subst (IsCompactOf text) (some_same (sym is ∙ first)) of)
+      (items, first, subst (IsCompactOf text) (same_Some _ _ (sym is ∙ first)) of)
 
   pub array_text : IsArrayText text
   array_text = let (items, first, of) = items_here in (items, of)

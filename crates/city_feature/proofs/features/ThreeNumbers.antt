@@ -1,6 +1,6 @@
 -- The compact text of an array of three numbers, number by number.
 use Rattle.std.proofs.Common.{◌≡◌, ◌∙◌, ◌++◌, ◌+◌, ◌<◌, ◌≤◌, ℕ, List, [], ◌∷◌, true, false, length, drop, get_or, ap, sym, subst, refl, arith, append_assoc, append-nil, length-drop}
-use Rattle.city_json.proofs.CompactEnds.{ItemsLeft, item_left, number_other, other_head}
+use Rattle.city_json.proofs.CompactEnds.{ItemsLeft, array_front, item_left, other_head}
 use Rattle.city_json.proofs.Places.{drop_one}
 use Rattle.city_json.proofs.StringEnds.{first_same, others_same}
 use Rattle.city_json.specs.Bytes.{comma, open_bracket, close_bracket, open_brace, quotation_mark}
@@ -86,16 +86,6 @@ other_before text at end mark leaves other n others rest there is =
     other within (first_same _ _ _ _ (sym (front text end within) ∙ here))
 
 -- ---- three
-array_here : (value : Tree) (tail : List ℕ) → IsWritable value → compact value ≡ open_bracket ∷ tail
-    → (items : ItemTrees) × (value ≡ array items)
-array_here null tail w is = absurd (other_head 110 open_bracket _ tail (omega arith) is)
-array_here (boolean true) tail w is = absurd (other_head 116 open_bracket _ tail (omega arith) is)
-array_here (boolean false) tail w is = absurd (other_head 102 open_bracket _ tail (omega arith) is)
-array_here (number text) tail w is = absurd (number_other text [] tail open_bracket w refl (append-nil text ∙ is))
-array_here (string text) tail w is = absurd (other_head quotation_mark open_bracket _ tail (omega arith) is)
-array_here (array items) tail w is = (items, refl)
-array_here (object all) tail w is = absurd (other_head open_brace open_bracket _ tail (omega arith) is)
-
 pub items_of : (text : List ℕ) (items : ItemTrees) → IsCompactOf text (array items) → AreItemsAt text 1 items
 items_of text items of = record {
   writable = of.writable;
@@ -135,8 +125,8 @@ module _ (text : List ℕ) (y : ℕ) (first : IsNumberBefore text 1 comma y) whe
   pub are_three : (z end : ℕ) → 0 < length text → get_or text 0 0 ≡ open_bracket → IsNumberBefore text y comma z
       → IsNumberBefore text z close_bracket end → (value : Tree) → IsCompactOf text value → AreThreeNumbers value
   are_three z end some opens second third value of =
-      let (items, is) = array_here value (drop 1 text) of.writable
-      (sym of.is ∙ drop_one text 0 open_bracket some opens) in
+      let (items, is) = array_front value [] (drop 1 text) of.writable
+      (append-nil (compact value) ∙ (sym of.is ∙ drop_one text 0 open_bracket some opens)) in
       let at_1 : AreItemsAt text 1 items = items_of text items (subst (IsCompactOf text) is of) in
       let (n, ns, first_is, first_after) = first items at_1 in
       let at_2 : AreItemsAt text y ns = next_items text y n items ns 1 at_1 first_is first_after in

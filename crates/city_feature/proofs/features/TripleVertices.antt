@@ -1,6 +1,6 @@
 -- Vertices that are read from triples of whole numbers, one after another.
-use Rattle.std.proofs.Common.{◌≡◌, ◌∙◌, ◌++◌, ◌+◌, ◌-◌, ◌<◌, ◌≤◌, ℕ, List, [], ◌∷◌, length, length-drop, take, drop, map, ap, sym, subst, arith, append_assoc, slice_range}
-use Rattle.std.proofs.lemmas.List.{drop-drop, drop-take, length-append, length-take-le, take-take}
+use Rattle.std.proofs.Common.{◌≡◌, ◌∙◌, ◌++◌, ◌+◌, ◌-◌, ◌<◌, ◌≤◌, ℕ, List, [], ◌∷◌, length, take, drop, map, ap, sym, subst, arith, append_assoc, slice_range}
+use Rattle.std.proofs.lemmas.List.{drop-drop, drop-take, length-append, take-take}
 use Rattle.std.proofs.Math.Seq.{drop-append-add, take-append_seam}
 use Rattle.city_json.specs.Bytes.{comma, open_bracket, close_bracket}
 use Rattle.city_json.specs.Compact.{compact, compact_items, compact_more_items}
@@ -9,6 +9,7 @@ use Rattle.city_json.specs.Triples.{AreTriples, IsTriple, IsTriplesText}
 use Rattle.city_grid.specs.Axes.{Triple}
 use Rattle.city_grid.specs.Vertex.{vertex_tree}
 use Rattle.city_feature.specs.Feature.{vertices_tree}
+use Rattle.city_json.proofs.Triples.{slice_length}
 
 abbrev trees : List Triple → ItemTrees
 trees ps = item_trees (map vertex_tree ps)
@@ -27,9 +28,6 @@ GoesTo text from end at read =
     (p : Triple) (ps : List Triple)
     → slice_range text at end ≡ compact_items (trees (p ∷ ps)) ++ close_bracket ∷ []
     → slice_range text from end ≡ compact (vertices_tree (read ++ p ∷ ps))
-
-slice_length : (text : List ℕ) (at end : ℕ) → end ≤ length text → length (slice_range text at end) ≡ end - at
-slice_length text at end within = length-take-le (end - at) (drop at text) (omega (arith, length-drop at text))
 
 -- what stands after the front of a slice, and the front
 slice_after : (text front rest : List ℕ) (at end : ℕ) → end ≤ length text → at + length front ≤ end

@@ -1,5 +1,6 @@
 -- The type of a feature that is found on the compact text of its line.
 use Rattle.std.proofs.Common.{◌≡◌, ◌∙◌, ◌<◌, ◌↔◌, ℕ, sym, ap, subst, List, [], Bool, Option, Some, None, Contains, codes, IsTrue, IfSome, IsUtf8, refl, length, get_or, unwrap_or, arith}
+use Rattle.std.proofs.lemmas.Option.{same_Some}
 use Rattle.city_json.specs.Bytes.{quotation_mark}
 use Rattle.city_json.specs.Compact.{quoted, compact}
 use Rattle.city_json.specs.Members.{first_named, member_of}
@@ -16,11 +17,8 @@ pub text_there : (members : MemberTrees) (name text found : List ℕ)
     → (value : Tree) × (first_named name members ≡ Some value) × IsCompactOf found value
     → first_named name members ≡ Some (string text) → IsUtf8 text × (found ≡ quoted text)
 text_there members name text found (value, is, of) says =
-    let same : value ≡ string text = some_same (sym is ∙ says) in
+    let same : value ≡ string text = same_Some _ _ (sym is ∙ says) in
     (subst IsWritable same of.writable, of.is ∙ ap compact same)
-  where
-    some_same : {a b : Tree} → Some a ≡ Some b → a ≡ b
-    some_same same = cc
 
 -- the same where `null` stands for one that is not there
 pub text_or_there : (members : MemberTrees) (name text found : List ℕ)

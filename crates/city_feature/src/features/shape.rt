@@ -21,7 +21,7 @@ fn is_feature_type(text: &[u8]) -> bool
 }
 
 /// Whether the value whose compact text this is is a text.
-pub fn is_text(text: &[u8]) -> bool
+fn is_text(text: &[u8]) -> bool
     ensures { (value : Tree) → IsCompactOf text.now value → (IsTrue result ↔ IsText value) }
 {
     byte_is(text, 0, b'"')
@@ -56,19 +56,19 @@ pub(super) fn placed_vertices(line: &ObjectText<'_>) -> Option<MemberPlace>
     ensures part { IfSome result (IsPartNamed line.now.text line.now.parts (quoted (codes "vertices") ++ colon ∷ [])) }
     ensures none { IfNone result (¬ HasFeatureShape (object_of line.now)) }
 {
-    let kind = line.usual_value_or(0, b"\"type\":", b"null");
+    let kind = line.value_or(0, b"\"type\":", b"null");
     if !is_feature_type(kind) {
         return None;
     }
-    let id = line.usual_value_or(1, b"\"id\":", b"null");
+    let id = line.value_or(1, b"\"id\":", b"null");
     if !is_text(id) {
         return None;
     }
-    let objects = line.usual_value_or(2, b"\"CityObjects\":", b"null");
+    let objects = line.value_or(2, b"\"CityObjects\":", b"null");
     if !is_object(objects) {
         return None;
     }
-    let part = line.usual_part(3, b"\"vertices\":")?;
+    let part = line.part(3, b"\"vertices\":")?;
     if !is_array(value_in(line.text(), part)) {
         return None;
     }

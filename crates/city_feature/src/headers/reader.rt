@@ -14,7 +14,7 @@ use city_json::Json;
 
 /// Whether it is an object of the type `CityJSON` of which `metadata`, `extensions` and `CityObjects` are
 /// objects, where they are there, and `vertices` an array (CityJSON 2.0, CityJSON Object).
-pub fn is_city_json(value: &Json) -> bool
+fn is_city_json(value: &Json) -> bool
     ensures { IsTrue result ↔ IsCityJson (tree value.now) }
 {
     says(value, "type", "CityJSON")
@@ -25,7 +25,7 @@ pub fn is_city_json(value: &Json) -> bool
 }
 
 /// Whether its version is 2.0.
-pub fn is_version_2(value: &Json) -> bool
+fn is_version_2(value: &Json) -> bool
     ensures { IsTrue result ↔ IsVersion2 (tree value.now) }
 {
     says(value, "version", "2.0")
@@ -46,7 +46,7 @@ pub fn is_document(value: &Json) -> bool
 ///
 /// [`Fault::NoTransform`] where there is no such member or it is malformed, else [`Fault::Decimal`] where one
 /// of its numbers is outside the profile, else [`Fault::ScaleNotPositive`].
-pub fn transform_of(value: &Json) -> Result<Transform, Fault>
+fn transform_of(value: &Json) -> Result<Transform, Fault>
     ensures ok { IfOk result (λ grid. HasGrid (tree value.now) grid) }
     ensures only { (grid : Grid) → HasGrid (tree value.now) grid → result ≡ Ok grid }
     ensures refusal { IfErr result (λ fault.

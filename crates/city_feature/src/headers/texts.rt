@@ -28,7 +28,7 @@ fn is_filled_array(text: &[u8]) -> bool
 pub fn holds_city(line: &ObjectText<'_>) -> bool
     ensures { IsTrue result ↔ HoldsCity (object_of line.now) }
 {
-    let objects = line.value_or(b"\"CityObjects\":", b"null");
-    let vertices = line.value_or(b"\"vertices\":", b"null");
+    let objects = line.value_or(2, b"\"CityObjects\":", b"null");
+    let vertices = line.value_or(3, b"\"vertices\":", b"null");
     is_filled_object(objects) || is_filled_array(vertices)
 }

@@ -1,6 +1,6 @@
 //! Objects that are appended to a line member by member, with no copy of a value. The only fault of each function is
 //! [`Fault::Memory`].
-ghost use Rattle.std.specs.Prelude.{◌≡◌, ◌++◌, ◌∷◌, [], map, IfOk, OnOk, IfErr, IsTrue};
+ghost use Rattle.std.specs.Prelude.{◌≡◌, ◌++◌, ◌∷◌, [], map, IfOk, OnOk, IfErr, IsTrue, bytes_eq, position};
 ghost use Rattle.std.specs.List.{flat_map};
 ghost use Rattle.city_json.specs.Compact.{compact, quoted, written};
 ghost use Rattle.city_json.specs.Tree.{Tree, tree, named_tree, members_tree, member_trees, object, string};
@@ -8,7 +8,6 @@ ghost use Rattle.city_grid.specs.Axes.{number_texts, three};
 ghost use Rattle.city_feature.specs.Changes.{with_member, with_named, without_member, without_named};
 ghost use Rattle.city_feature.specs.Pieces.{members_text, separator, start_text};
 
-use crate::changes::place_of;
 use byte_streams::{Fault, Line};
 use city_grid::Axes;
 use city_json::{Json, Member, NumText, Str, print};
@@ -123,6 +122,19 @@ fn append_members(
         is_first = false;
     }
     Ok(())
+}
+
+fn has_name(member: &Member, name: &str) -> bool
+    ensures { result ≡ bytes_eq (named_tree member.now).0 name.now }
+{
+    member.name.as_str() == name
+}
+
+/// Where the first member of this name stands.
+fn place_of(members: &[Member], name: &str) -> Option<usize>
+    ensures { result ≡ position (λ member. bytes_eq (named_tree member).0 name.now) members.now }
+{
+    members.iter().position(|member| has_name(member, name))
 }
 
 /// The members before the first of this name, and those after it; all and none where there is none.

@@ -1,10 +1,9 @@
 -- Integers of at most sixteen digits in a text, also a zero with a minus sign.
 use Rattle.std.proofs.Common.{◌≡◌, ◌∙◌, ◌+◌, ◌<◌, ◌^◌, ℕ, ap, refl, sym, subst, inl, inr, false, true, List, [], ◌∷◌, ◌++◌, length, get_or, slice_range, arith}
+use Rattle.city_grid.proofs.ShortIntegers.{numerals}
 use Rattle.std.proofs.lemmas.Fmt.{digits_value-decimal}
 use Rattle.std.proofs.lemmas.List.{append-nil}
-use Rattle.std.proofs.lemmas.Str.Parse.{IsNumeralModel}
 use Rattle.std.specs.Fmt.{decimal}
-use Rattle.std.specs.Str.Parse.{AllDigits, digits_value}
 use Rattle.city_json.proofs.Places.{slice_more, slice_one}
 use Rattle.city_json.specs.Bytes.{minus}
 use Rattle.city_json.specs.Number.{IsNumber}
@@ -12,9 +11,6 @@ use Rattle.city_grid.specs.Decimal.{signed}
 use Rattle.city_grid.specs.Vertex.{IsInteger}
 use Rattle.city_grid.proofs.vertices.DecimalIntegers.{decimal_is_whole}
 use Rattle.city_grid.proofs.vertices.IntegerTexts.{integer_from}
-
-numerals : IsNumeralModel (AllDigits 10) (digits_value 10)
-numerals = record { to = λ ds digits. digits; from = λ ds digits. digits; same = λ ds digits. refl }
 
 unsigned_number : (n : ℕ) → n < 10 ^ 16 → IsNumber (decimal n)
 unsigned_number n small =

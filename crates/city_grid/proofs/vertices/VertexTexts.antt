@@ -1,9 +1,8 @@
 -- Vertices in a compact text, from place to place.
-use Rattle.std.proofs.Common.{◌≡◌, ◌≢◌, ◌∙◌, ◌++◌, ◌+◌, ◌-◌, ◌*◌, ◌^◌, ◌<◌, ◌≤◌, ℕ, zero, suc, List, [], ◌∷◌, length, length-drop, drop, get_or, refl, ap, sym, subst, arith, append_assoc, slice_range, ℤ, pos, neg_ℤ}
+use Rattle.std.proofs.Common.{◌≡◌, ◌≢◌, ◌∙◌, ◌++◌, ◌+◌, ◌^◌, ◌<◌, ◌≤◌, ℕ, zero, suc, List, [], ◌∷◌, length, get_or, refl, ap, sym, subst, arith, slice_range, ℤ, pos, neg_ℤ}
+use Rattle.city_grid.proofs.ShortIntegers.{numerals}
 use Rattle.std.proofs.lemmas.Fmt.{decimal-digits_value, decimal_digit, length-decimal-le}
 use Rattle.std.proofs.lemmas.Int.Digits.{digits_value-lt}
-use Rattle.std.proofs.lemmas.List.{append-nil, length-take-le}
-use Rattle.std.proofs.lemmas.Str.Parse.{IsNumeralModel}
 use Rattle.std.proofs.Math.Nat.{pow-le-pow_right}
 use Rattle.std.specs.Char.{digit_value}
 use Rattle.std.specs.Fmt.{decimal, signed_decimal}
@@ -14,10 +13,8 @@ use Rattle.city_json.specs.Compact.{compact}
 use Rattle.city_grid.specs.Axes.{Triple, three}
 use Rattle.byte_streams.specs.Limits.{max_steps}
 use Rattle.city_grid.specs.Vertex.{vertex_tree, IsShortNumber, IsShortInteger}
-use Rattle.city_grid.proofs.decimals.DigitValues.{digit_byte, value_after-append, all_digits-append}
-
-numerals : IsNumeralModel (AllDigits 10) (digits_value 10)
-numerals = record { to = λ ds digits. digits; from = λ ds digits. digits; same = λ ds digits. refl }
+use Rattle.city_grid.proofs.decimals.DigitValues.{digit_byte, all_digits-append}
+use Rattle.city_json.proofs.Triples.{mark_slice, regroup, slice_length}
 
 -- one byte more
 one_more : (text : List ℕ) (at end : ℕ) → at ≤ end → end < length text
@@ -31,9 +28,6 @@ digits_more text at end onward within low high all =
     let digit : digit_value (get_or text end 0) < 10 = omega (arith, digit_byte (get_or text end 0) (low, high)) in
     subst (AllDigits 10) (sym (one_more text at end onward within))
     (all_digits-append (slice_range text at end) (get_or text end 0 ∷ []) all (digit, tt))
-
-pub slice_length : (text : List ℕ) (at end : ℕ) → end ≤ length text → length (slice_range text at end) ≡ end - at
-slice_length text at end within = length-take-le (end - at) (drop at text) (omega (arith, length-drop at text))
 
 -- what at most so many digits write
 pub few_digits : (text : List ℕ) (at end size most : ℕ) → end ≤ length text → end ≤ at + most
@@ -78,22 +72,12 @@ negative_text text at end (suc n) within is onward written some =
     ∙ ap (λ l. l ++ slice_range text (at + 1) end) (slice_one text at minus within is) ∙ ap (λ l. minus ∷ l) written
 
 -- a vertex
-mark_slice : (text found : List ℕ) (at end mark : ℕ) → at < length text → get_or text at 0 ≡ mark → at + 1 ≤ end
-    → slice_range text (at + 1) end ≡ found → slice_range text at end ≡ mark ∷ found
-mark_slice text found at end mark within is onward rest =
-    slice_more text at (at + 1) end (omega arith) onward
-    ∙ ap (λ l. l ++ slice_range text (at + 1) end) (slice_one text at mark within is) ∙ ap (λ l. mark ∷ l) rest
-
 run_slice : (text first found : List ℕ) (at middle end : ℕ) → at ≤ middle → middle ≤ end
     → slice_range text at middle ≡ first → slice_range text middle end ≡ found
     → slice_range text at end ≡ first ++ found
 run_slice text first found at middle end onward more is rest =
     slice_more text at middle end onward more ∙ ap (λ l. l ++ slice_range text middle end) is
     ∙ ap (λ l. first ++ l) rest
-
-regroup : (x y z : List ℕ) → x ++ (comma ∷ (y ++ (comma ∷ (z ++ close_bracket ∷ []))))
-    ≡ (x ++ (comma ∷ (y ++ (comma ∷ (z ++ []))))) ++ close_bracket ∷ []
-regroup x y z = simp (append_assoc, append-nil)
 
 pub three_text : (text xs ys zs : List ℕ) (at a b c : ℕ) → at < length text → get_or text at 0 ≡ open_bracket
     → at + 1 < a → slice_range text (at + 1) a ≡ xs → a < length text → get_or text a 0 ≡ comma

@@ -1,10 +1,9 @@
 -- The array of a vertex's integers in decimal is that vertex.
 use Rattle.std.proofs.Common.{◌≤◌, suc, ap, refl, subst, false, true, [], ◌∷◌, ℤ, pos, negsuc, unsigned_abs, FitsSigned, w64, arith}
+use Rattle.city_grid.proofs.ShortIntegers.{numerals}
 use Rattle.std.proofs.lemmas.Fmt.{digits_value-decimal}
 use Rattle.std.proofs.lemmas.Int.{ints, fits_signed_from_abs}
-use Rattle.std.proofs.lemmas.Str.Parse.{IsNumeralModel}
 use Rattle.std.specs.Fmt.{decimal, signed_decimal}
-use Rattle.std.specs.Str.Parse.{AllDigits, digits_value}
 use Rattle.city_json.specs.Bytes.{minus}
 use Rattle.city_grid.specs.Axes.{Triple, IsInRange}
 use Rattle.byte_streams.specs.Limits.{max_steps}
@@ -12,9 +11,6 @@ use Rattle.city_grid.specs.Decimal.{signed}
 use Rattle.city_grid.specs.Vertex.{IsInteger, IsVertex, vertex_tree}
 use Rattle.city_grid.proofs.vertices.DecimalIntegers.{decimal_is_number}
 use Rattle.city_grid.proofs.vertices.IntegerTexts.{integer_from}
-
-numerals : IsNumeralModel (AllDigits 10) (digits_value 10)
-numerals = record { to = λ ds digits. digits; from = λ ds digits. digits; same = λ ds digits. refl }
 
 written_integer : (z : ℤ) → FitsSigned w64 z → IsInteger (signed_decimal z) z
 unfolding decimal_is_number

@@ -98,23 +98,3 @@ pub fn spelled_vertex_at(text: &[u8], at: usize) -> Option<SpelledVertex>
         as_written: all_three(x.as_written, y.as_written, z.as_written),
     })
 }
-
-/// The vertex at `at`, where it is in the text that would be written for it; `None`: undecided.
-#[inline(always)]
-pub fn vertex_at(text: &[u8], at: usize) -> Option<PlacedVertex>
-    requires { at ≤ length text.now }
-    ensures onward { IfSome result (λ found. at < found.end) }
-    ensures within { IfSome result (λ found. found.end ≤ length text.now) }
-    ensures written { IfSome result (λ found. slice_range text.now at found.end
-        ≡ compact (vertex_tree found.vertex)) }
-    ensures range { IfSome result (λ found. IsInRange found.vertex) }
-{
-    let found = spelled_vertex_at(text, at)?;
-    if !found.as_written {
-        return None;
-    }
-    Some(PlacedVertex {
-        vertex: found.vertex,
-        end: found.end,
-    })
-}

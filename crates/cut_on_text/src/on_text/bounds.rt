@@ -1,7 +1,7 @@
 //! Boundaries that are at fault (CityJSON 2.0, Geometry Objects), found on the texts of city objects with no value of them.
-//! A boundary is an array of arrays, down to numbers of vertices, each below the count of the document's vertices. A function
-//! that asks whether something is wrong says yes only where it is; its no says nothing.
-ghost use Rattle.std.specs.Prelude.{◌≡◌, ◌∷◌, [], ◌++◌, ◌<◌, ◌^◌, ℕ, List, Option, Some, IfNone, IfSome, IsTrue, IsUtf8};
+//! A boundary is an array of arrays, down to numbers of vertices, each below the count of the document's vertices. What is
+//! found to be wrong is so; where nothing is found, nothing is said.
+ghost use Rattle.std.specs.Prelude.{◌≡◌, ◌∷◌, [], ◌++◌, ◌<◌, ◌^◌, ℕ, List, Option, Some, IfNone, IfSome, OnSome, IsUtf8};
 ghost use Rattle.std.specs.List.{AllByRecursion};
 ghost use Rattle.city_json.specs.Bytes.{colon};
 ghost use Rattle.city_json.specs.Compact.{quoted};
@@ -15,11 +15,13 @@ ghost use Rattle.cut_on_text.specs.Bounds.{AreBounds};
 ghost use Rattle.cut_on_text.specs.Holders.{AreHeld, IsHeld};
 ghost use Rattle.city_families.specs.Items.{item_list, values};
 ghost use Rattle.city_families.specs.Leaves.{IsBoundary};
-ghost use Rattle.cut_on_text.specs.Overviews.{AreHolders, HasHolders, IsHolderPart};
+ghost use Rattle.cut_on_text.specs.PlacedObjects.{AreObjects};
+ghost use Rattle.cut_on_text.specs.Overviews.{HasHolders, IsHolderPart};
 
-use super::holders::{HeldParts, Holder, ShortHeld};
-use super::short_parts::ShortPart;
+use super::city_objects::CityObjects;
+use super::holders::{HeldParts, Holder};
 use super::texts::parts_of;
+use byte_streams::Fault;
 use city_feature::{is_array, is_object};
 use city_grid::byte_is;
 use city_json::{MemberPlace, between, part_named, value_end};
@@ -47,28 +49,28 @@ fn value_with(value: u128, byte: u8, count: usize) -> Option<u128>
     Some(next)
 }
 
-/// Whether a byte stands there that stands in no boundary of so many vertices.
-fn has_other_byte(text: &[u8], count: usize) -> bool
-    ensures { IsTrue result → ¬ AreBounds count 0 text.now }
+/// A byte that stands in no boundary of so many vertices.
+fn wrong_byte(text: &[u8], count: usize) -> Option<()>
+    ensures { OnSome result (¬ AreBounds count 0 text.now) }
 {
     let mut value = 0u128;
     for byte in text {
         let Some(next) = value_with(value, *byte, count) else {
-            return true;
+            return Some(());
         };
         value = next;
     }
-    false
+    None
 }
 
-/// Whether this is the compact text of something else than a boundary of so many vertices.
-fn is_no_boundary(text: &[u8], count: usize) -> bool
-    ensures { IsTrue result → (value : Tree) → IsCompactOf text.now value → ¬ IsBoundary count value }
+/// What makes this the compact text of something else than a boundary of so many vertices.
+fn wrong_boundary(text: &[u8], count: usize) -> Option<()>
+    ensures { OnSome result ((value : Tree) → IsCompactOf text.now value → ¬ IsBoundary count value) }
 {
     if !is_array(text) {
-        return true;
+        return Some(());
     }
-    has_other_byte(text, count)
+    wrong_byte(text, count)
 }
 
 /// The text of a member of the value whose compact text this is. The name is given with its marks and its colon. `None`: there
@@ -83,153 +85,114 @@ fn text_named<'a>(alloc: Global, text: &'a [u8], name: &[u8]) -> Option<&'a [u8]
     between(text, part.value, part.end)
 }
 
-/// Whether the member `boundaries` of a geometry or a location is wrong.
-fn is_wrong_own(alloc: Global, text: &[u8], count: usize) -> bool
-    ensures { IsTrue result → (value : Tree) → IsCompactOf text.now value
-        → ¬ AllByRecursion (IsBoundary count) (own_boundary value) }
+/// What is wrong with the member `boundaries` of a geometry or a location.
+fn wrong_own(alloc: Global, text: &[u8], count: usize) -> Option<()>
+    ensures { OnSome result ((value : Tree) → IsCompactOf text.now value
+        → ¬ AllByRecursion (IsBoundary count) (own_boundary value)) }
 {
-    let Some(boundary) = text_named(alloc, text, b"\"boundaries\":") else {
-        return false;
-    };
-    is_no_boundary(boundary, count)
+    let boundary = text_named(alloc, text, b"\"boundaries\":")?;
+    wrong_boundary(boundary, count)
 }
 
-/// Whether a geometry is no object or has a wrong boundary, or an address has a wrong boundary.
-fn is_wrong_item(alloc: Global, text: &[u8], holder: Holder, count: usize) -> bool
-    ensures { IsTrue result → (value : Tree) → IsCompactOf text.now value → ¬ IsHeld holder count value }
+/// A geometry that is no object, or a wrong boundary of a geometry or an address.
+fn wrong_item(alloc: Global, text: &[u8], holder: Holder, count: usize) -> Option<()>
+    ensures { OnSome result ((value : Tree) → IsCompactOf text.now value → ¬ IsHeld holder count value) }
 {
     match holder {
         Holder::Geometry => {
             if !is_object(text) {
-                return true;
+                return Some(());
             }
-            is_wrong_own(alloc, text, count)
+            wrong_own(alloc, text, count)
         }
         Holder::Address => {
-            let Some(location) = text_named(alloc, text, b"\"location\":") else {
-                return false;
-            };
-            is_wrong_own(alloc, location, count)
+            let location = text_named(alloc, text, b"\"location\":")?;
+            wrong_own(alloc, location, count)
         }
     }
 }
 
-/// Whether that is so of an item of the array of this text.
-fn has_wrong_item(alloc: Global, text: &[u8], holder: Holder, count: usize) -> bool
-    ensures { IsTrue result → (items : ItemTrees) → IsCompactOf text.now (array items)
-        → ¬ AllByRecursion (IsHeld holder count) (item_list items) }
+/// An item of the array of this text that is wrong so.
+fn wrong_item_in(alloc: Global, text: &[u8], holder: Holder, count: usize) -> Option<()>
+    ensures { OnSome result ((items : ItemTrees) → IsCompactOf text.now (array items)
+        → ¬ AllByRecursion (IsHeld holder count) (item_list items)) }
 {
     if text.len() < 2 {
-        return false;
+        return None;
     }
     if byte_is(text, 1, b']') {
-        return false;
+        return None;
     }
     let mut at = 1usize;
     'items: loop {
         let end = value_end(text, at);
-        let Some(one) = between(text, at, end) else {
-            return false;
-        };
-        if is_wrong_item(alloc, one, holder, count) {
-            return true;
+        let one = between(text, at, end)?;
+        if let Some(()) = wrong_item(alloc, one, holder, count) {
+            return Some(());
         }
         if !byte_is(text, end, b',') {
-            return false;
+            return None;
         }
         at = end + 1;
     }
 }
 
-/// Whether the geometries are no array, or one of them, or one of the addresses, is wrong.
-fn is_wrong_text(alloc: Global, text: &[u8], holder: Holder, count: usize) -> bool
-    ensures { IsTrue result → (value : Tree) → IsCompactOf text.now value → ¬ AreHeld holder count value }
+/// Geometries that are no array, or one of them, or one of the addresses, that is wrong.
+fn wrong_text(alloc: Global, text: &[u8], holder: Holder, count: usize) -> Option<()>
+    ensures { OnSome result ((value : Tree) → IsCompactOf text.now value → ¬ AreHeld holder count value) }
 {
     if is_array(text) {
-        return has_wrong_item(alloc, text, holder, count);
+        return wrong_item_in(alloc, text, holder, count);
     }
     match holder {
-        Holder::Geometry => true,
-        Holder::Address => false,
+        Holder::Geometry => Some(()),
+        Holder::Address => None,
     }
 }
 
-/// Whether that is so of those in this part of a city object, if it has them.
-fn is_wrong_part(
+/// What is wrong with those in this part of a city object, if it has them.
+fn wrong_part(
     alloc: Global,
     text: &[u8],
     part: Option<MemberPlace>,
     holder: Holder,
     count: usize,
-) -> bool
-    ensures { IsTrue result → (parts : List MemberPlace) → IsHolderPart holder text.now parts part
+) -> Option<()>
+    ensures { OnSome result ((parts : List MemberPlace) → IsHolderPart holder text.now parts part
         → (members : MemberTrees) → IsCompactOf text.now (object members) → AreParts 1 parts members
-        → ¬ IsBounded count (object members) }
+        → ¬ IsBounded count (object members)) }
 {
-    let Some(part) = part else {
-        return false;
-    };
-    let Some(held) = between(text, part.value, part.end) else {
-        return false;
-    };
-    is_wrong_text(alloc, held, holder, count)
+    let part = part?;
+    let held = between(text, part.value, part.end)?;
+    wrong_text(alloc, held, holder, count)
 }
 
-/// Whether a city object has a wrong boundary.
-fn is_wrong_object(alloc: Global, text: &[u8], held: &HeldParts, count: usize) -> bool
+/// What is wrong with the boundaries of a city object.
+fn wrong_object(alloc: Global, text: &[u8], held: &HeldParts, count: usize) -> Option<()>
     requires { HasHolders text.now held.now }
-    ensures { IsTrue result → (value : Tree) → IsCompactOf text.now value → ¬ IsBounded count value }
+    ensures { OnSome result ((value : Tree) → IsCompactOf text.now value → ¬ IsBounded count value) }
 {
-    if is_wrong_part(alloc, text, held.geometry, Holder::Geometry, count) {
-        return true;
+    if let Some(()) = wrong_part(alloc, text, held.geometry, Holder::Geometry, count) {
+        return Some(());
     }
-    is_wrong_part(alloc, text, held.address, Holder::Address, count)
+    wrong_part(alloc, text, held.address, Holder::Address, count)
 }
 
-/// Whether the city object at a place has a wrong boundary.
-fn is_wrong_at(
+/// The fault of city objects of which one has a wrong boundary. `None`: none was found.
+pub(super) fn boundary_fault(
     alloc: Global,
-    text: &[u8],
-    places: &[ShortPart],
-    held: &[ShortHeld],
-    at: usize,
-    count: usize,
-) -> bool
-    requires { AreHolders text.now places.now held.now }
-    ensures { IsTrue result → (pairs : List (List ℕ × Tree)) → IsCompactOf text.now (object (member_trees pairs))
-        → AreParts 1 places.now (member_trees pairs)
-        → ¬ AllByRecursion (IsBounded count) (values (member_trees pairs)) }
-{
-    if at >= places.len() {
-        return false;
-    }
-    if at >= held.len() {
-        return false;
-    }
-    let part = places[at].part();
-    let Some(value) = between(text, part.value, part.end) else {
-        return false;
-    };
-    is_wrong_object(alloc, value, &held[at].parts(), count)
-}
-
-/// Whether one of the city objects in these parts of a text has a wrong boundary.
-pub(super) fn has_wrong_boundary(
-    alloc: Global,
-    text: &[u8],
-    places: &[ShortPart],
-    held: &[ShortHeld],
+    objects: &CityObjects<'_>,
     vertices: usize,
-) -> bool
-    requires { AreHolders text.now places.now held.now }
-    ensures { IsTrue result → (pairs : List (List ℕ × Tree)) → IsCompactOf text.now (object (member_trees pairs))
-        → AreParts 1 places.now (member_trees pairs)
-        → ¬ AllByRecursion (IsBounded vertices) (values (member_trees pairs)) }
+) -> Option<Fault>
+    ensures { IfSome result (λ fault. (fault ≡ Fault.BoundaryIndex)
+        × ((pairs : List (List ℕ × Tree)) → AreObjects objects.now pairs
+        → ¬ AllByRecursion (IsBounded vertices) (values (member_trees pairs)))) }
 {
-    for at in 0..places.len() {
-        if is_wrong_at(alloc, text, places, held, at, vertices) {
-            return true;
+    for at in 0..objects.len() {
+        let one = objects.object(at)?;
+        if let Some(()) = wrong_object(alloc, one.value, &one.held, vertices) {
+            return Some(Fault::BoundaryIndex);
         }
     }
-    false
+    None
 }

@@ -9,13 +9,14 @@ ghost use Rattle.city_families.specs.CityObjects.{IsCityObject};
 ghost use Rattle.city_families.specs.Cut.{RefusesCut};
 ghost use Rattle.cut_on_text.specs.Faults.{HoldsCityObjects, RefusesObjects};
 
-use super::bounds::has_wrong_boundary;
+use super::bounds::boundary_fault;
+use super::city_objects::CityObjects;
 use super::graph::kin_of;
 use super::headers::transform_there;
 use super::kin::is_array_of_texts;
 use super::overview::{Overview, overview_of};
 use super::points::count_vertices;
-use super::texts::{member_or, parts_of};
+use super::texts::{member_or, objects_text, parts_of, vertices_text};
 use byte_streams::Fault;
 use city_feature::{is_array, is_object};
 use city_json::{ObjectText, between};
@@ -68,13 +69,11 @@ fn objects_fault(alloc: Global, text: &[u8], vertices: usize) -> Option<Fault>
         children,
         held,
     } = overview_of(alloc, text)?;
-    if let Err(fault) = kin_of(alloc, text, &places, parents, children)? {
+    let objects = CityObjects::new(text, places, held);
+    if let Err(fault) = kin_of(alloc, &objects, parents, children)? {
         return Some(fault);
     }
-    if has_wrong_boundary(alloc, text, &places, &held, vertices) {
-        return Some(Fault::BoundaryIndex);
-    }
-    None
+    boundary_fault(alloc, &objects, vertices)
 }
 
 /// The fault, unless it is want of memory.
@@ -89,12 +88,12 @@ fn unless_memory(fault: Fault) -> Option<Fault>
 }
 
 /// Why the document whose compact text this is is not cut. `None`: undecided, as where it is cut, or out of memory.
-pub fn cut_fault(alloc: Global, document: &ObjectText<'_>) -> Option<Fault>
+pub(super) fn cut_fault(alloc: Global, document: &ObjectText<'_>) -> Option<Fault>
     ensures refused { IfSome result (λ fault. RefusesCut fault (object_of document.now)) }
     ensures decided { IfSome result (λ fault. fault ≢ Fault.Memory) }
 {
-    let objects = document.value_or(b"\"CityObjects\":", b"{}");
-    let vertices = document.value_or(b"\"vertices\":", b"[]");
+    let objects = objects_text(document);
+    let vertices = vertices_text(document);
     if !is_array(vertices) {
         return Some(Fault::NotCityJson);
     }

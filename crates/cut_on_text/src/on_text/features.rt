@@ -3,8 +3,7 @@ ghost use Rattle.std.specs.Prelude.{◌≡◌, ◌++◌, ◌∷◌, [], ◌<◌,
 ghost use Rattle.std.specs.List.{flat_map, AllByRecursion};
 ghost use Rattle.city_json.specs.Bytes.{colon};
 ghost use Rattle.city_json.specs.Compact.{compact, compact_members, compact_more_members, quoted};
-ghost use Rattle.city_json.specs.Parts.{AreParts};
-ghost use Rattle.city_json.specs.Tree.{Tree, member_trees, object};
+ghost use Rattle.city_json.specs.Tree.{Tree, member_trees};
 ghost use Rattle.city_grid.specs.Axes.{Triple};
 ghost use Rattle.city_feature.specs.Feature.{FeatureValue, vertices_tree};
 ghost use Rattle.city_families.specs.Boundaries.{IsBounded, boundaries, relabelled_object, relabelled_objects, uses};
@@ -16,39 +15,32 @@ ghost use Rattle.cut_on_text.specs.FeatureText.{head_text, middle_text, tail_tex
 ghost use Rattle.city_families.specs.Leaves.{leaves};
 ghost use Rattle.city_families.specs.HeldTexts.{HasGrown};
 ghost use Rattle.cut_on_text.specs.OwnFeatures.{AreOwnTexts};
-ghost use Rattle.cut_on_text.specs.Overviews.{AreHolders};
+ghost use Rattle.cut_on_text.specs.PlacedObjects.{AreObjects};
 ghost use Rattle.city_families.specs.Places.{IsFamily, name_at};
 ghost use Rattle.city_families.specs.Search.{InRange};
-ghost use Rattle.city_json.specs.CompactTexts.{IsCompactOf};
 ghost use Rattle.cut_on_text.specs.VertexTexts.{StandAt};
 
+use super::city_objects::CityObjects;
 use super::drafts::Draft;
-use super::holders::ShortHeld;
-use super::names::name_at;
 use super::objects::append_object;
 use super::points::{VertexTexts, append_points};
-use super::short_parts::ShortPart;
 use super::texts::append_text;
 use crate::held::Pieces;
 use byte_streams::Line;
 use city_families::{Family, Kin, Numbering, family_at, no_marks};
-use city_json::between;
 use std::alloc::Global;
 
 /// Copies the object at a place, with its name.
 fn append_named(
     alloc: Global,
-    text: &[u8],
-    parts: &[ShortPart],
-    held: &[ShortHeld],
+    objects: &CityObjects<'_>,
     at: usize,
     numbering: &mut Numbering,
     draft: &mut Draft,
 ) -> Option<()>
-    requires { AreHolders text.now parts.now held.now }
     ensures long { OnSome result (length numbering.new.table.items ≡ length numbering.old.table.items) }
     ensures made { OnSome result ((pairs : List (List ℕ × Tree))
-        → IsCompactOf text.now (object (member_trees pairs)) → AreParts 1 parts.now (member_trees pairs)
+        → AreObjects objects.now pairs
         → (at < length pairs)
         × IsBounded (length numbering.old.table.items) (named_at pairs at).1
         × Copies numbering.old.table.items numbering.old.order.items draft.old.line
@@ -56,33 +48,22 @@ fn append_named(
         (flat_map leaves (boundaries (named_at pairs at).1))
         (λ change. quoted (named_at pairs at).0 ++ colon ∷ compact (relabelled_object change (named_at pairs at).1))) }
 {
-    if at >= parts.len() {
-        return None;
-    }
-    if at >= held.len() {
-        return None;
-    }
-    let part = parts[at].part();
-    let name = between(text, part.at, part.value)?;
-    let value = between(text, part.value, part.end)?;
-    append_text(name, &mut draft.line)?;
-    append_object(alloc, value, &held[at].parts(), numbering, draft)
+    let one = objects.object(at)?;
+    append_text(one.name, &mut draft.line)?;
+    append_object(alloc, one.value, &one.held, numbering, draft)
 }
 
 /// Copies the objects at these places, with a comma before each.
 fn append_others(
     alloc: Global,
-    text: &[u8],
-    parts: &[ShortPart],
-    held: &[ShortHeld],
+    objects: &CityObjects<'_>,
     places: &[usize],
     numbering: &mut Numbering,
     draft: &mut Draft,
 ) -> Option<()>
-    requires { AreHolders text.now parts.now held.now }
     ensures long { OnSome result (length numbering.new.table.items ≡ length numbering.old.table.items) }
     ensures made { OnSome result ((pairs : List (List ℕ × Tree))
-        → IsCompactOf text.now (object (member_trees pairs)) → AreParts 1 parts.now (member_trees pairs)
+        → AreObjects objects.now pairs
         → AllByRecursion (λ named. IsBounded (length numbering.old.table.items) named.1) (map (named_at pairs) places.now)
         × Copies numbering.old.table.items numbering.old.order.items draft.old.line
         numbering.new.table.items numbering.new.order.items draft.new.line
@@ -91,7 +72,7 @@ fn append_others(
 {
     for at in places {
         append_text(b",", &mut draft.line)?;
-        append_named(alloc, text, parts, held, *at, numbering, draft)?;
+        append_named(alloc, objects, *at, numbering, draft)?;
     }
     Some(())
 }
@@ -99,17 +80,14 @@ fn append_others(
 /// Copies the objects at these places.
 fn append_objects(
     alloc: Global,
-    text: &[u8],
-    parts: &[ShortPart],
-    held: &[ShortHeld],
+    objects: &CityObjects<'_>,
     places: &[usize],
     numbering: &mut Numbering,
     draft: &mut Draft,
 ) -> Option<()>
-    requires { AreHolders text.now parts.now held.now }
     ensures long { OnSome result (length numbering.new.table.items ≡ length numbering.old.table.items) }
     ensures made { OnSome result ((pairs : List (List ℕ × Tree))
-        → IsCompactOf text.now (object (member_trees pairs)) → AreParts 1 parts.now (member_trees pairs)
+        → AreObjects objects.now pairs
         → AllByRecursion (λ named. IsBounded (length numbering.old.table.items) named.1) (map (named_at pairs) places.now)
         × Copies numbering.old.table.items numbering.old.order.items draft.old.line
         numbering.new.table.items numbering.new.order.items draft.new.line
@@ -119,20 +97,8 @@ fn append_objects(
     let [first, others @ ..] = places else {
         return None;
     };
-    append_named(alloc, text, parts, held, *first, numbering, draft)?;
-    append_others(alloc, text, parts, held, others, numbering, draft)
-}
-
-/// The name of the object at a place, with its marks.
-pub(super) fn id_of<'a>(text: &'a [u8], parts: &[ShortPart], at: usize) -> Option<&'a [u8]>
-    ensures { IfSome result (λ found. (pairs : List (List ℕ × Tree))
-        → IsCompactOf text.now (object (member_trees pairs)) → AreParts 1 parts.now (member_trees pairs)
-        → found.now ≡ quoted (named_at pairs at).0) }
-{
-    if at >= parts.len() {
-        return None;
-    }
-    Some(name_at(text, parts, at))
+    append_named(alloc, objects, *first, numbering, draft)?;
+    append_others(alloc, objects, others, numbering, draft)
 }
 
 /// Appends what stands before the objects of a feature. The name is given with its marks.
@@ -156,30 +122,27 @@ fn append_rest(vertices: &VertexTexts<'_>, numbers: &[usize], line: &mut Line) -
 /// Appends the text of the feature that a family is, up to its vertices.
 fn append_feature(
     alloc: Global,
-    text: &[u8],
-    parts: &[ShortPart],
-    held: &[ShortHeld],
+    objects: &CityObjects<'_>,
     vertices: &VertexTexts<'_>,
     family: &Family,
     numbering: &mut Numbering,
     draft: &mut Draft,
 ) -> Option<()>
-    requires holders { AreHolders text.now parts.now held.now }
     requires long { length numbering.old.table.items + 1 ≡ length vertices.now.starts.items }
     ensures long { OnSome result (length numbering.new.table.items + 1 ≡ length vertices.now.starts.items) }
     ensures made { OnSome result ((pairs : List (List ℕ × Tree)) (appearance : Option Tree) (points : List Triple)
         → StandAt vertices.now.text.now vertices.now.starts.items points
-        → IsCompactOf text.now (object (member_trees pairs)) → AreParts 1 parts.now (member_trees pairs)
+        → AreObjects objects.now pairs
         → IsFamily (member_trees pairs) family.now.root family.now.places.items
         → (feature : FeatureValue)
         × IsFeatureOf (member_trees pairs) appearance points (name_at (member_trees pairs) family.now.root) feature
         × HasGrown draft.old.line draft.new.line (tail_text appearance) (compact feature.value)
         × ((k : ℕ) → Contains family.now.places.items k → IsBounded (length points) (named_at pairs k).1)) }
 {
-    let id = id_of(text, parts, family.root)?;
+    let id = objects.id(family.root)?;
     append_head(id, &mut draft.line)?;
     numbering.order.clear();
-    append_objects(alloc, text, parts, held, &family.places, numbering, draft)?;
+    append_objects(alloc, objects, &family.places, numbering, draft)?;
     append_rest(vertices, &numbering.order, &mut draft.line)
 }
 
@@ -213,44 +176,41 @@ fn no_numbers(alloc: Global, vertices: &VertexTexts<'_>) -> Option<Numbering>
 const FIXED_LEN: usize = 64;
 
 /// Whether the fixed texts of as many features as there are objects are longer than the objects and the vertices.
-pub(super) fn are_short(text: &[u8], parts: &[ShortPart], vertices: &VertexTexts<'_>) -> bool {
-    parts.len().saturating_mul(FIXED_LEN) > text.len() + vertices.text.len()
+pub(super) fn are_short(objects: &CityObjects<'_>, vertices: &VertexTexts<'_>) -> bool {
+    objects.len().saturating_mul(FIXED_LEN) > objects.text().len() + vertices.text.len()
 }
 
 /// How many bytes the texts of features may have that are held: each object and each vertex may stand in them twice.
-fn most_held(text: &[u8], parts: &[ShortPart], vertices: &VertexTexts<'_>) -> usize {
-    (text.len() + vertices.text.len())
+fn most_held(objects: &CityObjects<'_>, vertices: &VertexTexts<'_>) -> usize {
+    (objects.text().len() + vertices.text.len())
         .saturating_mul(2)
-        .saturating_add(parts.len().saturating_mul(FIXED_LEN))
+        .saturating_add(objects.len().saturating_mul(FIXED_LEN))
 }
 
 /// What the texts of the features that the families of the objects are have of their own. No more than one family is held.
 /// `None`: undecided; nothing in it: there is too much of it to be held.
 pub(super) fn feature_texts(
     alloc: Global,
-    text: &[u8],
-    parts: &[ShortPart],
-    held: &[ShortHeld],
+    objects: &CityObjects<'_>,
     vertices: &VertexTexts<'_>,
     kin: &Kin,
 ) -> Option<Option<Pieces>>
-    requires holders { AreHolders text.now parts.now held.now }
     requires graph { InRange kin.now.children (length kin.now.children) }
     requires parents { length kin.now.parents.items ≡ length kin.now.children }
     ensures { IfSome result (λ found. IfSome found (λ own.
         (pairs : List (List ℕ × Tree)) (appearance : Option Tree) (points : List Triple)
         → StandAt vertices.now.text.now vertices.now.starts.items points
-        → IsCompactOf text.now (object (member_trees pairs)) → AreParts 1 parts.now (member_trees pairs)
+        → AreObjects objects.now pairs
         → AreRelated pairs kin.now.children kin.now.parents.items
         → AreOwnTexts (member_trees pairs) appearance points own)) }
 {
     let mut numbering = no_numbers(alloc, vertices)?;
     let mut draft = Draft {
-        line: Line::from_vec(Vec::with_capacity(alloc, text.len()).ok()?),
+        line: Line::from_vec(Vec::with_capacity(alloc, objects.text().len()).ok()?),
         from: 0,
     };
-    let most = most_held(text, parts, vertices);
-    let mut ends = Vec::with_capacity(alloc, parts.len()).ok()?;
+    let most = most_held(objects, vertices);
+    let mut ends = Vec::with_capacity(alloc, objects.len()).ok()?;
     let Ok(mut marks) = no_marks(alloc, kin) else {
         return None;
     };
@@ -264,9 +224,7 @@ pub(super) fn feature_texts(
         let before = draft.line.items().len();
         append_feature(
             alloc,
-            text,
-            parts,
-            held,
+            objects,
             vertices,
             &family,
             &mut numbering,

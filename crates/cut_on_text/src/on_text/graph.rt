@@ -3,18 +3,17 @@ ghost use Rattle.std.specs.Prelude.{◌≡◌, ◌≢◌, ℕ, List, Contains, I
 ghost use Rattle.std.specs.Borrow.{Bor};
 ghost use Rattle.std.specs.List.{AllByRecursion, AllZip};
 ghost use Rattle.city_json.specs.Compact.{quoted};
-ghost use Rattle.city_json.specs.CompactTexts.{IsCompactOf};
-ghost use Rattle.city_json.specs.Parts.{AreParts};
-ghost use Rattle.city_json.specs.Tree.{Tree, member_trees, object, string};
+ghost use Rattle.city_json.specs.Tree.{Tree, string};
+ghost use Rattle.cut_on_text.specs.PlacedObjects.{AreObjects};
 ghost use Rattle.cut_on_text.specs.Faults.{RefusesKin};
 ghost use Rattle.cut_on_text.specs.Graphs.{AreKin, HasRow, HaveRows, NamesMissing, SomeNamesMissing};
 ghost use Rattle.cut_on_text.specs.Overviews.{HasChildrenIn, HasParentsIn};
 ghost use Rattle.city_families.specs.Places.{ArePlaced};
 ghost use Rattle.city_families.specs.Table.{IsTable};
 
+use super::city_objects::CityObjects;
 use super::kin::texts_of;
 use super::names::Names;
-use super::short_parts::ShortPart;
 use byte_streams::Fault;
 use city_families::{Graph, Kin, check_belonging};
 use std::alloc::Global;
@@ -95,23 +94,21 @@ fn missing_child(alloc: Global, children: &[&[u8]], table: &Names<'_>) -> Option
     None
 }
 
-/// The city objects that lie in these parts of a text, with these children, and of which these have parents, each in a
-/// family; or why they are refused. `None`: undecided.
+/// The city objects, of which these have parents, with these children, each in a family; or why they are refused. `None`:
+/// undecided.
 pub(super) fn kin_of(
     alloc: Global,
-    text: &[u8],
-    places: &[ShortPart],
+    objects: &CityObjects<'_>,
     parents: Vec<bool>,
     children: Vec<&[u8]>,
 ) -> Option<Result<Kin, Fault>>
-    requires objects { (pairs : List (List ℕ × Tree)) × IsCompactOf text.now (object (member_trees pairs))
-        × AreParts 1 places.now (member_trees pairs) }
-    requires parents { AllZip (HasParentsIn text.now) places.now parents.items }
-    requires children { AllZip (HasChildrenIn text.now) places.now children.items }
-    ensures kin { IfSome result (λ kin. IfOk kin (λ kin. AreKin text.now places.now kin.children kin.parents.items)) }
-    ensures refused { IfSome result (λ kin. IfErr kin (RefusesKin text.now places.now)) }
+    requires objects { (pairs : List (List ℕ × Tree)) × AreObjects objects.now pairs }
+    requires parents { AllZip (HasParentsIn objects.now.text) objects.now.places parents.items }
+    requires children { AllZip (HasChildrenIn objects.now.text) objects.now.places children.items }
+    ensures kin { IfSome result (λ kin. IfOk kin (λ kin. AreKin objects.now kin.children kin.parents.items)) }
+    ensures refused { IfSome result (λ kin. IfErr kin (RefusesKin objects.now)) }
 {
-    let table = Names::new(alloc, text, places)?;
+    let table = Names::new(alloc, objects)?;
     let Some(graph) = graph_of(alloc, &children, &table) else {
         let fault = missing_child(alloc, &children, &table)?;
         return Some(Err(fault));

@@ -86,7 +86,7 @@ fn append_member(
 fn drops_appearance(document: &ObjectText<'_>) -> bool
     ensures { result ≡ not (is_some (first_named (codes "geometry-templates") (members_of document.now))) }
 {
-    match document.value(b"\"geometry-templates\":") {
+    match document.value(4, b"\"geometry-templates\":") {
         Some(_) => false,
         None => true,
     }

@@ -4,11 +4,11 @@ ghost use Rattle.std.specs.Cmp.Lexicographic.{slice_cmp};
 ghost use Rattle.std.specs.Ordering.{is_lt, nat_cmp};
 ghost use Rattle.std.specs.List.Sorted.{IsPermutation, IsSortedBy};
 ghost use Rattle.city_json.specs.Compact.{quoted};
-ghost use Rattle.city_json.specs.Parts.{AreParts};
-ghost use Rattle.city_json.specs.Tree.{Tree, member_trees, object};
+ghost use Rattle.city_json.specs.Tree.{Tree};
 ghost use Rattle.city_families.specs.Table.{AreFirst, IsTable, name_in};
-ghost use Rattle.city_json.specs.CompactTexts.{IsCompactOf};
+ghost use Rattle.cut_on_text.specs.PlacedObjects.{AreObjects};
 
+use super::city_objects::CityObjects;
 use super::ranges::between;
 use super::short_parts::ShortPart;
 use std::alloc::Global;
@@ -68,12 +68,13 @@ fn sort_places(text: &[u8], parts: &[ShortPart], places: &mut [u32])
 }
 
 impl<'a> Names<'a> {
-    /// The names of the objects that lie in these parts. `None`: there are 2^32 or more, or out of memory.
-    pub(super) fn new(alloc: Global, text: &'a [u8], parts: &'a [ShortPart]) -> Option<Names<'a>>
-        ensures { IfSome result (λ table. (pairs : List (List ℕ × Tree)) → IsCompactOf text.now (object (member_trees pairs))
-            → AreParts 1 parts.now (member_trees pairs)
+    /// The names of these objects. `None`: there are 2^32 or more, or out of memory.
+    pub(super) fn new(alloc: Global, objects: &'a CityObjects<'_>) -> Option<Names<'a>>
+        ensures { IfSome result (λ table. (pairs : List (List ℕ × Tree)) → AreObjects objects.now pairs
             → IsTable (map (λ (pair : List ℕ × Tree). quoted pair.0) pairs) table) }
     {
+        let text = objects.text();
+        let parts = objects.places();
         let Ok(count) = u32::try_from(parts.len()) else {
             return None;
         };

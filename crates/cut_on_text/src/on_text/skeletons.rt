@@ -2,24 +2,19 @@
 //!
 //! What is held is in the size of the document; a feature's text is made of it without a look at a boundary.
 ghost use Rattle.std.specs.Prelude.{◌≡◌, ◌<◌, ◌+◌, ◌++◌, ◌∷◌, [], ℕ, List, All, length, IfSome, OnSome};
-ghost use Rattle.city_json.specs.Parts.{AreParts};
-ghost use Rattle.city_json.specs.Tree.{Tree, member_trees, object};
-ghost use Rattle.city_json.specs.CompactTexts.{IsCompactOf};
+ghost use Rattle.city_json.specs.Tree.{Tree};
 ghost use Rattle.city_families.specs.Chosen.{named_at};
-ghost use Rattle.cut_on_text.specs.Overviews.{AreHolders};
+ghost use Rattle.cut_on_text.specs.PlacedObjects.{AreObjects};
 ghost use Rattle.cut_on_text.specs.Skeletons.{AreSkeletons};
 ghost use Rattle.cut_on_text.specs.Sketches.{IsSketch};
 
 mod reading;
 
+use super::city_objects::CityObjects;
 use super::drafts::Draft;
-use super::features::id_of;
-use super::holders::ShortHeld;
 use super::notes::{NotedLeaves, note_object};
-use super::short_parts::ShortPart;
 use super::texts::append_text;
 use byte_streams::{Line, push};
-use city_json::between;
 use std::alloc::Global;
 use std::marker::Model;
 
@@ -114,61 +109,48 @@ impl Model for Skeletons {
 /// Copies the object at a place, its name before it, without its leaves: where it begins.
 fn note_named(
     alloc: Global,
-    text: &[u8],
-    parts: &[ShortPart],
-    held: &[ShortHeld],
+    objects: &CityObjects<'_>,
     at: usize,
     notes: &mut NotedLeaves,
     draft: &mut Draft,
 ) -> Option<Start>
-    requires { AreHolders text.now parts.now held.now }
     ensures count { OnSome result (notes.new.count ≡ notes.old.count) }
     ensures made { IfSome result (λ start. (pairs : List (List ℕ × Tree))
-        → IsCompactOf text.now (object (member_trees pairs)) → AreParts 1 parts.now (member_trees pairs)
+        → AreObjects objects.now pairs
         → IsSketch notes.old.count notes.old.leaves.items draft.old.line start notes.new.leaves.items draft.new.line
         (named_at pairs at)) }
 {
-    if at >= parts.len() {
-        return None;
-    }
-    if at >= held.len() {
-        return None;
-    }
-    let part = parts[at].part();
-    let id = id_of(text, parts, at)?;
-    let value = between(text, part.value, part.end)?;
+    let id = objects.id(at)?;
+    let one = objects.object(at)?;
     let begin = draft.line.items().len();
     let leaves = notes.leaves.len();
     append_text(id, &mut draft.line)?;
     let name = draft.line.items().len();
     append_text(b":", &mut draft.line)?;
-    let split = note_object(alloc, value, &held[at].parts(), notes, draft)?;
+    let split = note_object(alloc, one.value, &one.held, notes, draft)?;
     Start::new(begin, name, leaves, split)
 }
 
 /// The objects that lie in these parts of a text, with boundaries that name vertices below `count`. `None`: undecided.
 pub(super) fn skeletons_of(
     alloc: Global,
-    text: &[u8],
-    parts: &[ShortPart],
-    held: &[ShortHeld],
+    objects: &CityObjects<'_>,
     count: usize,
 ) -> Option<Skeletons>
-    requires { AreHolders text.now parts.now held.now }
-    ensures long { IfSome result (λ skeletons. length skeletons.places ≡ length parts.now + 1) }
+    ensures long { IfSome result (λ skeletons. length skeletons.places ≡ length objects.now.places + 1) }
     ensures within { IfSome result (λ skeletons. All (λ leaf. leaf.vertex < count) skeletons.leaves) }
     ensures made { IfSome result (λ skeletons. (pairs : List (List ℕ × Tree))
-        → IsCompactOf text.now (object (member_trees pairs)) → AreParts 1 parts.now (member_trees pairs)
+        → AreObjects objects.now pairs
         → AreSkeletons count skeletons pairs) }
 {
     let mut notes = NotedLeaves::new(alloc, count);
     let mut draft = Draft {
-        line: Line::from_vec(Vec::with_capacity(alloc, text.len()).ok()?),
+        line: Line::from_vec(Vec::with_capacity(alloc, objects.text().len()).ok()?),
         from: 0,
     };
-    let mut places = Vec::with_capacity(alloc, parts.len() + 1).ok()?;
-    for at in 0..parts.len() {
-        let start = note_named(alloc, text, parts, held, at, &mut notes, &mut draft)?;
+    let mut places = Vec::with_capacity(alloc, objects.len() + 1).ok()?;
+    for at in 0..objects.len() {
+        let start = note_named(alloc, objects, at, &mut notes, &mut draft)?;
         push(start, &mut places)?;
     }
     let end = draft.line.items().len();

@@ -1,14 +1,15 @@
 //! The members of an object in its compact text.
-ghost use Rattle.std.specs.Prelude.{◌≡◌, ◌++◌, ◌∷◌, [], List, ℕ, drop, take, unwrap_or, IfSome, IsUtf8, OnSome};
+ghost use Rattle.std.specs.Prelude.{◌≡◌, ◌++◌, ◌∷◌, [], List, ℕ, codes, drop, take, unwrap_or, IfSome, IsUtf8, OnSome};
 ghost use Rattle.city_json.specs.Bytes.{colon};
 ghost use Rattle.city_json.specs.Compact.{quoted};
 ghost use Rattle.city_json.specs.Members.{first_named};
+ghost use Rattle.city_json.specs.ObjectTexts.{members_of};
 ghost use Rattle.city_json.specs.Parts.{AreParts};
-ghost use Rattle.city_json.specs.Tree.{Tree, MemberTrees, object};
+ghost use Rattle.city_json.specs.Tree.{Tree, MemberTrees, array, no_items, no_members, object};
 ghost use Rattle.city_json.specs.CompactTexts.{IsCompactOf};
 
 use byte_streams::Line;
-use city_json::{MemberPlace, between, members_of_compact, part_named};
+use city_json::{MemberPlace, ObjectText, between, members_of_compact, part_named};
 use std::alloc::Global;
 
 /// Where the members lie of the object whose compact text this is.
@@ -39,6 +40,22 @@ pub(super) fn member_or<'a>(
         return Some(other);
     };
     between(text, part.value, part.end)
+}
+
+/// The text of the document's vertices, of which there may be none.
+pub(super) fn vertices_text<'a>(document: &'a ObjectText<'_>) -> &'a [u8]
+    ensures { IsCompactOf result.now
+        (unwrap_or (first_named (codes "vertices") (members_of document.now)) (array no_items)) }
+{
+    document.value_or(3, b"\"vertices\":", b"[]")
+}
+
+/// The text of its city objects, of which there may be none.
+pub(super) fn objects_text<'a>(document: &'a ObjectText<'_>) -> &'a [u8]
+    ensures { IsCompactOf result.now
+        (unwrap_or (first_named (codes "CityObjects") (members_of document.now)) (object no_members)) }
+{
+    document.value_or(2, b"\"CityObjects\":", b"{}")
 }
 
 /// Appends a text.

@@ -27,7 +27,7 @@ pub fn triples_text<'a>(document: &ObjectText<'a>, triples: Span) -> Option<&'a 
         → HasPoints (members_of document.now) points) }
     ensures triples { IfSome result (λ found. IsTriplesArray found.now) }
 {
-    let part = document.part(b"\"vertices\":")?;
+    let part = document.part(3, b"\"vertices\":")?;
     if !triples.is_value_of(part) {
         return None;
     }

@@ -1,9 +1,7 @@
 //! Vertices in compact texts: what is read of them, and what is looked at, at each length of their numbers.
 use crate::grid::expect;
 use byte_streams::{Fault, Line};
-use city_grid::{
-    PlacedVertex, SpelledVertex, Vertex, append_vertex, spelled_vertex_at, vertex_at, vertex_end,
-};
+use city_grid::{SpelledVertex, Vertex, append_vertex, spelled_vertex_at, vertex_end};
 use std::alloc::{AllocError, AllocGlobal, Global};
 use std::process::Abort;
 
@@ -52,9 +50,7 @@ fn has_none(bytes: &[u8]) -> bool {
     if bytes.is_empty() {
         return false;
     }
-    vertex_end(bytes, 1) == 1
-        && vertex_at(bytes, 1).is_none()
-        && spelled_vertex_at(bytes, 1).is_none()
+    vertex_end(bytes, 1) == 1 && spelled_vertex_at(bytes, 1).is_none()
 }
 
 /// Whether the vertex ends here, and stands in a text as it is written: it is read, and its end is found.
@@ -67,9 +63,7 @@ fn has_vertex(bytes: &[u8], vertex: Vertex, end: usize) -> bool {
         end,
         as_written: true,
     };
-    vertex_at(bytes, 1) == Some(PlacedVertex { vertex, end })
-        && vertex_end(bytes, 1) == end
-        && spelled_vertex_at(bytes, 1) == Some(spelled)
+    vertex_end(bytes, 1) == end && spelled_vertex_at(bytes, 1) == Some(spelled)
 }
 
 /// Whether the vertex ends here, and stands in a text otherwise than it is written: only the one call reads it.
@@ -82,9 +76,7 @@ fn has_spelled(bytes: &[u8], vertex: Vertex, end: usize) -> bool {
         end,
         as_written: false,
     };
-    spelled_vertex_at(bytes, 1) == Some(spelled)
-        && vertex_end(bytes, 1) == 1
-        && vertex_at(bytes, 1).is_none()
+    spelled_vertex_at(bytes, 1) == Some(spelled) && vertex_end(bytes, 1) == 1
 }
 
 /// Whether the vertex is found whatever stands after it.

@@ -155,10 +155,7 @@ impl ReadyTexts {
     {
         match &self.texts {
             GivenTexts::Stored(texts) => texts.len(),
-            GivenTexts::Made(texts) => {
-                texts.known();
-                texts.len()
-            }
+            GivenTexts::Made(texts) => texts.len(),
         }
     }
 

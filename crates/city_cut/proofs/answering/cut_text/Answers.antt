@@ -1,23 +1,18 @@
-use Rattle.std.proofs.Common.{◌<◌, ◌^◌, inl, inr, length, rules}
+use Rattle.std.proofs.Common.{◌<◌, ◌^◌, inl, length, rules}
 use Rattle.std.proofs.lemmas.Result.{err_from_is_err_and}
 use Rattle.city_json.specs.ObjectTexts.{object_of}
 use Rattle.city_json.specs.Tree.{tree}
 use Rattle.city_families.specs.HeldTexts.{texts_in}
 use Rattle.cut_on_text.specs.declared.cuts.CutTexts.{CutTexts}
 use Rattle.city_feature.specs.Values.{header_value}
-use Rattle.city_cut.proofs.AnsweredCuts.{again_given, again_own, again_refused}
+use Rattle.city_cut.proofs.AnsweredCuts.{again_given, again_own, again_refused, known_refused}
 use Rattle.city_cut.proofs.answering.cut_text.Goals as goal
 
 pub returns-in-Some-clause-ok : goal.returns-in-Some-clause-ok
-returns-in-Some-clause-ok c =
-    let (cuttable, own, features, cut, texts) = c.in-Some.ensures in
-    (cuttable, features, cut, texts)
+returns-in-Some-clause-ok c = c.in-Some.ensures.cut
 
-pub returns-in-Some-clause-own : goal.returns-in-Some-clause-own
-returns-in-Some-clause-own c = c.in-Some.ensures.1
-
-pub returns-in-Some-cut_fault-clause-refused : goal.returns-in-Some-cut_fault-clause-refused
-returns-in-Some-cut_fault-clause-refused c = inr c.in-Some-cut_fault.ensures.refused
+pub returns-in-Some-clause-refused : goal.returns-in-Some-clause-refused
+returns-in-Some-clause-refused c = known_refused (object_of c.args.document.now) c.in-Some.told c.in-Some.ensures.refused
 
 pub read_again-requires : goal.read_again-requires
 read_again-requires c = (object_of c.args.document.now, c.text-text.ensures.of)

@@ -14,8 +14,8 @@ new-document-requires c =
       subst (λ p. AreParts 1 p members) (sym c.deref.ensures.value) are,
     )
 
-pub cut_compacted_triples-requires : goal.cut_compacted_triples-requires
-cut_compacted_triples-requires c =
+pub known_cut-requires : goal.known_cut-requires
+known_cut-requires c =
     let (members, of, are, triples) = c.in_ok-given.ensures in
     subst (λ (there : PlacedObject). HasTriples there.text c.in_ok-given.given.triples) (sym c.new-document.ensures)
     (subst (λ l. HasTriples l c.in_ok-given.given.triples) (sym c.items.ensures) triples)

@@ -4,8 +4,8 @@ use Rattle.city_json.specs.Parts.{AreParts}
 use Rattle.city_json.specs.Tree.{object}
 use Rattle.city_cut_tests.proofs.faults.told.Goals as goal
 
-pub new-requires : goal.new-requires
-new-requires c =
+pub new-document-requires : goal.new-document-requires
+new-document-requires c =
     let (members, of, are, triples) = c.in_ok-given.ensures in (
       members,
       subst (λ l. IsCompactOf l (object members)) (sym c.items.ensures) of,

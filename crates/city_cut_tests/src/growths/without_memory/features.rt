@@ -1,9 +1,10 @@
 //! Headers, features and choices.
 
 use byte_streams::Fault;
+use city_cut::drop_member;
 use city_feature::{
-    Choice, Feature, Types, area, drop_member, feature, header, is_city_json, is_document,
-    is_version_2, selects, shifted, transform_of, types,
+    Choice, Feature, Types, area, feature, header, header_transform, is_document, selects, shifted,
+    types,
 };
 use city_grid::Shift;
 use city_json::{Json, read, same};
@@ -13,8 +14,8 @@ use std::alloc::Global;
 
 /// Whether a value is a header, and is taken as it stands.
 fn is_header(value: Json, copy: &Json) -> Result<bool, Fault> {
-    let is_one = is_city_json(&value) && is_version_2(&value) && !is_document(&value);
-    let transform = transform_of(&value)?;
+    let is_one = !is_document(&value);
+    let transform = header_transform(&value)?;
     let taken = header(value)?;
     Ok(is_one && same(taken.json(), copy) && *taken.transform() == transform)
 }

@@ -2,8 +2,8 @@
 
 use byte_streams::Fault;
 use city_grid::{
-    PlacedVertex, Shift, SpelledVertex, Transform, Vertex, decimal, least_of, moved, shift_of,
-    spelled_vertex_at, three_numbers, transform, vertex, vertex_at, vertex_end,
+    Shift, SpelledVertex, Transform, Vertex, decimal, least_of, moved, shift_of, spelled_vertex_at,
+    three_numbers, transform, vertex, vertex_end,
 };
 use city_json::{NumText, read};
 use growth_support::{give, take};
@@ -208,9 +208,9 @@ fn vertices_are_moved(rt: HostRuntime) {
     assert!(rt; give(rt.alloc(), gone));
 }
 
-fn is_found(found: Option<PlacedVertex>, vertex: Option<Vertex>, end: usize) -> bool {
+fn is_found(found: Option<SpelledVertex>, vertex: Option<Vertex>, end: usize) -> bool {
     match found {
-        Some(found) => Some(found.vertex) == vertex && found.end == end,
+        Some(found) => Some(found.vertex) == vertex && found.end == end && found.as_written,
         None => false,
     }
 }
@@ -226,7 +226,7 @@ fn is_spelled(found: Option<SpelledVertex>, vertex: Option<Vertex>, end: usize) 
 fn vertices_are_found_in_a_text(rt: HostRuntime) {
     let gone = take(rt.alloc());
     let text = b"[[-17,0,12345],[-0,1,2]]";
-    assert!(rt; is_found(vertex_at(text, 1), Vertex::new(-17, 0, 12345), 14));
+    assert!(rt; is_found(spelled_vertex_at(text, 1), Vertex::new(-17, 0, 12345), 14));
     assert!(rt; vertex_end(text, 1) == 14);
     assert!(rt; is_spelled(spelled_vertex_at(text, 15), Vertex::new(0, 1, 2), 23));
     assert!(rt; give(rt.alloc(), gone));

@@ -28,7 +28,7 @@ fn member_text<'a>(alloc: Global, text: &'a [u8], name: &[u8]) -> Result<&'a [u8
     let Some(parts) = members_of_compact(alloc, text)? else {
         return Ok(b"null");
     };
-    let Some(part) = ObjectText::new(text, &parts).part(name) else {
+    let Some(part) = ObjectText::new(text, &parts).part(0, name) else {
         return Ok(b"null");
     };
     Ok(value_in(text, part))
@@ -41,7 +41,7 @@ fn id_and_colon(alloc: Global, line: &ObjectText<'_>) -> Result<Line, AllocError
         → IsUtf8 id × (name ≡ quoted id ++ colon ∷ [])) }
 {
     let mut name = Line::new(alloc);
-    name.append(line.value_or(b"\"id\":", b"null"))?;
+    name.append(line.value_or(1, b"\"id\":", b"null"))?;
     name.append(b":")?;
     Ok(name)
 }
@@ -56,7 +56,7 @@ fn type_text<'a>(alloc: Global, line: &ObjectText<'a>) -> Result<&'a [u8], Alloc
         (member_in (codes "type") (member_in id (first_named (codes "CityObjects") (members_of line.now)))) null)) }
 {
     let id = id_and_colon(alloc, line)?;
-    let Some(objects) = line.value(b"\"CityObjects\":") else {
+    let Some(objects) = line.value(2, b"\"CityObjects\":") else {
         return Ok(b"null");
     };
     let object = member_text(alloc, objects, id.items())?;
@@ -113,8 +113,8 @@ fn first_type<'a>(line: &ObjectText<'a>) -> Option<&'a [u8]>
         → member_in (codes "type") (member_in id (first_named (codes "CityObjects") (members_of line.now)))
         ≡ Some (string name.now)) }
 {
-    let id = line.value(b"\"id\":")?;
-    let objects = line.value(b"\"CityObjects\":")?;
+    let id = line.value(1, b"\"id\":")?;
+    let objects = line.value(2, b"\"CityObjects\":")?;
     let first = after_front(objects, b"{")?;
     let object = after_front(first, id)?;
     let value = after_front(object, b":{\"type\":\"")?;

@@ -1,18 +1,17 @@
 use Rattle.std.proofs.Common.{◌∙◌, inl, refl, codes}
 use Rattle.city_json.specs.Members.{first_named}
 use Rattle.city_json.specs.ObjectTexts.{members_of, object_of}
-use Rattle.city_json.specs.Tree.{no_members, object, tree}
-use Rattle.city_feature.proofs.LineTexts.{utf8}
+use Rattle.city_json.specs.Tree.{tree}
 use Rattle.city_feature.specs.Values.{header_value}
 use Rattle.cut_on_text.proofs.MovedFeatures.{last_writable}
 use Rattle.cut_on_text.proofs.SpelledFeatures.{own_of}
-use Rattle.cut_on_text.proofs.TextDocuments.{no_objects, whole}
+use Rattle.cut_on_text.proofs.TextDocuments.{whole}
 use Rattle.cut_on_text.proofs.on_text.cut_on.Goals as goal
 
 pub texts_on-requires-clause-objects : goal.texts_on-requires-clause-objects
 texts_on-requires-clause-objects c = (
   _,
-  c.value_or-objects.ensures (codes "CityObjects") (utf8 (codes "CityObjects") refl) refl (object no_members) no_objects,
+  c.objects_text-objects.ensures,
 )
 
 pub texts_on-requires-clause-tail : goal.texts_on-requires-clause-tail
@@ -24,8 +23,7 @@ pub returns : goal.returns
 returns c = λ points has stand.
     let document = object_of c.args.document.now in
     let of = c.known.ensures.is.of in
-    let there = c.value_or-objects.ensures (codes "CityObjects") (utf8 (codes "CityObjects") refl) refl
-    (object no_members) no_objects in
+    let there = c.objects_text-objects.ensures in
     let appearance = first_named (codes "appearance") (members_of c.args.document.now) in
     let (objects, is, city, lacks, belong, features, texts, made, bounded) =
     c.in_ok-texts.ensures.texts _ appearance points there stand c.in_ok-tail.ensures in

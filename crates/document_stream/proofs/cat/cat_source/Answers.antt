@@ -18,5 +18,5 @@ returns-in-Ok-write_stream-clause-ok g c =
     all_written (g.R.Source.gives c.args.source.now) (length stream.texts.own)
     (lines.stream stream.header (texts_in stream.texts)) c.in-Ok.ensures.ok (g.W.Sink.taken c.args.output.now)
     (g.W.Sink.taken c.write_stream.new.output) c.len.result
-    (c.len.ensures ∙ ap (λ (texts : HeldTexts). length texts.own) c.in-Ok-write_stream.ensures.same)
+    (c.len.ensures.count ∙ ap (λ (texts : HeldTexts). length texts.own) c.in-Ok-write_stream.ensures.same)
     c.in-Ok-write_stream.ensures.ok

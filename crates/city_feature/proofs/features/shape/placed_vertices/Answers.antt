@@ -10,21 +10,21 @@ use Rattle.city_feature.proofs.features.shape.placed_vertices.Goals as goal
 pub returns-then-not-is_feature_type-clause-none : goal.returns-then-not-is_feature_type-clause-none
 returns-then-not-is_feature_type-clause-none c =
     let members = members_of c.args.line.now in
-    let kind = c.usual_value_or-kind.ensures (codes "type") (utf8 (codes "type") refl) refl null null_text in
+    let kind = c.value_or-kind.ensures (codes "type") (utf8 (codes "type") refl) refl null null_text in
     unshaped members _ c.is_feature_type.result c.if-not-is_feature_type.true
     (c.is_feature_type.ensures (value_of (codes "type") members) kind) (λ shape. (of_shape members shape).0)
 
 pub returns-then-not-is_text-clause-none : goal.returns-then-not-is_text-clause-none
 returns-then-not-is_text-clause-none c =
     let members = members_of c.args.line.now in
-    let id = c.usual_value_or-id.ensures (codes "id") (utf8 (codes "id") refl) refl null null_text in
+    let id = c.value_or-id.ensures (codes "id") (utf8 (codes "id") refl) refl null null_text in
     unshaped members _ c.is_text.result c.if-not-is_text.true
     (c.is_text.ensures (value_of (codes "id") members) id) (λ shape. (of_shape members shape).1)
 
 pub returns-then-not-is_object-clause-none : goal.returns-then-not-is_object-clause-none
 returns-then-not-is_object-clause-none c =
     let members = members_of c.args.line.now in
-    let objects = c.usual_value_or-objects.ensures (codes "CityObjects") (utf8 (codes "CityObjects") refl) refl null null_text in
+    let objects = c.value_or-objects.ensures (codes "CityObjects") (utf8 (codes "CityObjects") refl) refl null null_text in
     unshaped members _ c.is_object.result c.if-not-is_object.true
     (c.is_object.ensures (value_of (codes "CityObjects") members) objects) (λ shape. (of_shape members shape).2)
 
@@ -52,9 +52,9 @@ pub returns-clause-shape : goal.returns-clause-shape
 returns-clause-shape c =
     let members = members_of c.args.line.now in
     let part = c.in_ok-part.part in
-    let kind = c.usual_value_or-kind.ensures (codes "type") (utf8 (codes "type") refl) refl null null_text in
-    let id = c.usual_value_or-id.ensures (codes "id") (utf8 (codes "id") refl) refl null null_text in
-    let objects = c.usual_value_or-objects.ensures (codes "CityObjects") (utf8 (codes "CityObjects") refl) refl null null_text in
+    let kind = c.value_or-kind.ensures (codes "type") (utf8 (codes "type") refl) refl null null_text in
+    let id = c.value_or-id.ensures (codes "id") (utf8 (codes "id") refl) refl null null_text in
+    let objects = c.value_or-objects.ensures (codes "CityObjects") (utf8 (codes "CityObjects") refl) refl null null_text in
     has_shape members
     ((c.is_feature_type.ensures (value_of (codes "type") members) kind).0 c.if-not-is_feature_type.false)
     ((c.is_text.ensures (value_of (codes "id") members) id).0 c.if-not-is_text.false)

@@ -1,6 +1,8 @@
 use Rattle.std.proofs.Common.{◌∙◌, ◌+◌, ap, sym, arith, drop}
+use Rattle.std.specs.Char.{is_ascii_digit}
 use lib.Count.{count_trailing_zeros}
-use Rattle.city_json.proofs.DigitRuns.{digits_go_on, digits_stop, digits_within, past_at, same_rest}
+use Rattle.city_json.proofs.DigitRuns.{digits_go_on, digits_stop, past_at, same_rest}
+use Rattle.city_json.proofs.Runs.{run_within}
 use Rattle.city_json.proofs.reading.digits.digits_end_slowly.Goals as goal
 
 pub returns-then-stops-ne0-clause-within : goal.returns-then-stops-ne0-clause-within
@@ -8,7 +10,7 @@ returns-then-stops-ne0-clause-within c =
     let found = c.not_digits-stops.ensures in
     let run = digits_stop c.args.text.now c.loop-end.end (omega arith) (omega (arith, found))
     ∙ ap (count_trailing_zeros 64) (sym found) in
-    omega (arith, run, digits_within c.args.text.now c.loop-end.end c.loop-end.invariant.1)
+    omega (arith, run, run_within is_ascii_digit c.args.text.now c.loop-end.end c.loop-end.invariant.1)
 
 pub returns-then-stops-ne0-clause-passed : goal.returns-then-stops-ne0-clause-passed
 returns-then-stops-ne0-clause-passed c =

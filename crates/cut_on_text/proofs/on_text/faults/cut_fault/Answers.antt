@@ -1,45 +1,32 @@
-use Rattle.std.proofs.Common.{◌∙◌, ⊎_elim, codes, refl, subst, sym}
-use Rattle.city_json.specs.CompactTexts.{IsCompactOf}
+use Rattle.std.proofs.Common.{◌∙◌, ⊎_elim, refl, subst, sym}
 use Rattle.city_json.specs.ObjectTexts.{members_of, object_of}
-use Rattle.city_json.specs.Tree.{array, no_items, no_members, object}
-use Rattle.city_feature.proofs.LineTexts.{utf8}
 use Rattle.city_feature.specs.Feature.{RefusesFirst}
 use Rattle.city_families.specs.Cut.{header_tree}
-use Rattle.cut_on_text.proofs.TextDocuments.{empty_array, no_objects}
-use Rattle.cut_on_text.proofs.TextFaults.{err_told, has_frame, header_decided, header_refused, objects_decided, objects_in, if_both, objects_refused, ok_told, other_objects, other_vertices, shaped, vertices_in, vertices_refused}
+use Rattle.cut_on_text.proofs.TextFaults.{has_frame, header_decided, header_refused, objects_decided, objects_in, if_both, objects_refused, other_objects, other_vertices, shaped, vertices_refused}
 use Rattle.cut_on_text.proofs.TextMembers.{if_some_more}
+use Rattle.city_feature.proofs.NamedTexts.{err_told, ok_told}
 use Rattle.cut_on_text.proofs.on_text.faults.cut_fault.Goals as goal
 
 pub objects_fault-requires : goal.objects_fault-requires
-objects_fault-requires c = (
-  _,
-  c.value_or-objects.ensures (codes "CityObjects") (utf8 (codes "CityObjects") refl) refl (object no_members) no_objects,
-)
+objects_fault-requires c = (_, c.objects_text-objects.ensures)
 
 pub returns-then-not-is_array-clause-refused : goal.returns-then-not-is_array-clause-refused
 returns-then-not-is_array-clause-refused c =
-    other_vertices c.value_or-vertices.result.now c.is_array.result (members_of c.args.document.now) c.is_array.ensures
-    c.if-not-is_array.true
-    (c.value_or-vertices.ensures (codes "vertices") (utf8 (codes "vertices") refl) refl (array no_items) empty_array)
+    other_vertices c.vertices_text-vertices.result.now c.is_array.result (members_of c.args.document.now) c.is_array.ensures
+    c.if-not-is_array.true c.vertices_text-vertices.ensures
 
 pub returns-then-not-holds-clause-refused : goal.returns-then-not-holds-clause-refused
 returns-then-not-holds-clause-refused c =
-    other_objects c.value_or-objects.result.now c.in_ok-holds.holds (members_of c.args.document.now)
-    c.in_ok-holds.ensures c.if-not-holds.true
-    (c.value_or-objects.ensures (codes "CityObjects") (utf8 (codes "CityObjects") refl) refl (object no_members)
-    no_objects)
+    other_objects c.objects_text-objects.result.now c.in_ok-holds.holds (members_of c.args.document.now)
+    c.in_ok-holds.ensures c.if-not-holds.true c.objects_text-objects.ensures
 
 pub returns-in-Err-clause-refused : goal.returns-in-Err-clause-refused
 returns-in-Err-clause-refused c =
     let members = members_of c.args.document.now in
-    let objects : IsCompactOf c.value_or-objects.result.now (objects_in members) =
-    c.value_or-objects.ensures (codes "CityObjects") (utf8 (codes "CityObjects") refl) refl (object no_members)
-    no_objects in
-    let vertices : IsCompactOf c.value_or-vertices.result.now (vertices_in members) =
-    c.value_or-vertices.ensures (codes "vertices") (utf8 (codes "vertices") refl) refl (array no_items) empty_array in
-    let is = shaped c.value_or-vertices.result.now c.value_or-objects.result.now c.is_array.result c.in_ok-holds.holds
-    members c.is_array.ensures c.if-not-is_array.false vertices c.in_ok-holds.ensures c.if-not-holds.false objects in
-    header_refused members c.value_or-vertices.result.now is c.in-Err.fault
+    let is = shaped c.vertices_text-vertices.result.now c.objects_text-objects.result.now c.is_array.result c.in_ok-holds.holds
+    members c.is_array.ensures c.if-not-is_array.false c.vertices_text-vertices.ensures c.in_ok-holds.ensures c.if-not-holds.false
+    c.objects_text-objects.ensures in
+    header_refused members c.vertices_text-vertices.result.now is c.in-Err.fault
     (err_told _ c.in_ok-fault.field-0 c.in-Err.fault c.in-Err.is c.in_ok-fault.ensures.1)
 
 pub returns-in-Err-clause-decided : goal.returns-in-Err-clause-decided
@@ -50,20 +37,15 @@ returns-in-Err-clause-decided c =
 pub returns-in-Err-count_vertices-clause-refused : goal.returns-in-Err-count_vertices-clause-refused
 returns-in-Err-count_vertices-clause-refused c =
     let members = members_of c.args.document.now in
-    let objects : IsCompactOf c.value_or-objects.result.now (objects_in members) =
-    c.value_or-objects.ensures (codes "CityObjects") (utf8 (codes "CityObjects") refl) refl (object no_members)
-    no_objects in
-    let vertices : IsCompactOf c.value_or-vertices.result.now (vertices_in members) =
-    c.value_or-vertices.ensures (codes "vertices") (utf8 (codes "vertices") refl) refl (array no_items) empty_array in
-    let is = shaped c.value_or-vertices.result.now c.value_or-objects.result.now c.is_array.result c.in_ok-holds.holds
-    members c.is_array.ensures c.if-not-is_array.false vertices c.in_ok-holds.ensures c.if-not-holds.false objects in
-    let framed = has_frame members c.value_or-vertices.result.now is (
+    let is = shaped c.vertices_text-vertices.result.now c.objects_text-objects.result.now c.is_array.result c.in_ok-holds.holds
+    members c.is_array.ensures c.if-not-is_array.false c.vertices_text-vertices.ensures c.in_ok-holds.ensures c.if-not-holds.false
+    c.objects_text-objects.ensures in
+    let framed = has_frame members c.vertices_text-vertices.result.now is (
       c.in_default.field-0,
-      ok_told _
-          c.in_ok-fault.field-0 c.in_default.field-0 c.in_default.is c.in_ok-fault.ensures.0,
+      ok_told _ c.in_ok-fault.field-0 c.in_default.field-0 c.in_default.is c.in_ok-fault.ensures.0,
     ) in
     if_both c.unless_memory.result c.unless_memory.ensures.same c.unless_memory.ensures.decided
-    (λ told same other. vertices_refused members c.value_or-vertices.result.now is told framed
+    (λ told same other. vertices_refused members c.vertices_text-vertices.result.now is told framed
     (λ items of. ⊎_elim (λ memory. absurd (other (same ∙ memory)))
     (λ first. subst (λ f. RefusesFirst f items) (sym same) first)
     (c.in-Err-count_vertices.ensures.refused items of)))
@@ -71,25 +53,18 @@ returns-in-Err-count_vertices-clause-refused c =
 pub returns-in-Ok-clause-refused : goal.returns-in-Ok-clause-refused
 returns-in-Ok-clause-refused c = if_some_more c.objects_fault.result (λ fault holds.
     let members = members_of c.args.document.now in
-    let objects : IsCompactOf c.value_or-objects.result.now (objects_in members) =
-    c.value_or-objects.ensures (codes "CityObjects") (utf8 (codes "CityObjects") refl) refl (object no_members)
-    no_objects in
-    let vertices : IsCompactOf c.value_or-vertices.result.now (vertices_in members) =
-    c.value_or-vertices.ensures (codes "vertices") (utf8 (codes "vertices") refl) refl (array no_items) empty_array in
-    let is = shaped c.value_or-vertices.result.now c.value_or-objects.result.now c.is_array.result c.in_ok-holds.holds
-    members c.is_array.ensures c.if-not-is_array.false vertices c.in_ok-holds.ensures c.if-not-holds.false objects in
-    let framed = has_frame members c.value_or-vertices.result.now is (
+    let is = shaped c.vertices_text-vertices.result.now c.objects_text-objects.result.now c.is_array.result c.in_ok-holds.holds
+    members c.is_array.ensures c.if-not-is_array.false c.vertices_text-vertices.ensures c.in_ok-holds.ensures c.if-not-holds.false
+    c.objects_text-objects.ensures in
+    let framed = has_frame members c.vertices_text-vertices.result.now is (
       c.in_default.field-0,
-      ok_told _
-          c.in_ok-fault.field-0 c.in_default.field-0 c.in_default.is c.in_ok-fault.ensures.0,
+      ok_told _ c.in_ok-fault.field-0 c.in_default.field-0 c.in_default.is c.in_ok-fault.ensures.0,
     ) in
-    objects_refused members c.value_or-vertices.result.now is fault (objects_in members) c.in-Ok.count framed refl
-    (c.in-Ok.ensures.ok is.items is.of) (holds (objects_in members) objects)) c.objects_fault.ensures
+    objects_refused members c.vertices_text-vertices.result.now is fault (objects_in members) c.in-Ok.count framed refl
+    (c.in-Ok.ensures.ok is.items is.of) (holds (objects_in members) c.objects_text-objects.ensures)) c.objects_fault.ensures
 
 pub returns-in-Ok-clause-decided : goal.returns-in-Ok-clause-decided
 returns-in-Ok-clause-decided c =
-    let there = c.value_or-objects.ensures (codes "CityObjects") (utf8 (codes "CityObjects") refl) refl
-    (object no_members) no_objects in
     if_some_more c.objects_fault.result (λ fault holds.
-    let (objects, same, refused) = holds (objects_in (members_of c.args.document.now)) there in
+    let (objects, same, refused) = holds (objects_in (members_of c.args.document.now)) c.objects_text-objects.ensures in
     objects_decided fault c.in-Ok.count objects refused) c.objects_fault.ensures

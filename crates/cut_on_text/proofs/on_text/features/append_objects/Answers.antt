@@ -5,10 +5,10 @@ use Rattle.cut_on_text.proofs.TextMembers.{on_some_more}
 use Rattle.cut_on_text.proofs.on_text.features.append_objects.Goals as goal
 
 pub returns-clause-made : goal.returns-clause-made
-returns-clause-made c = on_some_more c.append_others.result (λ others pairs of are.
+returns-clause-made c = on_some_more c.append_others.result (λ others pairs are.
     let places = c.args.places.now in
     let left = take (length places - 1) (drop 1 places) in
-    let (inside, bounded, one) = c.in_ok-append_named.ensures.made pairs of are in
+    let (inside, bounded, one) = c.in_ok-append_named.ensures.made pairs are in
     subst (λ l. ObjectsMade (length c.args.numbering.now.table.items) c.args.numbering.now.table.items
     c.args.numbering.now.order.items c.args.draft.now.line c.append_others.new.numbering.table.items
     c.append_others.new.numbering.order.items c.append_others.new.draft.line (map (named_at pairs) l))
@@ -17,4 +17,4 @@ returns-clause-made c = on_some_more c.append_others.result (λ others pairs of 
     (subst (λ n. OthersMade n c.append_named.new.numbering.table.items c.append_named.new.numbering.order.items
     c.append_named.new.draft.line c.append_others.new.numbering.table.items
     c.append_others.new.numbering.order.items c.append_others.new.draft.line (map (named_at pairs) left))
-    c.in_ok-append_named.ensures.long (others pairs of are)))) c.append_others.ensures.made
+    c.in_ok-append_named.ensures.long (others pairs are)))) c.append_others.ensures.made

@@ -1,16 +1,14 @@
 use Rattle.std.proofs.Common.{◌≡◌, ℕ, List, length, map, take}
-use Rattle.city_json.specs.Parts.{AreParts}
-use Rattle.city_json.specs.Tree.{Tree, member_trees, object}
+use Rattle.city_json.specs.Tree.{Tree}
 use Rattle.city_families.specs.Chosen.{named_at}
-use Rattle.city_json.specs.CompactTexts.{IsCompactOf}
+use Rattle.cut_on_text.specs.PlacedObjects.{AreObjects}
 use Rattle.cut_on_text.proofs.TextFeatures.{OthersMade}
 use Rattle.cut_on_text.proofs.on_text.features.append_others.Given as goal
 
 abbrev pub invariant-loop-at : goal.invariant-loop-at
 invariant-loop-at l = record {
   long : length l.numbering.table.items ≡ length l.fn.numbering.table.items;
-  made : (pairs : List (List ℕ × Tree)) → IsCompactOf l.text (object (member_trees pairs))
-      → AreParts 1 l.parts (member_trees pairs)
+  made : (pairs : List (List ℕ × Tree)) → AreObjects l.objects pairs
       → OthersMade (length l.fn.numbering.table.items) l.fn.numbering.table.items l.fn.numbering.order.items
       l.fn.draft.line l.numbering.table.items l.numbering.order.items l.draft.line
       (map (named_at pairs) (take l.at-index l.places));

@@ -11,7 +11,7 @@ loop-at-init c = record {
   long = c.in_ok-numbering.ensures;
   ends = search rules;
   marked = c.in-Ok.ensures.ok;
-  made = λ pairs appearance points stand of are rel. ([], search rules, tt, bounded_none _ _);
+  made = λ pairs appearance points stand are rel. ([], search rules, tt, bounded_none _ _);
 }
 
 pub loop-at-preserved-in_default-found : goal.loop-at-preserved-in_default-found
@@ -19,8 +19,8 @@ loop-at-preserved-in_default-found c = record {
   long = c.loop-at.invariant.long;
   ends = c.loop-at.invariant.ends;
   marked = c.in-Ok-family_at.ensures.marked;
-  made = λ pairs appearance points stand of are rel.
-      let (features, texts, zip, bounded) = c.loop-at.invariant.made pairs appearance points stand of are rel in
+  made = λ pairs appearance points stand are rel.
+      let (features, texts, zip, bounded) = c.loop-at.invariant.made pairs appearance points stand are rel in
       let within : c.loop-at.at < length pairs = omega (arith, as_many_pairs pairs _ _ rel, c.loop-at-test.true) in
       let none : IsBegun pairs c.loop-at.at None =
       rw c.in_default-found.is at (c.in-Ok-family_at.ensures.begun pairs rel) in (
@@ -39,12 +39,12 @@ loop-at-preserved c = record {
       (subst (λ l. length l ≤ length c.append_feature.new.draft.line) c.items-before.ensures
       c.in_ok-note_end.ensures.onward) c.in_ok-note_end.ensures.noted;
   marked = c.in-Ok-family_at.ensures.marked;
-  made = λ pairs appearance points stand of are rel.
-      let (features, texts, zip, bounded) = c.loop-at.invariant.made pairs appearance points stand of are rel in
+  made = λ pairs appearance points stand are rel.
+      let (features, texts, zip, bounded) = c.loop-at.invariant.made pairs appearance points stand are rel in
       let within : c.loop-at.at < length pairs = omega (arith, as_many_pairs pairs _ _ rel, c.loop-at-test.true) in
       let begun : IsBegun pairs c.loop-at.at (Some c.in-Some.family) =
       rw c.in-Some.is at (c.in-Ok-family_at.ensures.begun pairs rel) in
-      let (feature, is, grown, inside) = c.in_ok-append_feature.ensures.made pairs appearance points stand of are
+      let (feature, is, grown, inside) = c.in_ok-append_feature.ensures.made pairs appearance points stand are
       (family_begun pairs c.loop-at.at c.in-Some.family begun) in (
         features ++ feature ∷ [],
         with_tail_more c.loop-at.draft.line c.append_feature.new.draft.line (tail_text appearance)
@@ -56,8 +56,8 @@ loop-at-preserved c = record {
 }
 
 pub returns : goal.returns
-returns c = λ pairs appearance points stand of are rel.
-    let (features, texts, zip, bounded) = c.loop-at.invariant.made pairs appearance points stand of are rel in
+returns c = λ pairs appearance points stand are rel.
+    let (features, texts, zip, bounded) = c.loop-at.invariant.made pairs appearance points stand are rel in
     let past : length pairs ≤ c.loop-at.at = omega (arith, as_many_pairs pairs _ _ rel, c.loop-at-test.false) in
     record {
       features = features;

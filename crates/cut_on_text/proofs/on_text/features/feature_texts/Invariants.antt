@@ -1,8 +1,7 @@
 use Rattle.std.proofs.Common.{◌≡◌, ◌++◌, ◌+◌, map, ℕ, List, Option, length, take}
 use Rattle.std.specs.List.{AllZip}
 use Rattle.city_json.specs.OpenNames.{AreEnds}
-use Rattle.city_json.specs.Parts.{AreParts}
-use Rattle.city_json.specs.Tree.{Tree, member_trees, object}
+use Rattle.city_json.specs.Tree.{Tree, member_trees}
 use Rattle.city_feature.specs.Feature.{FeatureValue}
 use Rattle.city_families.specs.CityObjects.{roots}
 use Rattle.city_families.specs.Cut.{IsFeatureOf}
@@ -10,7 +9,7 @@ use Rattle.city_families.specs.Families.{AreRelated, IsMarkedSoFar}
 use Rattle.cut_on_text.specs.FeatureText.{tail_text}
 use Rattle.city_families.specs.HeldTexts.{pieces}
 use Rattle.city_families.specs.Lines.{texts_of}
-use Rattle.city_json.specs.CompactTexts.{IsCompactOf}
+use Rattle.cut_on_text.specs.PlacedObjects.{AreObjects}
 use Rattle.cut_on_text.specs.VertexTexts.{StandAt}
 use Rattle.city_grid.specs.Axes.{Triple}
 use Rattle.city_families.proofs.FeatureList.{BoundedFrom}
@@ -23,7 +22,7 @@ invariant-loop-at l = record {
   marked : IsMarkedSoFar (length l.kin.children) l.at l.marks.items;
   made : (pairs : List (List ℕ × Tree)) (appearance : Option Tree) (points : List Triple)
       → StandAt l.vertices.text.now l.vertices.starts.items points
-      → IsCompactOf l.text (object (member_trees pairs)) → AreParts 1 l.parts (member_trees pairs)
+      → AreObjects l.objects pairs
       → AreRelated pairs l.kin.children l.kin.parents.items
       → (features : List FeatureValue)
       × (map (λ own. own ++ tail_text appearance) (pieces l.draft.line 0 l.ends.items) ≡ texts_of features)

@@ -1,25 +1,19 @@
-use Rattle.std.proofs.Common.{◌∙◌, ap, arith, length, slice_range}
-use Rattle.city_json.specs.declared.compacting.places.MemberPlace.{MemberPlace}
+use Rattle.std.proofs.Common.{◌∙◌, ap, arith, length}
 use Rattle.cut_on_text.specs.Skeletons.{SkeletonPlace}
-use Rattle.cut_on_text.proofs.TextOverviews.{holders_at}
 use Rattle.cut_on_text.proofs.TextMembers.{if_some_more}
 use Rattle.cut_on_text.proofs.Sketched.{sketched}
 use Rattle.cut_on_text.proofs.on_text.skeletons.note_named.Goals as goal
 
 pub note_object-requires : goal.note_object-requires
-note_object-requires c = holders_at c.args.text.now c.in_ok-value.value.now c.args.parts.now c.args.held.now
-    c.args.at c.part-part.result _ c.parts.result _ c.requires (omega (arith, c.if-at-held.false))
-    (c.part-part.ensures ∙ c.index-parts-at.is) (c.parts.ensures ∙ c.index-held-at.is) c.in_ok-value.ensures.some
+note_object-requires c = c.in_ok-one.ensures.holders
 
 pub returns-clause-made : goal.returns-clause-made
-returns-clause-made c = if_some_more c.new.result (λ start is pairs of are.
-    sketched _ c.args.at c.args.text.now c.in_ok-value.value.now c.in_ok-id.id.now c.args.notes.now.leaves.items
-    c.args.draft.now.line c.append_text.new.line c.append_text-2.new.line c.note_object.new.notes.leaves.items
-    c.note_object.new.draft.line start c.in_ok-split.split c.args.parts.now _ pairs
-    (omega (arith, c.if-at-parts.false)) (c.in_ok-value.ensures.some
-    ∙ ap (λ (p : MemberPlace). slice_range c.args.text.now p.value p.end) (c.part-part.ensures ∙ c.index-parts-at.is)) of are
-    (c.in_ok-id.ensures pairs of are) c.in_ok-append_text.ensures c.in_ok-append_text-2.ensures
-    c.in_ok-split.ensures.made (ap (λ (p : SkeletonPlace). p.text) is ∙ ap length c.items-begin.ensures)
+returns-clause-made c = if_some_more c.new.result (λ start is pairs are.
+    sketched _ c.args.at c.in_ok-one.one.value.now c.in_ok-id.id.now c.args.notes.now.leaves.items c.args.draft.now.line
+    c.append_text.new.line c.append_text-2.new.line c.note_object.new.notes.leaves.items c.note_object.new.draft.line
+    start c.in_ok-split.split pairs (c.in_ok-one.ensures.is pairs are).2 (c.in_ok-id.ensures pairs are)
+    c.in_ok-append_text.ensures c.in_ok-append_text-2.ensures c.in_ok-split.ensures.made
+    (ap (λ (p : SkeletonPlace). p.text) is ∙ ap length c.items-begin.ensures)
     (ap (λ (p : SkeletonPlace). p.name) is ∙ ap length c.items-name.ensures)
     (omega (arith, ap (λ (p : SkeletonPlace). p.leaves) is, c.len-leaves.ensures, c.args.notes.now.leaves.ok))
     (omega (arith, ap (λ (p : SkeletonPlace). p.split) is))) c.new.ensures

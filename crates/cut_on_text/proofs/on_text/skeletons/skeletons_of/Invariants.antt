@@ -1,7 +1,6 @@
 use Rattle.std.proofs.Common.{◌≡◌, ℕ, List, length}
-use Rattle.city_json.specs.Parts.{AreParts}
-use Rattle.city_json.specs.Tree.{Tree, member_trees, object}
-use Rattle.city_json.specs.CompactTexts.{IsCompactOf}
+use Rattle.city_json.specs.Tree.{Tree}
+use Rattle.cut_on_text.specs.PlacedObjects.{AreObjects}
 use Rattle.cut_on_text.proofs.Sketched.{AreLaid}
 use Rattle.cut_on_text.proofs.on_text.skeletons.skeletons_of.Given as goal
 
@@ -9,7 +8,6 @@ abbrev pub invariant-loop-at : goal.invariant-loop-at
 invariant-loop-at l = record {
   count : l.notes.count ≡ l.count;
   many : length l.places.items ≡ l.at;
-  laid : (pairs : List (List ℕ × Tree)) → IsCompactOf l.text (object (member_trees pairs))
-      → AreParts 1 l.parts (member_trees pairs)
+  laid : (pairs : List (List ℕ × Tree)) → AreObjects l.objects pairs
       → AreLaid l.count l.draft.line l.notes.leaves.items l.places.items pairs;
 }

@@ -1,5 +1,6 @@
 -- The state of the tile, seen by its queue, says how the close is answered.
 use Rattle.std.proofs.Common.{◌+◌, cond, [], ◌∷◌, ◌++◌, length, ap, sym, ◌∙◌, refl, subst}
+use Rattle.tile_handoff.specs.declared.mark.Mark.{Mark}
 use Rattle.tile_handoff.specs.declared.mark.Kind.TheVariants.{Close}
 use Rattle.tile_handoff.specs.declared.note.Note.TheVariants.{End}
 use Rattle.tile_handoff.specs.Kept.{IsWellKept}
@@ -28,13 +29,9 @@ returns-then-is_full-clause-answer c = close_full_answer c.args.self.now c.args.
 
 pub invariant_of-self : goal.invariant_of-self
 invariant_of-self c =
-    let unmarked = c.push.ensures.items ∙ ap (λ b.
-    cond b (c.self.inside.marks ++ record {
-      tile = c.args.t;
-      kind = Close;
-      number =
-          c.index.result.now + c.len.result;
-    } ∷ []) c.self.inside.marks) c.if-is_err.ensures.negation in
+    let mark : Mark = record { tile = c.args.t; kind = Close; number = c.index.result.now + c.len.result } in
+    let unmarked = c.push.ensures.items
+    ∙ ap (λ b. cond b (c.self.inside.marks ++ mark ∷ []) c.self.inside.marks) c.if-is_err.ensures.negation in
     subst (λ x. IsWellKept (record { queues = c.self.inside.queues; taken = c.self.inside.taken; marks = x }))
     (sym unmarked) c.self.invariant
 
@@ -48,19 +45,10 @@ invariant_of-self-2 c =
     let within = within_queues c.self.inside c.args.self.now c.args.t c.self.view_is c.self.invariant c.requires in
     let room = queue_room c.self.inside c.args.self.now c.args.t c.self.view_is c.self.invariant c.requires
     (sym c.if-is_full.false ∙ c.is_full.ensures.full) in
-    let marked = c.push.ensures.items ∙ ap (λ b.
-    cond b (c.self.inside.marks ++ record {
-      tile = c.args.t;
-      kind = Close;
-      number =
-          c.index.result.now + c.len.result;
-    } ∷ []) c.self.inside.marks) c.if-is_err.ensures.negation in
-    kept_by_note c.self.inside (record {
-      queues = c.store_end.new.self;
-      taken = c.self.inside.taken;
-      marks =
-          c.push.new.self;
-    }) c.args.t (c.index.result.now + c.len.result) (End c.args.end) c.self.invariant within room
+    let mark : Mark = record { tile = c.args.t; kind = Close; number = c.index.result.now + c.len.result } in
+    let marked = c.push.ensures.items
+    ∙ ap (λ b. cond b (c.self.inside.marks ++ mark ∷ []) c.self.inside.marks) c.if-is_err.ensures.negation in
+    kept_by_note c.self.inside _ c.args.t (c.index.result.now + c.len.result) (End c.args.end) c.self.invariant within room
     c.store_end.ensures refl marked c.push.ensures.within
 
 pub returns-clause-accepted : goal.returns-clause-accepted

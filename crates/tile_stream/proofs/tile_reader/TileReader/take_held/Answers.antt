@@ -18,7 +18,7 @@ returns-then-len-eq0-clause-texts g c =
       lines = s.lines;
     } in
     let none = nil_from_length (texts_in s.held.texts)
-    (grind (arith, nat_tests, c.if-len-eq0.true, c.len.ensures, texts_long s.held.texts)) in
+    (grind (arith, nat_tests, c.if-len-eq0.true, c.len.ensures.count, texts_long s.held.texts)) in
     rw (← c.self.view_is) (none_given g.R.Source.gives (IsChosen c.args.choice.now) c.args.shift now none c.none.result
     c.none.ensures)
 

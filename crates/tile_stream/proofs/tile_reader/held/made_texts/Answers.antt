@@ -1,4 +1,4 @@
-use Rattle.std.proofs.Common.{◌∙◌, ap, sym}
+use Rattle.std.proofs.Common.{◌∙◌, ap}
 use Rattle.city_families.specs.HeldTexts.{HeldTexts}
 use Rattle.city_feature.specs.Choice.{IsChosen}
 use Rattle.tile_stream.proofs.WantedTexts.{kept_given}

@@ -5,7 +5,9 @@ use Rattle.std.proofs.lemmas.List.Sorted.{length_permutation}
 use Rattle.std.specs.Prelude.{ℕ, List}
 use Rattle.city_json.specs.Bytes.{colon}
 use Rattle.city_json.specs.Compact.{quoted}
-use Rattle.city_json.specs.Tree.{Tree}
+use Rattle.city_json.specs.CompactTexts.{IsCompactOf}
+use Rattle.city_json.specs.Parts.{AreParts}
+use Rattle.city_json.specs.Tree.{Tree, member_trees, object}
 use Rattle.city_families.specs.Chosen.{named_at}
 use Rattle.city_families.specs.Table.{AreFirst, IsTable, name_in, names_with, without_last}
 use Rattle.cut_on_text.proofs.TextFeatures.{as_many_parts, name_there}
@@ -14,11 +16,13 @@ use Rattle.city_families.proofs.Tables.{ordered_table, without_the_last}
 use Rattle.cut_on_text.proofs.on_text.names.Names.new.Goals as goal
 
 pub returns : goal.returns
-returns c = λ pairs of are.
-    let text = c.args.text.now in
-    let parts = c.args.parts.now in
+returns c = λ pairs are.
+    let text = c.text-text.result.now in
+    let parts = c.places-parts.result.now in
     let order = c.sort_places.new.places in
-    let many = as_many_parts 1 parts pairs are in
+    let of = subst (λ l. IsCompactOf l (object (member_trees pairs))) (sym c.text-text.ensures) are.0 in
+    let listed = subst (λ l. AreParts 1 l (member_trees pairs)) (sym c.places-parts.ensures) are.1 in
+    let many = as_many_parts 1 parts pairs listed in
     let names : List (List ℕ) = map (λ (pair : List ℕ × Tree). quoted pair.0) pairs in
     let long = length_permutation c.deref_mut.result.now order c.sort_places.ensures.permutation in
     let count : c.in_ok-order.order.len ≡ length order =
@@ -32,7 +36,7 @@ returns c = λ pairs of are.
     let table = ordered_table names text parts c.deref_mut.result.now order first
     (length-map pairs (λ (pair : List ℕ × Tree). quoted pair.0) ∙ sym many)
     (λ k within. quoted_at pairs k (name_in text parts k) (omega (arith, many, within))
-    (ap without_last (name_there text _ parts k _ pairs within refl of are)
+    (ap without_last (name_there text _ parts k _ pairs within refl of listed)
     ∙ without_the_last (quoted (named_at pairs k).0) colon))
     c.sort_places.ensures.permutation c.sort_places.ensures.sorted in
     subst (λ l. IsTable names (names_with text parts l)) (sym same) table
