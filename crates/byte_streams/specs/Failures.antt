@@ -1,5 +1,6 @@
--- How the calls that failed are counted.
-use Rattle.std.specs.Prelude.{◌==◌, ◌&&◌, ◌+◌, ◌-◌, ◌^◌, ℕ, List, length, min, nat_lt, if◌then◌else◌, Result, Ok, Err}
+-- What calls on a sink wrote, and how those that failed are counted.
+use Rattle.std.specs.Prelude.{◌==◌, ◌&&◌, ◌+◌, ◌-◌, ◌^◌, ℕ, List, Option, length, min, nat_lt, take, if◌then◌else◌, Result, Ok, Err}
+use Rattle.std.specs.Io.KnownBytes.{Appends}
 
 -- one failure more: the count stays at its largest value once there
 abbrev pub one_more : ℕ → ℕ
@@ -14,3 +15,8 @@ after_call (Err e) count = one_more count
 abbrev pub after_write : {E : Type 0} → Result ℕ E → List ℕ → ℕ → ℕ
 after_write (Err e) from count = one_more count
 after_write (Ok taken) from count = if (taken == 0) && nat_lt 0 (length from) then one_more count else count
+
+-- a text was written, or some first bytes of it where a write failed
+abbrev pub Wrote : {X E : Type 0} → Result X E → Option (List ℕ) → Option (List ℕ) → List ℕ → Type 0
+Wrote (Ok x) old new text = Appends old new text
+Wrote (Err e) old new text = (count : ℕ) × Appends old new (take count text)

@@ -59,7 +59,7 @@ fn known_cut(alloc: Global, document: &ObjectText<'_>, triples: Span) -> Option<
     cut_known(alloc, document, triples)?.ok()
 }
 
-/// The document, cut on its compact text where that stands. `None`: undecided.
+/// The document, cut on its compact text where that stands. `None`: it is refused, or out of memory.
 pub(crate) fn quick_cut(alloc: Global, text: &[u8]) -> Option<CutTexts> {
     let mut workspace = Workspace::new(alloc, Line::new(alloc));
     let Ok(Some(found)) = compact_object(alloc, text, &mut workspace) else {

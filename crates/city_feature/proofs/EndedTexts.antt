@@ -1,5 +1,5 @@
 -- A feature with an appearance after its other members.
-use Rattle.std.proofs.Common.{◌≡◌, ◌≢◌, ◌⊎◌, ◌∙◌, ◌++◌, ◌≤◌, inl, inr, ℕ, sym, ap, refl, subst, Bool, true, false, List, [], ◌∷◌, append_assoc, Option, Some, None, codes, bytes_eq, arith, IfSome, MatchBool, Contains, IsUtf8}
+use Rattle.std.proofs.Common.{◌≡◌, ◌≢◌, ◌⊎◌, ◌∙◌, ◌++◌, ◌≤◌, inl, inr, ℕ, sym, ap, refl, subst, Bool, true, false, List, [], ◌∷◌, append_assoc, Option, Some, None, is_some, option_map, codes, bytes_eq, arith, IfSome, MatchBool, Contains, IsUtf8}
 use Rattle.std.proofs.lemmas.Bool.{cases_Bool}
 use Rattle.std.proofs.lemmas.List.{append_cancel_right}
 use Rattle.std.proofs.lemmas.Slice.Eq.{bytes_eq-Decides}
@@ -25,7 +25,7 @@ use Rattle.city_feature.specs.Choice.{IsChosen}
 use Rattle.city_feature.specs.declared.choices.Choice.{Choice}
 use Rattle.city_feature.specs.Ended.{IsAppearanceEnd, IsOwnPart, appearance_alone}
 use Rattle.city_feature.specs.Feature.{FeatureValue, IsFeature, IsMovable, moved, moved_vertices, vertices_tree}
-use Rattle.city_feature.specs.FeatureLine.{GivesFeature, LeavesRange, RefusesFeatureLine, SpellsFeature, SpellsMoved}
+use Rattle.city_feature.specs.FeatureLine.{GivesFeature, LeavesRange, RefusesFeatureLine, SpellsFeature, SpellsMoved, TellsWanted}
 use Rattle.city_feature.specs.Shapes.{IsArray, IsObject, IsText, IsThere, Says, member_in}
 
 -- ---- a member that comes last
@@ -332,6 +332,10 @@ given_closed choice k line text (there, (feature, spelled, movable, is), (wanted
       written ∙ (ap (λ (f : FeatureValue). compact f.value) is ∙ ap (λ v. compact (with_member name vertices v)) object_is),
     )
 
+pub is_some_mapped : {X Y : Type 0} (f : X → Y) (given : Option X) → is_some given ≡ is_some (option_map f given)
+is_some_mapped f None = refl
+is_some_mapped f (Some x) = refl
+
 module _ (choice : Choice) (k : Triple) (own end : List ℕ) (part : IsOwnPart own end) where
   abbrev closed_there : List ℕ
   closed_there = own ++ close_brace ∷ []
@@ -385,3 +389,16 @@ module _ (choice : Choice) (k : Triple) (own end : List ℕ) (part : IsOwnPart o
           → (fault ≡ Memory) ⊎ RefusesFeatureLine k fault (own ++ end)
       by (inl out) ends = inl out
       by (inr range) ends = inr (inr (inr (range.0, leaves ends range.1)))
+
+  pub own_told : (closed : List ℕ) → closed ≡ own ++ close_brace ∷ [] → (given : Option (List ℕ))
+      → GivesFeature (IsChosen choice) k closed given → (is : Bool) → is ≡ is_some given
+      → TellsWanted (IsChosen choice) k (own ++ end) is
+  own_told closed same None gives is none = (None, own_none closed same gives, none)
+  own_told closed same (Some text) gives is some =
+      let (front, split) = given_closed choice k closed text gives in
+      (Some (front ++ end), own_some closed text front same gives split, some)
+
+  pub own_refused_so : (fault : Fault) → (fault ≡ Memory) ⊎ RefusesFeatureLine k fault (own ++ close_brace ∷ [])
+      → (fault ≡ Memory) ⊎ RefusesFeatureLine k fault (own ++ end)
+  own_refused_so fault (inl memory) = inl memory
+  own_refused_so fault (inr refused) = own_refused closed_there refl fault refused

@@ -1,6 +1,6 @@
 -- The line of a feature in a stream: the text that it gives once the feature is moved, and why it
 -- gives none.
-use Rattle.std.specs.Prelude.{◌≡◌, ◌⊎◌, ℕ, List, Option, Some, None}
+use Rattle.std.specs.Prelude.{◌≡◌, ◌⊎◌, ℕ, Bool, List, Option, Some, None, is_some}
 use Rattle.city_json.specs.Compact.{compact}
 use Rattle.city_json.specs.Fits.{Fits}
 use Rattle.city_json.specs.Grammar.{Spells}
@@ -33,6 +33,11 @@ SpellsMoved k line there =
 abbrev pub GivesFeature : (FeatureValue → Type 0) → Triple → List ℕ → Option (List ℕ) → Type 0
 GivesFeature IsWanted k line text =
     (there : FeatureValue) × SpellsMoved k line there × IsTextOf IsWanted there text
+
+-- whether it gives one
+abbrev pub TellsWanted : (FeatureValue → Type 0) → Triple → List ℕ → Bool → Type 0
+TellsWanted IsWanted k line wanted =
+    (given : Option (List ℕ)) × GivesFeature IsWanted k line given × (wanted ≡ is_some given)
 
 -- it spells a value that is taken, and that is no feature
 abbrev pub SpellsNoFeature : Fault → List ℕ → Type 0

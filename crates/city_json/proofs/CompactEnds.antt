@@ -29,7 +29,7 @@ number_head (d ∷ text) rest tail c w is = ap is_number_byte (first_same _ _ _ 
     ∙ (IsNumber-bytes (d ∷ text) w).0
 
 -- no value begins with such a byte
-abbrev IsHead : ℕ → Type 0
+abbrev pub IsHead : ℕ → Type 0
 IsHead c = (c ≢ comma) × (c ≢ close_bracket) × (c ≢ close_brace) × (0 < c)
 
 number_is_head : (c : ℕ) → is_number_byte c ≡ true → IsHead c
@@ -43,7 +43,7 @@ number_is_head c is = (
 literal_head : (d c : ℕ) (xs tail : List ℕ) → IsHead d → d ∷ xs ≡ c ∷ tail → IsHead c
 literal_head d c xs tail head is = subst IsHead (first_same _ _ _ _ is) head
 
-head_of : (value : Tree) (rest tail : List ℕ) (c : ℕ) → IsWritable value → compact value ++ rest ≡ c ∷ tail → IsHead c
+pub head_of : (value : Tree) (rest tail : List ℕ) (c : ℕ) → IsWritable value → compact value ++ rest ≡ c ∷ tail → IsHead c
 head_of null rest tail c w is = literal_head 110 c _ tail (omega arith, omega arith, omega arith, omega arith) is
 head_of (boolean true) rest tail c w is = literal_head 116 c _ tail (omega arith, omega arith, omega arith, omega arith)
     is
@@ -200,7 +200,7 @@ items_some text rest at first others inside here w is =
     ∙ (sym is ∙ drop_one text at close_bracket inside here)) in
     head.1 refl
 
-more_stopped : (others : ItemTrees) (rest : List ℕ) → IsStopped (compact_more_items others ++ close_bracket ∷ rest)
+pub more_stopped : (others : ItemTrees) (rest : List ℕ) → IsStopped (compact_more_items others ++ close_bracket ∷ rest)
 more_stopped no_items rest = inr (inl refl)
 more_stopped (item first others) rest = inl refl
 

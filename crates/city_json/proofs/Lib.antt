@@ -30,6 +30,7 @@ pub mod ObjectTexts
 pub mod Opened
 pub mod ParityLemmas
 pub mod PartsOfNumbers
+pub mod PassedItems
 pub mod PassEscapes
 pub mod PassFlat
 pub mod PassItems

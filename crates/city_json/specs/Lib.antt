@@ -18,6 +18,7 @@ pub mod Marks
 pub mod MemberName
 pub mod Members
 pub mod NamePrint
+pub mod NextItems
 pub mod Number
 pub mod NumberAt
 pub mod ObjectTexts

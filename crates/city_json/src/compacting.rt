@@ -24,7 +24,7 @@ mod whole_arrays;
 mod workspace;
 mod written;
 
-pub use ends::{string_end, value_end};
+pub(crate) use ends::value_end;
 pub use members::{
     PlacedMembers, colon_after, end_after, members_at, members_of_compact, value_place,
 };

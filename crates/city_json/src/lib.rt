@@ -5,6 +5,7 @@
 
 mod compacting;
 mod comparing;
+mod item_texts;
 mod json;
 mod laws;
 mod number_parts;
@@ -19,10 +20,10 @@ pub use byte_streams::{
 };
 pub use compacting::{
     CompactObject, MemberPlace, PlacedMembers, Span, TextPlace, Workspace, between, colon_after,
-    compact_object, end_after, members_at, members_of_compact, part_named, string_end, value_end,
-    value_place,
+    compact_object, end_after, members_at, members_of_compact, part_named, value_place,
 };
 pub use comparing::same;
+pub use item_texts::ItemTexts;
 pub use json::{Items, Json, Member, Members};
 pub use laws::{
     a_text_has_one_meaning, compact_text_is_one_line, compact_text_is_read_as_its_value,

@@ -1,5 +1,5 @@
 -- Boundaries, byte by byte, and the items that have them, one by one.
-use Rattle.std.proofs.Common.{◌≡◌, ◌∙◌, ◌++◌, ◌+◌, ◌-◌, ◌*◌, ◌^◌, ◌<◌, ◌≤◌, ◌↔◌, ℕ, Bool, true, IsTrue, List, [], ◌∷◌, Some, IsUtf8, inl, inr, length, drop, get_or, slice_range, refl, sym, ap, subst, arith, append_assoc, append-nil, codes}
+use Rattle.std.proofs.Common.{◌≡◌, ◌∙◌, ◌++◌, ◌+◌, ◌-◌, ◌*◌, ◌^◌, ◌<◌, ◌≤◌, ℕ, List, [], ◌∷◌, Some, IsUtf8, inl, inr, slice_range, refl, sym, ap, subst, arith, append_assoc, append-nil, codes}
 use Rattle.std.proofs.lemmas.Fmt.{decimal_is_IsNumeral}
 use Rattle.std.proofs.lemmas.Str.{digit_value_digit}
 use Rattle.std.proofs.lemmas.Str.Parse.{digit_at}
@@ -8,17 +8,10 @@ use Rattle.std.specs.Fmt.{decimal}
 use Rattle.std.specs.List.{AllByRecursion}
 use Rattle.std.specs.Option.{option_to_list}
 use Rattle.std.specs.Str.Parse.{AllDigits, digits_value_after}
-use Rattle.city_json.proofs.CompactEnds.{item_left, other_head}
-use Rattle.city_json.proofs.Places.{drop_one}
-use Rattle.city_json.proofs.StringEnds.{others_same}
-use Rattle.city_json.specs.Bytes.{close_bracket, colon, comma, open_bracket}
-use Rattle.byte_streams.specs.Limits.{max_depth}
+use Rattle.city_json.specs.Bytes.{close_bracket, colon, open_bracket}
 use Rattle.city_json.specs.Compact.{compact, compact_items, compact_more_items, quoted}
-use Rattle.city_json.specs.CompactEnds.{LeavesValue}
-use Rattle.city_json.specs.Fits.{AreDistinctItems, items_depth}
 use Rattle.city_json.specs.Members.{member_of}
 use Rattle.city_json.specs.Parts.{AreParts, IsPartNamed}
-use Rattle.city_json.specs.Writable.{AreWritableItems}
 use Rattle.city_json.specs.declared.compacting.places.MemberPlace.{MemberPlace}
 use Rattle.city_json.specs.Tree.{Tree, null, boolean, number, string, array, object, ItemTrees, no_items, item, MemberTrees}
 use Rattle.city_feature.specs.Shapes.{IsArray}
@@ -29,7 +22,7 @@ use Rattle.cut_on_text.specs.Holders.{AreHeld, IsHeld}
 use Rattle.city_families.specs.Items.{item_list}
 use Rattle.city_families.specs.Leaves.{AreNested, IsBoundary, IsNested}
 use Rattle.cut_on_text.specs.declared.on_text.holders.Holder.{Holder}
-use Rattle.cut_on_text.proofs.TextMembers.{member_there, slice_first}
+use Rattle.cut_on_text.proofs.TextMembers.{member_there}
 
 -- ---- a nested array
 after_more : (value : ℕ) (ds : List ℕ) → value ≤ digits_value_after 10 value ds
@@ -115,93 +108,9 @@ is_array count (number n) is = absurd is
 is_array count (string s) is = absurd is
 is_array count (object inner) is = absurd is
 
--- ---- items, one by one
--- items are left, and all are such where these are
-pub record HeldLeft (P : Tree → Type 0) (b : List ℕ) (items : ItemTrees) : Type 0 where
-  pub first : Tree
-  pub others : ItemTrees
-  pub writable : AreWritableItems (item first others)
-  pub distinct : AreDistinctItems (item first others)
-  pub within : items_depth (item first others) < max_depth
-  pub is : b ≡ compact_items (item first others) ++ close_bracket ∷ []
-  pub all : AllByRecursion P (item_list items) → AllByRecursion P (first ∷ item_list others)
-
--- the same of whatever array has this text
-abbrev pub HeldOn : (Tree → Type 0) → List ℕ → ℕ → Type 0
-HeldOn P text at = (items : ItemTrees) → IsCompactOf text (array items) → HeldLeft P (drop at text) items
-
-pub held_begin : (P : Tree → Type 0) (text : List ℕ) → (1 < length text → get_or text 1 0 ≡ close_bracket → ⊥)
-    → HeldOn P text 1
-held_begin P text other no_items of =
-    absurd (other (omega (arith, ap length of.is)) (ap (λ l. get_or l 1 0) of.is))
-held_begin P text other (item first others) of = record {
-  first = first;
-  others = others;
-  writable = of.writable;
-  distinct = of.distinct;
-  within = omega (arith, of.within);
-  is = ap (drop 1) of.is;
-  all = λ all. all;
-}
-
--- the first item's text lies up to where the value ends that begins there
-module _ (P : Tree → Type 0) (text : List ℕ) (at end : ℕ) (onward : at ≤ end) (within : end ≤ length text)
-    (leaves : LeavesValue 128 (drop at text) (drop end text)) (items : ItemTrees)
-    (left : HeldLeft P (drop at text) items) where
-  after : drop end text ≡ compact_more_items left.others ++ close_bracket ∷ []
-  after = item_left 128 (drop at text) (drop end text) [] (record {
-    first = left.first;
-    others = left.others;
-    writable = left.writable;
-    within = omega (arith, left.within);
-    is = left.is;
-  }) leaves
-
-  first_of : IsCompactOf (slice_range text at end) left.first
-  first_of = record {
-    is = slice_first text (compact left.first) at end onward within
-        (left.is ∙ (append_assoc (compact left.first) (compact_more_items left.others) (close_bracket ∷ [])
-        ∙ ap (λ l. compact left.first ++ l) (sym after)));
-    writable = left.writable.0;
-    distinct = left.distinct.0;
-    within = omega (arith, left.within);
-  }
-
-pub item_wrong : (P : Tree → Type 0) (text given : List ℕ) (at end : ℕ) → at ≤ end → end ≤ length text
-    → LeavesValue 128 (drop at text) (drop end text) → HeldOn P text at → given ≡ slice_range text at end
-    → ((value : Tree) → IsCompactOf given value → P value → ⊥) → (items : ItemTrees) → IsCompactOf text (array items)
-    → AllByRecursion P (item_list items) → ⊥
-item_wrong P text given at end onward within leaves on lies wrong items of all =
-    let left = on items of in
-    wrong left.first
-    (subst (λ t. IsCompactOf t left.first) (sym lies) (first_of P text at end onward within leaves items left))
-    (left.all all).0
-
-more_left : (P : Tree → Type 0) (text : List ℕ) (end : ℕ) (items : ItemTrees) (first : Tree) (others : ItemTrees)
-    → AreWritableItems (item first others) → AreDistinctItems (item first others)
-    → items_depth (item first others) < max_depth
-    → (AllByRecursion P (item_list items) → AllByRecursion P (first ∷ item_list others))
-    → drop end text ≡ compact_more_items others ++ close_bracket ∷ [] → end < length text
-    → get_or text end 0 ≡ comma → HeldLeft P (drop (end + 1) text) items
-more_left P text end items first no_items w d deep all after inside marked =
-    absurd (other_head close_bracket comma _ _ (omega arith) (sym after ∙ drop_one text end comma inside marked))
-more_left P text end items first (item next others) w d deep all after inside marked = record {
-  first = next;
-  others = others;
-  writable = w.1;
-  distinct = d.1;
-  within = omega (arith, deep);
-  is = others_same _ _ _ _ (sym (drop_one text end comma inside marked) ∙ after);
-  all = λ every. (all every).1;
-}
-
-pub held_go_on : (P : Tree → Type 0) (text : List ℕ) (at end : ℕ) → at ≤ end → end < length text
-    → get_or text end 0 ≡ comma → LeavesValue 128 (drop at text) (drop end text) → HeldOn P text at
-    → HeldOn P text (end + 1)
-held_go_on P text at end onward inside marked leaves on items of =
-    let left = on items of in
-    more_left P text end items left.first left.others left.writable left.distinct left.within left.all
-    (after P text at end onward (omega (arith, inside)) leaves items left) inside marked
+-- ---- items, one by one: those that are left are such where all are
+abbrev pub AlsoLeft : (Tree → Type 0) → ItemTrees → ItemTrees → Type 0
+AlsoLeft P all left = AllByRecursion P (item_list all) → AllByRecursion P (item_list left)
 
 -- ---- members, by their names
 pub named_there : (text given marked name : List ℕ) (parts listed : List MemberPlace) (part : MemberPlace)
@@ -227,13 +136,10 @@ address_wrong count value location is wrong all =
     wrong (subst (λ o. AllByRecursion (IsBoundary count) (located o)) is all)
 
 -- ---- geometries or addresses
-pub array_wrong : (holder : Holder) (count : ℕ) (text : List ℕ) (is : Bool)
-    → ((value : Tree) → IsCompactOf text value → IsTrue is ↔ IsArray value) → is ≡ true
+pub array_wrong : (holder : Holder) (count : ℕ) (text : List ℕ)
+    → ((value : Tree) → IsCompactOf text value → (items : ItemTrees) × (value ≡ array items))
     → ((items : ItemTrees) → IsCompactOf text (array items) → AllByRecursion (IsHeld holder count) (item_list items) → ⊥)
     → (value : Tree) → IsCompactOf text value → AreHeld holder count value → ⊥
-array_wrong holder count text is test so wrong (array items) of held = wrong items of held.1
-array_wrong holder count text is test so wrong null of held = absurd ((test null of).0 so)
-array_wrong holder count text is test so wrong (boolean b) of held = absurd ((test (boolean b) of).0 so)
-array_wrong holder count text is test so wrong (number n) of held = absurd ((test (number n) of).0 so)
-array_wrong holder count text is test so wrong (string s) of held = absurd ((test (string s) of).0 so)
-array_wrong holder count text is test so wrong (object inner) of held = absurd ((test (object inner) of).0 so)
+array_wrong holder count text there wrong value of held =
+    let (items, is) = there value of in
+    wrong items (subst (IsCompactOf text) is of) (subst (AreHeld holder count) is held).1

@@ -1,8 +1,7 @@
 -- The members of an object that lie in its compact text, and how they are exchanged.
-use Rattle.std.proofs.Common.{◌≡◌, ◌∙◌, ◌++◌, ◌≤◌, ◌-◌, ℕ, List, [], Option, Some, None, OnSome, bytes_eq, length, take, drop, slice_range, refl, sym, ap, subst, arith, append_assoc, append-nil, length-append, length-drop, inl, inr}
+use Rattle.std.proofs.Common.{◌≡◌, ◌∙◌, ◌++◌, ℕ, List, [], Option, Some, None, OnSome, bytes_eq, take, drop, refl, sym, ap, subst, append_assoc, append-nil, inl, inr}
 use Rattle.std.proofs.lemmas.Option.{same_Some}
 use Rattle.std.proofs.lemmas.Bool.{cases_Bool}
-use Rattle.std.proofs.lemmas.List.{take_at}
 use Rattle.std.proofs.lemmas.Slice.Eq.{bytes_eq-Decides}
 use Rattle.city_json.specs.Compact.{compact}
 use Rattle.city_json.specs.Fits.{HasDistinctNames, IsNewName}
@@ -84,20 +83,6 @@ walks_exchanged s line line₁ s' line₂ line₃ text part members name value u
     (sym (changed_with name (f change) value members differ is))))
 
 -- ---- slices
-pub slice_first : (text x : List ℕ) (at end : ℕ) → at ≤ end → end ≤ length text → drop at text ≡ x ++ drop end text
-    → slice_range text at end ≡ x
-slice_first text x at end onward within is =
-    ap (take (end - at)) is ∙ take_at x (drop end text) (end - at)
-    (omega (
-      arith,
-      ap length is,
-      length-append x (drop end text),
-      length-drop at text,
-      length-drop end text,
-      onward,
-      within,
-    ))
-
 pub three : (line line₁ line₂ line₃ a b c : List ℕ) → line₁ ≡ line ++ a → line₂ ≡ line₁ ++ b → line₃ ≡ line₂ ++ c
     → line₃ ≡ line ++ (a ++ (b ++ c))
 three line line₁ line₂ line₃ a b c first second third =

@@ -1,150 +1,65 @@
 -- The texts in an array, found in its compact text, and what they tell of a city object.
-use Rattle.std.proofs.Common.{◌≡◌, ◌∙◌, ◌++◌, ◌<◌, ◌≤◌, ◌+◌, ℕ, suc, Bool, false, List, [], ◌∷◌, Option, Some, None, length, drop, get_or, slice_range, unwrap_or, refl, sym, ap, subst, arith, rules, codes, append_assoc}
+use Rattle.std.proofs.Common.{◌≡◌, ◌∙◌, ◌++◌, ◌↔◌, ℕ, suc, Bool, true, false, IsTrue, List, [], ◌∷◌, Option, Some, None, length, unwrap_or, refl, sym, ap, subst, rules, codes, append_assoc, append-nil}
 use Rattle.std.specs.Borrow.{Bor}
-use Rattle.std.specs.List.{AllZip, flat_map}
+use Rattle.std.specs.List.{AllZip}
 use Rattle.std.specs.Prelude.{nat_eq, not}
-use Rattle.city_json.proofs.CompactEnds.{items_some, other_head, text_front}
-use Rattle.city_json.proofs.Places.{drop_one}
-use Rattle.city_json.proofs.StringEnds.{others_same}
-use Rattle.city_json.specs.Bytes.{comma, close_bracket, quotation_mark}
-use Rattle.city_json.specs.Compact.{compact, compact_items, compact_more_items, quoted, written}
-use Rattle.city_json.specs.CompactEnds.{LeavesString}
+use Rattle.city_json.proofs.PassedItems.{GoesOnWith, all_left, none_left, one_less}
+use Rattle.city_json.specs.CompactTexts.{IsCompactOf}
 use Rattle.city_json.specs.Members.{first_named}
+use Rattle.city_json.specs.NextItems.{HasNoItem, IsNextItem}
 use Rattle.city_json.specs.Tree.{Tree, null, boolean, number, string, array, object, ItemTrees, no_items, item, MemberTrees}
-use Rattle.city_json.specs.Writable.{IsWritable, AreWritableItems}
 use Rattle.city_feature.specs.Shapes.{IsText, WhereThere}
 use Rattle.city_families.specs.CityObjects.{AllTexts, AreTexts, is_filled}
 use Rattle.city_families.specs.Items.{item_list}
 use Rattle.cut_on_text.specs.Kin.{AreQuoted, HasParents, IsQuoted}
-use Rattle.cut_on_text.proofs.TextMembers.{slice_first}
 
--- some texts are left, and with those that are found they are all
-pub record TextsLeft (b : List ℕ) (found : List (Bor (List ℕ))) (all : ItemTrees) : Type 0 where
-  pub first : Tree
-  pub others : ItemTrees
-  pub writable : AreWritableItems (item first others)
-  pub is : b ≡ compact_items (item first others) ++ close_bracket ∷ []
-  pub whole : (more : List (Bor (List ℕ))) → AllZip IsQuoted more (first ∷ item_list others)
-      → AllZip IsQuoted (found ++ more) (item_list all)
+-- with the texts that are found, those that are left are all
+abbrev pub FoundSoFar : List (Bor (List ℕ)) → ItemTrees → ItemTrees → Type 0
+FoundSoFar found all left = (more : List (Bor (List ℕ))) → AllZip IsQuoted more (item_list left)
+    → AllZip IsQuoted (found ++ more) (item_list all)
 
 -- the same for whatever array has this text
-abbrev pub TextsGoOn : ℕ → List ℕ → List (Bor (List ℕ)) → Type 0
-TextsGoOn at text found = (all : ItemTrees) → AreWritableItems all → text ≡ compact (array all)
-    → TextsLeft (drop at text) found all
+abbrev pub TextsGoOn : List ℕ → List ℕ → List (Bor (List ℕ)) → Type 0
+TextsGoOn text left found = GoesOnWith (FoundSoFar found) text left
 
-pub texts_begin : (text : List ℕ) (found : List (Bor (List ℕ))) → found ≡ []
-    → (1 < length text → get_or text 1 0 ≡ close_bracket → ⊥) → TextsGoOn 1 text found
-texts_begin text found none other no_items w is =
-    absurd (other (omega (arith, ap length is)) (ap (λ l. get_or l 1 0) is))
-texts_begin text found none other (item first others) w is = record {
-  first = first;
-  others = others;
-  writable = w;
-  is = ap (drop 1) is;
-  whole = λ more all. subst (λ l. AllZip IsQuoted (l ++ more) (first ∷ item_list others)) (sym none) all;
-}
+pub texts_begin : (text left : List ℕ) (found : List (Bor (List ℕ))) → found ≡ [] → left ≡ text
+    → TextsGoOn text left found
+texts_begin text left found none is = all_left (FoundSoFar found) text left is
+    (λ all more zip. subst (λ l. AllZip IsQuoted (l ++ more) (item_list all)) (sym none) zip)
 
-pub texts_none : (text : List ℕ) (found : List (Bor (List ℕ))) → found ≡ [] → 1 < length text
-    → get_or text 1 0 ≡ close_bracket → (all : ItemTrees) → AreWritableItems all → text ≡ compact (array all)
-    → AreQuoted found (array all)
-texts_none text found none inside here no_items w is =
-    (no_items, refl, subst (λ l. AllZip IsQuoted l []) (sym none) tt)
-texts_none text found none inside here (item first others) w is =
-    absurd (items_some text [] 1 first others inside here w (ap (drop 1) is))
+-- a text is found with its marks
+quoted_there : (one : Bor (List ℕ)) (value : Tree) → IsCompactOf one.now value → IsText value → IsQuoted one value
+quoted_there one (string text) of is = (of.is, of.writable)
+quoted_there one null of is = absurd is
+quoted_there one (boolean b) of is = absurd is
+quoted_there one (number text) of is = absurd is
+quoted_there one (array items) of is = absurd is
+quoted_there one (object members) of is = absurd is
 
--- a text is taken, and this is left
-pub record TextTaken (after : List ℕ) (first : Tree) (others : ItemTrees) (one : Bor (List ℕ)) : Type 0 where
-  pub is_quoted : IsQuoted one first
-  pub is_after : after ≡ compact_more_items others ++ close_bracket ∷ []
+pub texts_go_on : (text left after : List ℕ) (found found' : List (Bor (List ℕ))) (one : Bor (List ℕ)) (is : Bool)
+    → TextsGoOn text left found → IsNextItem left one.now after
+    → ((value : Tree) → IsCompactOf one.now value → IsTrue is ↔ IsText value) → is ≡ true → found' ≡ found ++ one ∷ []
+    → TextsGoOn text after found'
+texts_go_on text left after found found' one is on next test so pushed =
+    one_less (FoundSoFar found) (FoundSoFar found') text left one.now after on next
+    (λ all first others one_of so_far more zip.
+    subst (λ l. AllZip IsQuoted l (item_list all))
+    (sym (append_assoc found (one ∷ []) more) ∙ ap (λ l. l ++ more) (sym pushed))
+    (so_far (one ∷ more) (quoted_there one first one_of ((test first one_of).0 so), zip)))
 
-pub text_taken : (text : List ℕ) (at end : ℕ) (first : Tree) (others : ItemTrees) (one : Bor (List ℕ))
-    → at < length text → get_or text at 0 ≡ quotation_mark → at + 1 ≤ end → end ≤ length text
-    → LeavesString (drop (at + 1) text) (drop end text) → one.now ≡ slice_range text at end → IsWritable first
-    → drop at text ≡ compact_items (item first others) ++ close_bracket ∷ []
-    → TextTaken (drop end text) first others one
-text_taken text at end first others one inside mark onward within leaves lies w is =
-    let left : List ℕ = compact_more_items others ++ close_bracket ∷ [] in
-    let here : drop at text ≡ compact first ++ left = is
-    ∙ append_assoc (compact first) (compact_more_items others) (close_bracket ∷ []) in
-    let (content, same) = text_front first left (drop (at + 1) text) w
-    (sym here ∙ drop_one text at quotation_mark inside mark) in
-    let there : drop at text ≡ quoted content ++ left = here ∙ ap (λ v. compact v ++ left) same in
-    let after : drop end text ≡ left = leaves content left
-    (others_same _ _ _ _ (sym (drop_one text at quotation_mark inside mark) ∙ there)
-    ∙ append_assoc (flat_map written content) (quotation_mark ∷ []) left) in
-    record {
-      is_quoted = subst (IsQuoted one) (sym same) (
-        lies ∙ slice_first text (quoted content) at end (omega (arith, onward)) within
-            (there ∙ ap (λ l. quoted content ++ l) (sym after)),
-        subst IsWritable same w,
-      );
-      is_after = after;
-    }
-
--- the text that was found at a place, up to another
-pub record TextFound (text : List ℕ) (at end : ℕ) (one : Bor (List ℕ)) : Type 0 where
-  pub inside : at < length text
-  pub mark : get_or text at 0 ≡ quotation_mark
-  pub onward : at + 1 ≤ end
-  pub within : end ≤ length text
-  pub leaves : LeavesString (drop (at + 1) text) (drop end text)
-  pub lies : one.now ≡ slice_range text at end
-
-taken : (text : List ℕ) (at end : ℕ) (found : List (Bor (List ℕ))) (one : Bor (List ℕ)) (all : ItemTrees)
-    (left : TextsLeft (drop at text) found all) → TextFound text at end one
-    → TextTaken (drop end text) left.first left.others one
-taken text at end found one all left there =
-    text_taken text at end left.first left.others one there.inside there.mark there.onward there.within there.leaves
-    there.lies left.writable.0 left.is
-
-none_left : (text : List ℕ) (end : ℕ) (others : ItemTrees) → end < length text → get_or text end 0 ≡ close_bracket
-    → drop end text ≡ compact_more_items others ++ close_bracket ∷ [] → item_list others ≡ []
-none_left text end no_items inside here is = refl
-none_left text end (item first others) inside here is =
-    absurd (other_head comma close_bracket _ _ (omega arith) (sym is ∙ drop_one text end close_bracket inside here))
-
-pub texts_stop : (text : List ℕ) (at end : ℕ) (found found' : List (Bor (List ℕ))) (one : Bor (List ℕ))
-    → TextsGoOn at text found → TextFound text at end one → end < length text → get_or text end 0 ≡ close_bracket
-    → found' ≡ found ++ one ∷ [] → (all : ItemTrees) → AreWritableItems all → text ≡ compact (array all)
-    → AreQuoted found' (array all)
-texts_stop text at end found found' one on there inside here pushed all w is =
-    let left = on all w is in
-    let made = taken text at end found one all left there in
-    let none = none_left text end left.others inside here made.is_after in (
-      all,
-      refl,
-      subst (λ l. AllZip IsQuoted l (item_list all)) (sym pushed)
-          (left.whole (one ∷ []) (made.is_quoted, subst (AllZip IsQuoted []) (sym none) tt)),
+pub texts_stop : (text left : List ℕ) (found : List (Bor (List ℕ))) → TextsGoOn text left found → HasNoItem left
+    → ((value : Tree) → IsCompactOf text value → (items : ItemTrees) × (value ≡ array items)) → (value : Tree)
+    → IsCompactOf text value → AreQuoted found value
+texts_stop text left found on none there value of =
+    let (items, is) = there value of in (
+      items,
+      is,
+      subst (λ l. AllZip IsQuoted l (item_list items)) (append-nil found)
+          (none_left (FoundSoFar found) text left on none items (subst (IsCompactOf text) is of) [] tt),
     )
 
-more_left : (text : List ℕ) (end : ℕ) (found found' : List (Bor (List ℕ))) (one : Bor (List ℕ)) (all : ItemTrees)
-    (first : Tree) (others : ItemTrees) → AreWritableItems others
-    → ((more : List (Bor (List ℕ))) → AllZip IsQuoted more (first ∷ item_list others)
-    → AllZip IsQuoted (found ++ more) (item_list all))
-    → TextTaken (drop end text) first others one → end < length text → get_or text end 0 ≡ comma
-    → found' ≡ found ++ one ∷ [] → TextsLeft (drop (end + 1) text) found' all
-more_left text end found found' one all first no_items w whole made inside here pushed =
-    absurd (other_head close_bracket comma _ _ (omega arith) (sym made.is_after ∙ drop_one text end comma inside here))
-more_left text end found found' one all first (item next others) w whole made inside here pushed = record {
-  first = next;
-  others = others;
-  writable = w;
-  is = others_same _ _ _ _ (sym (drop_one text end comma inside here) ∙ made.is_after);
-  whole = λ more zip. subst (λ l. AllZip IsQuoted l (item_list all))
-      (sym (append_assoc found (one ∷ []) more) ∙ ap (λ l. l ++ more) (sym pushed))
-      (whole (one ∷ more) (made.is_quoted, zip));
-}
-
-pub texts_go_on : (text : List ℕ) (at end : ℕ) (found found' : List (Bor (List ℕ))) (one : Bor (List ℕ))
-    → TextsGoOn at text found → TextFound text at end one → end < length text → get_or text end 0 ≡ comma
-    → found' ≡ found ++ one ∷ [] → TextsGoOn (end + 1) text found'
-texts_go_on text at end found found' one on there inside here pushed all w is =
-    let left = on all w is in
-    more_left text end found found' one all left.first left.others left.writable.1 left.whole
-    (taken text at end found one all left there) inside here pushed
-
 -- ---- what the texts tell of a city object
-pub text_said : (one : Bor (List ℕ)) (value : Tree) → IsQuoted one value → IsText value
+text_said : (one : Bor (List ℕ)) (value : Tree) → IsQuoted one value → IsText value
 text_said one (string text) is = tt
 text_said one null is = absurd is
 text_said one (boolean b) is = absurd is

@@ -8,14 +8,14 @@ use Rattle.std.proofs.lemmas.List.{drop_all, get_or_default, length-map, nil_fro
 use Rattle.std.specs.Io.KnownBytes.{Appends}
 use Rattle.std.specs.List.{slice_index, slice_range}
 use Rattle.std.specs.Result.{is_err}
-use Rattle.byte_streams.specs.Failures.{after_call, one_more}
+use Rattle.byte_streams.specs.Failures.{Wrote, after_call, one_more}
 use Rattle.byte_streams.specs.declared.fault.Fault.{Fault}
 use Rattle.byte_streams.specs.declared.fault.Fault.TheVariants.{Write}
 use Rattle.city_json.specs.Bytes.{comma}
 use Rattle.cut_on_text.specs.Made.{Makings, comma_before, family, feature_text, first_uses, listed, made_text, more_listed, vertex_at}
 use Rattle.cut_on_text.specs.Rosters.{RosterState}
 use Rattle.cut_on_text.specs.Skeletons.{LeafPlace, uses_at, woven}
-use Rattle.cut_on_text.specs.Written.{Writes, Wrote, WroteSince}
+use Rattle.cut_on_text.specs.Written.{Writes, WroteSince}
 
 front_of : (count : ℕ) (front back : List ℕ) → (n : ℕ) × (take n (front ++ back) ≡ take count front)
 front_of count front back = by (cases_lt (length front) count)

@@ -1,14 +1,8 @@
 -- What calls wrote to a sink.
-use Rattle.std.specs.Prelude.{◌≡◌, ◌++◌, ℕ, List, Option, Result, Ok, Err, IfErr, take}
-use Rattle.std.specs.Io.KnownBytes.{Appends}
-use Rattle.byte_streams.specs.Failures.{after_call}
+use Rattle.std.specs.Prelude.{◌≡◌, ◌++◌, ℕ, List, Option, Result, IfErr}
+use Rattle.byte_streams.specs.Failures.{Wrote, after_call}
 use Rattle.byte_streams.specs.declared.fault.Fault.{Fault}
 use Rattle.byte_streams.specs.declared.fault.Fault.TheVariants.{Write}
-
--- the text, or some first bytes of it where a write failed
-abbrev pub Wrote : {X E : Type 0} → Result X E → Option (List ℕ) → Option (List ℕ) → List ℕ → Type 0
-Wrote (Ok x) old new text = Appends old new text
-Wrote (Err e) old new text = (count : ℕ) × Appends old new (take count text)
 
 -- a text was written up to the first write that failed, since a sink had taken `start` and so many calls on it had failed
 pub record WroteSince {W : Type 0} (taken : W → Option (List ℕ)) (failures : W → ℕ) (start : Option (List ℕ)) (count : ℕ) (sink : W) (wrote : Result (Unit {0}) Fault) (text : List ℕ) : Type 0 where

@@ -91,7 +91,7 @@ fn tail_of(alloc: Global, document: &ObjectText<'_>) -> Option<Line>
 }
 
 /// What the texts of the features have of their own that the families of the objects are, made when they are asked for.
-/// `None`: undecided.
+/// `None`: a boundary is at fault, or a place is 2^32 or more, or out of memory.
 fn made_texts(
     alloc: Global,
     objects: CityObjects<'_>,
@@ -186,7 +186,8 @@ fn cut_on(alloc: Global, document: &ObjectText<'_>, vertices: &VertexTexts<'_>) 
     Some(CutTexts { header, texts })
 }
 
-/// Cuts the document, in which triples of whole numbers may be known to stand. `None`: undecided, or out of memory.
+/// Cuts the document, in which triples of whole numbers may be known to stand. `None`: it is at fault, or a place is
+/// 2^32 or more, or out of memory.
 fn cut_compacted_triples(
     alloc: Global,
     document: &ObjectText<'_>,
@@ -214,8 +215,8 @@ fn cut_compacted_triples(
 }
 
 /// What its compact text tells of a document, in which triples of whole numbers may be known to stand, both as
-/// [`city_json::compact_object`] gives them: it is cut, or refused for a fault that is not want of memory. `None`: out of
-/// memory, or undecided.
+/// [`city_json::compact_object`] gives them: it is cut, or refused for a fault that is not want of memory. `None`: a place
+/// is 2^32 or more, or out of memory.
 pub fn cut_known(
     alloc: Global,
     document: &ObjectText<'_>,

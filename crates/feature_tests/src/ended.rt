@@ -3,7 +3,7 @@
 use crate::answers::{asked_choice, asked_shift, gives};
 use crate::texts::{is_named, split};
 use byte_streams::{Fault, Line};
-use city_feature::{Choice, OwnBuffers, own_text};
+use city_feature::{Choice, OwnBuffers, own_is_wanted, own_text};
 use city_grid::Shift;
 use std::alloc::{AllocError, AllocGlobal, Global};
 use std::process::Abort;
@@ -36,6 +36,25 @@ fn given_text(
     own_text(alloc, &mut line, shift, choice, buffers)
 }
 
+/// Whether it is told that a text is given of this own part exactly where one is, or the same fault.
+fn is_told(
+    alloc: Global,
+    own: &str,
+    shift: Shift,
+    choice: &Choice,
+    buffers: &mut OwnBuffers,
+    wanted: &str,
+) -> bool {
+    let mut line = Line::new(alloc);
+    let Ok(()) = line.append(own.as_bytes()) else {
+        return false;
+    };
+    match own_is_wanted(alloc, &mut line, shift, choice, buffers) {
+        Ok(is) => is == (wanted != "none") && (wanted == "none" || wanted.starts_with('{')),
+        Err(fault) => is_named(alloc, fault, wanted),
+    }
+}
+
 /// Whether this is given, in buffers that hold other texts.
 fn is_given(alloc: Global, own: &str, shift: Shift, choice: &Choice, wanted: &str) -> bool {
     let mut buffers = OwnBuffers::new(alloc);
@@ -43,6 +62,7 @@ fn is_given(alloc: Global, own: &str, shift: Shift, choice: &Choice, wanted: &st
     for _ in 0..2 {
         let answer = given_text(alloc, own, shift, choice, &mut buffers);
         is_so &= is_answer(alloc, answer, wanted);
+        is_so &= is_told(alloc, own, shift, choice, &mut buffers, wanted);
         is_so &= given_text(alloc, OTHER, shift, choice, &mut buffers).is_ok();
     }
     is_so

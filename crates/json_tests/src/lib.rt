@@ -17,6 +17,8 @@ mod drawn_names;
 #[cfg(test)]
 mod going_on;
 #[cfg(test)]
+mod items;
+#[cfg(test)]
 mod lent;
 #[cfg(test)]
 mod members;

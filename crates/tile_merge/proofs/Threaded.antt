@@ -18,12 +18,12 @@ use Rattle.tile_merge.specs.Merged.{MergedAll, IsRefusedMerge}
 use Rattle.tile_merge.specs.Opened.{AllThree, AreJoined, MayGive, OpenState}
 use Rattle.tile_merge.specs.Rounds.{course_ends, course_texts}
 use Rattle.tile_stream.specs.Stream.{with_newline, stream}
-use Rattle.tile_merge.specs.Threads.{Begun, RunningState, AreUncancelled, HasGiven, HaveGiven, IsRunOf, LinesSoFar, MayComeOf, WroteUnless, begun_of, lines_taken}
+use Rattle.tile_merge.specs.Threads.{Begun, RunningState, AreUncancelled, HasGiven, HaveGiven, IsRunOf, LinesSoFar, MayComeOf, begun_of, lines_taken}
 use Rattle.tile_merge.specs.Told.{first_refusal}
 use Rattle.byte_streams.specs.declared.places.MergeFault.{MergeFault}
 use Rattle.tile_merge.specs.declared.merging.report.Report.{Report}
 use Rattle.tile_merge.specs.declared.merging.ends.TileEnd.{TileEnd}
-use Rattle.byte_streams.specs.Failures.{after_call}
+use Rattle.byte_streams.specs.Failures.{Wrote, after_call}
 use Rattle.tile_merge.specs.Threaded.{WroteInterleaved}
 use Rattle.tile_stream.specs.Filtered.{failures_after_merge}
 use Rattle.tile_merge.proofs.Answering.{merged_result, no_failed_write, of_write, refused_result}
@@ -145,7 +145,7 @@ module _ {R : Type 0} (gives : Giving R) (choice : Choice) (base : Base) (reader
       → refusal ≡ record { tile = 0; line = 0; fault = fault }
       → IsRefusedMerge (merging gives (IsChosen choice) base Interleaves readers) refusal old new
   refused_write fault was refusal is =
-      let part = subst (λ (r : Result (Unit {0}) Fault). WroteUnless r (stream line so_far.out) old new) was
+      let part = subst (λ (r : Result (Unit {0}) Fault). Wrote r old new (stream line so_far.out)) was
       so_far.written in
       let which = subst (λ (r : Result (Unit {0}) Fault). IfErr r (λ f. f ≡ Write)) was so_far.fault in
       let first = first_of_longer part.0 (stream line so_far.out) (flat_map with_newline later) in
@@ -163,7 +163,7 @@ module _ {R : Type 0} (gives : Giving R) (choice : Choice) (base : Base) (reader
         (lines_given gives now courses have none) so_far.mixes
 
     written : Appends old new (stream line so_far.out)
-    written = subst (λ (r : Result (Unit {0}) Fault). WroteUnless r (stream line so_far.out) old new) was so_far.written
+    written = subst (λ (r : Result (Unit {0}) Fault). Wrote r old new (stream line so_far.out)) was so_far.written
 
     ends_are : ends ≡ course_ends courses
     ends_are = taken ∙ all_ended (λ (tile : RunningState R). tile.last) now (course_ends courses)

@@ -5,11 +5,11 @@ use Rattle.std.specs.Io.KnownBytes.{Appends, Keeps}
 use Rattle.std.proofs.KnownBytes.{Appends-trans}
 use Rattle.std.proofs.lemmas.List.{get_or-map, get_or-set_same, length-map, length-set, map-set, set-get_or, set-set, take_more, take-append-drop}
 use Rattle.std.proofs.lemmas.Grind.{flat_map-append}
-use Rattle.byte_streams.specs.Failures.{after_call}
+use Rattle.byte_streams.specs.Failures.{Wrote, after_call}
 use Rattle.byte_streams.specs.declared.fault.Fault.{Fault}
 use Rattle.byte_streams.specs.declared.fault.Fault.TheVariants.{Write}
 use Rattle.tile_merge.specs.Interleaves.{Interleaves}
-use Rattle.tile_merge.specs.Threads.{Begun, RunningState, AreFresh, AreUncancelled, LinesSoFar, TextsGoOn, TextsSoFar, WroteUnless, begun_of, first_texts, lines_taken}
+use Rattle.tile_merge.specs.Threads.{Begun, RunningState, AreFresh, AreUncancelled, LinesSoFar, TextsGoOn, TextsSoFar, begun_of, first_texts, lines_taken}
 use Rattle.tile_stream.specs.Stream.{stream, with_newline}
 use Rattle.tile_stream.proofs.Steps.{Appends-kept, first_of_longer}
 use Rattle.tile_merge.proofs.Mixing.{flat, flat_mixed, one_mixed}
@@ -28,21 +28,21 @@ both_ok A B onward wrote (Err fault) after holds = tt
 module _ (bytes line : List ℕ) (old : Option (List ℕ)) where
   -- a write failed before
   pub still_failed : (fault other : Fault) (new : Option (List ℕ)) (wrote result : Result (Unit {0}) Fault)
-      → wrote ≡ Err fault → result ≡ Err other → WroteUnless wrote bytes old new
-      → WroteUnless result (bytes ++ line) old new
+      → wrote ≡ Err fault → result ≡ Err other → Wrote wrote old new bytes
+      → Wrote result old new (bytes ++ line)
   still_failed fault other new wrote result was is front =
-      let part = subst (λ (r : Done). WroteUnless r bytes old new) was front in
+      let part = subst (λ (r : Done). Wrote r old new bytes) was front in
       let first = first_of_longer part.0 bytes line in
-      subst (λ (r : Done). WroteUnless r (bytes ++ line) old new) (sym is)
+      subst (λ (r : Done). Wrote r old new (bytes ++ line)) (sym is)
       (first.0, subst (Appends old new) (sym first.1) part.1)
 
   -- it fails now
   pub fails_now : (fault : Fault) (mid new : Option (List ℕ)) (wrote result : Result (Unit {0}) Fault) → wrote ≡ Ok tt
-      → result ≡ Err fault → WroteUnless wrote bytes old mid → (count : ℕ) × Appends mid new (take count line)
-      → WroteUnless result (bytes ++ line) old new
+      → result ≡ Err fault → Wrote wrote old mid bytes → (count : ℕ) × Appends mid new (take count line)
+      → Wrote result old new (bytes ++ line)
   fails_now fault mid new wrote result was is front part =
-      let whole = subst (λ (r : Done). WroteUnless r bytes old mid) was front in
-      subst (λ (r : Done). WroteUnless r (bytes ++ line) old new) (sym is) (
+      let whole = subst (λ (r : Done). Wrote r old mid bytes) was front in
+      subst (λ (r : Done). Wrote r old new (bytes ++ line)) (sym is) (
         length bytes + part.0,
         subst (Appends old new) (sym (take-append-add bytes line part.0))
             (Appends-trans old mid new _ _ whole part.1),
@@ -50,7 +50,7 @@ module _ (bytes line : List ℕ) (old : Option (List ℕ)) where
 
 -- a flush that follows what was written
 pub flushed : (result : Result (Unit {0}) Fault) (bytes : List ℕ) (old mid new : Option (List ℕ))
-    → Appends old mid bytes → Keeps mid new → WroteUnless result bytes old new
+    → Appends old mid bytes → Keeps mid new → Wrote result old new bytes
 flushed (Ok done) bytes old mid new wrote keeps = Appends-kept old mid new bytes wrote keeps
 flushed (Err fault) bytes old mid new wrote keeps = (
   length bytes,
@@ -62,7 +62,7 @@ flushed (Err fault) bytes old mid new wrote keeps = (
 pub one_text : (lists : List (List (List ℕ))) (i : ℕ) → i < length lists → (before now : List (List ℕ)) (line : List ℕ)
     → now ≡ before ++ line ∷ [] → (header : List ℕ) (old : Option (List ℕ)) (count : ℕ) (wrote result : Result (Unit {0}) Fault)
     (mid newest : Option (List ℕ)) (newer after : ℕ)
-    → ((bytes : List ℕ) → WroteUnless wrote bytes old mid → WroteUnless result (bytes ++ with_newline line) old newest)
+    → ((bytes : List ℕ) → Wrote wrote old mid bytes → Wrote result old newest (bytes ++ with_newline line))
     → (newer ≡ after_call wrote count → after ≡ after_call result count)
     → (IfErr wrote (λ fault. fault ≡ Write) → IfErr result (λ fault. fault ≡ Write))
     → TextsSoFar header (set lists i before) wrote old mid count newer
@@ -82,7 +82,7 @@ one_text lists i within before now line longer header old count wrote result mid
       out = so_far.out ++ line ∷ [];
       mixes = subst (λ (ls : List (List (List ℕ))). Interleaves ls (so_far.out ++ line ∷ [])) grown
           (one_mixed lines so_far.out i line (omega (arith, within, length-set lists i before)) so_far.mixes);
-      written = subst (λ (l : List ℕ). WroteUnless result l old newest) bytes (writes _ so_far.written);
+      written = subst (λ (l : List ℕ). Wrote result old newest l) bytes (writes _ so_far.written);
       failed = fails so_far.failed;
       fault = faults so_far.fault;
     }
@@ -122,7 +122,7 @@ module _ {R : Type 0} where
   -- nothing was taken yet but the texts of the first lines
   pub first_lines : (tiles : List (RunningState R)) (header : List ℕ) (wrote : Result (Unit {0}) Fault)
       (old new : Option (List ℕ)) (failures newer : ℕ) → AreFresh tiles
-      → WroteUnless wrote (stream header (first_texts tiles)) old new → newer ≡ after_call wrote failures
+      → Wrote wrote old new (stream header (first_texts tiles)) → newer ≡ after_call wrote failures
       → IfErr wrote (λ fault. fault ≡ Write)
       → LinesSoFar (begun_of tiles) header tiles wrote old new failures newer
   first_lines tiles header wrote old new failures newer fresh written failed fault = record {
@@ -164,10 +164,10 @@ module _ {R : Type 0} where
 
     pub header_failed : (new : Option (List ℕ)) → (count : ℕ) × Appends old new (take count (with_newline header))
         → (result : Done) (fault : Fault) → result ≡ Err fault
-        → WroteUnless result (stream header (first_texts tiles)) old new
+        → Wrote result old new (stream header (first_texts tiles))
     header_failed new part result fault is =
         let first = first_of_longer part.0 (with_newline header) (flat_map with_newline (first_texts tiles)) in
-        subst (λ (r : Done). WroteUnless r (stream header (first_texts tiles)) old new) (sym is)
+        subst (λ (r : Done). Wrote r old new (stream header (first_texts tiles))) (sym is)
         (first.0, subst (Appends old new) (sym first.1) part.1)
 
     module _ (i : ℕ) (within : i < length tiles) (tile : RunningState R) (is_tile : tile ≡ get_or tiles i tile)
@@ -191,12 +191,12 @@ module _ {R : Type 0} where
       first_written appends = subst (Appends old new) one_more (Appends-trans old mid new _ _ wrote appends)
 
       pub first_failed : (count : ℕ) × Appends mid new (take count line) → (result : Done) (fault : Fault)
-          → result ≡ Err fault → WroteUnless result (stream header (first_texts tiles)) old new
+          → result ≡ Err fault → Wrote result old new (stream header (first_texts tiles))
       first_failed part result fault is =
           let rest = flat_map with_newline (first_texts (drop (i + 1) tiles)) in
           let here = fails_now (up_to i) line old fault mid new (Ok tt) result refl is wrote part in
           let whole = ap (λ (bytes : List ℕ). bytes ++ rest) one_more ∙ rest_follows (i + 1) in
-          subst (λ (bytes : List ℕ). WroteUnless result bytes old new) whole
+          subst (λ (bytes : List ℕ). Wrote result old new bytes) whole
           (still_failed (up_to i ++ line) rest old fault fault new result result is is here)
 
     pub all_first : (i : ℕ) → length tiles ≤ i → (new : Option (List ℕ)) → Appends old new (up_to i)
@@ -275,7 +275,7 @@ module _ {R : Type 0} where
         out = so_far.out;
         mixes = so_far.mixes;
         written = flushed result (stream header so_far.out) old mid new
-            (subst (λ (r : Done). WroteUnless r (stream header so_far.out) old mid) was so_far.written) keeps;
+            (subst (λ (r : Done). Wrote r old mid (stream header so_far.out)) was so_far.written) keeps;
         failed = failed ∙ ap (after_call result) (so_far.failed ∙ ap (λ (r : Done). after_call r failures) was);
         fault = fault;
         uncancelled = both_ok (AreUncancelled tiles) (AreUncancelled tiles) (λ none. none) wrote result (all_ok result was)

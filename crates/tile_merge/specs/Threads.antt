@@ -1,8 +1,7 @@
 -- Tiles whose texts threads of their own put into rings, and what the caller took out of these.
-use Rattle.std.specs.Prelude.{◌≡◌, ◌⊎◌, ◌≤◌, ◌<◌, ◌+◌, ◌++◌, ℕ, Bool, List, [], ◌∷◌, Option, Some, None, is_some, Result, Ok, Err, IfErr, OnOk, length, map, set, take, flat_map}
-use Rattle.std.specs.Io.KnownBytes.{Appends}
+use Rattle.std.specs.Prelude.{◌≡◌, ◌⊎◌, ◌≤◌, ◌<◌, ◌+◌, ◌++◌, ℕ, Bool, List, [], ◌∷◌, Option, Some, None, is_some, Result, IfErr, OnOk, length, map, set, flat_map}
 use Rattle.std.specs.List.{AllZip, AllByRecursion, list_all}
-use Rattle.byte_streams.specs.Failures.{after_call}
+use Rattle.byte_streams.specs.Failures.{Wrote, after_call}
 use Rattle.byte_streams.specs.declared.fault.Fault.{Fault}
 use Rattle.byte_streams.specs.declared.fault.Fault.TheVariants.{Write, Memory, NoThread}
 use Rattle.city_feature.specs.Choice.{IsChosen}
@@ -146,17 +145,12 @@ HaveGiven gives tiles courses = AllZip (HasGiven gives) tiles courses
 
 -- ---- what was written ----
 
--- all these bytes were written, or, where a write failed, the first of them
-abbrev pub WroteUnless : Result (Unit {0}) Fault → List ℕ → Option (List ℕ) → Option (List ℕ) → Type 0
-WroteUnless (Ok done) bytes old new = Appends old new bytes
-WroteUnless (Err fault) bytes old new = (count : ℕ) × Appends old new (take count bytes)
-
 -- The stream of the header and of all lines of these lists, each list in its own order, was written, up to the first write
 -- that failed.
 pub record TextsSoFar (header : List ℕ) (lists : List (List (List ℕ))) (wrote : Result (Unit {0}) Fault) (old new : Option (List ℕ)) (failures newer : ℕ) : Type 0 where
   pub out : List (List ℕ)
   pub mixes : Interleaves lists out
-  pub written : WroteUnless wrote (stream header out) old new
+  pub written : Wrote wrote old new (stream header out)
   pub failed : newer ≡ after_call wrote failures
   pub fault : IfErr wrote (λ fault. fault ≡ Write)
 
@@ -174,7 +168,7 @@ pub record LinesSoFar {R : Type 0} (begun : List (Begun R)) (header : List ℕ) 
   pub same : begun_of tiles ≡ begun
   pub out : List (List ℕ)
   pub mixes : Interleaves (lines_taken tiles) out
-  pub written : WroteUnless wrote (stream header out) old new
+  pub written : Wrote wrote old new (stream header out)
   pub failed : newer ≡ after_call wrote failures
   pub fault : IfErr wrote (λ fault. fault ≡ Write)
   pub uncancelled : OnOk wrote (AreUncancelled tiles)

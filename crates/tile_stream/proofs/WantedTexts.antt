@@ -1,5 +1,5 @@
 -- Of the texts that a first line holds, those of the features that are wanted once they are moved.
-use Rattle.std.proofs.Common.{◌≡◌, ◌≤◌, ◌<◌, ◌+◌, ◌++◌, ◌∙◌, ℕ, Bool, true, false, List, [], ◌∷◌, Option, Some, None, is_some, length, length-append, get_or, take, take_all, map, option_map, option_to_list, refl, sym, ap, subst, arith}
+use Rattle.std.proofs.Common.{◌≡◌, ◌≤◌, ◌<◌, ◌+◌, ◌++◌, ◌∙◌, ℕ, Bool, true, false, List, [], ◌∷◌, Option, Some, None, is_some, length, length-append, get_or, take, take_all, map, option_to_list, refl, sym, ap, subst, arith}
 use Rattle.std.proofs.lemmas.List.{take_more}
 use Rattle.std.specs.List.{AllByRecursion, AllZip}
 use Rattle.city_json.specs.Compact.{compact}
@@ -8,10 +8,10 @@ use Rattle.city_families.specs.HeldTexts.{HeldTexts, texts_in}
 use Rattle.city_families.specs.Lines.{texts_of}
 use Rattle.cut_on_text.specs.Moved.{chosen_of}
 use Rattle.city_feature.specs.Feature.{FeatureValue, IsMovable, moved}
-use Rattle.city_feature.specs.FeatureLine.{GivesFeature, SpellsFeature}
+use Rattle.city_feature.specs.FeatureLine.{GivesFeature, SpellsFeature, TellsWanted}
 use Rattle.city_grid.specs.Axes.{Triple}
 use Rattle.tile_stream.proofs.HeldTexts.{at_most_one}
-use Rattle.tile_stream.specs.Held.{LinesGive, TellsWanted, TellWanted}
+use Rattle.tile_stream.specs.Held.{LinesGive, TellWanted}
 
 -- those that are chosen, each mapped
 pub chosen_mapped : {X Y : Type 0} (f : X → Y) (bs : List Bool) (xs : List X)
@@ -21,21 +21,15 @@ chosen_mapped f (b ∷ bs) [] = refl
 chosen_mapped f (true ∷ bs) (x ∷ xs) = ap (λ l. f x ∷ l) (chosen_mapped f bs xs)
 chosen_mapped f (false ∷ bs) (x ∷ xs) = chosen_mapped f bs xs
 
-some_mapped : {X Y : Type 0} (f : X → Y) (given : Option X) → is_some (option_map f given) ≡ is_some given
-some_mapped f None = refl
-some_mapped f (Some x) = refl
-
 module _ (IsWanted : FeatureValue → Type 0) (k : Triple) where
   -- one line more was looked at
-  pub told_more : {X : Type 0} (f : X → List ℕ) (all : List (List ℕ)) (at : ℕ) (wanted longer : List Bool)
-      → at < length all → TellWanted IsWanted k (take at all) wanted → (given : Option X) (is : Bool)
-      → GivesFeature IsWanted k (get_or all at []) (option_map f given) → is ≡ is_some given
+  pub told_more : (all : List (List ℕ)) (at : ℕ) (wanted longer : List Bool) → at < length all
+      → TellWanted IsWanted k (take at all) wanted → (is : Bool) → TellsWanted IsWanted k (get_or all at []) is
       → longer ≡ wanted ++ is ∷ [] → TellWanted IsWanted k (take (at + 1) all) longer
-  told_more f all at wanted longer within so_far given is one some grown =
+  told_more all at wanted longer within so_far is one grown =
       subst (λ lines. TellWanted IsWanted k lines longer) (sym (take_more all at [] within))
       (subst (TellWanted IsWanted k (take at all ++ get_or all at [] ∷ [])) (sym grown)
-      (zip_push (TellsWanted IsWanted k) (take at all) wanted (get_or all at []) is so_far
-      (option_map f given, one, some ∙ sym (some_mapped f given))))
+      (zip_push (TellsWanted IsWanted k) (take at all) wanted (get_or all at []) is so_far one))
 
   pub all_told : (all : List (List ℕ)) (at : ℕ) (wanted : List Bool) → length all ≤ at
       → TellWanted IsWanted k (take at all) wanted → TellWanted IsWanted k all wanted

@@ -1,10 +1,10 @@
 -- City objects that the first line of a tile holds itself: features that come before those of the lines after it.
-use Rattle.std.specs.Prelude.{◌≡◌, ◌≢◌, ◌⊎◌, ◌++◌, ℕ, Bool, List, [], ◌∷◌, Any, Option, Some, None, is_some, option_to_list}
+use Rattle.std.specs.Prelude.{◌≡◌, ◌≢◌, ◌⊎◌, ◌++◌, ℕ, Bool, List, [], ◌∷◌, Any, Option, Some, None, option_to_list}
 use Rattle.std.specs.List.{AllZip}
 use Rattle.byte_streams.specs.declared.fault.Fault.{Fault}
 use Rattle.byte_streams.specs.declared.fault.Fault.TheVariants.{VertexRange, Memory}
 use Rattle.city_feature.specs.Feature.{FeatureValue, IsMovable, moved}
-use Rattle.city_feature.specs.FeatureLine.{GivesFeature, RefusesFeatureLine, SpellsFeature, IsTextOf}
+use Rattle.city_feature.specs.FeatureLine.{GivesFeature, RefusesFeatureLine, SpellsFeature, TellsWanted, IsTextOf}
 use Rattle.city_grid.specs.Axes.{Triple}
 use Rattle.tile_stream.specs.Texts.{Outcome, EndsAfter, ComesTo}
 use Rattle.tile_stream.specs.Tile.{TileLines}
@@ -56,12 +56,7 @@ LinesGive IsWanted k (line ∷ others) texts =
     × LinesGive IsWanted k others more
     × (texts ≡ option_to_list given ++ more)
 
--- whether the line gives a text
-abbrev pub TellsWanted : (FeatureValue → Type 0) → Triple → List ℕ → Bool → Type 0
-TellsWanted IsWanted k line wanted =
-    (given : Option (List ℕ)) × GivesFeature IsWanted k line given × (wanted ≡ is_some given)
-
--- which of the lines do
+-- which of the lines give a text
 abbrev pub TellWanted : (FeatureValue → Type 0) → Triple → List (List ℕ) → List Bool → Type 0
 TellWanted IsWanted k lines wanted = AllZip (TellsWanted IsWanted k) lines wanted
 

@@ -5,7 +5,7 @@ use byte_streams::{Fault, Line};
 use city_cut::{CutTexts, FeatureTexts, cut, cut_known, cut_texts, set_member};
 use city_feature::{
     Base, Choice, Feature, Header, HeaderFault, Joined, OwnBuffers, area, feature, feature_text,
-    header, join_headers, line, own_text, selects, shifted, take_vertices, types,
+    header, join_headers, line, own_is_wanted, own_text, selects, shifted, take_vertices, types,
 };
 use city_grid::{Shift, Vertex, append_vertex, vertex_json, write_vertex};
 use city_json::{Json, Workspace, compact_object, read};
@@ -376,6 +376,21 @@ fn own_part_is_given(rt: &(impl AllocGlobal + Eprint)) -> Result<bool, Fault> {
     }
 }
 
+/// Whether it is told that one is given.
+fn own_part_is_wanted(rt: &(impl AllocGlobal + Eprint)) -> Result<bool, Fault> {
+    let choice = choice_of(rt.alloc())?;
+    let shift = Shift::new(10, 20, 30).ok_or(Fault::ShiftRange)?;
+    let mut buffers = OwnBuffers::new(rt.alloc());
+    let own =
+        br#"{"type":"CityJSONFeature","id":"a","CityObjects":{"a":{"type":"Road"}},"vertices":[[1,2,3]]"#;
+    let mut line = Line::new(rt.alloc());
+    line.append(own)?;
+    match own_is_wanted(rt.alloc(), &mut line, shift, &choice, &mut buffers) {
+        Ok(is) => Ok(is),
+        Err(fault) => refused(rt, Call("own_is_wanted"), fault),
+    }
+}
+
 /// Whether so many names stand between the commas, none where one is empty.
 fn are_types(
     rt: &(impl AllocGlobal + Eprint),
@@ -574,6 +589,7 @@ fn vertices_headers_features_and_documents(rt: HostRuntime) -> Result<(), Fault>
     expect!(rt; texts_stay_or_are_written(&rt));
     expect!(rt; vertices_are_taken(&rt));
     expect!(rt; own_part_is_given(&rt));
+    expect!(rt; own_part_is_wanted(&rt));
     expect!(rt; types_are_read(&rt));
     expect!(rt; choices_are_copied(&rt));
     expect!(rt; documents_are_cut(&rt));

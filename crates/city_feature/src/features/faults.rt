@@ -1,35 +1,39 @@
 //! Why the vertices of a feature are refused, found in their compact text.
-ghost use Rattle.std.specs.Prelude.{◌≡◌, ◌≤◌, ◌⊎◌, ◌++◌, ◌∷◌, [], List, length, All, IfOk, IfErr, IfNone, IfSome, IsTrue, OnOk};
-ghost use Rattle.city_json.specs.Tree.{ItemTrees, Tree, array};
+ghost use Rattle.std.specs.Prelude.{◌≡◌, ◌↔◌, ◌⊎◌, ◌++◌, ◌∷◌, [], ℕ, List, false, All, IfOk, IfErr, IsTrue, OnOk};
+ghost use Rattle.city_json.specs.Tree.{ItemTrees, Tree, array, item, number};
 ghost use Rattle.city_grid.specs.Axes.{IsInRange, Triple};
 ghost use Rattle.city_grid.specs.Vertex.{IsVertex, RefusesVertex};
-ghost use Rattle.city_feature.specs.Faults.{AreThreeNumbers, IsArrayText, IsNoNumberBefore, IsNumberBefore, RefusesVertices};
+ghost use Rattle.city_feature.specs.Faults.{AreThreeNumbers, BeginsWithNumber, IsArrayText, IsNumberTree, RefusesVertices};
 ghost use Rattle.city_feature.specs.Feature.{AreVertices, RefusesFirst};
 ghost use Rattle.city_feature.specs.LineTexts.{SpellsVertices};
 ghost use Rattle.city_json.specs.CompactTexts.{IsCompactOf};
 
 use byte_streams::Fault;
-use city_grid::{Vertex, byte_is, spelled_vertex_at, vertex};
-use city_json::{read, value_end};
+use city_grid::{Vertex, spelled_vertex_at, vertex};
+use city_json::{ItemTexts, read};
 use std::alloc::{AllocError, Global};
 
-/// Where the next item begins after the number at `at` and this byte after it; `None`: they do not stand there.
-fn after_number(text: &[u8], at: usize, mark: u8) -> Option<usize>
-    ensures some { IfSome result (λ next. IsNumberBefore text.now at mark next) }
-    ensures none { IfNone result (IsNoNumberBefore text.now at mark) }
+/// Whether the value whose compact text this is is a number.
+fn is_number(text: &[u8]) -> bool
+    ensures { (value : Tree) → IsCompactOf text.now value → (IsTrue result ↔ IsNumberTree value) }
 {
-    if at >= text.len() {
-        return None;
+    if text.is_empty() {
+        return false;
     }
     // only numbers begin with one of these bytes
-    if text[at] < b'-' || text[at] > b'9' {
-        return None;
-    }
-    let end = value_end(text, at);
-    if !byte_is(text, end, mark) {
-        return None;
-    }
-    Some(end + 1)
+    text[0] >= b'-' && text[0] <= b'9'
+}
+
+/// Passes the next item: whether it is a number.
+fn passes_number(items: &mut ItemTexts<'_>) -> bool
+    ensures yes { IsTrue result → BeginsWithNumber items.old items.new }
+    ensures no { result ≡ false → (n : List ℕ) (others : ItemTrees)
+        → ¬ IsCompactOf items.old (array (item (number n) others)) }
+{
+    let Some(one) = items.next() else {
+        return false;
+    };
+    is_number(one)
 }
 
 /// Whether the value whose compact text this is is an array of three numbers.
@@ -37,19 +41,19 @@ fn is_three_numbers(text: &[u8]) -> bool
     ensures yes { IsTrue result → (value : Tree) → IsCompactOf text.now value → AreThreeNumbers value }
     ensures no { (value : Tree) → IsCompactOf text.now value → AreThreeNumbers value → IsTrue result }
 {
-    if !byte_is(text, 0, b'[') {
+    let Some(mut items) = ItemTexts::new(text) else {
+        return false;
+    };
+    if !passes_number(&mut items) {
         return false;
     }
-    let Some(y) = after_number(text, 1, b',') else {
+    if !passes_number(&mut items) {
         return false;
-    };
-    let Some(z) = after_number(text, y, b',') else {
+    }
+    if !passes_number(&mut items) {
         return false;
-    };
-    let Some(_) = after_number(text, z, b']') else {
-        return false;
-    };
-    true
+    }
+    items.is_over()
 }
 
 /// The vertex whose compact text this is.
@@ -107,19 +111,15 @@ pub fn take_vertices<T: TakeVertex>(alloc: Global, text: &[u8], to: &mut T) -> R
     ensures refused { IfErr result (λ fault. (items : ItemTrees) → IsCompactOf text.now (array items)
         → (fault ≡ Fault.Memory) ⊎ RefusesFirst fault items) }
 {
-    if text == b"[]".as_slice() {
+    let Some(mut items) = ItemTexts::new(text) else {
         return Ok(());
-    }
-    let mut at = 1usize;
-    'vertices: while at < text.len() {
-        let end = value_end(text, at);
-        to.take(vertex_of(alloc, &text[at..end])?)?;
-        if !byte_is(text, end, b',') {
+    };
+    'vertices: loop {
+        let Some(one) = items.next() else {
             return Ok(());
-        }
-        at = end + 1;
+        };
+        to.take(vertex_of(alloc, one)?)?;
     }
-    Ok(())
 }
 
 /// The vertices of the array whose compact text this is, however their integers are written.

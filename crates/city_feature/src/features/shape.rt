@@ -21,7 +21,7 @@ fn is_feature_type(text: &[u8]) -> bool
 }
 
 /// Whether the value whose compact text this is is a text.
-fn is_text(text: &[u8]) -> bool
+pub fn is_text(text: &[u8]) -> bool
     ensures { (value : Tree) → IsCompactOf text.now value → (IsTrue result ↔ IsText value) }
 {
     byte_is(text, 0, b'"')

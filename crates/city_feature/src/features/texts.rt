@@ -30,7 +30,7 @@ fn both(one: bool, other: bool) -> bool
     one && other
 }
 
-/// The vertices that the text spells; `None`: undecided.
+/// The vertices that the text spells. `None`: it spells none, or an integer has more than sixteen digits, or out of memory.
 #[inline(never)]
 pub(super) fn vertices_of(alloc: Global, text: &[u8]) -> Option<SpelledVertices>
     ensures spelled { IfSome result (λ found. SpellsVertices text.now found.vertices.items) }
@@ -71,7 +71,7 @@ pub(super) fn vertices_of(alloc: Global, text: &[u8]) -> Option<SpelledVertices>
 }
 
 /// The vertices that stand between two places of a text as triples of short whole numbers, so that they need no check;
-/// `None`: undecided.
+/// `None`: there are none, or out of memory.
 #[inline(never)]
 pub(super) fn vertices_of_triples(
     alloc: Global,
@@ -99,7 +99,7 @@ pub(super) fn vertices_of_triples(
     }
 }
 
-/// Whether the text is what would be written for its vertices; `false`: undecided.
+/// Whether the text is what would be written for its vertices.
 #[inline(never)]
 pub fn is_vertices_text(text: &[u8]) -> bool
     ensures { IsTrue result → IsVerticesText text.now }

@@ -64,7 +64,8 @@ fn all_three(x: bool, y: bool, z: bool) -> bool
     x && y && z
 }
 
-/// The vertex at `at`, where each of its integers is written in at most sixteen digits; `-0` is 0. `None`: undecided.
+/// The vertex at `at`, where each of its integers is written in at most sixteen digits; `-0` is 0. `None`: none stands
+/// there so.
 #[inline(always)]
 pub fn spelled_vertex_at(text: &[u8], at: usize) -> Option<SpelledVertex>
     requires { at ≤ length text.now }

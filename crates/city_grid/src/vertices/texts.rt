@@ -182,7 +182,8 @@ fn integer_end(text: &[u8], at: usize) -> usize
     number_end(text, at)
 }
 
-/// Where the vertex at `at` ends, where it is in the text that would be written for it; `at`: undecided.
+/// Where the vertex at `at` ends, where it is in the text that would be written for it; `at` where none is, or a component
+/// is out of range.
 #[inline(always)]
 pub fn vertex_end(text: &[u8], at: usize) -> usize
     requires { at ≤ length text.now }

@@ -164,7 +164,7 @@ fn ends_at(text: &[u8], at: usize) -> Option<NumberEnds>
     far_ends(text, at)
 }
 
-/// The number that the digits between two places write; `None`: undecided.
+/// The number that the digits between two places write. `None`: there are none, or too many.
 #[inline(always)]
 fn size_between(text: &[u8], at: usize, end: usize) -> Option<u64>
     requires { end ≤ length text.now }
@@ -177,7 +177,7 @@ fn size_between(text: &[u8], at: usize, end: usize) -> Option<u64>
     Some(digits_value_between(text, at, end))
 }
 
-/// The integer that stands between two places; `None`: undecided.
+/// The integer that stands between two places. `None`: it has no digits, or too many.
 #[inline(always)]
 fn integer_between(text: &[u8], at: usize, end: usize) -> Option<i64>
     requires { end ≤ length text.now }
@@ -195,7 +195,8 @@ fn integer_between(text: &[u8], at: usize, end: usize) -> Option<i64>
     Some(size.cast_signed())
 }
 
-/// The vertex whose text begins at `at`, where the text of an array of three short whole numbers does. `None`: undecided.
+/// The vertex whose text begins at `at`, where the text of an array of three short whole numbers does. `None`: three
+/// numbers do not end there, or one has no digits, or more than sixteen, or is out of range.
 #[inline(always)]
 pub fn triple_vertex_at(text: &[u8], at: usize) -> Option<PlacedVertex>
     ensures onward { IfSome result (λ found. at < found.end) }
@@ -236,7 +237,7 @@ fn is_near(steps: i64) -> bool
 }
 
 /// The x and y of the vertex whose text begins at `at`, where the text of an array of three short whole numbers does; its
-/// z is passed over. `None`: undecided.
+/// z is passed over. `None`: three numbers do not end there, or x or y has no digits, or more than sixteen, or is out of range.
 #[inline(always)]
 pub fn triple_plan_at(text: &[u8], at: usize) -> Option<PlacedPlan>
     ensures onward { IfSome result (λ found. at < found.end) }

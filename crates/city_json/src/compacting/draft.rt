@@ -68,7 +68,7 @@ fn copy_long(text: &[u8], at: usize, next: usize, draft: &mut Draft) -> Option<(
     Some(())
 }
 
-/// The place of the next byte that is no white space; the end of the text: undecided.
+/// The place of the next byte that is no white space; the end of the text where there is none, or memory is out.
 #[inline(always)]
 pub(super) fn skip(text: &[u8], at: usize, draft: &mut Draft) -> usize
     requires copied { draft.old.from ≤ at }

@@ -12,7 +12,7 @@ use crate::reading::plain::plain_len;
 use byte_streams::limits::MAX_DEPTH;
 
 /// Where the string ends whose opening mark stands before `at`.
-pub fn string_end(text: &[u8], at: usize) -> usize
+pub(super) fn string_end(text: &[u8], at: usize) -> usize
     requires { at ≤ length text.now }
     ensures onward { at ≤ result }
     ensures within { result ≤ length text.now }
@@ -46,7 +46,7 @@ fn scalar_stop(text: &[u8], at: usize) -> usize
 }
 
 /// Where the value ends that begins at `at`.
-pub fn value_end(text: &[u8], at: usize) -> usize
+pub(crate) fn value_end(text: &[u8], at: usize) -> usize
     requires { at ≤ length text.now }
     ensures onward { at ≤ result }
     ensures within { result ≤ length text.now }

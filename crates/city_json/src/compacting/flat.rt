@@ -133,7 +133,7 @@ pub(super) fn after_item(
     Some(ItemPlace { at: end, depth: 0 })
 }
 
-/// Whether an array with an item begins at `at`, and no white space stands in it before that; `false`: undecided.
+/// Whether an array with an item begins at `at`, and no white space stands in it before that.
 #[inline(always)]
 pub(super) fn opens_array(text: &[u8], at: usize) -> bool
     requires { at < length text.now }

@@ -10,7 +10,7 @@ ghost use Rattle.city_json.specs.Marks.{IsBareMark, IsMarkBeforeBlank, TakenBrac
 use super::draft::{Draft, leave_blank, skip};
 
 /// What comes after a member: where the next one begins, or the place of the brace that closes the object; the end of
-/// the text: undecided.
+/// the text where neither is found, or memory is out.
 #[derive(Clone, Copy, Drop)]
 pub(super) struct AfterMember {
     pub(super) at: usize,
@@ -28,7 +28,7 @@ pub(super) fn is_bare(text: &[u8], at: usize, mark: u8) -> bool
 }
 
 /// Goes over a mark that is next at `at`, and white space around it, most often one blank after it: where what follows
-/// begins; the end of the text: undecided.
+/// begins; the end of the text where another byte stands there, or nothing follows, or memory is out.
 #[inline(never)]
 pub(super) fn past_spaced_mark(text: &[u8], at: usize, mark: u8, draft: &mut Draft) -> usize
     requires copied { draft.old.from ≤ at }

@@ -119,21 +119,28 @@ pub fn members_of_compact(
     Ok(Some(found.parts))
 }
 
-/// The members of the object that begins at `at`.
-pub fn members_at(alloc: Global, text: &[u8], at: usize) -> Option<PlacedMembers>
+/// The members of the object that begins at `at`, in compact text; none where none does.
+pub fn members_at(
+    alloc: Global,
+    text: &[u8],
+    at: usize,
+) -> Result<Option<PlacedMembers>, AllocError>
     requires { at ≤ length text.now }
-    ensures onward { IfSome result (λ found. at ≤ found.end) }
-    ensures within { IfSome result (λ found. found.end ≤ length text.now) }
-    ensures leaves { IfSome result (λ found. LeavesValue 128 (drop at text.now) (drop found.end text.now)) }
-    ensures parts { IfSome result (λ found. HasParts (slice_range text.now at found.end) found.parts.items) }
+    ensures onward { IfOk result (λ found. IfSome found (λ found. at ≤ found.end)) }
+    ensures within { IfOk result (λ found. IfSome found (λ found. found.end ≤ length text.now)) }
+    ensures leaves { IfOk result (λ found. IfSome found (λ found.
+        LeavesValue 128 (drop at text.now) (drop found.end text.now))) }
+    ensures parts { IfOk result (λ found. IfSome found (λ found.
+        HasParts (slice_range text.now at found.end) found.parts.items)) }
+    ensures none { IfOk result (λ found. IfNone found (HasNoObject (drop at text.now))) }
 {
-    let Ok(Some(found)) = front_members(alloc, &text[at..]) else {
-        return None;
+    let Some(found) = front_members(alloc, &text[at..])? else {
+        return Ok(None);
     };
-    Some(PlacedMembers {
+    Ok(Some(PlacedMembers {
         parts: found.parts,
         end: at + found.end,
-    })
+    }))
 }
 
 /// Where the value begins of the first member of this name in the object that stands in front. The name is given with

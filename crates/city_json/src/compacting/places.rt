@@ -1,5 +1,5 @@
 //! Places in a compact text: where members of an object lie, and which texts stand there.
-ghost use Rattle.std.specs.Prelude.{◌≡◌, ◌<◌, ◌≤◌, length, slice_range, IfNone, IfSome, IsTrue};
+ghost use Rattle.std.specs.Prelude.{◌≡◌, ◌↔◌, ◌<◌, ◌≤◌, length, slice_range, IfNone, IfSome, IsTrue};
 ghost use Rattle.city_json.specs.Parts.{IsPartNamed, NotNamed};
 
 /// Most objects, and most features, have no more members.
@@ -23,9 +23,9 @@ pub struct Span {
 }
 
 impl Span {
-    /// Whether the value in a part is what stands there.
+    /// Whether something stands there, and it is the value in a part.
     pub fn is_value_of(self, part: MemberPlace) -> bool
-        ensures { IsTrue result → (self.from < self.end) × (self.from ≡ part.value) × (self.end ≡ part.end) }
+        ensures { IsTrue result ↔ ((self.from < self.end) × (self.from ≡ part.value) × (self.end ≡ part.end)) }
     {
         self.from < self.end && self.from == part.value && self.end == part.end
     }

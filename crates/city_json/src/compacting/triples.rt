@@ -213,7 +213,7 @@ fn up_to_last(marks: u64) -> usize
     64 - marks.leading_zeros() as usize
 }
 
-/// The front of 64 bytes, the first of which begins a triple; with no bytes: undecided. Mostly nothing is wrong in
+/// The front of 64 bytes, the first of which should begin a triple; of no bytes where it begins none. Mostly nothing is wrong in
 /// them, and then what comes next need not wait until it is known what is. A bracket that closes the array as the last
 /// byte is left to the next look then, which begins at the last triple: one alone is never so long.
 #[inline(always)]

@@ -420,7 +420,8 @@ fn front_len(marks: Marks) -> usize
     64 - closes.leading_zeros() as usize
 }
 
-/// How many bytes at the front of a block close all arrays that are open after the byte `before`; 0: undecided.
+/// How many bytes at the front of a block close all arrays that are open after the byte `before`; 0 where that is
+/// not found in the block.
 #[inline(always)]
 fn closing_len(block: u8x64, before: u8, from: OpenArrays) -> usize
     requires levels { from.depth + from.room ≤ max_depth + 1 }
@@ -446,7 +447,7 @@ fn closing_len(block: u8x64, before: u8, from: OpenArrays) -> usize
     len
 }
 
-/// Where the bytes from `at` on have closed all arrays that are open, within a block; `at`: undecided.
+/// Where the bytes from `at` on have closed all arrays that are open; `at` where that is not found within a block.
 #[inline(always)]
 fn closing_end(text: &[u8], at: usize, from: OpenArrays) -> usize
     requires some { 0 < at }

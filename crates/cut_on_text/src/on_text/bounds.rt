@@ -23,8 +23,7 @@ use super::holders::{HeldParts, Holder};
 use super::texts::parts_of;
 use byte_streams::Fault;
 use city_feature::{is_array, is_object};
-use city_grid::byte_is;
-use city_json::{MemberPlace, between, part_named, value_end};
+use city_json::{ItemTexts, MemberPlace, between, part_named};
 use std::alloc::Global;
 
 /// The number that the digits write up to this one, where those before it write `value`; 0 behind a bracket or a comma.
@@ -112,28 +111,16 @@ fn wrong_item(alloc: Global, text: &[u8], holder: Holder, count: usize) -> Optio
     }
 }
 
-/// An item of the array of this text that is wrong so.
-fn wrong_item_in(alloc: Global, text: &[u8], holder: Holder, count: usize) -> Option<()>
-    ensures { OnSome result ((items : ItemTrees) → IsCompactOf text.now (array items)
-        → ¬ AllByRecursion (IsHeld holder count) (item_list items)) }
+/// One of these items that is wrong so.
+fn wrong_one(alloc: Global, items: &mut ItemTexts<'_>, holder: Holder, count: usize) -> Option<()>
+    ensures { OnSome result ((all : ItemTrees) → IsCompactOf items.old (array all)
+        → ¬ AllByRecursion (IsHeld holder count) (item_list all)) }
 {
-    if text.len() < 2 {
-        return None;
-    }
-    if byte_is(text, 1, b']') {
-        return None;
-    }
-    let mut at = 1usize;
     'items: loop {
-        let end = value_end(text, at);
-        let one = between(text, at, end)?;
+        let one = items.next()?;
         if let Some(()) = wrong_item(alloc, one, holder, count) {
             return Some(());
         }
-        if !byte_is(text, end, b',') {
-            return None;
-        }
-        at = end + 1;
     }
 }
 
@@ -141,8 +128,8 @@ fn wrong_item_in(alloc: Global, text: &[u8], holder: Holder, count: usize) -> Op
 fn wrong_text(alloc: Global, text: &[u8], holder: Holder, count: usize) -> Option<()>
     ensures { OnSome result ((value : Tree) → IsCompactOf text.now value → ¬ AreHeld holder count value) }
 {
-    if is_array(text) {
-        return wrong_item_in(alloc, text, holder, count);
+    if let Some(mut items) = ItemTexts::new(text) {
+        return wrong_one(alloc, &mut items, holder, count);
     }
     match holder {
         Holder::Geometry => Some(()),

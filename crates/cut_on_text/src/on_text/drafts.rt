@@ -11,6 +11,7 @@ use super::numbers::{append_between, append_number};
 use city_families::Numbering;
 use city_grid::{byte_is, number_at};
 use city_json::Line;
+use std::alloc::Global;
 
 /// What is written so far: a line, and after it the text from `from` on, which is still to be copied.
 #[derive(Drop)]
@@ -36,8 +37,7 @@ fn ends_item(text: &[u8], at: usize) -> bool
 fn put_front(text: &[u8], at: usize, draft: &mut Draft) -> Option<()>
     requires some { draft.old.from < at }
     requires within { at ≤ length text.now }
-    ensures line { OnSome result (draft.new.line ≡ shown draft.old.line text.now draft.old.from (at - 1)) }
-    ensures from { OnSome result (draft.new.from ≡ draft.old.from) }
+    ensures { OnSome result (draft.new.line ≡ shown draft.old.line text.now draft.old.from (at - 1)) }
 {
     if at - draft.from == 1 {
         return Some(());
@@ -45,20 +45,17 @@ fn put_front(text: &[u8], at: usize, draft: &mut Draft) -> Option<()>
     append_between(text, draft.from, at - 1, &mut draft.line)
 }
 
-/// Copies the text up to `at`, and writes a number in place of what stands there up to `end`.
+/// Copies the text up to `at`, and writes a number.
 #[inline(always)]
-fn put_number(text: &[u8], at: usize, end: usize, number: usize, draft: &mut Draft) -> Option<()>
-    requires within { at ≤ length text.now }
-    ensures line { OnSome result (draft.new.line ≡ shown draft.old.line text.now draft.old.from at ++ decimal number) }
-    ensures from { OnSome result (draft.new.from ≡ end) }
+fn put_number(text: &[u8], at: usize, number: usize, draft: &mut Draft) -> Option<()>
+    requires { at ≤ length text.now }
+    ensures { OnSome result (draft.new.line ≡ shown draft.old.line text.now draft.old.from at ++ decimal number) }
 {
     if draft.from >= at {
         return None;
     }
     put_front(text, at, draft)?;
-    append_number(text[at - 1], number, &mut draft.line)?;
-    draft.from = end;
-    Some(())
+    append_number(text[at - 1], number, &mut draft.line)
 }
 
 /// What is put in place of the leaves of boundaries that are copied.
@@ -73,19 +70,11 @@ pub(super) trait Labels {
     fn count(&self) -> usize
         ensures { result ≡ count self.now };
 
-    /// Copies the text up to `at`, and puts a vertex's label in place of what stands there up to `end`.
-    fn label(
-        &mut self,
-        text: &[u8],
-        at: usize,
-        end: usize,
-        vertex: usize,
-        draft: &mut Draft,
-    ) -> Option<()>
+    /// Copies the text up to `at`, and puts a vertex's label there.
+    fn label(&mut self, text: &[u8], at: usize, vertex: usize, draft: &mut Draft) -> Option<()>
         requires within { at ≤ length text.now }
         requires known { vertex < count self.old }
         ensures count { OnSome result (count self.new ≡ count self.old) }
-        ensures from { OnSome result (draft.new.from ≡ end) }
         ensures labelled { OnSome result (labelled self.old
             (shown draft.old.line text.now draft.old.from at) self.new draft.new.line vertex) };
 }
@@ -102,42 +91,45 @@ impl Labels for Numbering {
     }
 
     #[inline(always)]
-    fn label(
-        &mut self,
-        text: &[u8],
-        at: usize,
-        end: usize,
-        vertex: usize,
-        draft: &mut Draft,
-    ) -> Option<()> {
+    fn label(&mut self, text: &[u8], at: usize, vertex: usize, draft: &mut Draft) -> Option<()> {
         let Ok(_) = self.note(vertex) else {
             return None;
         };
-        put_number(text, at, end, self.table[vertex], draft)
+        put_number(text, at, self.table[vertex], draft)
     }
+}
+
+/// Boundaries that are copied: what is written so far, and what is put in place of their leaves.
+#[derive(Drop)]
+pub(super) struct Copier<L> {
+    pub alloc: Global,
+    pub draft: Draft,
+    pub labels: L,
 }
 
 /// The leaf at `at`: where it ends.
 #[inline(always)]
-fn copy_leaf<L: Labels>(text: &[u8], at: usize, labels: &mut L, draft: &mut Draft) -> Option<usize>
+fn copy_leaf<L: Labels>(text: &[u8], at: usize, copier: &mut Copier<L>) -> Option<usize>
     requires { at ≤ length text.now }
     ensures onward { IfSome result (λ end. at < end) }
     ensures within { IfSome result (λ end. end ≤ length text.now) }
-    ensures copied { IfSome result (λ end. draft.new.from ≤ end) }
-    ensures count { OnSome result (L.count labels.new ≡ L.count labels.old) }
-    ensures made { IfSome result (λ end. CopiesPart (L.count labels.old)
-        (drop at text.now) (drop end text.now) (Walks L.labelled labels.old
-        (shown draft.old.line text.now draft.old.from at) labels.new
-        (shown draft.new.line text.now draft.new.from end))) }
+    ensures copied { IfSome result (λ end. copier.new.draft.from ≤ end) }
+    ensures count { OnSome result (L.count copier.new.labels ≡ L.count copier.old.labels) }
+    ensures made { IfSome result (λ end. CopiesPart (L.count copier.old.labels)
+        (drop at text.now) (drop end text.now) (Walks L.labelled copier.old.labels
+        (shown copier.old.draft.line text.now copier.old.draft.from at) copier.new.labels
+        (shown copier.new.draft.line text.now copier.new.draft.from end))) }
 {
     let digits = number_at(text, at)?;
     if !ends_item(text, digits.end) {
         return None;
     }
-    if digits.size >= labels.count() as u64 {
+    if digits.size >= copier.labels.count() as u64 {
         return None;
     }
-    labels.label(text, at, digits.end, digits.size as usize, draft)?;
+    let vertex = digits.size as usize;
+    copier.labels.label(text, at, vertex, &mut copier.draft)?;
+    copier.draft.from = digits.end;
     Some(digits.end)
 }
 
@@ -147,27 +139,26 @@ fn copy_part<L: Labels>(
     text: &[u8],
     at: usize,
     levels: usize,
-    labels: &mut L,
-    draft: &mut Draft,
+    copier: &mut Copier<L>,
 ) -> Option<usize>
     requires within { at ≤ length text.now }
-    requires copied { draft.old.from ≤ at }
+    requires copied { copier.old.draft.from ≤ at }
     ensures onward { IfSome result (λ end. at < end) }
     ensures within { IfSome result (λ end. end ≤ length text.now) }
-    ensures copied { IfSome result (λ end. draft.new.from ≤ end) }
-    ensures count { OnSome result (L.count labels.new ≡ L.count labels.old) }
-    ensures made { IfSome result (λ end. CopiesPart (L.count labels.old)
-        (drop at text.now) (drop end text.now) (Walks L.labelled labels.old
-        (shown draft.old.line text.now draft.old.from at) labels.new
-        (shown draft.new.line text.now draft.new.from end))) }
+    ensures copied { IfSome result (λ end. copier.new.draft.from ≤ end) }
+    ensures count { OnSome result (L.count copier.new.labels ≡ L.count copier.old.labels) }
+    ensures made { IfSome result (λ end. CopiesPart (L.count copier.old.labels)
+        (drop at text.now) (drop end text.now) (Walks L.labelled copier.old.labels
+        (shown copier.old.draft.line text.now copier.old.draft.from at) copier.new.labels
+        (shown copier.new.draft.line text.now copier.new.draft.from end))) }
 {
     if !byte_is(text, at, b'[') {
-        return copy_leaf(text, at, labels, draft);
+        return copy_leaf(text, at, copier);
     }
     if levels == 0 {
         return None;
     }
-    copy_items(text, at + 1, levels - 1, labels, draft)
+    copy_items(text, at + 1, levels - 1, copier)
 }
 
 /// The parts after an opening bracket, and the closing one: where it ends.
@@ -176,26 +167,25 @@ pub(super) fn copy_items<L: Labels>(
     text: &[u8],
     at: usize,
     levels: usize,
-    labels: &mut L,
-    draft: &mut Draft,
+    copier: &mut Copier<L>,
 ) -> Option<usize>
     requires within { at ≤ length text.now }
-    requires copied { draft.old.from ≤ at }
+    requires copied { copier.old.draft.from ≤ at }
     ensures onward { IfSome result (λ end. at < end) }
     ensures within { IfSome result (λ end. end ≤ length text.now) }
-    ensures copied { IfSome result (λ end. draft.new.from ≤ end) }
-    ensures count { OnSome result (L.count labels.new ≡ L.count labels.old) }
-    ensures made { IfSome result (λ end. CopiesItems (L.count labels.old)
-        (drop at text.now) (drop end text.now) (Walks L.labelled labels.old
-        (shown draft.old.line text.now draft.old.from at) labels.new
-        (shown draft.new.line text.now draft.new.from end))) }
+    ensures copied { IfSome result (λ end. copier.new.draft.from ≤ end) }
+    ensures count { OnSome result (L.count copier.new.labels ≡ L.count copier.old.labels) }
+    ensures made { IfSome result (λ end. CopiesItems (L.count copier.old.labels)
+        (drop at text.now) (drop end text.now) (Walks L.labelled copier.old.labels
+        (shown copier.old.draft.line text.now copier.old.draft.from at) copier.new.labels
+        (shown copier.new.draft.line text.now copier.new.draft.from end))) }
 {
     if byte_is(text, at, b']') {
         return Some(at + 1);
     }
     let mut i = at;
     'items: loop {
-        let end = copy_part(text, i, levels, labels, draft)?;
+        let end = copy_part(text, i, levels, copier)?;
         if byte_is(text, end, b']') {
             return Some(end + 1);
         }

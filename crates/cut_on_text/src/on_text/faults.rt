@@ -22,7 +22,7 @@ use city_feature::{is_array, is_object};
 use city_json::{ObjectText, between};
 use std::alloc::Global;
 
-/// Whether the value whose compact text this is is a city object. `None`: undecided.
+/// Whether the value whose compact text this is is a city object. `None`: out of memory.
 fn is_city_object(alloc: Global, text: &[u8]) -> Option<bool>
     ensures { IfSome result (λ is. (value : Tree) → IsCompactOf text.now value → (IsTrue is ↔ IsCityObject value)) }
 {
@@ -56,8 +56,8 @@ fn are_city_objects(alloc: Global, text: &[u8]) -> Option<bool>
     Some(true)
 }
 
-/// Why the city objects of this text are refused, whose boundaries name so many vertices. `None`: undecided, or they are
-/// not.
+/// Why the city objects of this text are refused, whose boundaries name so many vertices. `None`: none was found, or
+/// out of memory.
 fn objects_fault(alloc: Global, text: &[u8], vertices: usize) -> Option<Fault>
     requires { (value : Tree) × IsCompactOf text.now value }
     ensures { IfSome result (λ fault. (value : Tree) → IsCompactOf text.now value
@@ -87,7 +87,8 @@ fn unless_memory(fault: Fault) -> Option<Fault>
     Some(fault)
 }
 
-/// Why the document whose compact text this is is not cut. `None`: undecided, as where it is cut, or out of memory.
+/// Why the document whose compact text this is is not cut. `None`: no fault was found, as where it is cut,
+/// or out of memory.
 pub(super) fn cut_fault(alloc: Global, document: &ObjectText<'_>) -> Option<Fault>
     ensures refused { IfSome result (λ fault. RefusesCut fault (object_of document.now)) }
     ensures decided { IfSome result (λ fault. fault ≢ Fault.Memory) }

@@ -21,7 +21,7 @@ ghost use Rattle.city_families.specs.Search.{InRange};
 ghost use Rattle.cut_on_text.specs.VertexTexts.{StandAt};
 
 use super::city_objects::CityObjects;
-use super::drafts::Draft;
+use super::drafts::{Copier, Draft};
 use super::objects::append_object;
 use super::points::{VertexTexts, append_points};
 use super::texts::append_text;
@@ -31,74 +31,64 @@ use city_families::{Family, Kin, Numbering, family_at, no_marks};
 use std::alloc::Global;
 
 /// Copies the object at a place, with its name.
-fn append_named(
-    alloc: Global,
-    objects: &CityObjects<'_>,
-    at: usize,
-    numbering: &mut Numbering,
-    draft: &mut Draft,
-) -> Option<()>
-    ensures long { OnSome result (length numbering.new.table.items ≡ length numbering.old.table.items) }
+fn append_named(objects: &CityObjects<'_>, at: usize, copier: &mut Copier<Numbering>) -> Option<()>
+    ensures long { OnSome result (length copier.new.labels.table.items ≡ length copier.old.labels.table.items) }
     ensures made { OnSome result ((pairs : List (List ℕ × Tree))
         → AreObjects objects.now pairs
         → (at < length pairs)
-        × IsBounded (length numbering.old.table.items) (named_at pairs at).1
-        × Copies numbering.old.table.items numbering.old.order.items draft.old.line
-        numbering.new.table.items numbering.new.order.items draft.new.line
+        × IsBounded (length copier.old.labels.table.items) (named_at pairs at).1
+        × Copies copier.old.labels.table.items copier.old.labels.order.items copier.old.draft.line
+        copier.new.labels.table.items copier.new.labels.order.items copier.new.draft.line
         (flat_map leaves (boundaries (named_at pairs at).1))
         (λ change. quoted (named_at pairs at).0 ++ colon ∷ compact (relabelled_object change (named_at pairs at).1))) }
 {
     let one = objects.object(at)?;
-    append_text(one.name, &mut draft.line)?;
-    append_object(alloc, one.value, &one.held, numbering, draft)
+    append_text(one.name, &mut copier.draft.line)?;
+    append_object(one.value, &one.held, copier)
 }
 
 /// Copies the objects at these places, with a comma before each.
 fn append_others(
-    alloc: Global,
     objects: &CityObjects<'_>,
     places: &[usize],
-    numbering: &mut Numbering,
-    draft: &mut Draft,
+    copier: &mut Copier<Numbering>,
 ) -> Option<()>
-    ensures long { OnSome result (length numbering.new.table.items ≡ length numbering.old.table.items) }
+    ensures long { OnSome result (length copier.new.labels.table.items ≡ length copier.old.labels.table.items) }
     ensures made { OnSome result ((pairs : List (List ℕ × Tree))
         → AreObjects objects.now pairs
-        → AllByRecursion (λ named. IsBounded (length numbering.old.table.items) named.1) (map (named_at pairs) places.now)
-        × Copies numbering.old.table.items numbering.old.order.items draft.old.line
-        numbering.new.table.items numbering.new.order.items draft.new.line
+        → AllByRecursion (λ named. IsBounded (length copier.old.labels.table.items) named.1) (map (named_at pairs) places.now)
+        × Copies copier.old.labels.table.items copier.old.labels.order.items copier.old.draft.line
+        copier.new.labels.table.items copier.new.labels.order.items copier.new.draft.line
         (uses (map (named_at pairs) places.now))
         (λ change. compact_more_members (member_trees (relabelled_objects change (map (named_at pairs) places.now))))) }
 {
     for at in places {
-        append_text(b",", &mut draft.line)?;
-        append_named(alloc, objects, *at, numbering, draft)?;
+        append_text(b",", &mut copier.draft.line)?;
+        append_named(objects, *at, copier)?;
     }
     Some(())
 }
 
 /// Copies the objects at these places.
 fn append_objects(
-    alloc: Global,
     objects: &CityObjects<'_>,
     places: &[usize],
-    numbering: &mut Numbering,
-    draft: &mut Draft,
+    copier: &mut Copier<Numbering>,
 ) -> Option<()>
-    ensures long { OnSome result (length numbering.new.table.items ≡ length numbering.old.table.items) }
+    ensures long { OnSome result (length copier.new.labels.table.items ≡ length copier.old.labels.table.items) }
     ensures made { OnSome result ((pairs : List (List ℕ × Tree))
         → AreObjects objects.now pairs
-        → AllByRecursion (λ named. IsBounded (length numbering.old.table.items) named.1) (map (named_at pairs) places.now)
-        × Copies numbering.old.table.items numbering.old.order.items draft.old.line
-        numbering.new.table.items numbering.new.order.items draft.new.line
+        → AllByRecursion (λ named. IsBounded (length copier.old.labels.table.items) named.1) (map (named_at pairs) places.now)
+        × Copies copier.old.labels.table.items copier.old.labels.order.items copier.old.draft.line
+        copier.new.labels.table.items copier.new.labels.order.items copier.new.draft.line
         (uses (map (named_at pairs) places.now))
         (λ change. compact_members (member_trees (relabelled_objects change (map (named_at pairs) places.now))))) }
 {
     let [first, others @ ..] = places else {
         return None;
     };
-    append_named(alloc, objects, *first, numbering, draft)?;
-    append_others(alloc, objects, others, numbering, draft)
+    append_named(objects, *first, copier)?;
+    append_others(objects, others, copier)
 }
 
 /// Appends what stands before the objects of a feature. The name is given with its marks.
@@ -121,29 +111,27 @@ fn append_rest(vertices: &VertexTexts<'_>, numbers: &[usize], line: &mut Line) -
 
 /// Appends the text of the feature that a family is, up to its vertices.
 fn append_feature(
-    alloc: Global,
     objects: &CityObjects<'_>,
     vertices: &VertexTexts<'_>,
     family: &Family,
-    numbering: &mut Numbering,
-    draft: &mut Draft,
+    copier: &mut Copier<Numbering>,
 ) -> Option<()>
-    requires long { length numbering.old.table.items + 1 ≡ length vertices.now.starts.items }
-    ensures long { OnSome result (length numbering.new.table.items + 1 ≡ length vertices.now.starts.items) }
+    requires long { length copier.old.labels.table.items + 1 ≡ length vertices.now.starts.items }
+    ensures long { OnSome result (length copier.new.labels.table.items + 1 ≡ length vertices.now.starts.items) }
     ensures made { OnSome result ((pairs : List (List ℕ × Tree)) (appearance : Option Tree) (points : List Triple)
         → StandAt vertices.now.text.now vertices.now.starts.items points
         → AreObjects objects.now pairs
         → IsFamily (member_trees pairs) family.now.root family.now.places.items
         → (feature : FeatureValue)
         × IsFeatureOf (member_trees pairs) appearance points (name_at (member_trees pairs) family.now.root) feature
-        × HasGrown draft.old.line draft.new.line (tail_text appearance) (compact feature.value)
+        × HasGrown copier.old.draft.line copier.new.draft.line (tail_text appearance) (compact feature.value)
         × ((k : ℕ) → Contains family.now.places.items k → IsBounded (length points) (named_at pairs k).1)) }
 {
     let id = objects.id(family.root)?;
-    append_head(id, &mut draft.line)?;
-    numbering.order.clear();
-    append_objects(alloc, objects, &family.places, numbering, draft)?;
-    append_rest(vertices, &numbering.order, &mut draft.line)
+    append_head(id, &mut copier.draft.line)?;
+    copier.labels.order.clear();
+    append_objects(objects, &family.places, copier)?;
+    append_rest(vertices, &copier.labels.order, &mut copier.draft.line)
 }
 
 /// Notes that a text ends where a line ends that had this length before it.
@@ -188,7 +176,7 @@ fn most_held(objects: &CityObjects<'_>, vertices: &VertexTexts<'_>) -> usize {
 }
 
 /// What the texts of the features that the families of the objects are have of their own. No more than one family is held.
-/// `None`: undecided; nothing in it: there is too much of it to be held.
+/// `None`: a boundary is at fault, or out of memory; nothing in it: there is too much of it to be held.
 pub(super) fn feature_texts(
     alloc: Global,
     objects: &CityObjects<'_>,
@@ -204,10 +192,13 @@ pub(super) fn feature_texts(
         → AreRelated pairs kin.now.children kin.now.parents.items
         → AreOwnTexts (member_trees pairs) appearance points own)) }
 {
-    let mut numbering = no_numbers(alloc, vertices)?;
-    let mut draft = Draft {
-        line: Line::from_vec(Vec::with_capacity(alloc, objects.text().len()).ok()?),
-        from: 0,
+    let mut copier = Copier {
+        alloc,
+        draft: Draft {
+            line: Line::from_vec(Vec::with_capacity(alloc, objects.text().len()).ok()?),
+            from: 0,
+        },
+        labels: no_numbers(alloc, vertices)?,
     };
     let most = most_held(objects, vertices);
     let mut ends = Vec::with_capacity(alloc, objects.len()).ok()?;
@@ -221,19 +212,12 @@ pub(super) fn feature_texts(
         let Some(family) = found else {
             continue;
         };
-        let before = draft.line.items().len();
-        append_feature(
-            alloc,
-            objects,
-            vertices,
-            &family,
-            &mut numbering,
-            &mut draft,
-        )?;
-        note_end(before, &draft.line, &mut ends)?;
-        if draft.line.items().len() > most {
+        let before = copier.draft.line.items().len();
+        append_feature(objects, vertices, &family, &mut copier)?;
+        note_end(before, &copier.draft.line, &mut ends)?;
+        if copier.draft.line.items().len() > most {
             return Some(None);
         }
     }
-    Some(Some(Pieces::new(draft.line, ends)))
+    Some(Some(Pieces::new(copier.draft.line, ends)))
 }

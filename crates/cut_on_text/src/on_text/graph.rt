@@ -66,7 +66,8 @@ fn is_missing(named: &[&[u8]], table: &Names<'_>) -> bool
     false
 }
 
-/// The fault that a child is missing which the array of this text names. `None`: undecided.
+/// The fault that a child is missing which the array of this text names. `None`: none is, or it is no array of
+/// texts, or out of memory.
 fn missing_name(alloc: Global, text: &[u8], table: &Names<'_>) -> Option<Fault>
     ensures told { IfSome result (λ fault. fault ≡ Fault.ChildMissing) }
     ensures is { OnSome result ((names : List (List ℕ)) → AllByRecursion IsUtf8 names
@@ -80,7 +81,7 @@ fn missing_name(alloc: Global, text: &[u8], table: &Names<'_>) -> Option<Fault>
 }
 
 /// The fault that a child is missing which an object names, of which the texts of the children are given. `None`:
-/// undecided.
+/// none was found, or out of memory.
 fn missing_child(alloc: Global, children: &[&[u8]], table: &Names<'_>) -> Option<Fault>
     ensures told { IfSome result (λ fault. fault ≡ Fault.ChildMissing) }
     ensures is { OnSome result ((names : List (List ℕ)) → AllByRecursion IsUtf8 names
@@ -95,7 +96,7 @@ fn missing_child(alloc: Global, children: &[&[u8]], table: &Names<'_>) -> Option
 }
 
 /// The city objects, of which these have parents, with these children, each in a family; or why they are refused. `None`:
-/// undecided.
+/// some children are no array of texts, or out of memory.
 pub(super) fn kin_of(
     alloc: Global,
     objects: &CityObjects<'_>,

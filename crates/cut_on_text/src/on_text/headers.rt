@@ -130,7 +130,7 @@ pub(super) fn header_of(alloc: Global, document: &ObjectText<'_>) -> Option<Head
     Some(found)
 }
 
-/// The transform of what is to be the header of the document, or why it is none. `None`: undecided.
+/// The transform of what is to be the header of the document, or why it is none. `None`: out of memory.
 pub(super) fn transform_there(
     alloc: Global,
     document: &ObjectText<'_>,

@@ -10,9 +10,8 @@ ghost use Rattle.city_json.specs.CompactTexts.{IsCompactOf};
 
 use super::texts::member_or;
 use byte_streams::push;
-use city_feature::is_array;
-use city_grid::byte_is;
-use city_json::{MemberPlace, between, string_end};
+use city_feature::is_text;
+use city_json::{ItemTexts, MemberPlace};
 use std::alloc::Global;
 
 /// The texts in the array whose compact text this is, each with its marks. `None`: some item is no text, or out of
@@ -21,27 +20,15 @@ pub(super) fn texts_of(alloc: Global, text: &[u8]) -> Option<Vec<&[u8]>>
     ensures { IfSome result (λ found. (value : Tree) → IsCompactOf text.now value → AreQuoted found.items value) }
 {
     let mut found = Vec::new(alloc);
-    if !byte_is(text, 0, b'[') {
-        return None;
-    }
-    if byte_is(text, 1, b']') {
-        return Some(found);
-    }
-    let mut at = 1usize;
+    let mut items = ItemTexts::new(text)?;
     'texts: loop {
-        if !byte_is(text, at, b'"') {
-            return None;
-        }
-        let end = string_end(text, at + 1);
-        let one = between(text, at, end)?;
-        push(one, &mut found)?;
-        if byte_is(text, end, b']') {
+        let Some(one) = items.next() else {
             return Some(found);
-        }
-        if !byte_is(text, end, b',') {
+        };
+        if !is_text(one) {
             return None;
         }
-        at = end + 1;
+        push(one, &mut found)?;
     }
 }
 
@@ -49,22 +36,16 @@ pub(super) fn texts_of(alloc: Global, text: &[u8]) -> Option<Vec<&[u8]>>
 pub(super) fn is_array_of_texts(text: &[u8]) -> bool
     ensures { (value : Tree) → IsCompactOf text.now value → (IsTrue result ↔ AreTexts value) }
 {
-    if !is_array(text) {
+    let Some(mut items) = ItemTexts::new(text) else {
         return false;
-    }
-    if byte_is(text, 1, b']') {
-        return true;
-    }
-    let mut at = 1usize;
+    };
     'texts: loop {
-        if !byte_is(text, at, b'"') {
+        let Some(one) = items.next() else {
+            return true;
+        };
+        if !is_text(one) {
             return false;
         }
-        let end = string_end(text, at + 1);
-        if !byte_is(text, end, b',') {
-            return true;
-        }
-        at = end + 1;
     }
 }
 

@@ -9,7 +9,7 @@ ghost use Rattle.city_families.specs.Leaves.{leaves};
 ghost use Rattle.cut_on_text.specs.Overviews.{HasHolders};
 ghost use Rattle.cut_on_text.specs.Sketches.{IsNoted};
 
-use super::drafts::{Draft, Labels};
+use super::drafts::{Copier, Draft, Labels};
 use super::holders::HeldParts;
 use super::numbers::append_between;
 use super::objects::append_member;
@@ -67,47 +67,36 @@ impl Labels for NotedLeaves {
         self.count
     }
 
-    fn label(
-        &mut self,
-        text: &[u8],
-        at: usize,
-        end: usize,
-        vertex: usize,
-        draft: &mut Draft,
-    ) -> Option<()> {
+    fn label(&mut self, text: &[u8], at: usize, vertex: usize, draft: &mut Draft) -> Option<()> {
         if draft.from > at {
             return None;
         }
         append_between(text, draft.from, at, &mut draft.line)?;
-        self.note(draft.line.items().len(), vertex)?;
-        draft.from = end;
-        Some(())
+        self.note(draft.line.items().len(), vertex)
     }
 }
 
 /// Copies a city object without the leaves of its boundaries, which may stand in these parts: how many leaves are noted
 /// where those of its geometries begin.
 pub(super) fn note_object(
-    alloc: Global,
     text: &[u8],
     held: &HeldParts,
-    notes: &mut NotedLeaves,
-    draft: &mut Draft,
+    copier: &mut Copier<NotedLeaves>,
 ) -> Option<usize>
     requires { HasHolders text.now held.now }
-    ensures count { OnSome result (notes.new.count ≡ notes.old.count) }
+    ensures count { OnSome result (copier.new.labels.count ≡ copier.old.labels.count) }
     ensures made { IfSome result (λ split. (value : Tree) → IsCompactOf text.now value
-        → IsBounded notes.old.count value
-        × IsNoted notes.old.leaves.items draft.old.line split notes.new.leaves.items draft.new.line
+        → IsBounded copier.old.labels.count value
+        × IsNoted copier.old.labels.leaves.items copier.old.draft.line split copier.new.labels.leaves.items copier.new.draft.line
         (flat_map leaves (boundaries value)) (λ change. compact (relabelled_object change value))) }
 {
     let first = held.first();
     let last = first.other();
-    let before = notes.leaves.len();
-    let middle = append_member(alloc, text, 0, held.part(first), first, notes, draft)?;
-    let after = notes.leaves.len();
-    let end = append_member(alloc, text, middle, held.part(last), last, notes, draft)?;
+    let before = copier.labels.leaves.len();
+    let middle = append_member(text, 0, held.part(first), first, copier)?;
+    let after = copier.labels.leaves.len();
+    let end = append_member(text, middle, held.part(last), last, copier)?;
     let back = between(text, end, text.len())?;
-    append_text(back, &mut draft.line)?;
+    append_text(back, &mut copier.draft.line)?;
     Some(first.split(before, after))
 }

@@ -52,7 +52,9 @@ fn object_at(alloc: Global, text: &[u8], at: usize) -> Option<PlacedObject>
         HasParts (slice_range text.now found.part.value found.part.end) found.members.items) }
 {
     let colon = colon_after(text, at)?;
-    let found = members_at(alloc, text, colon + 1)?;
+    let Ok(Some(found)) = members_at(alloc, text, colon + 1) else {
+        return None;
+    };
     if found.end == text.len() {
         return None;
     }

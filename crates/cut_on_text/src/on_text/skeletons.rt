@@ -11,7 +11,7 @@ ghost use Rattle.cut_on_text.specs.Sketches.{IsSketch};
 mod reading;
 
 use super::city_objects::CityObjects;
-use super::drafts::Draft;
+use super::drafts::{Copier, Draft};
 use super::notes::{NotedLeaves, note_object};
 use super::texts::append_text;
 use byte_streams::{Line, push};
@@ -108,30 +108,29 @@ impl Model for Skeletons {
 
 /// Copies the object at a place, its name before it, without its leaves: where it begins.
 fn note_named(
-    alloc: Global,
     objects: &CityObjects<'_>,
     at: usize,
-    notes: &mut NotedLeaves,
-    draft: &mut Draft,
+    copier: &mut Copier<NotedLeaves>,
 ) -> Option<Start>
-    ensures count { OnSome result (notes.new.count ≡ notes.old.count) }
+    ensures count { OnSome result (copier.new.labels.count ≡ copier.old.labels.count) }
     ensures made { IfSome result (λ start. (pairs : List (List ℕ × Tree))
         → AreObjects objects.now pairs
-        → IsSketch notes.old.count notes.old.leaves.items draft.old.line start notes.new.leaves.items draft.new.line
+        → IsSketch copier.old.labels.count copier.old.labels.leaves.items copier.old.draft.line start copier.new.labels.leaves.items copier.new.draft.line
         (named_at pairs at)) }
 {
     let id = objects.id(at)?;
     let one = objects.object(at)?;
-    let begin = draft.line.items().len();
-    let leaves = notes.leaves.len();
-    append_text(id, &mut draft.line)?;
-    let name = draft.line.items().len();
-    append_text(b":", &mut draft.line)?;
-    let split = note_object(alloc, one.value, &one.held, notes, draft)?;
+    let begin = copier.draft.line.items().len();
+    let leaves = copier.labels.leaves.len();
+    append_text(id, &mut copier.draft.line)?;
+    let name = copier.draft.line.items().len();
+    append_text(b":", &mut copier.draft.line)?;
+    let split = note_object(one.value, &one.held, copier)?;
     Start::new(begin, name, leaves, split)
 }
 
-/// The objects that lie in these parts of a text, with boundaries that name vertices below `count`. `None`: undecided.
+/// The objects that lie in these parts of a text, with boundaries that name vertices below `count`. `None`: one is
+/// at fault, or a place is 2^32 or more, or out of memory.
 pub(super) fn skeletons_of(
     alloc: Global,
     objects: &CityObjects<'_>,
@@ -143,22 +142,25 @@ pub(super) fn skeletons_of(
         → AreObjects objects.now pairs
         → AreSkeletons count skeletons pairs) }
 {
-    let mut notes = NotedLeaves::new(alloc, count);
-    let mut draft = Draft {
-        line: Line::from_vec(Vec::with_capacity(alloc, objects.text().len()).ok()?),
-        from: 0,
+    let mut copier = Copier {
+        alloc,
+        draft: Draft {
+            line: Line::from_vec(Vec::with_capacity(alloc, objects.text().len()).ok()?),
+            from: 0,
+        },
+        labels: NotedLeaves::new(alloc, count),
     };
     let mut places = Vec::with_capacity(alloc, objects.len() + 1).ok()?;
     for at in 0..objects.len() {
-        let start = note_named(alloc, objects, at, &mut notes, &mut draft)?;
+        let start = note_named(objects, at, &mut copier)?;
         push(start, &mut places)?;
     }
-    let end = draft.line.items().len();
-    let last = notes.leaves.len();
+    let end = copier.draft.line.items().len();
+    let last = copier.labels.leaves.len();
     push(Start::new(end, end, last, last)?, &mut places)?;
     Some(Skeletons {
-        text: draft.line,
-        leaves: notes.leaves,
+        text: copier.draft.line,
+        leaves: copier.labels.leaves,
         places,
     })
 }

@@ -20,7 +20,7 @@ use std::simd::prelude::*;
 /// How many bytes are looked at at once.
 const BLOCK: usize = 64;
 
-/// The text of the document's vertices, where it is these triples. `None`: it is not, or that is undecided.
+/// The text of the document's vertices, where it is these triples. `None`: it is not.
 pub fn triples_text<'a>(document: &ObjectText<'a>, triples: Span) -> Option<&'a [u8]>
     requires { HasTriples document.now.text triples }
     ensures vertices { IfSome result (λ found. (points : List Triple) → SpellsVertices found.now points
@@ -75,7 +75,8 @@ fn push_byte(text: &[u8], at: usize, starts: &mut Vec<u32>) -> Option<()>
     Some(())
 }
 
-/// Where the vertices begin of an array of triples, and where one after the last would. `None`: undecided.
+/// Where the vertices begin of an array of triples, and where one after the last would. `None`: out of memory, or
+/// the text has 2^32 bytes or more.
 pub(super) fn starts_of_triples(alloc: Global, text: &[u8]) -> Option<Vec<u32>>
     requires { IsTriplesArray text.now }
     ensures { IfSome result (λ starts. (points : List Triple) × (text.now ≡ compact (vertices_tree points))

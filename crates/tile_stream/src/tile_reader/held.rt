@@ -2,13 +2,14 @@
 ghost use Rattle.std.specs.Prelude.{◌≡◌, ◌≤◌, ◌<◌, ◌⊎◌, ◌++◌, [], IfOk, IfErr, OnOk, length, get_or, option_map, option_to_list, true};
 ghost use Rattle.city_families.specs.HeldTexts.{AreOwnParts, texts_in};
 ghost use Rattle.city_feature.specs.Choice.{IsChosen};
-ghost use Rattle.city_feature.specs.FeatureLine.{GivesFeature, RefusesFeatureLine};
+ghost use Rattle.city_feature.specs.Ended.{IsOwnPart};
+ghost use Rattle.city_feature.specs.FeatureLine.{GivesFeature, RefusesFeatureLine, TellsWanted};
 ghost use Rattle.tile_stream.specs.Held.{LinesGive, RefusesLines, TellWanted};
 
 use crate::tile_reader::ready::ReadyTexts;
 use byte_streams::{Fault, Line};
 use city_cut::FeatureTexts;
-use city_feature::{Choice, OwnBuffers, own_text};
+use city_feature::{Choice, OwnBuffers, own_is_wanted, own_text};
 use city_grid::Shift;
 use std::alloc::Global;
 
@@ -85,8 +86,7 @@ fn wanted_of(
     let mut buffers = Buffers::new(alloc);
     let mut at = 0usize;
     'held: while at < held.len() {
-        let text = text_at(alloc, held, at, shift, choice, &mut buffers)?;
-        wanted.push(text.is_some())?;
+        wanted.push(is_wanted_at(held, at, shift, choice, &mut buffers)?)?;
         at += 1;
     }
     Ok(wanted)
@@ -110,7 +110,7 @@ fn stored_texts(
     let mut buffers = Buffers::new(alloc);
     let mut at = 0usize;
     'held: while at < held.len() {
-        let given = text_at(alloc, held, at, shift, choice, &mut buffers)?;
+        let given = text_at(held, at, shift, choice, &mut buffers)?;
         push_given(given, &mut texts)?;
         at += 1;
     }
@@ -133,6 +133,7 @@ fn push_given(given: Option<Line>, texts: &mut Vec<Line>) -> Result<(), Fault>
 /// Memory to reuse: what it holds is lost.
 #[derive(Drop)]
 struct Buffers {
+    alloc: Global,
     /// For what a text has of its own.
     own: Line,
     /// For what becomes of it.
@@ -142,16 +143,30 @@ struct Buffers {
 impl Buffers {
     fn new(alloc: Global) -> Buffers {
         Buffers {
+            alloc,
             own: Line::new(alloc),
             given: OwnBuffers::new(alloc),
         }
     }
 }
 
+/// What the feature at a place has of its own, in the line.
+fn take_own(alloc: Global, held: &mut FeatureTexts, at: usize, own: &mut Line) -> Result<(), Fault>
+    requires within { at < length held.old.own }
+    requires parts { AreOwnParts held.old }
+    ensures own { OnOk result (own.new ≡ get_or held.old.own at []) }
+    ensures part { OnOk result (IsOwnPart own.new held.old.common) }
+    ensures whole { OnOk result (get_or (texts_in held.old) at [] ≡ own.new ++ held.old.common) }
+    ensures fault { IfErr result (λ fault. fault ≡ Fault.Memory) }
+    ensures same { held.new ≡ held.old }
+{
+    own.truncate(0);
+    held.append_own(alloc, at, own)
+}
+
 /// What the text of the feature at a place has before the end that all share, where it is chosen when it is moved by the
 /// shift.
 fn text_at(
-    alloc: Global,
     held: &mut FeatureTexts,
     at: usize,
     shift: Shift,
@@ -166,7 +181,27 @@ fn text_at(
         ⊎ RefusesFeatureLine shift fault (get_or (texts_in held.old) at [])) }
     ensures same { held.new ≡ held.old }
 {
-    buffers.own.truncate(0);
-    held.append_own(alloc, at, &mut buffers.own)?;
-    own_text(alloc, &mut buffers.own, shift, choice, &mut buffers.given)
+    take_own(buffers.alloc, held, at, &mut buffers.own)?;
+    let own = &mut buffers.own;
+    own_text(buffers.alloc, own, shift, choice, &mut buffers.given)
+}
+
+/// Whether the feature at a place is chosen when it is moved by the shift.
+fn is_wanted_at(
+    held: &mut FeatureTexts,
+    at: usize,
+    shift: Shift,
+    choice: &Choice,
+    buffers: &mut Buffers,
+) -> Result<bool, Fault>
+    requires within { at < length held.old.own }
+    requires own { AreOwnParts held.old }
+    ensures ok { IfOk result (TellsWanted (IsChosen choice.now) shift (get_or (texts_in held.old) at [])) }
+    ensures refused { IfErr result (λ fault. (fault ≡ Fault.Memory)
+        ⊎ RefusesFeatureLine shift fault (get_or (texts_in held.old) at [])) }
+    ensures same { held.new ≡ held.old }
+{
+    take_own(buffers.alloc, held, at, &mut buffers.own)?;
+    let own = &mut buffers.own;
+    own_is_wanted(buffers.alloc, own, shift, choice, &mut buffers.given)
 }

@@ -16,7 +16,7 @@ use city_grid::triple_plan_at;
 use city_json::{MemberPlace, Span, between};
 
 /// The extent of the vertices that stand between two places of a text as triples of short whole numbers, so that they need
-/// no check; `None`: undecided.
+/// no check. `None`: a vertex is not found by [`triple_plan_at`].
 #[inline(never)]
 fn extent_of_triples(text: &[u8], from: usize, end: usize) -> Option<Extent>
     requires triples { IsTriplesText text.now from end }
@@ -39,7 +39,8 @@ fn extent_of_triples(text: &[u8], from: usize, end: usize) -> Option<Extent>
     }
 }
 
-/// Whether the extent of the vertices meets the area that stand in a text as triples; `None`: undecided, or there are none.
+/// Whether the extent of the vertices meets the area that stand in a text as triples. `None`: there are none, or one is not
+/// found so.
 pub fn triples_meet(area: &Area, text: &[u8], triples: Span) -> Option<bool>
     requires triples { HasTriples text.now triples }
     ensures { IfSome result (λ meets. (ps : List Triple)
@@ -55,7 +56,7 @@ pub fn triples_meet(area: &Area, text: &[u8], triples: Span) -> Option<bool>
 }
 
 /// Whether what stands in a part of a line is what would be written for its vertices, which most often are the triples
-/// that were found there; `false`: undecided.
+/// that were found there.
 #[inline(always)]
 fn are_as_written(line: &[u8], triples: Span, part: MemberPlace) -> bool
     requires triples { HasTriples line.now triples }
@@ -72,7 +73,7 @@ fn are_as_written(line: &[u8], triples: Span, part: MemberPlace) -> bool
 }
 
 /// Whether the vertices in a part of a line, which need not be read to stay as they stand, meet the area, where there is
-/// one. `None`: undecided.
+/// one. `None`: they have to be read.
 #[inline(always)]
 pub(super) fn unread_vertices_meet(
     area: &Option<Area>,

@@ -3,8 +3,8 @@ ghost use Rattle.std.specs.Prelude.{◌≡◌, ◌⊎◌, ◌≤◌, ◌<◌, �
 ghost use Rattle.rtrb.specs.Ring.{sent, received, IsPair};
 ghost use Rattle.tile_handoff.specs.Ends.{ArePair, notes_put, notes_taken};
 ghost use Rattle.tile_merge.specs.Feeds.{Course};
-ghost use Rattle.byte_streams.specs.Failures.{after_call};
-ghost use Rattle.tile_merge.specs.Threads.{fresh_run, is_ended, HasGiven, WroteUnless};
+ghost use Rattle.byte_streams.specs.Failures.{Wrote, after_call};
+ghost use Rattle.tile_merge.specs.Threads.{fresh_run, is_ended, HasGiven};
 ghost use Rattle.tile_stream.specs.Stream.{with_newline};
 ghost use Rattle.tile_stream.specs.TileState.{most_texts};
 ghost use Rattle.tile_stream.specs.Unread.{most_left};
@@ -210,8 +210,7 @@ impl<R: Source + Drop> RunningTile<R> {
     ///
     /// [`Fault::Write`] where a write failed; some first bytes were written then.
     pub(super) fn write_first<W: Sink>(&mut self, output: &mut W) -> Result<(), Fault>
-        ensures written { WroteUnless result (flat_map with_newline self.old.begun.first)
-            (W.taken output.old) (W.taken output.new) }
+        ensures written { Wrote result (W.taken output.old) (W.taken output.new) (flat_map with_newline self.old.begun.first) }
         ensures failures { W.failures output.new ≡ after_call result (W.failures output.old) }
         ensures fault { IfErr result (λ fault. fault ≡ Fault.Write) }
         ensures same { self.new ≡ self.old }

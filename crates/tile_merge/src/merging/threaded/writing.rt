@@ -1,8 +1,8 @@
 //! The lines that come from the threads, written as they come.
 ghost use Rattle.std.specs.Prelude.{◌≡◌, ◌≤◌, ◌<◌, ◌++◌, ◌∷◌, ℕ, List, Option, Some, None, true, [], IfOk, IfErr, OnOk, IsOk, IsTrue, filter_map};
-ghost use Rattle.byte_streams.specs.Failures.{after_call};
+ghost use Rattle.byte_streams.specs.Failures.{Wrote, after_call};
 ghost use Rattle.tile_stream.specs.Stream.{stream};
-ghost use Rattle.tile_merge.specs.Threads.{AreFresh, are_all_ended, GoesOn, GoesOnWriting, LinesSoFar, TextsGoOn, WroteUnless, begun_of, first_texts};
+ghost use Rattle.tile_merge.specs.Threads.{AreFresh, are_all_ended, GoesOn, GoesOnWriting, LinesSoFar, TextsGoOn, begun_of, first_texts};
 
 use crate::merging::ends::Ending;
 use crate::merging::threaded::running::RunningTile;
@@ -62,8 +62,7 @@ fn write_first<R: Source + Drop, W: Sink>(
     tiles: &mut [RunningTile<R>],
     output: &mut W,
 ) -> Result<(), Fault>
-    ensures written { WroteUnless result (stream header (first_texts tiles.old))
-        (W.taken output.old) (W.taken output.new) }
+    ensures written { Wrote result (W.taken output.old) (W.taken output.new) (stream header (first_texts tiles.old)) }
     ensures failures { W.failures output.new ≡ after_call result (W.failures output.old) }
     ensures fault { IfErr result (λ fault. fault ≡ Fault.Write) }
     ensures same { tiles.new ≡ tiles.old }
@@ -142,8 +141,8 @@ fn wait_unless<H: Wait>(rt: &H, key: Key<'_>, is_busy: bool) {
 /// Passes on what was written, where that is asked for and nothing failed before.
 fn flush_if<W: Sink>(output: &mut W, is_asked: bool, wrote: Result<(), Fault>) -> Result<(), Fault>
     ensures written { (bytes : List ℕ) (old : Option (List ℕ))
-        → WroteUnless wrote bytes old (W.taken output.old)
-        → WroteUnless result bytes old (W.taken output.new) }
+        → Wrote wrote old (W.taken output.old) bytes
+        → Wrote result old (W.taken output.new) bytes }
     ensures failures { (count : ℕ) → W.failures output.old ≡ after_call wrote count
         → W.failures output.new ≡ after_call result count }
     ensures fault { IfErr wrote (λ fault. fault ≡ Fault.Write)

@@ -10,7 +10,7 @@ returns-clause-leaves c =
     object_leaves text _ _ c.args.at _ (slice_back text c.args.at (length text) refl c.requires)
     (subst (λ found. IfSome found (λ found.
     HasFrontParts (slice_range text c.args.at (length text)) found.parts.items found.end))
-    c.in-Ok-Some.field-0-is c.in-Ok-Some.ensures.is)
+    c.in-Some.is c.in_ok-found.ensures.is)
 
 pub returns-clause-parts : goal.returns-clause-parts
 returns-clause-parts c =
@@ -18,4 +18,4 @@ returns-clause-parts c =
     object_has_parts text _ _ c.args.at _ (slice_back text c.args.at (length text) refl c.requires)
     (subst (λ found. IfSome found (λ found.
     HasFrontParts (slice_range text c.args.at (length text)) found.parts.items found.end))
-    c.in-Ok-Some.field-0-is c.in-Ok-Some.ensures.is)
+    c.in-Some.is c.in_ok-found.ensures.is)

@@ -14,7 +14,7 @@ copy_items-returns-then-byte_is-clause-made g t c = λ items rest w is.
     let text = c.args.text.now in
     let here = c.byte_is.ensures.0 c.if-byte_is.true in
     copied_none _ text rest _ _ _ c.args.at items here.0 here.1 w is
-    (shown_one c.args.draft.now.line text c.args.draft.now.from c.args.at close_bracket c.requires.copied here.0
+    (shown_one c.args.copier.now.draft.line text c.args.copier.now.draft.from c.args.at close_bracket c.requires.copied here.0
     here.1)
 
 pub copy_items-items-init : goal.copy_items-items-init
@@ -33,12 +33,12 @@ copy_items-returns-then-byte_is-2-clause-made g t c = λ items rest w is.
     let here = c.byte_is-in-items.ensures.0 c.if-byte_is-2.true in
     let so_far = c.items.invariant.goes_on items rest w is in
     let made = subst (λ n. CopiesPart n (drop c.items.i text) (drop c.in_ok-end.end text)
-    (Walks g.L.Labels.labelled c.items.labels (shown c.items.draft.line text c.items.draft.from c.items.i)
-    c.copy_part.new.labels
-    (shown c.copy_part.new.draft.line text c.copy_part.new.draft.from c.in_ok-end.end)))
+    (Walks g.L.Labels.labelled c.items.copier.labels (shown c.items.copier.draft.line text c.items.copier.draft.from c.items.i)
+    c.copy_part.new.copier.labels
+    (shown c.copy_part.new.copier.draft.line text c.copy_part.new.copier.draft.from c.in_ok-end.end)))
     c.items.invariant.count c.in_ok-end.ensures.made in
     copied_stop _ items text rest _ _ _ _ _ _ _ c.items.i c.in_ok-end.end so_far made here.0 here.1
-    (shown_one c.copy_part.new.draft.line text c.copy_part.new.draft.from c.in_ok-end.end close_bracket
+    (shown_one c.copy_part.new.copier.draft.line text c.copy_part.new.copier.draft.from c.in_ok-end.end close_bracket
     c.in_ok-end.ensures.copied here.0 here.1)
 
 pub copy_items-items-preserved : goal.copy_items-items-preserved
@@ -47,13 +47,13 @@ copy_items-items-preserved g t c =
     let here : (c.in_ok-end.end < length text) × (slice_index text c.in_ok-end.end ≡ comma) =
     c.byte_is-in-items-2.ensures.0 c.if-not-byte_is.false in
     let made = subst (λ n. CopiesPart n (drop c.items.i text) (drop c.in_ok-end.end text)
-    (Walks g.L.Labels.labelled c.items.labels (shown c.items.draft.line text c.items.draft.from c.items.i)
-    c.copy_part.new.labels
-    (shown c.copy_part.new.draft.line text c.copy_part.new.draft.from c.in_ok-end.end)))
+    (Walks g.L.Labels.labelled c.items.copier.labels (shown c.items.copier.draft.line text c.items.copier.draft.from c.items.i)
+    c.copy_part.new.copier.labels
+    (shown c.copy_part.new.copier.draft.line text c.copy_part.new.copier.draft.from c.in_ok-end.end)))
     c.items.invariant.count c.in_ok-end.ensures.made in
     let so_far : c.args.at ≤ c.items.i = c.items.invariant.onward in
     let onward : c.items.i < c.in_ok-end.end = c.in_ok-end.ensures.onward in
-    let kept : c.copy_part.new.draft.from ≤ c.in_ok-end.end = c.in_ok-end.ensures.copied in
+    let kept : c.copy_part.new.copier.draft.from ≤ c.in_ok-end.end = c.in_ok-end.ensures.copied in
     record {
       onward = omega (arith, so_far, onward);
       within = omega (arith, here.0);
@@ -61,7 +61,7 @@ copy_items-items-preserved g t c =
       count = c.in_ok-end.ensures.count ∙ c.items.invariant.count;
       goes_on = λ items rest w is. copied_more _ items text rest _ _ _ _ _ _ _ c.items.i c.in_ok-end.end
           (c.items.invariant.goes_on items rest w is) made here.0 here.1
-          (shown_one c.copy_part.new.draft.line text c.copy_part.new.draft.from c.in_ok-end.end comma kept here.0
+          (shown_one c.copy_part.new.copier.draft.line text c.copy_part.new.copier.draft.from c.in_ok-end.end comma kept here.0
           here.1);
     }
 
@@ -72,5 +72,5 @@ copy_part-returns-clause-made g t c =
     c.byte_is.ensures.0 c.if-not-byte_is.false in
     if_some _ _ c.copy_items.result (λ end made.
     part_array _ _ _ _ _ _ _ _ _ (drop_one text c.args.at open_bracket here.0 here.1)
-    (shown_one c.args.draft.now.line text c.args.draft.now.from c.args.at open_bracket c.requires.copied here.0
+    (shown_one c.args.copier.now.draft.line text c.args.copier.now.draft.from c.args.at open_bracket c.requires.copied here.0
     here.1) made) c.copy_items.ensures.made

@@ -17,12 +17,12 @@ abbrev pub invariant-copy_items-items : goal.invariant-copy_items-items
 invariant-copy_items-items g l = record {
   onward : l.at ≤ l.i;
   within : l.i ≤ length l.text;
-  copied : l.draft.from ≤ l.i;
-  count : g.L.Labels.count l.labels ≡ g.L.Labels.count l.fn.labels;
+  copied : l.copier.draft.from ≤ l.i;
+  count : g.L.Labels.count l.copier.labels ≡ g.L.Labels.count l.fn.copier.labels;
   goes_on : (items : ItemTrees) (rest : List ℕ) → AreWritableItems items
       → drop l.at l.text ≡ compact_items items ++ close_bracket ∷ rest
-      → ItemsCopied g.L.Labels.labelled (g.L.Labels.count l.fn.labels) items (drop l.i l.text) rest l.fn.labels
-      (shown l.fn.draft.line l.text l.fn.draft.from l.at) l.labels (shown l.draft.line l.text l.draft.from l.i);
+      → ItemsCopied g.L.Labels.labelled (g.L.Labels.count l.fn.copier.labels) items (drop l.i l.text) rest l.fn.copier.labels
+      (shown l.fn.copier.draft.line l.text l.fn.copier.draft.from l.at) l.copier.labels (shown l.copier.draft.line l.text l.copier.draft.from l.i);
 }
 
 abbrev pub decreases-copy_items-items : goal.decreases-copy_items-items

@@ -1,4 +1,4 @@
-use Rattle.std.proofs.Common.{◌≡◌, ◌∙◌, ◌<◌, ◌^◌, ◌++◌, ap, arith, drop, subst, sym}
+use Rattle.std.proofs.Common.{◌≡◌, ◌∙◌, ◌<◌, ◌^◌, ◌++◌, ap, arith, drop, refl, subst, sym}
 use Rattle.std.proofs.lemmas.List.Folds.{drop_split}
 use Rattle.std.specs.Fmt.{decimal}
 use Rattle.city_json.specs.Compacting.{shown}
@@ -17,8 +17,8 @@ returns-clause-made g c =
     drop_split text c.args.at end (omega (arith, onward))
     ∙ ap (λ l. l ++ drop end text) c.in_ok-digits.ensures.written in
     let small : k < 2 ^ 64 = omega arith in
-    let is = shown_here c.label.new.draft.line text c.label.new.draft.from end c.in_ok-label.ensures.from in
+    let is = shown_here c.label.new.draft.line text end end refl in
     part_leaf _ _ _ _ _ (drop c.args.at text) (drop end text) k (omega arith) small
-    (subst (λ l. g.L.Labels.labelled c.args.labels.now
-    (shown c.args.draft.now.line text c.args.draft.now.from c.args.at) c.label.new.self l k) (sym is)
+    (subst (λ l. g.L.Labels.labelled c.args.copier.now.labels
+    (shown c.args.copier.now.draft.line text c.args.copier.now.draft.from c.args.at) c.label.new.self l k) (sym is)
     c.in_ok-label.ensures.labelled) (stopped_at text end ends.0 ends.1) begins

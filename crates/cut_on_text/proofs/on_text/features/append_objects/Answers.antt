@@ -9,12 +9,12 @@ returns-clause-made c = on_some_more c.append_others.result (λ others pairs are
     let places = c.args.places.now in
     let left = take (length places - 1) (drop 1 places) in
     let (inside, bounded, one) = c.in_ok-append_named.ensures.made pairs are in
-    subst (λ l. ObjectsMade (length c.args.numbering.now.table.items) c.args.numbering.now.table.items
-    c.args.numbering.now.order.items c.args.draft.now.line c.append_others.new.numbering.table.items
-    c.append_others.new.numbering.order.items c.append_others.new.draft.line (map (named_at pairs) l))
+    subst (λ l. ObjectsMade (length c.args.copier.now.labels.table.items) c.args.copier.now.labels.table.items
+    c.args.copier.now.labels.order.items c.args.copier.now.draft.line c.append_others.new.copier.labels.table.items
+    c.append_others.new.copier.labels.order.items c.append_others.new.copier.draft.line (map (named_at pairs) l))
     (first_and_others places c.in-len1-up.len_at_least)
     (objects_made _ _ _ _ _ _ _ _ _ _ (named_at pairs (get_or places 0 0)) (map (named_at pairs) left) bounded one
-    (subst (λ n. OthersMade n c.append_named.new.numbering.table.items c.append_named.new.numbering.order.items
-    c.append_named.new.draft.line c.append_others.new.numbering.table.items
-    c.append_others.new.numbering.order.items c.append_others.new.draft.line (map (named_at pairs) left))
+    (subst (λ n. OthersMade n c.append_named.new.copier.labels.table.items c.append_named.new.copier.labels.order.items
+    c.append_named.new.copier.draft.line c.append_others.new.copier.labels.table.items
+    c.append_others.new.copier.labels.order.items c.append_others.new.copier.draft.line (map (named_at pairs) left))
     c.in_ok-append_named.ensures.long (others pairs are)))) c.append_others.ensures.made

@@ -10,9 +10,9 @@ loop-at-preserved c = record {
   made = λ pairs are.
       let at = get_or c.args.places.now c.loop-at.at-index 0 in
       let (inside, bounded, one) = c.in_ok-append_named.ensures.made pairs are in
-      subst (OthersMade (length c.args.numbering.now.table.items) c.args.numbering.now.table.items
-      c.args.numbering.now.order.items c.args.draft.now.line c.append_named.new.numbering.table.items
-      c.append_named.new.numbering.order.items c.append_named.new.draft.line)
+      subst (OthersMade (length c.args.copier.now.labels.table.items) c.args.copier.now.labels.table.items
+      c.args.copier.now.labels.order.items c.args.copier.now.draft.line c.append_named.new.copier.labels.table.items
+      c.append_named.new.copier.labels.order.items c.append_named.new.copier.draft.line)
       (places_more pairs c.args.places.now c.loop-at.at-index c.loop-at-test.true)
       (others_more _ _ _ _ _ _ _ _ _ _ _ (map (named_at pairs) (take c.loop-at.at-index c.args.places.now))
       (named_at pairs at) (c.loop-at.invariant.made pairs are) c.in_ok-append_text.ensures
@@ -21,7 +21,7 @@ loop-at-preserved c = record {
 
 pub returns-clause-made : goal.returns-clause-made
 returns-clause-made c = λ pairs are.
-    subst (λ l. OthersMade (length c.args.numbering.now.table.items) c.args.numbering.now.table.items
-    c.args.numbering.now.order.items c.args.draft.now.line c.loop-at.numbering.table.items
-    c.loop-at.numbering.order.items c.loop-at.draft.line (map (named_at pairs) l))
+    subst (λ l. OthersMade (length c.args.copier.now.labels.table.items) c.args.copier.now.labels.table.items
+    c.args.copier.now.labels.order.items c.args.copier.now.draft.line c.loop-at.copier.labels.table.items
+    c.loop-at.copier.labels.order.items c.loop-at.copier.draft.line (map (named_at pairs) l))
     (take_all c.loop-at.at-index c.args.places.now c.loop-at-test.false) (c.loop-at.invariant.made pairs are)

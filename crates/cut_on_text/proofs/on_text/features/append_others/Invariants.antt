@@ -7,9 +7,9 @@ use Rattle.cut_on_text.proofs.on_text.features.append_others.Given as goal
 
 abbrev pub invariant-loop-at : goal.invariant-loop-at
 invariant-loop-at l = record {
-  long : length l.numbering.table.items ≡ length l.fn.numbering.table.items;
+  long : length l.copier.labels.table.items ≡ length l.fn.copier.labels.table.items;
   made : (pairs : List (List ℕ × Tree)) → AreObjects l.objects pairs
-      → OthersMade (length l.fn.numbering.table.items) l.fn.numbering.table.items l.fn.numbering.order.items
-      l.fn.draft.line l.numbering.table.items l.numbering.order.items l.draft.line
+      → OthersMade (length l.fn.copier.labels.table.items) l.fn.copier.labels.table.items l.fn.copier.labels.order.items
+      l.fn.copier.draft.line l.copier.labels.table.items l.copier.labels.order.items l.copier.draft.line
       (map (named_at pairs) (take l.at-index l.places));
 }

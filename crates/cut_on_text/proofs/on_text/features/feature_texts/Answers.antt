@@ -8,7 +8,7 @@ use Rattle.cut_on_text.proofs.on_text.features.feature_texts.Goals as goal
 
 pub loop-at-init : goal.loop-at-init
 loop-at-init c = record {
-  long = c.in_ok-numbering.ensures;
+  long = c.in_ok-no_numbers.ensures;
   ends = search rules;
   marked = c.in-Ok.ensures.ok;
   made = λ pairs appearance points stand are rel. ([], search rules, tt, bounded_none _ _);
@@ -34,9 +34,9 @@ loop-at-preserved-in_default-found c = record {
 pub loop-at-preserved : goal.loop-at-preserved
 loop-at-preserved c = record {
   long = c.in_ok-append_feature.ensures.long;
-  ends = ends_noted c.loop-at.draft.line c.append_feature.new.draft.line c.loop-at.ends.items
+  ends = ends_noted c.loop-at.copier.draft.line c.append_feature.new.copier.draft.line c.loop-at.ends.items
       c.note_end.new.ends.items c.loop-at.invariant.ends
-      (subst (λ l. length l ≤ length c.append_feature.new.draft.line) c.items-before.ensures
+      (subst (λ l. length l ≤ length c.append_feature.new.copier.draft.line) c.items-before.ensures
       c.in_ok-note_end.ensures.onward) c.in_ok-note_end.ensures.noted;
   marked = c.in-Ok-family_at.ensures.marked;
   made = λ pairs appearance points stand are rel.
@@ -47,7 +47,7 @@ loop-at-preserved c = record {
       let (feature, is, grown, inside) = c.in_ok-append_feature.ensures.made pairs appearance points stand are
       (family_begun pairs c.loop-at.at c.in-Some.family begun) in (
         features ++ feature ∷ [],
-        with_tail_more c.loop-at.draft.line c.append_feature.new.draft.line (tail_text appearance)
+        with_tail_more c.loop-at.copier.draft.line c.append_feature.new.copier.draft.line (tail_text appearance)
             c.loop-at.ends.items c.note_end.new.ends.items features feature texts c.loop-at.invariant.ends
             c.in_ok-note_end.ensures.noted grown,
         features_more pairs appearance points c.loop-at.at c.in-Some.family features feature begun within zip is,

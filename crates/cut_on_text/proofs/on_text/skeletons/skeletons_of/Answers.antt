@@ -7,7 +7,7 @@ use Rattle.cut_on_text.proofs.on_text.skeletons.skeletons_of.Goals as goal
 
 pub loop-at-init : goal.loop-at-init
 loop-at-init c = let none : c.in_ok-places.places.items ≡ [] = search rules in record {
-  count = c.new-notes.ensures.count;
+  count = c.new.ensures.count;
   many = ap length none;
   laid = λ pairs are. laid_none _ _ _ _ pairs none;
 }
@@ -22,24 +22,24 @@ loop-at-preserved c = record {
     c.loop-at.invariant.many,
   );
   laid = λ pairs are.
-      laid_more c.args.count c.loop-at.at c.loop-at.notes.leaves.items c.loop-at.draft.line c.in_ok-start.start
-      c.note_named.new.notes.leaves.items c.note_named.new.draft.line c.loop-at.places.items
+      laid_more c.args.count c.loop-at.at c.loop-at.copier.labels.leaves.items c.loop-at.copier.draft.line c.in_ok-start.start
+      c.note_named.new.copier.labels.leaves.items c.note_named.new.copier.draft.line c.loop-at.places.items
       c.push.new.to.items pairs c.loop-at.invariant.many c.in_ok-push.ensures
       (c.loop-at.invariant.laid pairs are)
-      (subst (λ n. IsSketch n c.loop-at.notes.leaves.items c.loop-at.draft.line c.in_ok-start.start
-      c.note_named.new.notes.leaves.items c.note_named.new.draft.line (named_at pairs c.loop-at.at))
+      (subst (λ n. IsSketch n c.loop-at.copier.labels.leaves.items c.loop-at.copier.draft.line c.in_ok-start.start
+      c.note_named.new.copier.labels.leaves.items c.note_named.new.copier.draft.line (named_at pairs c.loop-at.at))
       c.loop-at.invariant.count (c.in_ok-start.ensures.made pairs are));
 }
 
 pub returns-clause-made : goal.returns-clause-made
 returns-clause-made c = λ pairs are.
-    let line = c.loop-at.draft.line in
-    let noted = c.loop-at.notes.leaves.items in
+    let line = c.loop-at.copier.draft.line in
+    let noted = c.loop-at.copier.labels.leaves.items in
     let end = place_is c.in_ok-new.field-0 (length c.items-end.result.now) c.len-last.result line noted
     c.in_ok-new.ensures (ap length c.items-end.ensures)
-    (omega (arith, c.len-last.ensures, c.loop-at.notes.leaves.ok)) in
+    (omega (arith, c.len-last.ensures, c.loop-at.copier.labels.leaves.ok)) in
     laid_all c.args.count line noted c.loop-at.places.items _ c.args.objects.now.places pairs are.1
     (omega (arith, c.loop-at.invariant.many, c.loop-at-test.false, c.loop-at.auto.at-end)) refl refl
     (c.in_ok-push-2.ensures ∙ ap (λ p. c.loop-at.places.items ++ p ∷ []) end)
-    (subst (λ n. All (λ (leaf : LeafPlace). leaf.vertex < n) noted) c.loop-at.invariant.count c.loop-at.notes.within)
+    (subst (λ n. All (λ (leaf : LeafPlace). leaf.vertex < n) noted) c.loop-at.invariant.count c.loop-at.copier.labels.within)
     (c.loop-at.invariant.laid pairs are)

@@ -5,7 +5,7 @@ use Rattle.city_feature.proofs.features.on_text.unread.are_as_written.Goals as g
 
 pub returns-then-is_value_of : goal.returns-then-is_value_of
 returns-then-is_value_of c = λ _.
-    let (some, from, end) = c.is_value_of.ensures c.if-is_value_of.true in
+    let (some, from, end) = c.is_value_of.ensures.0 c.if-is_value_of.true in
     let (within, t) = c.requires.triples some in (
       omega (arith, some, from, end),
       vertices_text c.args.line.now (slice_range c.args.line.now c.args.part.value c.args.part.end) c.args.triples.from

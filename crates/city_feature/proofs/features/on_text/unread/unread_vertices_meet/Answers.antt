@@ -6,7 +6,7 @@ use Rattle.city_feature.proofs.features.on_text.unread.unread_vertices_meet.Goal
 pub returns : goal.returns
 returns c =
     let line = c.args.line.now in
-    let (some, from, end) = c.is_value_of.ensures c.if-not-is_value_of.false in
+    let (some, from, end) = c.is_value_of.ensures.0 c.if-not-is_value_of.false in
     if_some_more c.triples_meet.result (λ meets (ps, written, range, met). (
       omega (arith, some, from, end),
       ps,

@@ -15,4 +15,4 @@ returns-clause-labelled c = on_some_more c.put_number.result (λ line.
     copies_leaf _ _ _ _ _ _ k c.requires.known (omega (arith, c.args.self.now.table.small)) c.in-Ok.ensures.kept
     c.in-Ok.ensures.has c.in-Ok.ensures.ok (line
     ∙ ap (λ n. shown c.args.draft.now.line c.args.text.now c.args.draft.now.from c.args.at ++ decimal n) number))
-    c.put_number.ensures.line
+    c.put_number.ensures

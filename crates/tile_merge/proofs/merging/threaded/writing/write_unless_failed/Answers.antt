@@ -1,11 +1,10 @@
 use Rattle.std.proofs.Common.{◌≡◌, ◌∙◌, Result, Ok, IfErr, ap, subst, sym}
 use Rattle.std.proofs.KnownBytes.{Appends-trans}
 use Rattle.std.proofs.lemmas.Result.{err_from_is_err_and}
-use Rattle.byte_streams.specs.Failures.{after_call, one_more}
+use Rattle.byte_streams.specs.Failures.{Wrote, after_call, one_more}
 use Rattle.byte_streams.specs.declared.fault.Fault.{Fault}
 use Rattle.byte_streams.specs.declared.fault.Fault.TheVariants.{Write}
 use Rattle.tile_stream.specs.Stream.{with_newline}
-use Rattle.tile_merge.specs.Threads.{WroteUnless}
 use Rattle.tile_merge.proofs.Writing.{still_failed, fails_now, one_text}
 use Rattle.tile_merge.proofs.merging.threaded.writing.write_unless_failed.Goals as goal
 
@@ -52,6 +51,6 @@ returns-clause-written g c before now longer lists i within header old count =
     one_text lists i within before now c.args.line longer header old count c.args.wrote (Ok tt) taken wrote
     (g.W.Sink.failures c.args.output.now) (g.W.Sink.failures c.write_line.new.output)
     (λ bytes whole. Appends-trans old taken wrote bytes (with_newline c.args.line)
-    (subst (λ (r : Done). WroteUnless r bytes old taken) c.in_ok-wrote.was whole) all.all.1)
+    (subst (λ (r : Done). Wrote r old taken bytes) c.in_ok-wrote.was whole) all.all.1)
     (λ counted. all.failures ∙ counted ∙ ap (λ (r : Done). after_call r count) c.in_ok-wrote.was)
     (λ named. tt)
