@@ -8,6 +8,6 @@ mod laws;
 
 pub use answering::cut_text;
 pub use cut_by_value::{Cut, Features, cut, drop_member, set_member};
-pub use cut_on_text::{CutTexts, FeatureTexts, cut_known, triples_text};
+pub use cut_on_text::{CutTexts, FeatureTexts};
 pub use cutting::cut_texts;
 pub use laws::features_are_spelled_by_their_texts;

@@ -7,8 +7,9 @@ ghost use Rattle.city_json.specs.CompactTexts.{IsCompactOf};
 
 use crate::texts::{expect, filled, put_texts, repeated, texts_are, with_repeated};
 use byte_streams::Line;
-use city_cut::{CutTexts, cut_known, triples_text};
+use city_cut::CutTexts;
 use city_json::{MemberPlace, ObjectText, Span, Workspace, compact_object};
+use cut_on_text::{cut_known, triples_text};
 use std::alloc::{AllocError, AllocGlobal, Global};
 use std::process::Abort;
 

@@ -2,8 +2,8 @@
 use crate::answers::given;
 use crate::texts::{expect, filled, with_repeated};
 use byte_streams::Fault;
-use city_cut::cut_known;
 use city_json::{ObjectText, Span};
+use cut_on_text::cut_known;
 use std::alloc::{AllocError, AllocGlobal, Global};
 use std::process::Abort;
 

@@ -28,6 +28,7 @@ pub mod NumberLaws
 pub mod OpenParts
 pub mod ObjectTexts
 pub mod Opened
+pub mod Options
 pub mod ParityLemmas
 pub mod PartsOfNumbers
 pub mod PassedItems

@@ -1,5 +1,6 @@
 -- The compact text of an object is read as that object, and its members are found by their names.
-use Rattle.std.proofs.Common.{◌≡◌, ◌∙◌, ◌≤◌, List, ℕ, Option, Some, None, IfSome, IfNone, ap, subst, sym, unwrap_or, length, slice_range}
+use Rattle.std.proofs.Common.{◌≡◌, ◌∙◌, ◌≤◌, List, ℕ, ap, subst, sym, unwrap_or, length, slice_range}
+pub use Rattle.city_json.proofs.Options.{if_some_more, if_none, none_more}
 use Rattle.city_json.proofs.CompactLaws.{compact-spells}
 use Rattle.city_json.proofs.Complete.{text_at-complete}
 use Rattle.city_json.proofs.NamedMembers.{absent_there, parts_in_text, value_there}
@@ -52,19 +53,6 @@ placed text parts members of are =
       of = subst (λ m. IsCompactOf text (object m)) same of;
       are = subst (λ m. AreParts 1 parts m) same are;
     }
-
-pub if_some_more : {A : Type 0} {P Q : A → Type 0} (answer : Option A) → ((x : A) → P x → Q x) → IfSome answer P
-    → IfSome answer Q
-if_some_more (Some x) on holds = on x holds
-if_some_more None on holds = tt
-
-pub none_more : {A P Q : Type 0} (answer : Option A) → (P → Q) → IfNone answer P → IfNone answer Q
-none_more (Some x) on holds = tt
-none_more None on holds = on holds
-
-pub if_none : {A P : Type 0} (answer : Option A) → P → IfNone answer P
-if_none (Some x) holds = tt
-if_none None holds = holds
 
 module _ (there : PlacedObject) (is : IsPlacedObject there) (given : List ℕ) where
   pub has_none : NotNamed there.text there.parts given (length there.parts) → HasNone given there

@@ -1,5 +1,5 @@
 -- Words and numbers that the pass takes as they stand.
-use Rattle.std.proofs.Common.{◌≡◌, ◌++◌, ◌∙◌, ◌≤◌, ◌<◌, ◌+◌, ◌-◌, ℕ, List, [], ◌∷◌, Some, None, length, take, drop, length-take, length-drop, get_or, refl, ap, sym, subst, arith, append-nil, slice_range, Option, Bool, true, false, nat_eq, codes, IfSome, inl, inr}
+use Rattle.std.proofs.Common.{◌≡◌, ◌++◌, ◌∙◌, ◌≤◌, ◌<◌, ◌+◌, ◌-◌, ℕ, List, [], ◌∷◌, Some, length, take, drop, length-take, length-drop, get_or, refl, ap, sym, subst, arith, append-nil, slice_range, Bool, true, false, nat_eq, codes, inl, inr}
 use Rattle.std.specs.Str.Parse.{AllDigits}
 use Rattle.std.proofs.lemmas.Str.Parse.{digit_from_value}
 use Rattle.std.specs.List.{starts_with}
@@ -50,15 +50,6 @@ true_is text at end is = words text (codes "true") at end (boolean true) is refl
 
 pub false_is : (text : List ℕ) (at end : ℕ) → slice_range text at end ≡ codes "false" → IsScalarText text at end
 false_is text at end is = words text (codes "false") at end (boolean false) is refl refl tt refl
-
-pub if_some : {A : Type 0} (P Q : A → Type 0) (r : Option A) → ((x : A) → P x → Q x) → IfSome r P → IfSome r Q
-if_some P Q None onward p = tt
-if_some P Q (Some x) onward p = onward x p
-
-pub if_some_both : (P R Q : ℕ → Type 0) (r : Option ℕ) → ((x : ℕ) → P x → R x → Q x) → IfSome r P → IfSome r R
-    → IfSome r Q
-if_some_both P R Q None onward p q = tt
-if_some_both P R Q (Some x) onward p q = onward x p q
 
 -- `&text[at..]`
 pub rest_is : (text : List ℕ) (at : ℕ) → take (length text - at) (drop at text) ≡ drop at text

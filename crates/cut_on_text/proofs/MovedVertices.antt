@@ -1,5 +1,5 @@
 -- The texts of moved vertices, put one after another.
-use Rattle.std.proofs.Common.{◌≡◌, ◌∙◌, ◌++◌, ◌<◌, ◌≤◌, ◌+◌, ◌-◌, ◌⊎◌, inl, inr, ℕ, zero, suc, true, false, List, [], ◌∷◌, length, map, take, drop, sym, ap, subst, arith, ⊎_elim, length-append, take_all, pos}
+use Rattle.std.proofs.Common.{◌≡◌, ◌∙◌, ◌++◌, ◌<◌, ◌≤◌, ◌+◌, ◌-◌, ◌⊎◌, inl, inr, ℕ, true, false, List, [], ◌∷◌, length, map, take, drop, sym, ap, subst, arith, ⊎_elim, length-append, take_all, pos}
 use Rattle.std.proofs.Math.Dec.{leb}
 use Rattle.std.proofs.Math.Seq.{drop-append-add}
 use Rattle.std.proofs.lemmas.Bool.Decides.{leb_tells}
@@ -19,7 +19,7 @@ use Rattle.city_families.specs.Chosen.{point_at}
 use Rattle.cut_on_text.specs.Moved.{moved_or_same}
 use Rattle.cut_on_text.specs.VertexTexts.{IsGrown, StandAt}
 use Rattle.city_feature.proofs.OneFeature.{same_vertex, taken}
-use Rattle.cut_on_text.proofs.TextPoints.{stand_more, stand_none}
+use Rattle.cut_on_text.proofs.TextPoints.{stand_more}
 
 -- the text of a vertex in range is read as that vertex
 vertex_text : (text : List ℕ) (p : Triple) → IsInRange p → text ≡ compact (vertex_tree p)
@@ -38,20 +38,6 @@ no_vertex_fault text p fault range is refused =
     ⊎_elim (λ memory. memory)
     (λ why. absurd (taken fault (vertex_tree p) p (vertex_is_read p range) range why))
     (refused (vertex_tree p) (vertex_text text p range is))
-
-pub grown_none : (text starts none : List ℕ) → text ≡ [] → none ≡ [] → starts ≡ none ++ 1 ∷ [] → IsGrown text starts []
-grown_none text starts none empty nothing is =
-    let there = stand_none text starts none nothing is in
-    let one : starts ≡ 1 ∷ [] = is ∙ ap (λ l. l ++ 1 ∷ []) nothing in
-    record {
-      stand = there.0;
-      last = there.1 ∙ ap (λ l. length l + 1) (sym empty);
-      within = subst (All (λ start. start ≤ length text + 1)) (sym one) (only_one (length text));
-    }
-  where
-    only_one : (n : ℕ) → All (λ start. start ≤ n + 1) (1 ∷ [])
-    only_one n zero d below = omega (arith, below)
-    only_one n (suc i) d below = absurd (omega (arith, below))
 
 range_before : (xs ys : List ℕ) (a b : ℕ) → b ≤ length xs → slice_range (xs ++ ys) a b ≡ slice_range xs a b
 range_before xs ys a b within = by (leb_tells a b)

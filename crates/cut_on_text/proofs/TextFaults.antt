@@ -1,5 +1,5 @@
 -- Why a document is not cut, found on its compact text.
-use Rattle.std.proofs.Common.{◌≡◌, ◌∙◌, ◌<◌, ◌⊎◌, ◌↔◌, inl, inr, ℕ, zero, suc, Bool, true, false, IsTrue, List, [], ◌∷◌, Option, Some, None, IfSome, IsUtf8, length, map, unwrap_or, refl, sym, ap, subst, arith, codes}
+use Rattle.std.proofs.Common.{◌≡◌, ◌∙◌, ◌<◌, ◌⊎◌, ◌↔◌, inl, inr, ℕ, zero, suc, Bool, true, false, IsTrue, List, [], ◌∷◌, Option, Some, None, IsUtf8, length, map, unwrap_or, refl, sym, ap, subst, arith, codes}
 use Rattle.std.specs.Borrow.{Bor}
 use Rattle.std.specs.List.{AllByRecursion, AllZip, Contains}
 use Rattle.byte_streams.specs.declared.fault.Fault.{Fault}
@@ -99,12 +99,6 @@ refused_so document fault objects count valid same many refused =
     told Orphan refused = (valid, refused.0, refused.1)
     told BoundaryIndex refused = (valid, refused.0, refused.1, refused.2)
     told other refused = absurd refused
-
--- ---- what is known of an answer, where it is known which it is
-pub if_both : {A : Type 0} {P Q R : A → Type 0} (answer : Option A) → IfSome answer P → IfSome answer Q
-    → ((x : A) → P x → Q x → R x) → IfSome answer R
-if_both (Some x) one other both = both x one other
-if_both None one other both = tt
 
 -- ---- the document
 object_or : (there : Option Tree) → WhereThere IsObject there → AreCityObjects (members_in there)

@@ -1,5 +1,5 @@
 -- The members of an object that lie in its compact text, and how they are exchanged.
-use Rattle.std.proofs.Common.{◌≡◌, ◌∙◌, ◌++◌, ℕ, List, [], Option, Some, None, OnSome, bytes_eq, take, drop, refl, sym, ap, subst, append_assoc, append-nil, inl, inr}
+use Rattle.std.proofs.Common.{◌≡◌, ◌∙◌, ◌++◌, ℕ, List, [], Some, None, bytes_eq, take, drop, refl, sym, ap, subst, append_assoc, append-nil, inl, inr}
 use Rattle.std.proofs.lemmas.Option.{same_Some}
 use Rattle.std.proofs.lemmas.Bool.{cases_Bool}
 use Rattle.std.proofs.lemmas.Slice.Eq.{bytes_eq-Decides}
@@ -10,14 +10,11 @@ use Rattle.city_json.specs.Parts.{with_value}
 use Rattle.city_json.specs.Tree.{Tree, object, MemberTrees, no_members, member}
 use Rattle.city_json.specs.declared.compacting.places.MemberPlace.{MemberPlace}
 pub use Rattle.city_json.proofs.NamedMembers.{same_place}
+pub use Rattle.city_json.proofs.Options.{on_some_more}
 pub use Rattle.city_feature.proofs.NamedTexts.{if_some_more, member_there, value_or}
 use Rattle.city_feature.specs.Changes.{with_named}
 use Rattle.city_families.specs.Boundaries.{changed_members}
 use Rattle.cut_on_text.specs.Walks.{Labelling, Walks, walks_both, walks_so, walks_text}
-
-pub on_some_more : {A P Q : Type 0} (answer : Option A) → (P → Q) → OnSome answer P → OnSome answer Q
-on_some_more (Some x) on holds = on holds
-on_some_more None on holds = tt
 
 -- ---- changing the members of a name
 pub new_none : (name : List ℕ) (members : MemberTrees) → IsNewName name members → first_named name members ≡ None

@@ -19,12 +19,6 @@ abbrev pub trees_of : List Triple → ItemTrees
 trees_of ps = item_trees (map vertex_tree ps)
 
 -- ---- where they begin
-pub stand_none : (text starts none : List ℕ) → none ≡ [] → starts ≡ none ++ 1 ∷ [] → StandAt text starts []
-    × (slice_index starts 0 ≡ 1)
-stand_none text starts none empty is =
-    let one : starts ≡ 1 ∷ [] = is ∙ ap (λ l. l ++ 1 ∷ []) empty in
-    (record { long = ap length one; each = λ k below. absurd (omega (arith, below)) }, ap (λ l. slice_index l 0) one)
-
 module _ (text starts starts' : List ℕ) (points : List Triple) (v : Triple) (at end : ℕ)
     (stand : StandAt text starts points) (last : slice_index starts (length points) ≡ at)
     (written : slice_range text at end ≡ compact (vertex_tree v)) (pushed : starts' ≡ starts ++ (end + 1) ∷ []) where

@@ -1,6 +1,5 @@
 -- Lists in turn, round by round.
 use Rattle.std.proofs.Common.{◌≡◌, ◌++◌, ◌-◌, ℕ, zero, suc, List, [], ◌∷◌, length, take, drop, refl, ap, arith}
-use Rattle.std.proofs.lemmas.List.{map-append}
 use Rattle.std.proofs.lemmas.Grind.{flat_map-append}
 use Rattle.std.specs.List.{AllByRecursion}
 use Rattle.tile_merge.specs.Turns.{firsts, rests, longest, rounds, turns}
@@ -44,6 +43,3 @@ module _ {X : Type 0} where
 
   pub firsts-append : (lists others : List (List X)) → firsts (lists ++ others) ≡ firsts lists ++ firsts others
   firsts-append lists others = flat_map-append (take 1) lists others
-
-  pub rests-append : (lists others : List (List X)) → rests (lists ++ others) ≡ rests lists ++ rests others
-  rests-append lists others = map-append (drop 1) lists others

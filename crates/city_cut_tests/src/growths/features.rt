@@ -2,13 +2,14 @@
 
 use crate::growths::values::{is_after, is_printed};
 use byte_streams::{Fault, Line};
-use city_cut::{CutTexts, FeatureTexts, cut, cut_known, cut_texts, set_member};
+use city_cut::{CutTexts, FeatureTexts, cut, cut_texts, set_member};
 use city_feature::{
     Base, Choice, Feature, Header, HeaderFault, Joined, OwnBuffers, area, feature, feature_text,
     header, join_headers, line, own_is_wanted, own_text, selects, shifted, take_vertices, types,
 };
 use city_grid::{Shift, Vertex, append_vertex, vertex_json, write_vertex};
 use city_json::{Json, Workspace, compact_object, read};
+use cut_on_text::cut_known;
 use growth_support::texts::{
     A, BUILDING, CHILDLESS, CLASHING, DOCUMENT, DUTCH, EXTENDED, EXTENDED_BOTH, EXTENDED_TWICE,
     FAR_HEADER, HEADER, OFF_GRID, ORPHANED, OTHER_DUTCH, SCALED, UNBOUNDED,

@@ -88,8 +88,8 @@ module _ (choice : Choice) (k : Triple) (bytes : List ℕ) (there : PlacedObject
       selects (moved feature k).value vertices (moved_types choice.types has (vertices_tree vertices) (members_of there)
       (typed found.is.0.1)) found.known
 
-  pub chosen_text : IsTrue chosen → GivesFeature (IsChosen choice) k bytes (Some (text_with vertices there.text))
-  chosen_text chosen_is = (
+  pub chosen_some : IsTrue chosen → GivesFeature (IsChosen choice) k bytes (Some (text_with vertices there.text))
+  chosen_some chosen_is = (
     moved feature k,
     spells,
     (wanted.0 chosen_is, found.text ∙ sym (found.placed (vertices_tree (moved_vertices found.ps k)))),

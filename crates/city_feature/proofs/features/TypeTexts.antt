@@ -1,6 +1,7 @@
 -- The type of a feature that is found on the compact text of its line.
 use Rattle.std.proofs.Common.{◌≡◌, ◌∙◌, ◌<◌, ◌↔◌, ℕ, sym, ap, subst, List, [], Bool, Option, Some, None, Contains, codes, IsTrue, IfSome, IsUtf8, refl, length, get_or, unwrap_or, arith}
 use Rattle.std.proofs.lemmas.Option.{same_Some}
+use Rattle.city_json.proofs.Options.{if_some_more}
 use Rattle.city_json.specs.Bytes.{quotation_mark}
 use Rattle.city_json.specs.Compact.{quoted, compact}
 use Rattle.city_json.specs.Members.{first_named, member_of}
@@ -100,13 +101,6 @@ same_types : (names : List (List ℕ)) (v w : Tree) → member_of (codes "id") v
 same_types names v w ids objects (name, (id, says, typed), among) =
     (name, (id, sym ids ∙ says, ap (λ o. member_in (codes "type") (member_in id o)) (sym objects) ∙ typed), among)
 
-where_given : (types : Option (List (List ℕ))) (v w : Tree)
-    → ((names : List (List ℕ)) → HasType names v → HasType names w) → IfSome types (λ names. HasType names v)
-    → IfSome types (λ names. HasType names w)
-where_given None v w onward has = tt
-where_given (Some names) v w onward has = onward names has
-
--- other vertices change no type
 pub moved_types : (types : Option (List (List ℕ))) (has : Bool) (x : Tree) (all : MemberTrees) → IsTrue has
     ↔ IfSome types (λ names. HasType names (object all)) → IsTrue has
     ↔ IfSome types (λ names. HasType names (with_member (codes "vertices") x (object all)))
@@ -115,6 +109,6 @@ moved_types types has x all iff =
     let other = with_member (codes "vertices") x value in
     let ids = other_member (codes "vertices") x (codes "id") refl value in
     let objects = other_member (codes "vertices") x (codes "CityObjects") refl value in (
-      λ yes. where_given types value other (λ names. same_types names value other (sym ids) (sym objects)) (iff.0 yes),
-      λ given. iff.1 (where_given types other value (λ names. same_types names other value ids objects) given),
+      λ yes. if_some_more types (λ names. same_types names value other (sym ids) (sym objects)) (iff.0 yes),
+      λ given. iff.1 (if_some_more types (λ names. same_types names other value ids objects) given),
     )

@@ -5,7 +5,7 @@ ghost use Rattle.city_feature.specs.Choice.{IsChosen};
 ghost use Rattle.city_feature.specs.FeatureLine.{GivesFeature, RefusesFeatureLine};
 
 use crate::choices::Choice;
-use crate::features::on_text::object_text;
+use crate::features::on_text::{chosen_vertices, place_text};
 use byte_streams::{Fault, Line};
 use city_grid::Shift;
 use city_json::{TextPlace, Workspace, compact_object};
@@ -37,8 +37,12 @@ pub fn feature_text(
     let Some(object) = compact_object(alloc, bytes, workspace)? else {
         return Err(Fault::NotAFeature);
     };
-    let compact = &mut workspace.line;
-    let given = object_text(alloc, bytes, &object, shift, choice, compact, text);
+    let line = object.text(bytes, &workspace.line);
+    let Some(vertices) = chosen_vertices(alloc, &line, object.triples, shift, choice)? else {
+        workspace.take_back(object.parts);
+        return Ok(None);
+    };
+    let place = place_text(bytes, object.place, vertices, &mut workspace.line, text)?;
     workspace.take_back(object.parts);
-    given
+    Ok(Some(place))
 }

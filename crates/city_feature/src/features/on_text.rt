@@ -6,14 +6,13 @@ ghost use Rattle.city_json.specs.ObjectTexts.{SpellsThere, object_of};
 ghost use Rattle.city_json.specs.Parts.{with_value};
 ghost use Rattle.city_json.specs.TextPlace.{placed_text};
 ghost use Rattle.city_json.specs.Tree.{Tree};
-ghost use Rattle.city_json.specs.SpelledObjects.{SpellsObject};
 ghost use Rattle.city_json.specs.Triples.{HasTriples};
 ghost use Rattle.city_grid.specs.Axes.{IsInRange, Triple};
 ghost use Rattle.city_feature.specs.Area.{Meets};
 ghost use Rattle.city_feature.specs.Choice.{HasType, IsChosen};
 ghost use Rattle.city_feature.specs.Faults.{IsArrayText, RefusesMoved, RefusesVertices};
 ghost use Rattle.city_feature.specs.Feature.{moved_vertices, vertices_tree};
-ghost use Rattle.city_feature.specs.FeatureLine.{GivesFeature, RefusesFeatureLine};
+ghost use Rattle.city_feature.specs.FeatureLine.{GivesFeature};
 ghost use Rattle.city_feature.specs.LineVertices.{AreKnown, BecomeOf, LieIn, text_with};
 ghost use Rattle.city_feature.specs.LineTexts.{SpellsVertices, no_steps};
 
@@ -29,7 +28,7 @@ use crate::features::shape::placed_vertices;
 use crate::features::texts::{SpelledVertices, append_vertices, vertices_of, vertices_of_triples};
 use byte_streams::{Fault, Line};
 use city_grid::{Shift, Vertex};
-use city_json::{CompactObject, MemberPlace, ObjectText, Span, TextPlace};
+use city_json::{MemberPlace, ObjectText, Span, TextPlace};
 use std::alloc::{AllocError, Global};
 use std::mem::swap;
 use types::has_given_type;
@@ -37,7 +36,7 @@ use unread::unread_vertices_meet;
 
 /// What becomes of the vertices of a feature's line.
 #[derive(Drop)]
-enum Vertices {
+pub(super) enum Vertices {
     /// They stay as they stand. Whether their extent meets the area, where one is asked for.
     Stay(bool),
     /// What stands in this part is exchanged for the text of these.
@@ -157,7 +156,7 @@ fn selects_vertices(choice: &Choice, has_type: bool, vertices: &Vertices) -> boo
 
 /// What becomes of the vertices of a feature, where the choice selects it once it is moved by the shift.
 #[inline(always)]
-fn chosen_vertices(
+pub(super) fn chosen_vertices(
     alloc: Global,
     line: &ObjectText<'_>,
     triples: Span,
@@ -208,41 +207,28 @@ fn hand_over(place: TextPlace, compact: &mut Line, text: &mut Line)
     }
 }
 
-/// The text of the feature that is the object whose compact text stands at a place, moved by the shift, where it is chosen
-/// then: none, or where it stands. `compact` and `text` are buffers; what they held is lost.
+/// Where the text of a feature stands, whose compact text stands at a place of `bytes` or in `compact`, with what becomes of
+/// its vertices. Both buffers lose what they held.
 #[inline(always)]
-pub(super) fn object_text(
-    alloc: Global,
+pub(super) fn place_text(
     bytes: &[u8],
-    object: &CompactObject,
-    shift: Shift,
-    choice: &Choice,
+    place: TextPlace,
+    vertices: Vertices,
     compact: &mut Line,
     text: &mut Line,
-) -> Result<Option<TextPlace>, Fault>
-    requires triples { HasTriples (placed_text object.now.place bytes.now compact.old) object.now.triples }
-    requires object { (spelled : List ℕ)
-        × SpellsObject spelled (placed_text object.now.place bytes.now compact.old) object.now.parts.items }
-    ensures ok { IfOk result (λ given. (spelled : List ℕ)
-        → SpellsObject spelled (placed_text object.now.place bytes.now compact.old) object.now.parts.items
-        → GivesFeature (IsChosen choice.now) shift spelled
-        (option_map (λ place. placed_text place bytes.now text.new) given)) }
-    ensures refused { IfErr result (λ fault. (spelled : List ℕ)
-        → SpellsObject spelled (placed_text object.now.place bytes.now compact.old) object.now.parts.items
-        → RefusesFeatureLine shift fault spelled) }
+) -> Result<TextPlace, AllocError>
+    requires inside { LieIn (placed_text place bytes.now compact.old) vertices }
+    ensures { IfOk result (λ given. placed_text given bytes.now text.new
+        ≡ text_with vertices (placed_text place bytes.now compact.old)) }
 {
-    let line = object.text(bytes, compact);
-    let Some(vertices) = chosen_vertices(alloc, &line, object.triples, shift, choice)? else {
-        return Ok(None);
-    };
     match vertices {
         Vertices::Stay(_) => {
-            hand_over(object.place, compact, text);
-            Ok(Some(object.place))
+            hand_over(place, compact, text);
+            Ok(place)
         }
         Vertices::Move(part, vertices) => {
-            write_moved(object.place.bytes(bytes, compact), part, &vertices, text)?;
-            Ok(Some(TextPlace::Written))
+            write_moved(place.bytes(bytes, compact), part, &vertices, text)?;
+            Ok(TextPlace::Written)
         }
     }
 }

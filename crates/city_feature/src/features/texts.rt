@@ -99,31 +99,28 @@ pub(super) fn vertices_of_triples(
     }
 }
 
-/// Whether the text is what would be written for its vertices.
+/// That the text is what would be written for its vertices. `None`: it is not.
 #[inline(never)]
-pub fn is_vertices_text(text: &[u8]) -> bool
-    ensures { IsTrue result → IsVerticesText text.now }
+pub(super) fn stands_as_written(text: &[u8]) -> Option<()>
+    ensures { OnSome result (IsVerticesText text.now) }
 {
     if text == b"[]".as_slice() {
-        return true;
+        return Some(());
     }
     if !byte_is(text, 0, b'[') {
-        return false;
+        return None;
     }
     let mut at = 1usize;
     'vertices: loop {
-        let end = vertex_end(text, at);
-        if end == at {
-            return false;
-        }
+        let end = vertex_end(text, at)?;
         if byte_is(text, end, b']') {
             if end + 1 < text.len() {
-                return false;
+                return None;
             }
-            return true;
+            return Some(());
         }
         if !byte_is(text, end, b',') {
-            return false;
+            return None;
         }
         at = end + 1;
     }

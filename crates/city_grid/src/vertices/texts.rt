@@ -79,7 +79,7 @@ fn digits_at_slowly(text: &[u8], at: usize) -> Digits
     Digits { size, end }
 }
 
-/// The number at `at` that is written in at most sixteen digits, with no zero before others.
+/// The number at `at`. `None`: none stands there, it has more than sixteen digits, or a zero stands before others.
 #[inline(always)]
 pub fn number_at(text: &[u8], at: usize) -> Option<Digits>
     requires { at ≤ length text.now }
@@ -120,13 +120,13 @@ fn few_digits_end(text: &[u8], at: usize) -> usize
     at + count
 }
 
-/// Where the number at `at` ends, which is in range and has no zero before other digits, or `at`.
+/// Where the number at `at` ends. `None`: none stands there, it is out of range, or a zero stands before other digits.
 #[inline(always)]
-fn number_end(text: &[u8], at: usize) -> usize
+fn number_end(text: &[u8], at: usize) -> Option<usize>
     requires { at ≤ length text.now }
-    ensures onward { at ≤ result }
-    ensures within { result ≤ length text.now }
-    ensures is { at < result → IsShortNumber text.now at result }
+    ensures onward { IfSome result (λ end. at < end) }
+    ensures within { IfSome result (λ end. end ≤ length text.now) }
+    ensures is { IfSome result (λ end. IsShortNumber text.now at end) }
 {
     if text.len() - at < 16 {
         return long_number_end(text, at);
@@ -137,85 +137,71 @@ fn number_end(text: &[u8], at: usize) -> usize
     }
     if text[at] == b'0' {
         if end > at + 1 {
-            return at;
+            return None;
         }
-        return end;
+        return Some(end);
     }
-    end
+    Some(end)
 }
 
 /// The same of a number of more digits, or one near the end of the text.
 #[inline(never)]
-fn long_number_end(text: &[u8], at: usize) -> usize
+fn long_number_end(text: &[u8], at: usize) -> Option<usize>
     requires { at ≤ length text.now }
-    ensures onward { at ≤ result }
-    ensures within { result ≤ length text.now }
-    ensures is { at < result → IsShortNumber text.now at result }
+    ensures onward { IfSome result (λ end. at < end) }
+    ensures within { IfSome result (λ end. end ≤ length text.now) }
+    ensures is { IfSome result (λ end. IsShortNumber text.now at end) }
 {
-    let Some(found) = number_at(text, at) else {
-        return at;
-    };
+    let found = number_at(text, at)?;
     if found.size > MAX_STEPS {
-        return at;
+        return None;
     }
-    found.end
+    Some(found.end)
 }
 
-/// Where the integer at `at` ends, which is written as it would be printed and is in range, or `at`.
+/// Where the integer at `at` ends. `None`: none stands there as it would be printed, or it is out of range.
 #[inline(always)]
-fn integer_end(text: &[u8], at: usize) -> usize
+fn integer_end(text: &[u8], at: usize) -> Option<usize>
     requires { at ≤ length text.now }
-    ensures onward { at ≤ result }
-    ensures within { result ≤ length text.now }
-    ensures is { at < result → IsShortInteger text.now at result }
+    ensures onward { IfSome result (λ end. at < end) }
+    ensures within { IfSome result (λ end. end ≤ length text.now) }
+    ensures is { IfSome result (λ end. IsShortInteger text.now at end) }
 {
     if byte_is(text, at, b'-') {
-        let end = number_end(text, at + 1);
-        if end == at + 1 {
-            return at;
-        }
+        let end = number_end(text, at + 1)?;
         if text[at + 1] == b'0' {
-            return at;
+            return None;
         }
-        return end;
+        return Some(end);
     }
     number_end(text, at)
 }
 
-/// Where the vertex at `at` ends, where it is in the text that would be written for it; `at` where none is, or a component
-/// is out of range.
+/// Where the vertex at `at` ends. `None`: none stands there in the text that would be written for it, or a component is out
+/// of range.
 #[inline(always)]
-pub fn vertex_end(text: &[u8], at: usize) -> usize
+pub fn vertex_end(text: &[u8], at: usize) -> Option<usize>
     requires { at ≤ length text.now }
-    ensures onward { at ≤ result }
-    ensures within { result ≤ length text.now }
-    ensures is { at < result → IsVertexText text.now at result }
+    ensures onward { IfSome result (λ end. at < end) }
+    ensures within { IfSome result (λ end. end ≤ length text.now) }
+    ensures is { IfSome result (λ end. IsVertexText text.now at end) }
 {
     if !byte_is(text, at, b'[') {
-        return at;
+        return None;
     }
-    let x = integer_end(text, at + 1);
-    if x == at + 1 {
-        return at;
-    }
+    let x = integer_end(text, at + 1)?;
     if !byte_is(text, x, b',') {
-        return at;
+        return None;
     }
-    let y = integer_end(text, x + 1);
-    if y == x + 1 {
-        return at;
-    }
+    let y = integer_end(text, x + 1)?;
     if !byte_is(text, y, b',') {
-        return at;
+        return None;
     }
-    let z = integer_end(text, y + 1);
-    if z == y + 1 {
-        return at;
-    }
+    let z = integer_end(text, y + 1)?;
     if !byte_is(text, z, b']') {
-        return at;
+        return None;
     }
-    z + 1
+    Some(z + 1)
 }
 
 /// Puts a byte before `end`: where it stands.

@@ -90,9 +90,8 @@ fn array_end(text: &[u8], at: usize, levels: usize) -> usize
     ensures within { result ≤ length text.now }
     ensures is { LeavesItems levels (drop at text.now) (drop result text.now) }
 {
-    let whole = whole_from(text, at, levels);
-    if at < whole {
-        return whole;
+    if let Some(end) = whole_from(text, at, levels) {
+        return end;
     }
     if at == text.len() {
         return at;

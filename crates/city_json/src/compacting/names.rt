@@ -166,37 +166,39 @@ impl Names {
         self.listed.truncate(base);
     }
 
-    /// Whether the names from `base` on are pairwise different in this text. `false` may also mean out of memory, or a
-    /// text that is not as long as the one that they are listed of.
+    /// That the names from `base` on are pairwise different in this text. `None`: two are equal, or the text is not as
+    /// long as the one that they are listed of, or out of memory.
     /// The time is near linear in the names' bytes, whatever they are.
     #[inline(always)]
-    pub(super) fn are_apart_from(&self, alloc: Global, text: &[u8], base: usize) -> bool
+    pub(super) fn are_apart_from(&self, alloc: Global, text: &[u8], base: usize) -> Option<()>
         requires { base ≤ length self.now }
-        ensures { IsTrue result → (members : MemberTrees) → names members ≡ drop base (names_in text.now self.now)
-            → HasDistinctNames members }
+        ensures { OnSome result ((members : MemberTrees) → names members ≡ drop base (names_in text.now self.now)
+            → HasDistinctNames members) }
     {
         if self.len() - base < 2 {
-            return true;
+            return Some(());
         }
         self.several_are_apart_from(alloc, text, base)
     }
 
     /// The same, of any number of names.
     #[inline(never)]
-    fn several_are_apart_from(&self, alloc: Global, text: &[u8], base: usize) -> bool
+    fn several_are_apart_from(&self, alloc: Global, text: &[u8], base: usize) -> Option<()>
         requires { base ≤ length self.now }
-        ensures { IsTrue result → (members : MemberTrees) → names members ≡ drop base (names_in text.now self.now)
-            → HasDistinctNames members }
+        ensures { OnSome result ((members : MemberTrees) → names members ≡ drop base (names_in text.now self.now)
+            → HasDistinctNames members) }
     {
         if text.len() != self.text_len {
-            return false;
+            return None;
         }
         let listed = &self.listed[base..];
         if listed.len() <= MAX_COMPARED_AT_ONCE {
-            few_are_apart(listed, text, &self.held)
-        } else {
-            many_are_apart(alloc, listed, text, &self.held)
+            if few_are_apart(listed, text, &self.held) {
+                return Some(());
+            }
+            return None;
         }
+        many_are_apart(alloc, listed, text, &self.held)
     }
 }
 
@@ -247,33 +249,43 @@ fn is_new(name: &[u8], listed: &[Name], text: &[u8], held: &[u8]) -> bool
     true
 }
 
-/// Whether the names are pairwise different: by their prints, and where two of these are equal by the names themselves.
+/// That the names are pairwise different: by their prints, and where two of these are equal by the names themselves.
+/// `None`: two are equal, or out of memory.
 #[inline(never)]
-fn many_are_apart(alloc: Global, listed: &[Name], text: &[u8], held: &[u8]) -> bool
+fn many_are_apart(alloc: Global, listed: &[Name], text: &[u8], held: &[u8]) -> Option<()>
     requires within { All (IsWithin (length text.now) (length held.now)) listed.now }
-    ensures { IsTrue result → (members : MemberTrees) → names members ≡ map (name_bytes text.now held.now) listed.now
-        → HasDistinctNames members }
+    ensures { OnSome result ((members : MemberTrees) → names members ≡ map (name_bytes text.now held.now) listed.now
+        → HasDistinctNames members) }
 {
     let are_few = listed.len() <= MAX_COMPARED;
-    if are_few && is_any_held(listed, text, held) {
-        return few_are_apart(listed, text, held);
-    }
-    if are_sieved_apart(listed, text, held) {
-        return true;
+    let is_sieved = !(are_few && is_any_held(listed, text, held));
+    if is_sieved && are_sieved_apart(listed, text, held) {
+        return Some(());
     }
     if are_few {
-        return few_are_apart(listed, text, held);
+        if few_are_apart(listed, text, held) {
+            return Some(());
+        }
+        return None;
     }
-    let Some(prints) = prints_of(alloc, listed, text, held) else {
-        return false;
-    };
+    sorted_apart(alloc, listed, text, held)
+}
+
+/// The same with a list of prints, and of names where two of these are equal.
+fn sorted_apart(alloc: Global, listed: &[Name], text: &[u8], held: &[u8]) -> Option<()>
+    requires within { All (IsWithin (length text.now) (length held.now)) listed.now }
+    ensures { OnSome result ((members : MemberTrees) → names members ≡ map (name_bytes text.now held.now) listed.now
+        → HasDistinctNames members) }
+{
+    let prints = prints_of(alloc, listed, text, held)?;
     if rise_when_sorted(prints) {
-        return true;
+        return Some(());
     }
-    let Some(all) = bytes_of(alloc, listed, text, held) else {
-        return false;
-    };
-    are_apart_when_sorted(all)
+    let all = bytes_of(alloc, listed, text, held)?;
+    if are_apart_when_sorted(all) {
+        return Some(());
+    }
+    None
 }
 
 /// Whether an escape stands in any of the names. Where no name of an open object has one, none is looked at.

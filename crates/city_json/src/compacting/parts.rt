@@ -55,9 +55,7 @@ pub(super) fn members(
             return None;
         }
         if after.closed {
-            if !draft.names.are_apart_from(draft.alloc, text, 0) {
-                return None;
-            }
+            draft.names.are_apart_from(draft.alloc, text, 0)?;
             return Some(after.at + 1);
         }
         i = after.at;

@@ -88,7 +88,7 @@ pub(super) fn integer_end(text: &[u8], at: usize) -> usize
     digits_end(text, at)
 }
 
-/// The end of a point that stands at `at` and the digits after it, or `at` where these do not stand there.
+/// The end of the fraction that stands at `at`, a point and digits, which may be of no bytes.
 #[inline(never)]
 fn fraction_end(text: &[u8], at: usize) -> usize
     requires { at ≤ length text.now }

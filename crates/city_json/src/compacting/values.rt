@@ -97,9 +97,8 @@ fn array(text: &[u8], at: usize, levels: usize, draft: &mut Draft) -> Option<usi
         (shown draft.old.line text.now draft.old.from at)
         (shown draft.new.line text.now draft.new.from end)) }
 {
-    let whole = whole_from(text, at, levels);
-    if at < whole {
-        return Some(whole);
+    if let Some(end) = whole_from(text, at, levels) {
+        return Some(end);
     }
     let first = skip(text, at, draft);
     if first == text.len() {
@@ -152,9 +151,8 @@ pub(super) fn more_items(text: &[u8], at: usize, levels: usize, draft: &mut Draf
         (shown draft.old.line text.now draft.old.from at)
         (shown draft.new.line text.now draft.new.from end)) }
 {
-    let whole = whole_after_comma(text, at, levels);
-    if at < whole {
-        return Some(whole);
+    if let Some(end) = whole_after_comma(text, at, levels) {
+        return Some(end);
     }
     items(text, at, levels, draft)
 }
@@ -242,9 +240,7 @@ fn object(text: &[u8], at: usize, levels: usize, draft: &mut Draft) -> Option<us
             return None;
         }
         if after.closed {
-            if !draft.names.are_apart_from(draft.alloc, text, base) {
-                return None;
-            }
+            draft.names.are_apart_from(draft.alloc, text, base)?;
             draft.names.truncate(base);
             return Some(after.at + 1);
         }

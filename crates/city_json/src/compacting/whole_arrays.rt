@@ -420,86 +420,88 @@ fn front_len(marks: Marks) -> usize
     64 - closes.leading_zeros() as usize
 }
 
-/// How many bytes at the front of a block close all arrays that are open after the byte `before`; 0 where that is
-/// not found in the block.
+/// How many bytes at the front of a block close all arrays that are open after the byte `before`. `None`: that is not
+/// found in the block.
 #[inline(always)]
-fn closing_len(block: u8x64, before: u8, from: OpenArrays) -> usize
+fn closing_len(block: u8x64, before: u8, from: OpenArrays) -> Option<usize>
     requires levels { from.depth + from.room ≤ max_depth + 1 }
     requires place { is_place before ≡ true }
-    ensures within { result ≤ 63 }
-    ensures closes { 0 < result
-        → Closes from.depth from.room (stage_of before from.zeroed) (take result block) }
+    ensures some { IfSome result (λ len. 0 < len) }
+    ensures within { IfSome result (λ len. len ≤ 63) }
+    ensures closes { IfSome result (λ len.
+        Closes from.depth from.room (stage_of before from.zeroed) (take len block)) }
 {
     let marks = marks_in(block);
     let len = front_len(marks);
     if len == 0 || len == 64 {
-        return 0;
+        return None;
     }
     if (marks.opens % (1u64 << len)).count_ones() as usize > from.room {
-        return 0;
+        return None;
     }
     if !is_front_fine(block, marks, before, from.zeroed, len) {
-        return 0;
+        return None;
     }
     if !closes_at(from.depth, marks.opens, marks.closes, len - 1) {
-        return 0;
+        return None;
     }
-    len
+    Some(len)
 }
 
-/// Where the bytes from `at` on have closed all arrays that are open; `at` where that is not found within a block.
+/// Where the bytes from `at` on have closed all arrays that are open. `None`: that is not found within a block.
 #[inline(always)]
-fn closing_end(text: &[u8], at: usize, from: OpenArrays) -> usize
+fn closing_end(text: &[u8], at: usize, from: OpenArrays) -> Option<usize>
     requires some { 0 < at }
     requires within { at ≤ length text.now }
     requires levels { from.depth + from.room ≤ max_depth + 1 }
     requires place { is_place (slice_index text.now (at - 1)) ≡ true }
-    ensures onward { at ≤ result }
-    ensures within { result ≤ length text.now }
-    ensures closes { at < result
-        → Closes from.depth from.room (stage_of (slice_index text.now (at - 1)) from.zeroed) (slice_range text.now at result) }
+    ensures onward { IfSome result (λ end. at < end) }
+    ensures within { IfSome result (λ end. end ≤ length text.now) }
+    ensures closes { IfSome result (λ end. Closes from.depth from.room
+        (stage_of (slice_index text.now (at - 1)) from.zeroed) (slice_range text.now at end)) }
 {
     if text.len() - at < 64 {
         return short_closing_end(text, at, from);
     }
-    at + closing_len(u8x64::from_slice(&text[at..]), text[at - 1], from)
+    let len = closing_len(u8x64::from_slice(&text[at..]), text[at - 1], from)?;
+    Some(at + len)
 }
 
 /// The same near the end of the text.
 #[inline(never)]
-fn short_closing_end(text: &[u8], at: usize, from: OpenArrays) -> usize
+fn short_closing_end(text: &[u8], at: usize, from: OpenArrays) -> Option<usize>
     requires some { 0 < at }
     requires within { at ≤ length text.now }
     requires few { length text.now < at + 64 }
     requires levels { from.depth + from.room ≤ max_depth + 1 }
     requires place { is_place (slice_index text.now (at - 1)) ≡ true }
-    ensures onward { at ≤ result }
-    ensures within { result ≤ length text.now }
-    ensures closes { at < result
-        → Closes from.depth from.room (stage_of (slice_index text.now (at - 1)) from.zeroed) (slice_range text.now at result) }
+    ensures onward { IfSome result (λ end. at < end) }
+    ensures within { IfSome result (λ end. end ≤ length text.now) }
+    ensures closes { IfSome result (λ end. Closes from.depth from.room
+        (stage_of (slice_index text.now (at - 1)) from.zeroed) (slice_range text.now at end)) }
 {
     let count = text.len() - at;
     let mut block = [0u8; 64];
     block[..count].copy_from_slice(&text[at..]);
-    let len = closing_len(u8x64::from_array(block), text[at - 1], from);
+    let len = closing_len(u8x64::from_array(block), text[at - 1], from)?;
     if len > count {
-        return at;
+        return None;
     }
-    at + len
+    Some(at + len)
 }
 
-/// Where the one array that is open after the byte before `at` ends, or `at` where its items from there on are not whole
-/// numbers, and arrays of them, in their compact text.
+/// Where the one array that is open after the byte before `at` ends. `None`: its items from there on are not whole numbers,
+/// or arrays of them, in their compact text, nest more than `levels` deep, or are not closed.
 #[inline(never)]
-fn whole_end(text: &[u8], at: usize, levels: usize) -> usize
+fn whole_end(text: &[u8], at: usize, levels: usize) -> Option<usize>
     requires some { 0 < at }
     requires within { at ≤ length text.now }
     requires place { is_place (slice_index text.now (at - 1)) ≡ true }
     requires levels { levels ≤ max_depth }
-    ensures onward { at ≤ result }
-    ensures within { result ≤ length text.now }
-    ensures closes { at < result
-        → Closes 1 levels (stage_of (slice_index text.now (at - 1)) false) (slice_range text.now at result) }
+    ensures onward { IfSome result (λ end. at < end) }
+    ensures within { IfSome result (λ end. end ≤ length text.now) }
+    ensures closes { IfSome result (λ end.
+        Closes 1 levels (stage_of (slice_index text.now (at - 1)) false) (slice_range text.now at end)) }
 {
     let mut i = at;
     let mut place = OpenArrays {
@@ -517,53 +519,49 @@ fn whole_end(text: &[u8], at: usize, levels: usize) -> usize
                     continue;
                 }
             }
-            let end = closing_end(text, i, place);
-            if i < end {
-                return end;
+            if let Some(end) = closing_end(text, i, place) {
+                return Some(end);
             }
             in_blocks = false;
         }
-        let Some(next) = after_byte(text, i, place) else {
-            return at;
-        };
+        let next = after_byte(text, i, place)?;
         i += 1;
         if next.depth == 0 {
-            return i;
+            return Some(i);
         }
         place = next;
     }
-    at
+    None
 }
 
-/// Where the array ends whose opening bracket stands before `at`, or `at` where it is not one of whole numbers, or of
-/// such arrays, in its compact text. It is tried only after a colon, so that no byte is tried twice.
+/// Where the array ends whose opening bracket stands before `at`. `None`: it is not one of whole numbers, or of such
+/// arrays, in its compact text. It is tried only after a colon, so that no byte is tried twice.
 #[inline(always)]
-pub(super) fn whole_from(text: &[u8], at: usize, levels: usize) -> usize
+pub(super) fn whole_from(text: &[u8], at: usize, levels: usize) -> Option<usize>
     requires { at ≤ length text.now }
-    ensures onward { at ≤ result }
-    ensures within { result ≤ length text.now }
-    ensures is { at < result → IsItemsText levels text.now at result }
+    ensures onward { IfSome result (λ end. at < end) }
+    ensures within { IfSome result (λ end. end ≤ length text.now) }
+    ensures is { IfSome result (λ end. IsItemsText levels text.now at end) }
 {
     if at < 2 || at == text.len() || levels > MAX_DEPTH {
-        return at;
+        return None;
     }
     if text[at - 2] != b':' || text[at - 1] != b'[' || text[at] > b'[' || text[at] < b'0' {
-        return at;
+        return None;
     }
     whole_end(text, at, levels)
 }
 
 /// The same of the items from `at` on, where a comma stands before them.
 #[inline(always)]
-pub(super) fn whole_after_comma(text: &[u8], at: usize, levels: usize) -> usize
+pub(super) fn whole_after_comma(text: &[u8], at: usize, levels: usize) -> Option<usize>
     requires { at ≤ length text.now }
-    ensures onward { at ≤ result }
-    ensures within { result ≤ length text.now }
-    ensures closes { at < result
-        → Closes 1 levels after_comma (slice_range text.now at result) }
+    ensures onward { IfSome result (λ end. at < end) }
+    ensures within { IfSome result (λ end. end ≤ length text.now) }
+    ensures closes { IfSome result (λ end. Closes 1 levels after_comma (slice_range text.now at end)) }
 {
     if at == 0 || levels > MAX_DEPTH || text[at - 1] != b',' {
-        return at;
+        return None;
     }
     whole_end(text, at, levels)
 }

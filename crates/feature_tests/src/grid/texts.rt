@@ -50,7 +50,7 @@ fn has_none(bytes: &[u8]) -> bool {
     if bytes.is_empty() {
         return false;
     }
-    vertex_end(bytes, 1) == 1 && spelled_vertex_at(bytes, 1).is_none()
+    vertex_end(bytes, 1).is_none() && spelled_vertex_at(bytes, 1).is_none()
 }
 
 /// Whether the vertex ends here, and stands in a text as it is written: it is read, and its end is found.
@@ -63,7 +63,7 @@ fn has_vertex(bytes: &[u8], vertex: Vertex, end: usize) -> bool {
         end,
         as_written: true,
     };
-    vertex_end(bytes, 1) == end && spelled_vertex_at(bytes, 1) == Some(spelled)
+    vertex_end(bytes, 1) == Some(end) && spelled_vertex_at(bytes, 1) == Some(spelled)
 }
 
 /// Whether the vertex ends here, and stands in a text otherwise than it is written: only the one call reads it.
@@ -76,7 +76,7 @@ fn has_spelled(bytes: &[u8], vertex: Vertex, end: usize) -> bool {
         end,
         as_written: false,
     };
-    spelled_vertex_at(bytes, 1) == Some(spelled) && vertex_end(bytes, 1) == 1
+    spelled_vertex_at(bytes, 1) == Some(spelled) && vertex_end(bytes, 1).is_none()
 }
 
 /// Whether the vertex is found whatever stands after it.

@@ -227,7 +227,7 @@ fn vertices_are_found_in_a_text(rt: HostRuntime) {
     let gone = take(rt.alloc());
     let text = b"[[-17,0,12345],[-0,1,2]]";
     assert!(rt; is_found(spelled_vertex_at(text, 1), Vertex::new(-17, 0, 12345), 14));
-    assert!(rt; vertex_end(text, 1) == 14);
+    assert!(rt; vertex_end(text, 1) == Some(14));
     assert!(rt; is_spelled(spelled_vertex_at(text, 15), Vertex::new(0, 1, 2), 23));
     assert!(rt; give(rt.alloc(), gone));
 }

@@ -1,6 +1,6 @@
 //! Vertices that stay as they stand and are not read: they are looked at or, where an area is asked for and they are
 //! triples, measured in their text, with no list of them and no z.
-ghost use Rattle.std.specs.Prelude.{◌≡◌, ◌≤◌, ◌+◌, ◌↔◌, List, All, length, slice_range, IfSome, IsTrue};
+ghost use Rattle.std.specs.Prelude.{◌≡◌, ◌≤◌, ◌+◌, ◌↔◌, List, All, length, slice_range, IfSome, IsTrue, OnSome};
 ghost use Rattle.city_grid.specs.Axes.{IsInRange, Triple};
 ghost use Rattle.city_json.specs.Compact.{compact};
 ghost use Rattle.city_json.specs.Triples.{HasTriples, IsTriplesText};
@@ -11,7 +11,7 @@ ghost use Rattle.city_feature.specs.LineTexts.{IsVerticesText};
 
 use crate::choices::area::Area;
 use crate::choices::extents::{Extent, extended, reaches};
-use crate::features::texts::{MIN_LEN, is_vertices_text};
+use crate::features::texts::{MIN_LEN, stands_as_written};
 use city_grid::triple_plan_at;
 use city_json::{MemberPlace, Span, between};
 
@@ -55,21 +55,18 @@ pub fn triples_meet(area: &Area, text: &[u8], triples: Span) -> Option<bool>
     Some(reaches(extent, area))
 }
 
-/// Whether what stands in a part of a line is what would be written for its vertices, which most often are the triples
-/// that were found there.
+/// That what stands in a part of a line is what would be written for its vertices, which most often are the triples that
+/// were found there. `None`: it is not.
 #[inline(always)]
-fn are_as_written(line: &[u8], triples: Span, part: MemberPlace) -> bool
+fn part_as_written(line: &[u8], triples: Span, part: MemberPlace) -> Option<()>
     requires triples { HasTriples line.now triples }
-    ensures { IsTrue result → (part.value ≤ part.end)
-        × IsVerticesText (slice_range line.now part.value part.end) }
+    ensures { OnSome result ((part.value ≤ part.end) × IsVerticesText (slice_range line.now part.value part.end)) }
 {
     if triples.is_value_of(part) {
-        return true;
+        return Some(());
     }
-    let Some(text) = between(line, part.value, part.end) else {
-        return false;
-    };
-    is_vertices_text(text)
+    let text = between(line, part.value, part.end)?;
+    stands_as_written(text)
 }
 
 /// Whether the vertices in a part of a line, which need not be read to stay as they stand, meet the area, where there is
@@ -87,7 +84,8 @@ pub(super) fn unread_vertices_meet(
         × (IsTrue meets ↔ IfSome area.now (λ area. Meets area ps))) }
 {
     let Some(area) = area else {
-        return are_as_written(line, triples, part).then_some(true);
+        part_as_written(line, triples, part)?;
+        return Some(true);
     };
     if !triples.is_value_of(part) {
         return None;

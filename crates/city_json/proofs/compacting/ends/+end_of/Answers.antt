@@ -6,10 +6,9 @@ use Rattle.city_json.proofs.MemberEnds.{member_left, members_begin, members_more
 use Rattle.city_json.proofs.Places.{drop_one}
 use Rattle.city_json.proofs.compacting.ends.+end_of.Goals as goal
 
-pub array_end-returns-then-at-whole-clause-is : goal.array_end-returns-then-at-whole-clause-is
-array_end-returns-then-at-whole-clause-is t c =
-    whole_leaves c.args.levels c.args.text.now c.args.at c.whole_from-whole.result c.if-at-whole.true
-    (c.whole_from-whole.ensures.is c.if-at-whole.true)
+pub array_end-returns-in-Some-clause-is : goal.array_end-returns-in-Some-clause-is
+array_end-returns-in-Some-clause-is t c =
+    whole_leaves c.args.levels c.args.text.now c.args.at c.in-Some.end c.in-Some.ensures.onward c.in-Some.ensures.is
 
 pub array_end-returns-then-at-text-clause-is : goal.array_end-returns-then-at-text-clause-is
 array_end-returns-then-at-text-clause-is t c = λ items rest w within is.

@@ -124,7 +124,7 @@ returns-then-after-clause-taken c =
     subst (λ l. TakenParts c.args.levels (drop c.args.at text) (drop (next + 1) text)
     (shown c.args.draft.now.line text c.args.draft.now.from c.args.at) (shown draft.line text draft.from (next + 1)) l)
     (sym t.parts_are)
-    (all.whole (c.are_apart_from.ensures c.if-not-are_apart_from.false all.members all_listed))
+    (all.whole (c.in_ok-are_apart_from.ensures all.members all_listed))
 
 pub returns-then-after-clause-triples : goal.returns-then-after-clause-triples
 returns-then-after-clause-triples c =

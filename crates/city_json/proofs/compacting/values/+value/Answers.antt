@@ -8,15 +8,15 @@ use Rattle.city_json.proofs.Marks.{bare_mark}
 use Rattle.city_json.proofs.PassFlat.{all_taken, next_array, next_closed, next_run, next_skip, next_value, one_open}
 use Rattle.city_json.proofs.PassItems.{array_taken, items_none, items_start}
 use Rattle.city_json.proofs.PassMembers.{member_taken, members_more, members_none, members_start, members_stop, names_kept, names_left, names_more, object_taken}
-use Rattle.city_json.proofs.PassScalars.{if_some, if_some_both, scalar_taken}
+use Rattle.city_json.proofs.Options.{if_some_both, if_some_more}
+use Rattle.city_json.proofs.PassScalars.{scalar_taken}
 use Rattle.city_json.proofs.Places.{at_mark, drop_one, mark_shown, shown_one}
 use Rattle.city_json.proofs.compacting.values.+value.Goals as goal
 
-pub array-returns-then-at-whole-clause-taken : goal.array-returns-then-at-whole-clause-taken
-array-returns-then-at-whole-clause-taken t c =
+pub array-returns-in-Some-clause-taken : goal.array-returns-in-Some-clause-taken
+array-returns-in-Some-clause-taken t c =
     whole_taken c.args.levels c.args.draft.now.line c.args.text.now c.args.draft.now.from c.args.at
-    c.whole_from-whole.result c.requires.copied c.if-at-whole.true
-    (c.whole_from-whole.ensures.is c.if-at-whole.true)
+    c.in-Some.end c.requires.copied c.in-Some.ensures.onward c.in-Some.ensures.is
 
 pub array-returns-then-text-first-eq93-clause-taken : goal.array-returns-then-text-first-eq93-clause-taken
 array-returns-then-text-first-eq93-clause-taken t c =
@@ -34,7 +34,7 @@ array-returns-clause-taken t c =
     let text = c.args.text.now in
     let before_end : c.skip-first.result ≤ length text = c.skip-first.ensures.within in
     let inside : c.skip-first.result < length text = omega (arith, c.if-first-text.false) in
-    if_some _ _ c.items.result (λ end from.
+    if_some_more c.items.result (λ end from.
     items_start c.args.levels (drop c.args.at text) (drop c.skip-first.result text) (drop end text) _ _ _
     (c.skip-first.ensures.skipped inside) (c.skip-first.ensures.is_shown inside) from) c.items.ensures.taken
 
@@ -52,7 +52,7 @@ value-returns-else-levels-eq0-clause-taken t c =
     let text = c.args.text.now in
     let at_end : c.args.at ≤ length text = c.requires.within in
     let inside : c.args.at < length text = omega (arith, c.if-at-text.false) in
-    if_some _ _ c.array.result (λ end taken. array_taken c.args.levels (drop c.args.at text) (drop (c.args.at + 1) text)
+    if_some_more c.array.result (λ end taken. array_taken c.args.levels (drop c.args.at text) (drop (c.args.at + 1) text)
     (drop end text) _ _ _ c.if-levels-eq0.false (drop_one text c.args.at open_bracket inside c.in-91.is)
     (shown_one c.args.draft.now.line text c.args.draft.now.from c.args.at open_bracket c.requires.copied inside
     c.in-91.is) taken) c.array.ensures.taken
@@ -62,7 +62,7 @@ value-returns-else-levels-eq0-2-clause-taken t c =
     let text = c.args.text.now in
     let at_end : c.args.at ≤ length text = c.requires.within in
     let inside : c.args.at < length text = omega (arith, c.if-at-text.false) in
-    if_some _ _ c.object.result (λ end taken.
+    if_some_more c.object.result (λ end taken.
     object_taken c.args.levels (drop c.args.at text) (drop (c.args.at + 1) text)
     (drop end text) _ _ _ c.if-levels-eq0-2.false (drop_one text c.args.at open_brace inside c.in-123.is)
     (shown_one c.args.draft.now.line text c.args.draft.now.from c.args.at open_brace c.requires.copied inside
@@ -70,7 +70,7 @@ value-returns-else-levels-eq0-2-clause-taken t c =
 
 pub value-returns-in_default-clause-taken : goal.value-returns-in_default-clause-taken
 value-returns-in_default-clause-taken t c =
-    if_some_both _ _ _ c.scalar_end.result
+    if_some_both c.scalar_end.result
     (λ end onward is. scalar_taken c.args.levels c.args.draft.now.line c.args.text.now c.args.draft.now.from
     c.args.at end c.requires.copied onward is) c.scalar_end.ensures.onward c.scalar_end.ensures.is
 
@@ -202,7 +202,7 @@ object-returns-then-after-clause-taken t c =
     (names member_draft.names) taken brace.is_next refl brace.is_shown) in
     let listed = names_more c.len-base.result one (names member_draft.names) (names draft.names) taken.name []
     few taken.names_are (c.after_member-after.ensures.names inside) in
-    all.whole (c.are_apart_from.ensures c.if-not-are_apart_from.false all.members (all.names_are
+    all.whole (c.in_ok-are_apart_from.ensures all.members (all.names_are
     ∙ (listed ∙ append-nil (drop c.len-base.result (names draft.names)))))
 
 pub member_value-returns-then-may_end-clause-taken : goal.member_value-returns-then-may_end-clause-taken
@@ -252,7 +252,7 @@ next_item-returns-then-run-clause-goes_on t c =
     let begun = c.skip-start.new.draft in
     let run = c.in_ok-run.run' in
     let now = c.numbers.new.draft in
-    if_some _ _ c.after_item.result
+    if_some_more c.after_item.result
     (λ next goes_on rest after further. next_skip c.args.depth total (drop c.args.at text) (drop start text) rest _
     (shown begun.line text begun.from start) after c.requires.some (c.skip-start.ensures.skipped inside)
     (c.skip-start.ensures.is_shown inside)
@@ -307,7 +307,7 @@ next_item-returns-clause-goes_on t c =
     let room : c.args.levels - (c.args.depth - 1) ≡ total - c.args.depth = omega (arith, some) in
     let taken = subst (λ n. Taken n (drop item text) (drop end text) (shown draft.line text draft.from item)
     (shown ended.line text ended.from end)) room c.in_ok-end.ensures.taken in
-    if_some _ _ c.after_item-2.result
+    if_some_more c.after_item-2.result
     (λ next goes_on rest after further. next_skip c.args.depth total (drop c.args.at text) (drop start text) rest _
     (shown begun.line text begun.from start) after c.requires.some (c.skip-start.ensures.skipped inside)
     (c.skip-start.ensures.is_shown inside)

@@ -25,41 +25,41 @@ bytes-preserved-in-Some c =
     }
 
 pub returns-then-next-eq0-clause-closes : goal.returns-then-next-eq0-clause-closes
-returns-then-next-eq0-clause-closes c = λ _.
+returns-then-next-eq0-clause-closes c =
     let text = c.args.text.now in
     let i = c.bytes.i in
-    let b = c.in-Some-after_byte.next in
+    let b = c.in_ok-next.next in
     let closed : Closes b.depth b.room (stage_of (get_or text i 0) b.zeroed) [] =
     subst (λ d. Closes d b.room (stage_of (get_or text i 0) b.zeroed) []) (sym c.if-next-eq0.true) refl in
     subst (Closes 1 c.args.levels (stage_of (get_or c.args.text.now (c.args.at - 1) 0) false))
     (one_more_byte text [] c.args.at i c.bytes.invariant.onward c.bytes-test.true
     ∙ append-nil (slice_range text c.args.at (i + 1)))
-    (c.bytes.invariant.goes_on (get_or text i 0 ∷ []) (c.in-Some-after_byte.ensures.goes_on [] closed))
+    (c.bytes.invariant.goes_on (get_or text i 0 ∷ []) (c.in_ok-next.ensures.goes_on [] closed))
 
 pub bytes-preserved : goal.bytes-preserved
 bytes-preserved c =
     let text = c.args.text.now in
     let i = c.bytes.i in
-    let b = c.in-Some-after_byte.next in
+    let b = c.in_ok-next.next in
     let last : i ≡ i + 1 - 1 = omega arith in
     record {
       onward = omega (arith, c.bytes.invariant.onward);
       within = omega (arith, c.bytes-test.true);
       depth = omega (arith, c.if-next-eq0.false);
-      sum = c.in-Some-after_byte.ensures.sum ∙ c.bytes.invariant.sum;
-      placed = subst (λ k. is_place (get_or text k 0) ≡ true) last c.in-Some-after_byte.ensures.place;
+      sum = c.in_ok-next.ensures.sum ∙ c.bytes.invariant.sum;
+      placed = subst (λ k. is_place (get_or text k 0) ≡ true) last c.in_ok-next.ensures.place;
       goes_on = λ further given. subst (Closes 1 c.args.levels (stage_of (get_or c.args.text.now (c.args.at - 1) 0) false))
           (one_more_byte text further c.args.at i c.bytes.invariant.onward c.bytes-test.true)
           (c.bytes.invariant.goes_on (get_or text i 0 ∷ further)
-          (c.in-Some-after_byte.ensures.goes_on further
+          (c.in_ok-next.ensures.goes_on further
           (subst (λ k. Closes b.depth b.room (stage_of (get_or text k 0) b.zeroed) further) (sym last) given)));
     }
 
-pub returns-then-i-end-clause-closes : goal.returns-then-i-end-clause-closes
-returns-then-i-end-clause-closes c = λ _.
+pub returns-in-Some-closing_end-clause-closes : goal.returns-in-Some-closing_end-clause-closes
+returns-in-Some-closing_end-clause-closes c =
     let text = c.args.text.now in
     let i = c.bytes.i in
-    let end = c.closing_end-end.result in
+    let end = c.in-Some-closing_end.end in
     subst (Closes 1 c.args.levels (stage_of (get_or c.args.text.now (c.args.at - 1) 0) false))
-    (sym (slice_more text c.args.at i end c.bytes.invariant.onward c.closing_end-end.ensures.onward))
-    (c.bytes.invariant.goes_on (slice_range text i end) (c.closing_end-end.ensures.closes c.if-i-end.true))
+    (sym (slice_more text c.args.at i end c.bytes.invariant.onward (omega (arith, c.in-Some-closing_end.ensures.onward))))
+    (c.bytes.invariant.goes_on (slice_range text i end) c.in-Some-closing_end.ensures.closes)

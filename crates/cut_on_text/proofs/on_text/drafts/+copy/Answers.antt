@@ -1,7 +1,7 @@
 use Rattle.std.proofs.Common.{◌≡◌, ◌∙◌, ◌<◌, ◌≤◌, subst, arith, length, drop, refl, slice_index}
 use Rattle.city_json.specs.Bytes.{close_bracket, comma, open_bracket}
 use Rattle.city_json.specs.Compacting.{shown}
-use Rattle.city_json.proofs.PassScalars.{if_some}
+use Rattle.city_json.proofs.Options.{if_some_more}
 use Rattle.city_json.proofs.Places.{drop_one, shown_one}
 use Rattle.city_families.specs.Copied.{CopiesPart}
 use Rattle.cut_on_text.specs.Walks.{Walks}
@@ -70,7 +70,7 @@ copy_part-returns-clause-made g t c =
     let text = c.args.text.now in
     let here : (c.args.at < length text) × (slice_index text c.args.at ≡ open_bracket) =
     c.byte_is.ensures.0 c.if-not-byte_is.false in
-    if_some _ _ c.copy_items.result (λ end made.
+    if_some_more c.copy_items.result (λ end made.
     part_array _ _ _ _ _ _ _ _ _ (drop_one text c.args.at open_bracket here.0 here.1)
     (shown_one c.args.copier.now.draft.line text c.args.copier.now.draft.from c.args.at open_bracket c.requires.copied here.0
     here.1) made) c.copy_items.ensures.made

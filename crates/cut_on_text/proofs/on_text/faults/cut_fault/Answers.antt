@@ -2,7 +2,8 @@ use Rattle.std.proofs.Common.{◌∙◌, ⊎_elim, refl, subst, sym}
 use Rattle.city_json.specs.ObjectTexts.{members_of, object_of}
 use Rattle.city_feature.specs.Feature.{RefusesFirst}
 use Rattle.city_families.specs.Cut.{header_tree}
-use Rattle.cut_on_text.proofs.TextFaults.{has_frame, header_decided, header_refused, objects_decided, objects_in, if_both, objects_refused, other_objects, other_vertices, shaped, vertices_refused}
+use Rattle.city_json.proofs.Options.{if_some_both}
+use Rattle.cut_on_text.proofs.TextFaults.{has_frame, header_decided, header_refused, objects_decided, objects_in, objects_refused, other_objects, other_vertices, shaped, vertices_refused}
 use Rattle.cut_on_text.proofs.TextMembers.{if_some_more}
 use Rattle.city_feature.proofs.NamedTexts.{err_told, ok_told}
 use Rattle.cut_on_text.proofs.on_text.faults.cut_fault.Goals as goal
@@ -44,11 +45,12 @@ returns-in-Err-count_vertices-clause-refused c =
       c.in_default.field-0,
       ok_told _ c.in_ok-fault.field-0 c.in_default.field-0 c.in_default.is c.in_ok-fault.ensures.0,
     ) in
-    if_both c.unless_memory.result c.unless_memory.ensures.same c.unless_memory.ensures.decided
+    if_some_both c.unless_memory.result
     (λ told same other. vertices_refused members c.vertices_text-vertices.result.now is told framed
     (λ items of. ⊎_elim (λ memory. absurd (other (same ∙ memory)))
     (λ first. subst (λ f. RefusesFirst f items) (sym same) first)
     (c.in-Err-count_vertices.ensures.refused items of)))
+    c.unless_memory.ensures.same c.unless_memory.ensures.decided
 
 pub returns-in-Ok-clause-refused : goal.returns-in-Ok-clause-refused
 returns-in-Ok-clause-refused c = if_some_more c.objects_fault.result (λ fault holds.

@@ -5,7 +5,7 @@ use Rattle.city_json.proofs.NamesApart.{one_differs}
 use Rattle.city_json.proofs.compacting.names.Names.are_apart_from.Goals as goal
 
 pub returns-then-len-base-lt2 : goal.returns-then-len-base-lt2
-returns-then-len-base-lt2 c = λ so members is.
+returns-then-len-base-lt2 c = λ members is.
     let names = names_in c.args.text.now c.args.self.now in
     let few : length (drop c.args.base names) < 2 =
     omega (

@@ -6,6 +6,7 @@ use Rattle.city_json.specs.ListedNames.{ListedName, names_in}
 use Rattle.city_json.specs.MemberName.{AreListed, IsWithin, listed_name, name_bytes}
 use Rattle.city_json.specs.declared.compacting.name.Name.{Name}
 use Rattle.city_json.proofs.HeldNames.{all_within, listed_bytes}
+use Rattle.city_json.proofs.Options.{on_some_more}
 use Rattle.city_json.proofs.compacting.names.Names.several_are_apart_from.Goals as goal
 
 -- the names from `base` on, as the slices of what is listed and held
@@ -41,24 +42,24 @@ few_are_apart-requires c = record {
 pub many_are_apart-requires : goal.many_are_apart-requires
 many_are_apart-requires c = record {
   within = within_from c.self.inside.listed.items c.deref.result.now c.self.inside.held.items
-      c.deref-else-listed-le-MAX_COMPARED_AT_ONCE.result.now c.self.inside.text_len (length c.args.text.now) _
+      c.deref-2.result.now c.self.inside.text_len (length c.args.text.now) _
       c.args.base
       c.self.invariant (omega (arith, c.if-text-self.false)) c.deref.ensures.value
-      c.deref-else-listed-le-MAX_COMPARED_AT_ONCE.ensures.value;
+      c.deref-2.ensures.value;
 }
 
-pub returns-then-listed-le-MAX_COMPARED_AT_ONCE : goal.returns-then-listed-le-MAX_COMPARED_AT_ONCE
-returns-then-listed-le-MAX_COMPARED_AT_ONCE c = λ so members is.
-    c.few_are_apart.ensures so members (is
+pub returns-then-few_are_apart : goal.returns-then-few_are_apart
+returns-then-few_are_apart c = λ members is.
+    c.few_are_apart.ensures c.if-few_are_apart.true members (is
     ∙ from_base c.args.text.now c.args.self.now c.self.inside.listed.items c.deref.result.now c.self.inside.held.items
     c.deref-then-listed-le-MAX_COMPARED_AT_ONCE.result.now c.self.inside.text_len c.args.base
     (omega (arith, c.if-text-self.false)) (sym c.self.view_is)
     c.deref.ensures.value c.deref-then-listed-le-MAX_COMPARED_AT_ONCE.ensures.value)
 
-pub returns-else-listed-le-MAX_COMPARED_AT_ONCE : goal.returns-else-listed-le-MAX_COMPARED_AT_ONCE
-returns-else-listed-le-MAX_COMPARED_AT_ONCE c = λ so members is.
-    c.many_are_apart.ensures so members (is
+pub returns : goal.returns
+returns c = on_some_more c.many_are_apart.result (λ apart members is.
+    apart members (is
     ∙ from_base c.args.text.now c.args.self.now c.self.inside.listed.items c.deref.result.now c.self.inside.held.items
-    c.deref-else-listed-le-MAX_COMPARED_AT_ONCE.result.now c.self.inside.text_len c.args.base
+    c.deref-2.result.now c.self.inside.text_len c.args.base
     (omega (arith, c.if-text-self.false)) (sym c.self.view_is)
-    c.deref.ensures.value c.deref-else-listed-le-MAX_COMPARED_AT_ONCE.ensures.value)
+    c.deref.ensures.value c.deref-2.ensures.value)) c.many_are_apart.ensures

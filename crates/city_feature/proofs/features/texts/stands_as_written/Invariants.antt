@@ -1,7 +1,7 @@
 use Rattle.std.proofs.Common.{◌≤◌, ◌-◌, List, All, length}
 use Rattle.city_grid.specs.Axes.{Triple, IsInRange}
 use Rattle.city_feature.proofs.features.TextVertices.{GoesOn}
-use Rattle.city_feature.proofs.features.texts.is_vertices_text.Given as goal
+use Rattle.city_feature.proofs.features.texts.stands_as_written.Given as goal
 
 abbrev pub invariant-vertices : goal.invariant-vertices
 invariant-vertices l = record {
