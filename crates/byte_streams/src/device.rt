@@ -20,6 +20,7 @@ pub struct Device<T> {
 impl<T> Device<T> {
     ghost use Rattle.byte_streams.specs.Device.{inner_of, failures_of};
 
+    /// What reads or writes through this; nothing failed yet.
     pub fn new(inner: T) -> Device<T>
         ensures inner { inner_of result ≡ inner }
         ensures failures { failures_of result ≡ 0 }

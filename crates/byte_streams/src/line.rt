@@ -29,18 +29,21 @@ impl Line {
         }
     }
 
+    /// The line of these bytes.
     pub fn from_vec(bytes: Vec<u8>) -> Line
         ensures { result ≡ bytes.items }
     {
         Line { bytes }
     }
 
+    /// Its bytes.
     pub fn into_vec(self) -> Vec<u8>
         ensures { result.items ≡ self }
     {
         self.bytes
     }
 
+    /// Its bytes, lent.
     pub fn items(&self) -> &[u8]
         ensures { result.now ≡ self.now }
     {

@@ -28,18 +28,21 @@ impl<T> Sequence<T> {
         }
     }
 
+    /// The list of these items.
     pub fn from_vec(items: Vec<T>) -> Sequence<T>
         ensures { result ≡ items.items }
     {
         Sequence { items }
     }
 
+    /// Its items.
     pub fn into_vec(self) -> Vec<T>
         ensures { result.items ≡ self }
     {
         self.items
     }
 
+    /// Its items, lent.
     pub fn items(&self) -> &[T]
         ensures { result.now ≡ self.now }
     {

@@ -32,6 +32,7 @@ impl Model for Tape {
 }
 
 impl Tape {
+    /// A tape of these bytes, read `step` at a time at most; after them it ends, or fails where `fails`.
     pub fn new(bytes: Line, step: usize, fails: bool) -> Tape
         requires { 1 ≤ step }
         ensures { result ≡ record { left = bytes; step = step; fails = fails; failures = 0 } }

@@ -1,4 +1,4 @@
-//! Documents that the quick cut answers, with the texts of the plain one.
+//! Documents that the cut on the text answers, with the texts of the cut by value.
 ghost use Rattle.std.specs.Prelude.{IfSome};
 ghost use Rattle.city_json.specs.Parts.{AreParts};
 ghost use Rattle.city_json.specs.Tree.{MemberTrees, object};
@@ -61,7 +61,7 @@ fn known_cut(alloc: Global, document: &ObjectText<'_>, triples: Span) -> Option<
 }
 
 /// The document, cut on its compact text where that stands. `None`: it is refused, or out of memory.
-pub(crate) fn quick_cut(alloc: Global, text: &[u8]) -> Option<CutTexts> {
+pub(crate) fn cut_on_its_text(alloc: Global, text: &[u8]) -> Option<CutTexts> {
     let mut workspace = Workspace::new(alloc, Line::new(alloc));
     let Ok(Some(found)) = compact_object(alloc, text, &mut workspace) else {
         return None;
@@ -91,10 +91,10 @@ fn is_some_plain(alloc: Global, answer: Option<CutTexts>, document: &str) -> boo
     }
 }
 
-/// Whether the quick cut answers the document with the texts of the plain one, also where its compact text is known, and
+/// Whether the cut on the text answers the document with the texts of the cut by value, also where its compact text is known, and
 /// where its triples are.
 pub(crate) fn is_answered(alloc: Global, document: &str) -> bool {
-    is_some_plain(alloc, quick_cut(alloc, document.as_bytes()), document)
+    is_some_plain(alloc, cut_on_its_text(alloc, document.as_bytes()), document)
         && is_some_plain(alloc, compacted_cut(alloc, document), document)
         && is_some_plain(alloc, given_cut(alloc, document), document)
 }
@@ -149,7 +149,7 @@ const BARE: &str = r#"
 ,"CityObjects":{"a":{"children":["b"],"geometry":[{"type":"MultiSurface","boundaries":[[],[[]]]}]},"b":{"parents":["a"],"address":[{"location":{"boundaries":[]}}]}}
 ,"geometry-templates":{"templates":[]},"appearance":{},"vertices":[]"#;
 
-/// City objects and vertices in either order, alone, and with members in front of them, between them and behind them.
+/// City objects and vertices in either order, alone, and with members in front of them, between them and after them.
 const ORDERS: &str = r#","CityObjects":{"a":{"geometry":[{"boundaries":[3,0]}]}},"vertices":POINTS
 ,"vertices":POINTS,"CityObjects":{"a":{"geometry":[{"boundaries":[3,0]}]}}
 ,"metadata":{"CityObjects":{"z":1},"vertices":[9]},"CityObjects":{"a":{"vertices":[8]}},"+b":[1],"vertices":POINTS,"+c":{"x":1.50}
@@ -254,7 +254,7 @@ fn deep_and_long_documents_are_answered(rt: HostRuntime) {
     assert!(rt; is_long_answered(rt.alloc()) == Ok(true));
 }
 
-/// Numbers of one digit to fifteen, with signs and without, behind which stands the number of their vertex.
+/// Numbers of one digit to fifteen, with signs and without, after which stands the number of their vertex.
 const LENGTHS: &str =
     ",[NUMBER,1NUMBER,-12NUMBER],[-123NUMBER,1234NUMBER,-12345NUMBER],[123456NUMBER,-1234567NUMBER,12345678NUMBER],[-123456789NUMBER,1234567890NUMBER,-12345678901NUMBER],[-1234567890123NUMBER,123456789012NUMBER,1234567890123NUMBER]";
 
@@ -335,7 +335,7 @@ const FAULTY: &str = "[[1,2]] => VertexShape
 pub(crate) fn is_left(alloc: Global, form: &str, row: &str) -> Result<bool, AllocError> {
     let document = filled(alloc, form, split(row))?;
     Ok(
-        quick_cut(alloc, document.as_bytes()).is_none()
+        cut_on_its_text(alloc, document.as_bytes()).is_none()
             && compacted_cut(alloc, &document).is_none()
             && given_cut(alloc, &document).is_none(),
     )

@@ -1,5 +1,5 @@
 //! Objects that are in more than one family, or in none.
-use crate::answers::{expect_answers, is_answered, is_left, quick_cut};
+use crate::answers::{cut_on_its_text, expect_answers, is_answered, is_left};
 use crate::texts::{cut_text, expect, filled, texts_are, with_repeated};
 use byte_streams::Fault;
 use std::alloc::{AllocError, Global};
@@ -55,15 +55,15 @@ fn features_are_made_of_objects_that_they_share(rt: HostRuntime) {
     }
 }
 
-/// Whether the quick cut answers with texts that are made when they are asked for, so that little is held.
+/// Whether the cut on the text answers with texts that are made when they are asked for, so that little is held.
 fn are_made(alloc: Global, document: &str) -> bool {
-    match quick_cut(alloc, document.as_bytes()) {
+    match cut_on_its_text(alloc, document.as_bytes()) {
         Some(cut) => cut.texts.is_made(),
         None => false,
     }
 }
 
-/// Whether the quick cut answers what the row gives, with texts that are made.
+/// Whether the cut on the text answers what the row gives, with texts that are made.
 fn is_given_answered(alloc: Global, row: &str) -> Result<bool, AllocError> {
     let Some((given, _)) = row.split_once(" => ") else {
         return Ok(false);
@@ -81,7 +81,7 @@ const OF_ALL_VERTICES: &str =
 const LONG_VERTICES: &str =
     "[[9007199254740991,-9007199254740991,9007199254740990],[9007199254740991,-9007199254740991,9007199254740989],[9007199254740991,-9007199254740991,9007199254740988],[9007199254740991,-9007199254740991,9007199254740987],[9007199254740991,-9007199254740991,9007199254740986],[9007199254740991,-9007199254740991,9007199254740985],[9007199254740991,-9007199254740991,9007199254740984],[9007199254740991,-9007199254740991,9007199254740983]]";
 
-/// Whether each feature has all vertices, also where the quick cut answers.
+/// Whether each feature has all vertices, also where the cut on the text answers.
 fn are_all_vertices_kept(alloc: Global) -> Result<bool, AllocError> {
     let object = r#","oNUMBER":{"geometry":[{"boundaries":[0,1,2,3,4,5,6,7]}]}"#;
     let feature =
@@ -154,7 +154,7 @@ fn chain(alloc: Global, count: u32, members: &str) -> Result<String, AllocError>
 
 /// Whether the chain is refused for its last boundary, by each way.
 fn is_chain_refused(alloc: Global, document: &str) -> bool {
-    quick_cut(alloc, document.as_bytes()).is_none()
+    cut_on_its_text(alloc, document.as_bytes()).is_none()
         && cut_text(alloc, document).err() == Some(Fault::BoundaryIndex)
 }
 

@@ -1,5 +1,5 @@
-//! Geometries by where their boundaries stand among their members, cut by the quick cut.
-use crate::answers::{expect_answers, quick_cut};
+//! Geometries by where their boundaries stand among their members, cut by the cut on the text.
+use crate::answers::{cut_on_its_text, expect_answers};
 use crate::texts::{cut_text, filled, with_repeated};
 use std::alloc::{AllocError, AllocGlobal, Global};
 use std::process::Abort;
@@ -9,7 +9,7 @@ const PLACES: &str = r#"HEAD,"CityObjects":{"a":{"geometry":[ROW]}},"vertices":P
 HEAD,"CityObjects":{"a":{"type":"Building","geometry":[{"boundaries":[3]},ROW,{"type":"MultiPoint"},ROW,{}],"x":[]}},"vertices":POINTS}
 HEAD,"CityObjects":{"p":{"parents":["a"],"geometry":[ROW]},"a":{"children":["p"],"geometry":[ROW,{"lod":"0","boundaries":[[0]]}],"y":"}"}},"vertices":POINTS}"#;
 
-/// Boundaries in front of other members, behind them and between them, and names that look like theirs.
+/// Boundaries in front of other members, after them and between them, and names that look like theirs.
 const ANSWERED: &str = r#"{"boundaries":[3,1]}
 {"boundaries":[[2],[]],"lod":"1"}
 {"lod":"1","boundaries":[[],2]}
@@ -66,9 +66,9 @@ const REFUSED: &str = r#"{"boundaries":3}
 "{\"boundaries\":[0]}"
 3"#;
 
-/// Whether the quick cut leaves the document to the plain one, which refuses it.
+/// Whether the cut on the text leaves the document to the cut by value, which refuses it.
 fn is_left_and_refused(alloc: Global, document: &str) -> bool {
-    quick_cut(alloc, document.as_bytes()).is_none() && cut_text(alloc, document).is_err()
+    cut_on_its_text(alloc, document.as_bytes()).is_none() && cut_text(alloc, document).is_err()
 }
 
 fn is_row_refused(alloc: Global, form: &str, row: &str) -> Result<bool, AllocError> {

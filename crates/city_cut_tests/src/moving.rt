@@ -1,5 +1,5 @@
 //! Texts that are made when they are asked for: moved by a shift, and kept.
-use crate::answers::quick_cut;
+use crate::answers::cut_on_its_text;
 use crate::texts::filled;
 use byte_streams::{Fault, Line};
 use city_cut::FeatureTexts;
@@ -34,7 +34,7 @@ fn lines_of(alloc: Global, texts: &mut FeatureTexts) -> Result<Line, Fault> {
 /// The lines of the document's texts that are chosen, moved by ten, minus one and one.
 fn moved_and_kept(alloc: Global, document: &str, chosen: &[bool]) -> Result<Line, Fault> {
     let (Some(mut cut), Some(shift)) = (
-        quick_cut(alloc, document.as_bytes()),
+        cut_on_its_text(alloc, document.as_bytes()),
         Shift::new(10, -1, 1),
     ) else {
         return Err(Fault::NotCityJson);

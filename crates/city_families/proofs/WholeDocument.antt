@@ -10,7 +10,8 @@ use Rattle.city_feature.specs.Feature.{item_count}
 use Rattle.city_families.specs.Boundaries.{IsBounded}
 use Rattle.city_families.specs.CityObjects.{AllBelong, HasOrphan, IsReached, LacksChild, objects_of, roots, vertices_of}
 use Rattle.city_families.specs.Cut.{IsCuttable, HasValidVertices}
-use Rattle.city_families.specs.Items.{members_in, values}
+use Rattle.city_json.specs.ObjectTexts.{members_in}
+use Rattle.city_families.specs.Items.{values}
 use Rattle.city_families.proofs.FeatureList.{all_bounded}
 use Rattle.city_families.proofs.Kinship.{first_at}
 use Rattle.city_families.proofs.Renumbering.{distinct_member}

@@ -4,7 +4,8 @@ use Rattle.std.specs.Prelude.{◌≡◌, List, [], ◌∷◌, ℕ, Bool, true, f
 use Rattle.city_json.specs.Members.{first_named, member_of, names}
 use Rattle.city_json.specs.Tree.{Tree, string, array, ItemTrees, no_items, item, MemberTrees, no_members, member}
 use Rattle.city_feature.specs.Shapes.{IsObject, IsText, WhereThere}
-use Rattle.city_families.specs.Items.{items_in, items_of, members_in, values}
+use Rattle.city_families.specs.Items.{items_in, items_of, values}
+use Rattle.city_json.specs.ObjectTexts.{members_in}
 use Rattle.city_families.specs.Reach.{Reached}
 
 -- the city objects of a document, by their identifiers

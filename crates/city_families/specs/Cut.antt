@@ -24,9 +24,9 @@ AreThose Is (member name value others) chosen =
     ⊎ ((¬ Is name) × AreThose Is others chosen)
 
 -- the appearance as the last member, where there is one
-abbrev pub last_members : Option Tree → MemberTrees
-last_members None = no_members
-last_members (Some appearance) = member (codes "appearance") appearance no_members
+abbrev pub appearance_members : Option Tree → MemberTrees
+appearance_members None = no_members
+appearance_members (Some appearance) = member (codes "appearance") appearance no_members
 
 -- a feature has just these members, in this order
 abbrev pub feature_tree : List ℕ → List (List ℕ × Tree) → Tree → Option Tree → Tree
@@ -35,7 +35,7 @@ feature_tree id objects vertices appearance =
     (member (codes "id") (string id)
     (member (codes "CityObjects") (object (member_trees objects))
     (member (codes "vertices") vertices
-    (last_members appearance)))))
+    (appearance_members appearance)))))
 
 -- the feature that the object `id` begins: the objects that are reached from it, in the document's order, with vertices
 -- of their own
@@ -77,12 +77,12 @@ IsCut document header features =
     HasFeatures document features × (header.value ≡ header_tree document) × HasGrid document header.grid
 
 -- a CityJSON object whose city objects are well formed
-abbrev pub IsDocument : Tree → Type 0
-IsDocument document = IsCityJson document × AreCityObjects (objects_of document)
+abbrev pub IsCityDocument : Tree → Type 0
+IsCityDocument document = IsCityJson document × AreCityObjects (objects_of document)
 
 -- of the right kind and version, on a grid
 abbrev pub HasFrame : Tree → Type 0
-HasFrame document = IsDocument document × IsVersion2 document × ((grid : Grid) × HasGrid document grid)
+HasFrame document = IsCityDocument document × IsVersion2 document × ((grid : Grid) × HasGrid document grid)
 
 -- and its vertices are valid
 abbrev pub HasValidVertices : Tree → Type 0
@@ -99,23 +99,23 @@ IsCuttable document =
 
 abbrev pub RefusesFrame : Fault → Tree → Type 0
 RefusesFrame fault document =
-    IsDocument document × IsVersion2 document × RefusesGrid fault (member_of (codes "transform") document)
+    IsCityDocument document × IsVersion2 document × RefusesGrid fault (member_of (codes "transform") document)
 
-abbrev pub RefusesVertices : Fault → Tree → Type 0
-RefusesVertices fault document = HasFrame document × RefusesFirst fault (vertices_of document)
+abbrev pub RefusesDocumentVertices : Fault → Tree → Type 0
+RefusesDocumentVertices fault document = HasFrame document × RefusesFirst fault (vertices_of document)
 
 -- why a document is not cut: it is no CityJSON object with city objects; or it is one of another version; or its
 -- transform is missing, malformed or outside the profile; or of its vertices the first that is at fault is at this one;
 -- or a child names no object; or an object is in no feature; or a boundary is none
 abbrev pub RefusesCut : Fault → Tree → Type 0
-RefusesCut NotCityJson document = ¬ IsDocument document
-RefusesCut Version document = IsDocument document × ¬ IsVersion2 document
+RefusesCut NotCityJson document = ¬ IsCityDocument document
+RefusesCut Version document = IsCityDocument document × ¬ IsVersion2 document
 RefusesCut NoTransform document = RefusesFrame NoTransform document
 RefusesCut Decimal document = RefusesFrame Decimal document
 RefusesCut ScaleNotPositive document = RefusesFrame ScaleNotPositive document
-RefusesCut VertexShape document = RefusesVertices VertexShape document
-RefusesCut VertexNotInteger document = RefusesVertices VertexNotInteger document
-RefusesCut VertexRange document = RefusesVertices VertexRange document
+RefusesCut VertexShape document = RefusesDocumentVertices VertexShape document
+RefusesCut VertexNotInteger document = RefusesDocumentVertices VertexNotInteger document
+RefusesCut VertexRange document = RefusesDocumentVertices VertexRange document
 RefusesCut ChildMissing document = HasValidVertices document × LacksChild (objects_of document)
 RefusesCut Orphan document = HasValidVertices document × (¬ LacksChild (objects_of document)) × HasOrphan (objects_of document)
 RefusesCut BoundaryIndex document =

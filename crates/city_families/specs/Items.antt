@@ -1,6 +1,6 @@
 -- The items of arrays and the values of objects, as lists.
 use Rattle.std.specs.Prelude.{List, [], ◌∷◌, Option, Some}
-use Rattle.city_json.specs.Tree.{Tree, array, object, ItemTrees, no_items, item, MemberTrees, no_members, member}
+use Rattle.city_json.specs.Tree.{Tree, array, ItemTrees, no_items, item, MemberTrees, no_members, member}
 
 abbrev pub item_list : ItemTrees → List Tree
 item_list no_items = []
@@ -14,11 +14,6 @@ items_in other = no_items
 abbrev pub items_of : Option Tree → List Tree
 items_of (Some (array items)) = item_list items
 items_of other = []
-
--- the members where there is an object, and else none
-abbrev pub members_in : Option Tree → MemberTrees
-members_in (Some (object members)) = members
-members_in other = no_members
 
 -- the values of an object's members, in order
 abbrev pub values : MemberTrees → List Tree

@@ -3,6 +3,7 @@
 use Rattle.std.specs.Prelude.{◌≡◌, ◌≢◌, ◌⊎◌, ◌+◌, ◌≤ℤ◌, pos, ℕ, List, [], ◌∷◌, Option, Some, None, codes, if◌then◌else◌, is_some}
 use Rattle.city_json.specs.Compact.{compact}
 use Rattle.city_json.specs.Members.{member_of, first_named}
+use Rattle.city_json.specs.ObjectTexts.{members_in}
 use Rattle.city_json.specs.Tree.{Tree, object, MemberTrees, no_members, member}
 use Rattle.byte_streams.specs.declared.fault.Fault.{Fault}
 use Rattle.byte_streams.specs.declared.fault.Fault.TheVariants.{ScaleDiffers, CrsDiffers, OffGrid, ShiftRange, ExtensionClash, TemplatesDiffer, Memory}
@@ -17,12 +18,8 @@ use Rattle.city_feature.specs.declared.base.Base.{Base}
 
 -- ---- extensions ----
 
-abbrev pub members_of : Option Tree → MemberTrees
-members_of (Some (object members)) = members
-members_of other = no_members
-
 abbrev pub extensions_of : HeaderValue → MemberTrees
-extensions_of header = members_of (member_of (codes "extensions") header.value)
+extensions_of header = members_in (member_of (codes "extensions") header.value)
 
 -- with one member more, as the last
 abbrev pub with_last : MemberTrees → List ℕ → Tree → MemberTrees

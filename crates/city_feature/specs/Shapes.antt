@@ -3,8 +3,8 @@ use Rattle.std.specs.Prelude.{◌≡◌, ℕ, List, Option, Some, None, option_m
 use Rattle.city_json.specs.Compact.{compact}
 use Rattle.city_json.specs.Members.{member_of}
 use Rattle.city_json.specs.Tree.{Tree, string, array, item, object, member}
-use Rattle.city_feature.specs.declared.kinds.Kind.{Kind}
-use Rattle.city_feature.specs.declared.kinds.Kind.TheVariants.{Text, Array, FilledArray, Object, FilledObject}
+use Rattle.city_feature.specs.declared.kinds.MemberKind.{MemberKind}
+use Rattle.city_feature.specs.declared.kinds.MemberKind.TheVariants.{Text, Array, FilledArray, Object, FilledObject}
 
 abbrev pub IsObject : Tree → Type 0
 IsObject (object all) = Unit {0}
@@ -28,7 +28,7 @@ abbrev pub IsFilledArray : Tree → Type 0
 IsFilledArray (array (item value others)) = Unit {0}
 IsFilledArray other = ⊥
 
-abbrev pub IsOf : Kind → Tree → Type 0
+abbrev pub IsOf : MemberKind → Tree → Type 0
 IsOf Text value = IsText value
 IsOf Array value = IsArray value
 IsOf FilledArray value = IsFilledArray value

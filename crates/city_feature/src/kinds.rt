@@ -8,7 +8,7 @@ use city_json::Json;
 
 /// A kind of value.
 #[derive(Clone, Copy)]
-pub(crate) enum Kind {
+pub(crate) enum MemberKind {
     Text,
     Array,
     FilledArray,
@@ -26,21 +26,21 @@ pub(crate) fn says(value: &Json, name: &str, text: &str) -> bool
     }
 }
 
-fn is_of(value: &Json, kind: Kind) -> bool
+fn is_of(value: &Json, kind: MemberKind) -> bool
     ensures { IsTrue result ↔ IsOf kind (tree value.now) }
 {
     match (kind, value) {
-        (Kind::Text, Json::Text(_)) => true,
-        (Kind::Array, Json::List(_)) => true,
-        (Kind::FilledArray, Json::List(items)) => !items.is_empty(),
-        (Kind::Object, Json::Map(_)) => true,
-        (Kind::FilledObject, Json::Map(members)) => !members.is_empty(),
+        (MemberKind::Text, Json::Text(_)) => true,
+        (MemberKind::Array, Json::List(_)) => true,
+        (MemberKind::FilledArray, Json::List(items)) => !items.is_empty(),
+        (MemberKind::Object, Json::Map(_)) => true,
+        (MemberKind::FilledObject, Json::Map(members)) => !members.is_empty(),
         _ => false,
     }
 }
 
 /// Whether there is a member of that name, and it is of that kind.
-pub(crate) fn is_there(value: &Json, name: &str, kind: Kind) -> bool
+pub(crate) fn is_there(value: &Json, name: &str, kind: MemberKind) -> bool
     ensures { IsTrue result ↔ IsThere (IsOf kind) (member_of name.now (tree value.now)) }
 {
     match value.get(name) {
@@ -50,7 +50,7 @@ pub(crate) fn is_there(value: &Json, name: &str, kind: Kind) -> bool
 }
 
 /// Whether the member of that name is of that kind, where it is there.
-pub(crate) fn is_where_there(value: &Json, name: &str, kind: Kind) -> bool
+pub(crate) fn is_where_there(value: &Json, name: &str, kind: MemberKind) -> bool
     ensures { IsTrue result ↔ WhereThere (IsOf kind) (member_of name.now (tree value.now)) }
 {
     match value.get(name) {

@@ -59,6 +59,7 @@ impl Shift {
         Some(Shift { steps })
     }
 
+    /// By how much it moves, in grid units on each axis.
     pub fn steps(&self) -> Axes<i64>
         ensures value { result ≡ self.now }
         ensures range { IsInRange result }

@@ -27,6 +27,7 @@ impl Model for Steps {
 }
 
 impl Steps {
+    /// None on each axis.
     pub fn zero() -> Steps
         ensures { result ≡ triple (pos 0) (pos 0) (pos 0) }
     {
@@ -51,6 +52,7 @@ impl Steps {
         }
     }
 
+    /// In grid units on each axis.
     pub fn axes(&self) -> Axes<i64>
         ensures value { result ≡ self.now }
         ensures range { IsInRange result }

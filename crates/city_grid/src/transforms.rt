@@ -50,6 +50,7 @@ impl Transform {
         }
     }
 
+    /// The length of a grid unit on each axis, in 10^-24.
     pub fn scale(&self) -> Axes<Decimal>
         ensures value { result ≡ self.now.scale }
         ensures above_zero { IsAboveZero result }
@@ -57,6 +58,7 @@ impl Transform {
         self.scale
     }
 
+    /// The origin of the grid on each axis, in 10^-24.
     pub fn translate(&self) -> Axes<Decimal>
         ensures { result ≡ self.now.translate }
     {

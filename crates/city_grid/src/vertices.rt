@@ -49,6 +49,7 @@ impl Vertex {
         Some(Vertex { steps })
     }
 
+    /// Where it lies, in grid units on each axis.
     pub fn steps(&self) -> Axes<i64>
         ensures value { result ≡ self.now }
         ensures range { IsInRange result }

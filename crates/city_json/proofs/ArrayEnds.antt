@@ -7,7 +7,7 @@ use Rattle.std.specs.Int.Count.{ones}
 use Rattle.std.specs.Simd.Lanes.{mask_l, chunk}
 use Rattle.city_json.proofs.BlockLemmas.{mask_l-take}
 use Rattle.city_json.proofs.WholeBytes.{byte_step}
-use Rattle.city_json.proofs.WholeMasks.{one_at_most, both, vains, begins_item, fine_from_masks, is_comma, is_open, is_close, is_zero, and_is, or_is, length-vains}
+use Rattle.city_json.proofs.WholeMasks.{one_at_most, both, vains, begins_item, fine_from_masks, is_comma, is_open, is_close_bracket, is_zero, and_is, or_is, length-vains}
 use Rattle.city_json.proofs.WholeArrays.{powers, count-ups, count-downs, chunk_is}
 use Rattle.city_json.specs.Bytes.{digit_zero, close_bracket}
 use Rattle.city_json.specs.Whole.{Closes, is_place, begins_zero, stage_of, up, down, AreFine, StaysOpen, ups, downs, lag}
@@ -54,14 +54,14 @@ vain_front p z (suc k) (c ∷ cs) =
 module _ (p : ℕ) (z : Bool) (bs : List ℕ) (long : length bs ≡ 64)
     (digits commas opens closes zeros after_item after_open after_close after_comma after_digit after_vain : ℕ)
     (d : digits ≡ mask_l (map is_ascii_digit bs)) (m : commas ≡ mask_l (map is_comma bs))
-    (o : opens ≡ mask_l (map is_open bs)) (k : closes ≡ mask_l (map is_close bs))
+    (o : opens ≡ mask_l (map is_open bs)) (k : closes ≡ mask_l (map is_close_bracket bs))
     (n : zeros ≡ mask_l (map is_zero bs))
-    (items_behind : (marks : List Bool) → length marks ≡ 64 → bit_or opens commas ≡ mask_l marks
+    (items_beyond : (marks : List Bool) → length marks ≡ 64 → bit_or opens commas ≡ mask_l marks
     → after_item ≡ mask_l (lag (begins_item p) marks))
     (len : ℕ) (few : len ≤ 63) where
   vain_marks : bit_and zeros after_item ≡ mask_l (vains p bs)
   vain_marks = and_is (map is_zero bs) (lag (begins_item p) (map begins_item bs)) zeros after_item n
-      (items_behind (map begins_item bs) (length-map bs begins_item
+      (items_beyond (map begins_item bs) (length-map bs begins_item
       ∙ long) (or_is is_open is_comma bs opens commas o m))
 
   none_both : (x : ℕ) (a : Bool) (f g : ℕ → Bool) → x ≡ mask_l (both (lag a (map f bs)) (map g bs))
@@ -70,17 +70,17 @@ module _ (p : ℕ) (z : Bool) (bs : List ℕ) (long : length bs ≡ 64)
       ∙ none_in_front x (both (lag a (map f bs)) (map g bs)) len few is none
 
   places_are : bit_or digits (bit_or commas (bit_or opens closes)) ≡ mask_l (map is_place bs)
-  places_are = or_is is_ascii_digit (λ c. is_comma c || (is_open c || is_close c)) bs digits
+  places_are = or_is is_ascii_digit (λ c. is_comma c || (is_open c || is_close_bracket c)) bs digits
       (bit_or commas (bit_or opens closes)) d
-      (or_is is_comma (λ c. is_open c || is_close c) bs commas (bit_or opens closes) m
-      (or_is is_open is_close bs opens closes o k))
+      (or_is is_comma (λ c. is_open c || is_close_bracket c) bs commas (bit_or opens closes) m
+      (or_is is_open is_close_bracket bs opens closes o k))
 
   pub front_fine : bit_or digits (bit_or commas (bit_or opens closes)) % (1 * 2 ^ len % 2 ^ 64) ≡ 1 * 2 ^ len % 2 ^ 64
       - 1
       → ((marks : List Bool) → length marks ≡ 64 → opens ≡ mask_l marks → after_open ≡ mask_l (lag (is_open p) marks))
       → bit_and after_open commas % (1 * 2 ^ len % 2 ^ 64) ≡ 0
       → ((marks : List Bool) → length marks ≡ 64 → closes ≡ mask_l marks
-      → after_close ≡ mask_l (lag (is_close p) marks))
+      → after_close ≡ mask_l (lag (is_close_bracket p) marks))
       → bit_and after_close (bit_or digits opens) % (1 * 2 ^ len % 2 ^ 64) ≡ 0
       → ((marks : List Bool) → length marks ≡ 64 → commas ≡ mask_l marks
       → after_comma ≡ mask_l (lag (is_comma p) marks))
@@ -91,7 +91,7 @@ module _ (p : ℕ) (z : Bool) (bs : List ℕ) (long : length bs ≡ 64)
       → ((marks : List Bool) → length marks ≡ 64 → bit_and zeros after_item ≡ mask_l marks
       → after_vain ≡ mask_l (lag z marks)) → bit_and after_vain digits % (1 * 2 ^ len % 2 ^ 64) ≡ 0
       → AreFine p z (take len bs)
-  front_fine all behind_o e1 behind_k e2 behind_m e3 behind_d e4 behind_v e5 =
+  front_fine all after_o e1 after_k e2 after_m e3 after_d e4 after_v e5 =
       fine_from_masks p z (take len bs)
       (ap mask_l (sym (take-map is_place len bs)) ∙ sym (mask_l-take len (map is_place bs))
       ∙ ap (λ x. x % 2 ^ len) (sym places_are)
@@ -99,22 +99,22 @@ module _ (p : ℕ) (z : Bool) (bs : List ℕ) (long : length bs ≡ 64)
       ∙ ap (λ x. x - 1) (front_power len few) ∙ ap (λ x. 2 ^ x - 1) (sym front_long))
       (none_both _ (is_open p) is_open is_comma
       (and_is (lag (is_open p) (map is_open bs)) (map is_comma bs) after_open commas
-      (behind_o (map is_open bs) (length-map bs is_open ∙ long) o) m) e1)
-      (none_both _ (is_close p) is_close (λ c. is_ascii_digit c || is_open c)
-      (and_is (lag (is_close p) (map is_close bs)) (map (λ c. is_ascii_digit c || is_open c) bs) after_close
-      (bit_or digits opens) (behind_k (map is_close bs) (length-map bs is_close ∙ long) k)
+      (after_o (map is_open bs) (length-map bs is_open ∙ long) o) m) e1)
+      (none_both _ (is_close_bracket p) is_close_bracket (λ c. is_ascii_digit c || is_open c)
+      (and_is (lag (is_close_bracket p) (map is_close_bracket bs)) (map (λ c. is_ascii_digit c || is_open c) bs) after_close
+      (bit_or digits opens) (after_k (map is_close_bracket bs) (length-map bs is_close_bracket ∙ long) k)
       (or_is is_ascii_digit is_open bs digits opens d o)) e2)
-      (none_both _ (is_comma p) is_comma (λ c. is_comma c || is_close c)
-      (and_is (lag (is_comma p) (map is_comma bs)) (map (λ c. is_comma c || is_close c) bs) after_comma
-      (bit_or commas closes) (behind_m (map is_comma bs) (length-map bs is_comma ∙ long) m)
-      (or_is is_comma is_close bs commas closes m k)) e3)
+      (none_both _ (is_comma p) is_comma (λ c. is_comma c || is_close_bracket c)
+      (and_is (lag (is_comma p) (map is_comma bs)) (map (λ c. is_comma c || is_close_bracket c) bs) after_comma
+      (bit_or commas closes) (after_m (map is_comma bs) (length-map bs is_comma ∙ long) m)
+      (or_is is_comma is_close_bracket bs commas closes m k)) e3)
       (none_both _ (is_ascii_digit p) is_ascii_digit is_open
       (and_is (lag (is_ascii_digit p) (map is_ascii_digit bs)) (map is_open bs) after_digit opens
-      (behind_d (map is_ascii_digit bs) (length-map bs is_ascii_digit ∙ long) d) o) e4)
+      (after_d (map is_ascii_digit bs) (length-map bs is_ascii_digit ∙ long) d) o) e4)
       (ap mask_l (vain_front p z len bs)
       ∙ none_in_front _ (both (lag z (vains p bs)) (map is_ascii_digit bs)) len few
       (and_is (lag z (vains p bs)) (map is_ascii_digit bs) after_vain digits
-      (behind_v (vains p bs) (length-vains p bs ∙ long) vain_marks) d) e5)
+      (after_v (vains p bs) (length-vains p bs ∙ long) vain_marks) d) e5)
     where
       front_long : length (take len bs) ≡ len
       front_long = omega (arith, length-take len bs, long, few)
@@ -126,10 +126,10 @@ opens_in_front bs k opens few is = ap (λ m. ones (opens % m)) (front_power k fe
     ∙ ap ones (mask_l-take k (map is_open bs) ∙ ap mask_l (take-map is_open k bs)) ∙ ones-mask_l is_open (take k bs)
     ∙ count-ups (take k bs)
 
-pub closes_in_front : (bs : List ℕ) (k closes : ℕ) → k ≤ 63 → closes ≡ mask_l (map is_close bs)
+pub closes_in_front : (bs : List ℕ) (k closes : ℕ) → k ≤ 63 → closes ≡ mask_l (map is_close_bracket bs)
     → ones (closes % (1 * 2 ^ k % 2 ^ 64)) ≡ downs (take k bs)
 closes_in_front bs k closes few is = ap (λ m. ones (closes % m)) (front_power k few) ∙ ap (λ x. ones (x % 2 ^ k)) is
-    ∙ ap ones (mask_l-take k (map is_close bs) ∙ ap mask_l (take-map is_close k bs)) ∙ ones-mask_l is_close (take k bs)
+    ∙ ap ones (mask_l-take k (map is_close_bracket bs) ∙ ap mask_l (take-map is_close_bracket k bs)) ∙ ones-mask_l is_close_bracket (take k bs)
     ∙ count-downs (take k bs)
 
 pub marks_in_front : (f : ℕ → Bool) (bs : List ℕ) (k mask : ℕ) → k ≤ 63 → mask ≡ mask_l (map f bs)

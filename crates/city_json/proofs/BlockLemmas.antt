@@ -104,7 +104,7 @@ HasNoBackslash-front (b ∷ block) (suc n) before = elim (cases_Bool (is_backsla
   )
 ]
 
--- whether the place behind a byte that is no backslash is in a string
+-- whether the place after a byte that is no backslash is in a string
 flips : Bool → Bool → Bool
 flips in_string quote = cond quote (not in_string) in_string
 
@@ -253,13 +253,13 @@ goes_on (b ∷ []) back zero in_string long plain =
     ) refl
 goes_on (b ∷ (c ∷ front)) back zero in_string long plain = absurd (omega arith)
 goes_on (b ∷ (c ∷ front)) back (suc n) in_string long plain =
-    let behind = flips in_string (b == quotation_mark) in
+    let beyond = flips in_string (b == quotation_mark) in
     let shown : List ℕ = cond in_string [] (b ∷ []) in
     let tail = λ (place : Place). unquoted (place_of (not (get_or (outside_after place (c ∷ front)) n false))) back in
     unquoted_step in_string b (c ∷ (front ++ back)) plain.0
-    ∙ (ap (λ xs. shown ++ xs) (goes_on (c ∷ front) back n behind (omega arith) plain.1)
-    ∙ (sym (append_assoc shown (unquoted (place_of behind) (c ∷ front)) (tail (place_of behind)))
-    ∙ (ap (λ xs. xs ++ tail (place_of behind)) (sym (unquoted_step in_string b (c ∷ front) plain.0))
+    ∙ (ap (λ xs. shown ++ xs) (goes_on (c ∷ front) back n beyond (omega arith) plain.1)
+    ∙ (sym (append_assoc shown (unquoted (place_of beyond) (c ∷ front)) (tail (place_of beyond)))
+    ∙ (ap (λ xs. xs ++ tail (place_of beyond)) (sym (unquoted_step in_string b (c ∷ front) plain.0))
     ∙ ap (λ place. unquoted (place_of in_string) (b ∷ (c ∷ front)) ++ tail place)
     (sym (next_place in_string b plain.0)))))
 

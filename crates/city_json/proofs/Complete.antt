@@ -25,14 +25,14 @@ string_found : (levels : ℕ) (text s rest : List ℕ) → SpellsString text s
 string_found levels text s rest is = let begin = string_begins text s is in
     rw begin.1 (string_read levels text begin.0 rest begin.2)
 
--- items from the first byte of the first on, with what stands behind it
+-- items from the first byte of the first on, with what stands after it
 abbrev ItemsText : ItemTrees → List ℕ → Type 0
 ItemsText no_items b = ⊥
 ItemsText (item value others) b = (text after more : List ℕ) × (b ≡ text ++ (after ++ more)) × SpellsValue value text
     × IsBlank after × SpellsMoreItems others more
 
 -- white space, and items
-record ItemsBehind (items : ItemTrees) (b : List ℕ) : Type 0 where
+record ItemsAfter (items : ItemTrees) (b : List ℕ) : Type 0 where
   white : List ℕ
   inner : List ℕ
   is : b ≡ white ++ inner
@@ -51,9 +51,9 @@ begins_append text b begin = record {
 four : (a b c d : List ℕ) → (a ++ (b ++ c)) ++ d ≡ a ++ (b ++ (c ++ d))
 four a b c d = simp append_assoc
 
-items_behind : (value : Tree) (others : ItemTrees) (first more : List ℕ) → Spaced (SpellsValue value) first
-    → SpellsMoreItems others more → ItemsBehind (item value others) (first ++ more)
-items_behind value others first more spaced more_is = record {
+items_beyond : (value : Tree) (others : ItemTrees) (first more : List ℕ) → Spaced (SpellsValue value) first
+    → SpellsMoreItems others more → ItemsAfter (item value others) (first ++ more)
+items_beyond value others first more spaced more_is = record {
   white = spaced.0;
   inner = spaced.1 ++ (spaced.2 ++ more);
   is = ap (λ l. l ++ more) spaced.3 ∙ four spaced.0 spaced.1 spaced.2 more;
@@ -63,10 +63,10 @@ items_behind value others first more spaced more_is = record {
 }
 
 -- white space before items is passed over
-passes_items : (items : ItemTrees) (b c : List ℕ) → (behind : ItemsBehind items b)
-    → after_white (b ++ c) ≡ behind.inner ++ c
-passes_items items b c behind =
-    rw (behind.is, append_assoc) (skips behind.white behind.inner c behind.blank behind.begin)
+passes_items : (items : ItemTrees) (b c : List ℕ) → (beyond : ItemsAfter items b)
+    → after_white (b ++ c) ≡ beyond.inner ++ c
+passes_items items b c beyond =
+    rw (beyond.is, append_assoc) (skips beyond.white beyond.inner c beyond.blank beyond.begin)
 
 abbrev MemberText : List ℕ → Tree → List ℕ → Type 0
 MemberText name value b = (s before after text : List ℕ) × (b ≡ s ++ (before ++ colon ∷ (after ++ text)))
@@ -77,7 +77,7 @@ MembersText no_members b = ⊥
 MembersText (member name value others) b = (text after more : List ℕ) × (b ≡ text ++ (after ++ more))
     × MemberText name value text × IsBlank after × SpellsMoreMembers others more
 
-record MembersBehind (members : MemberTrees) (b : List ℕ) : Type 0 where
+record MembersAfter (members : MemberTrees) (b : List ℕ) : Type 0 where
   white : List ℕ
   inner : List ℕ
   is : b ≡ white ++ inner
@@ -98,10 +98,10 @@ member_parts : (a b c d e f more : List ℕ) (mark : ℕ)
     → ((a ++ (b ++ c)) ++ mark ∷ (d ++ (e ++ f))) ++ more ≡ a ++ ((b ++ (c ++ mark ∷ (d ++ e))) ++ (f ++ more))
 member_parts a b c d e f more mark = simp append_assoc
 
-members_behind : (name : List ℕ) (value : Tree) (others : MemberTrees) (first more : List ℕ)
+members_beyond : (name : List ℕ) (value : Tree) (others : MemberTrees) (first more : List ℕ)
     → SpellsMember name (SpellsValue value) first → SpellsMoreMembers others more
-    → MembersBehind (member name value others) (first ++ more)
-members_behind name value others first more is more_is =
+    → MembersAfter (member name value others) (first ++ more)
+members_beyond name value others first more is more_is =
     let named = is.3 in
     let spaced = is.4 in
     record {
@@ -122,10 +122,10 @@ members_behind name value others first more is more_is =
           (begins_append named.1 (named.2 ++ colon ∷ (spaced.0 ++ spaced.1)) (begins_string name named.1 named.5));
     }
 
-passes_members : (all : MemberTrees) (b c : List ℕ) → (behind : MembersBehind all b)
-    → after_white (b ++ c) ≡ behind.inner ++ c
-passes_members all b c behind =
-    rw (behind.is, append_assoc) (skips behind.white behind.inner c behind.blank behind.begin)
+passes_members : (all : MemberTrees) (b c : List ℕ) → (beyond : MembersAfter all b)
+    → after_white (b ++ c) ≡ beyond.inner ++ c
+passes_members all b c beyond =
+    rw (beyond.is, append_assoc) (skips beyond.white beyond.inner c beyond.blank beyond.begin)
 
 -- A member is read where its value is.
 member_found : (levels : ℕ) (name : List ℕ) (value : Tree) (b rest : List ℕ) → (is : MemberText name value b)
@@ -146,7 +146,7 @@ member_found levels name value b rest is found =
     member_tail : (a b c d e : List ℕ) → (a ++ (b ++ colon ∷ (c ++ d))) ++ e ≡ a ++ (b ++ colon ∷ (c ++ (d ++ e)))
     member_tail a b c d e = simp append_assoc
 
--- One item and those behind it, where the item is read, and the others are, from their first byte on.
+-- One item and those after it, where the item is read, and the others are, from their first byte on.
 items_step : (levels n : ℕ) (value : Tree) (others : ItemTrees) (text after more rest : List ℕ) → IsBlank after
     → SpellsMoreItems others more
     → value_at levels (text ++ (after ++ (more ++ close_bracket ∷ rest))) ≡ Some (
@@ -163,13 +163,13 @@ items_step levels n value no_items text after more rest blank more_is found furt
     items_at-last (value_at levels) n _ (after ++ (more ++ close_bracket ∷ rest)) rest value found
     (rw more_is (after_white-blank after (close_bracket ∷ rest) blank refl))
 items_step levels n value (item next others) text after more rest blank more_is found further =
-    let behind = items_behind next others more_is.0 more_is.1 more_is.3 more_is.4 in
+    let beyond = items_beyond next others more_is.0 more_is.1 more_is.3 more_is.4 in
     items_at-more (value_at levels) n _ (after ++ (more ++ close_bracket ∷ rest))
-    ((more_is.0 ++ more_is.1) ++ close_bracket ∷ rest) (behind.inner ++ close_bracket ∷ rest) rest value
+    ((more_is.0 ++ more_is.1) ++ close_bracket ∷ rest) (beyond.inner ++ close_bracket ∷ rest) rest value
     (item next others) found
     (rw more_is.2 (after_white-blank after (comma ∷ ((more_is.0 ++ more_is.1) ++ close_bracket ∷ rest)) blank refl))
-    (passes_items (item next others) (more_is.0 ++ more_is.1) (close_bracket ∷ rest) behind)
-    (further behind.inner behind.text)
+    (passes_items (item next others) (more_is.0 ++ more_is.1) (close_bracket ∷ rest) beyond)
+    (further beyond.inner beyond.text)
 
 members_step : (levels n : ℕ) (name : List ℕ) (value : Tree) (others : MemberTrees) (text after more rest : List ℕ)
     → IsBlank after → SpellsMoreMembers others more
@@ -187,15 +187,15 @@ members_step levels n name value no_members text after more rest blank more_is f
       value,
     ) found (rw more_is (after_white-blank after (close_brace ∷ rest) blank refl))
 members_step levels n name value (member next_name next others) text after more rest blank more_is found further =
-    let behind = members_behind next_name next others more_is.0 more_is.1 more_is.3 more_is.4 in
+    let beyond = members_beyond next_name next others more_is.0 more_is.1 more_is.3 more_is.4 in
     members_at-more (value_at levels) n _ (after ++ (more ++ close_brace ∷ rest))
-    ((more_is.0 ++ more_is.1) ++ close_brace ∷ rest) (behind.inner ++ close_brace ∷ rest) rest (
+    ((more_is.0 ++ more_is.1) ++ close_brace ∷ rest) (beyond.inner ++ close_brace ∷ rest) rest (
       name,
       value,
     ) (member next_name next others) found
     (rw more_is.2 (after_white-blank after (comma ∷ ((more_is.0 ++ more_is.1) ++ close_brace ∷ rest)) blank refl))
-    (passes_members (member next_name next others) (more_is.0 ++ more_is.1) (close_brace ∷ rest) behind)
-    (further behind.inner behind.text)
+    (passes_members (member next_name next others) (more_is.0 ++ more_is.1) (close_brace ∷ rest) beyond)
+    (further beyond.inner beyond.text)
 
 few_in_items : (items : ItemTrees) (b c : List ℕ) → ItemsText items b → item_count items ≤ length (b ++ c)
 few_in_items no_items b c is = absurd is
@@ -235,31 +235,31 @@ mutual
       (rw append_assoc (after_white-blank is.0 (close_brace ∷ rest) is.2 refl)))
   value_at-complete (suc levels) (array (item value others)) text rest is within ends =
       let spelled = is.2 in
-      let behind = items_behind value others spelled.0 spelled.1 spelled.3 spelled.4 in
-      let found : items_at (value_at levels) (length (behind.inner ++ close_bracket ∷ rest))
-      (behind.inner ++ close_bracket ∷ rest) ≡ Some (item value others, rest) =
-      items_at-complete levels (length (behind.inner ++ close_bracket ∷ rest))
-      (item value others) behind.inner rest behind.text (omega arith)
-      (few_in_items (item value others) behind.inner (close_bracket ∷ rest) behind.text) in
+      let beyond = items_beyond value others spelled.0 spelled.1 spelled.3 spelled.4 in
+      let found : items_at (value_at levels) (length (beyond.inner ++ close_bracket ∷ rest))
+      (beyond.inner ++ close_bracket ∷ rest) ≡ Some (item value others, rest) =
+      items_at-complete levels (length (beyond.inner ++ close_bracket ∷ rest))
+      (item value others) beyond.inner rest beyond.text (omega arith)
+      (few_in_items (item value others) beyond.inner (close_bracket ∷ rest) beyond.text) in
       rw (is.1, append_assoc, spelled.2) (array_read levels _
       ∙ array_some (value_at levels) ((spelled.0 ++ spelled.1) ++ close_bracket ∷ rest)
-      (behind.inner ++ close_bracket ∷ rest) rest (item value others)
-      (passes_items (item value others) (spelled.0 ++ spelled.1) (close_bracket ∷ rest) behind)
-      (no_close close_bracket behind.inner (close_bracket ∷ rest) behind.begin behind.begin.starts.no_bracket)
+      (beyond.inner ++ close_bracket ∷ rest) rest (item value others)
+      (passes_items (item value others) (spelled.0 ++ spelled.1) (close_bracket ∷ rest) beyond)
+      (no_close close_bracket beyond.inner (close_bracket ∷ rest) beyond.begin beyond.begin.starts.no_bracket)
       found)
   value_at-complete (suc levels) (object (member name value others)) text rest is within ends =
       let spelled = is.2 in
-      let behind = members_behind name value others spelled.0 spelled.1 spelled.3 spelled.4 in
-      let found : members_at (value_at levels) (length (behind.inner ++ close_brace ∷ rest))
-      (behind.inner ++ close_brace ∷ rest) ≡ Some (member name value others, rest) =
-      members_at-complete levels (length (behind.inner ++ close_brace ∷ rest))
-      (member name value others) behind.inner rest behind.text (omega arith)
-      (few_in_members (member name value others) behind.inner (close_brace ∷ rest) behind.text) in
+      let beyond = members_beyond name value others spelled.0 spelled.1 spelled.3 spelled.4 in
+      let found : members_at (value_at levels) (length (beyond.inner ++ close_brace ∷ rest))
+      (beyond.inner ++ close_brace ∷ rest) ≡ Some (member name value others, rest) =
+      members_at-complete levels (length (beyond.inner ++ close_brace ∷ rest))
+      (member name value others) beyond.inner rest beyond.text (omega arith)
+      (few_in_members (member name value others) beyond.inner (close_brace ∷ rest) beyond.text) in
       rw (is.1, append_assoc, spelled.2) (object_read levels _
       ∙ object_some (value_at levels) ((spelled.0 ++ spelled.1) ++ close_brace ∷ rest)
-      (behind.inner ++ close_brace ∷ rest) rest (member name value others)
-      (passes_members (member name value others) (spelled.0 ++ spelled.1) (close_brace ∷ rest) behind)
-      (no_close close_brace behind.inner (close_brace ∷ rest) behind.begin behind.begin.starts.no_brace) found)
+      (beyond.inner ++ close_brace ∷ rest) rest (member name value others)
+      (passes_members (member name value others) (spelled.0 ++ spelled.1) (close_brace ∷ rest) beyond)
+      (no_close close_brace beyond.inner (close_brace ∷ rest) beyond.begin beyond.begin.starts.no_brace) found)
 
   items_at-complete : (levels n : ℕ) (items : ItemTrees) (inner rest : List ℕ) → ItemsText items inner
       → items_depth items ≤ levels → item_count items ≤ n
@@ -283,7 +283,7 @@ mutual
   members_at-complete levels zero (member name value others) inner rest is within few = absurd (omega arith)
   members_at-complete levels (suc n) (member name value others) inner rest is within few =
       let text = is.4 in
-      let behind : List ℕ = is.1 ++ (is.2 ++ close_brace ∷ rest) in
+      let beyond : List ℕ = is.1 ++ (is.2 ++ close_brace ∷ rest) in
       let found : value_at levels (text.3 ++ (is.1 ++ (is.2 ++ close_brace ∷ rest))) ≡ Some (
         value,
         is.1 ++ (is.2 ++ close_brace ∷ rest),
@@ -294,7 +294,7 @@ mutual
       (member_found levels name value is.0 (is.1 ++ (is.2 ++ close_brace ∷ rest)) is.4 found)
       (λ next next_is. members_at-complete levels n others next rest next_is (omega arith) (omega arith)))
 
--- A text that spells a value of allowed depth is read as it, with white space behind it.
+-- A text that spells a value of allowed depth is read as it, with white space after it.
 text_value : (levels : ℕ) (b : List ℕ) (value : Tree) → (is : Spaced (SpellsValue value) b) → depth value ≤ levels
     → value_at levels (after_white b) ≡ Some (value, is.2)
 text_value levels b value is within =
@@ -331,13 +331,13 @@ array_complete (suc levels) no_items text rest is within =
     (rw append_assoc (after_white-blank is.0 (close_bracket ∷ rest) is.2 refl)))
 array_complete (suc levels) (item value others) text rest is within =
     let spelled = is.2 in
-    let behind = items_behind value others spelled.0 spelled.1 spelled.3 spelled.4 in
-    let found : items_at (value_at levels) (length (behind.inner ++ close_bracket ∷ rest))
-    (behind.inner ++ close_bracket ∷ rest) ≡ Some (item value others, rest) =
-    items_at-complete levels (length (behind.inner ++ close_bracket ∷ rest)) (item value others) behind.inner rest
-    behind.text (omega arith) (few_in_items (item value others) behind.inner (close_bracket ∷ rest) behind.text) in
+    let beyond = items_beyond value others spelled.0 spelled.1 spelled.3 spelled.4 in
+    let found : items_at (value_at levels) (length (beyond.inner ++ close_bracket ∷ rest))
+    (beyond.inner ++ close_bracket ∷ rest) ≡ Some (item value others, rest) =
+    items_at-complete levels (length (beyond.inner ++ close_bracket ∷ rest)) (item value others) beyond.inner rest
+    beyond.text (omega arith) (few_in_items (item value others) beyond.inner (close_bracket ∷ rest) beyond.text) in
     rw (is.1, append_assoc, spelled.2) (array_read levels _
     ∙ array_some (value_at levels) ((spelled.0 ++ spelled.1) ++ close_bracket ∷ rest)
-    (behind.inner ++ close_bracket ∷ rest) rest (item value others)
-    (passes_items (item value others) (spelled.0 ++ spelled.1) (close_bracket ∷ rest) behind)
-    (no_close close_bracket behind.inner (close_bracket ∷ rest) behind.begin behind.begin.starts.no_bracket) found)
+    (beyond.inner ++ close_bracket ∷ rest) rest (item value others)
+    (passes_items (item value others) (spelled.0 ++ spelled.1) (close_bracket ∷ rest) beyond)
+    (no_close close_bracket beyond.inner (close_bracket ∷ rest) beyond.begin beyond.begin.starts.no_bracket) found)

@@ -99,39 +99,39 @@ pub no_close : (close : ℕ) (text b : List ℕ) → (begin : Begins text) → (
 no_close close text b begin apart = rw (begin.is, apart) refl
 
 -- one step of reading items, and of reading members
-pub items_at-last : (read : List ℕ → Option (Tree × List ℕ)) (n : ℕ) (b behind rest : List ℕ) (value : Tree)
-    → read b ≡ Some (value, behind) → after_white behind ≡ close_bracket ∷ rest
+pub items_at-last : (read : List ℕ → Option (Tree × List ℕ)) (n : ℕ) (b beyond rest : List ℕ) (value : Tree)
+    → read b ≡ Some (value, beyond) → after_white beyond ≡ close_bracket ∷ rest
     → items_at read (suc n) b ≡ Some (item value no_items, rest)
 unfolding items_at
-items_at-last read n b behind rest value found closes = rw (found, closes) refl
+items_at-last read n b beyond rest value found closes = rw (found, closes) refl
 
-pub items_at-more : (read : List ℕ → Option (Tree × List ℕ)) (n : ℕ) (b behind after next rest : List ℕ) (value : Tree)
-    (others : ItemTrees) → read b ≡ Some (value, behind) → after_white behind ≡ comma ∷ after → after_white after ≡ next
+pub items_at-more : (read : List ℕ → Option (Tree × List ℕ)) (n : ℕ) (b beyond after next rest : List ℕ) (value : Tree)
+    (others : ItemTrees) → read b ≡ Some (value, beyond) → after_white beyond ≡ comma ∷ after → after_white after ≡ next
     → items_at read n next ≡ Some (others, rest) → items_at read (suc n) b ≡ Some (item value others, rest)
 unfolding items_at
-items_at-more read n b behind after next rest value others found goes begins more = rw (found, goes, begins, more) refl
+items_at-more read n b beyond after next rest value others found goes begins more = rw (found, goes, begins, more) refl
 
-pub members_at-last : (read : List ℕ → Option (Tree × List ℕ)) (n : ℕ) (b behind rest : List ℕ) (named : List ℕ × Tree)
-    → member_at read b ≡ Some (named, behind) → after_white behind ≡ close_brace ∷ rest
+pub members_at-last : (read : List ℕ → Option (Tree × List ℕ)) (n : ℕ) (b beyond rest : List ℕ) (named : List ℕ × Tree)
+    → member_at read b ≡ Some (named, beyond) → after_white beyond ≡ close_brace ∷ rest
     → members_at read (suc n) b ≡ Some (member named.0 named.1 no_members, rest)
 unfolding members_at
-members_at-last read n b behind rest named found closes = rw (found, closes) refl
+members_at-last read n b beyond rest named found closes = rw (found, closes) refl
 
-pub members_at-more : (read : List ℕ → Option (Tree × List ℕ)) (n : ℕ) (b behind after next rest : List ℕ)
+pub members_at-more : (read : List ℕ → Option (Tree × List ℕ)) (n : ℕ) (b beyond after next rest : List ℕ)
     (named : List ℕ
-    × Tree) (others : MemberTrees) → member_at read b ≡ Some (named, behind) → after_white behind ≡ comma ∷ after
+    × Tree) (others : MemberTrees) → member_at read b ≡ Some (named, beyond) → after_white beyond ≡ comma ∷ after
     → after_white after ≡ next → members_at read n next ≡ Some (others, rest)
     → members_at read (suc n) b ≡ Some (member named.0 named.1 others, rest)
 unfolding members_at
-members_at-more read n b behind after next rest named others found goes begins more =
+members_at-more read n b beyond after next rest named others found goes begins more =
     rw (found, goes, begins, more) refl
 
 -- the pieces of a member, one after the other
-pub member_at-pieces : (read : List ℕ → Option (Tree × List ℕ)) (b text behind after next rest name : List ℕ)
+pub member_at-pieces : (read : List ℕ → Option (Tree × List ℕ)) (b text beyond after next rest name : List ℕ)
     (value : Tree)
-    → b ≡ quotation_mark ∷ text → string_at text ≡ Some (name, behind) → after_white behind ≡ colon ∷ after
+    → b ≡ quotation_mark ∷ text → string_at text ≡ Some (name, beyond) → after_white beyond ≡ colon ∷ after
     → after_white after ≡ next → read next ≡ Some (value, rest) → member_at read b ≡ Some ((name, value), rest)
-member_at-pieces read b text behind after next rest name value opens named goes begins found =
+member_at-pieces read b text beyond after next rest name value opens named goes begins found =
     rw (opens, named, goes, begins, found) refl
 
 -- how many there are
@@ -151,7 +151,7 @@ pub few_members : (members : MemberTrees) (b : List ℕ) → SpellsMoreMembers m
 few_members no_members b is = omega arith
 few_members (member name value others) b is = rw is.2 (simp length-append (omega (arith, few_members others is.1 is.4)))
 
--- what stands behind an item or a member ends a number
+-- what stands after an item or a member ends a number
 pub ends_item : (others : ItemTrees) (b rest : List ℕ) → SpellsMoreItems others b
     → EndsNumber (b ++ close_bracket ∷ rest)
 ends_item no_items b rest is = rw is refl

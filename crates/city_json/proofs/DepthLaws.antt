@@ -16,7 +16,7 @@ use Rattle.city_json.specs.Tree.{Tree, null, boolean, number, string, array, obj
 use Rattle.city_json.proofs.DepthLemmas.{deep_from, IsTrue-deep_from}
 use Rattle.city_json.proofs.NumberLaws.{IsNumber-bytes}
 
--- Behind these bytes, which begin and end outside strings, as many brackets are open as before, and at most n more on
+-- After these bytes, which begin and end outside strings, as many brackets are open as before, and at most n more on
 -- the way.
 pub record Rises (n : ℕ) (bytes : List ℕ) : Type 0 where
   pub rises : (opened closed : ℕ) (more : List ℕ) → deep_from opened closed (unquoted outside (bytes ++ more))
@@ -165,7 +165,7 @@ Rises-enclosed n first last inner opening not_closing first_quote not_opening cl
       let first_shown : unquoted outside (first ∷ (inner ++ last ∷ more)) ≡ first
       ∷ unquoted outside (inner ++ last ∷ more) = rw first_quote refl in
       let last_shown : unquoted outside (last ∷ more) ≡ last ∷ unquoted outside more = rw last_quote refl in
-      let behind_last : deep_from (opened + 1) closed (unquoted outside (last ∷ more))
+      let after_last : deep_from (opened + 1) closed (unquoted outside (last ∷ more))
       ≡ (nat_lt (closed + max_depth) (opened + 1) || deep_from opened closed (unquoted outside more)) =
       ap (deep_from (opened + 1) closed) last_shown
       ∙ (deep_from-closing last (unquoted outside more) (opened + 1) closed not_opening closing
@@ -175,7 +175,7 @@ Rises-enclosed n first last inner opening not_closing first_quote not_opening cl
       ∙ (ap (deep_from opened closed) first_shown
       ∙ (deep_from-opening first (unquoted outside (inner ++ last ∷ more)) opened closed opening not_closing
       ∙ (ap (λ x. nat_lt (closed + max_depth) opened || x) (rises.rises (opened + 1) closed (last ∷ more)
-      ∙ ap (λ x. nat_lt (closed + max_depth) (opened + 1 + n) || x) behind_last)
+      ∙ ap (λ x. nat_lt (closed + max_depth) (opened + 1 + n) || x) after_last)
       ∙ over_more opened closed n (deep_from opened closed (unquoted outside more)))));
 }
 

@@ -75,7 +75,7 @@ pub past_at : (text : List ℕ) (at : ℕ)
     → drop (at + prefix_len is_ascii_digit (drop at text)) text ≡ past_digits (drop at text)
 past_at text at = sym (drop-drop (prefix_len is_ascii_digit (drop at text)) at text) ∙ past_is (drop at text)
 
--- after some of the digits the same stands behind them
+-- after some of the digits the same stands after them
 pub same_rest : (text : List ℕ) (at end : ℕ)
     → end + prefix_len is_ascii_digit (drop end text) ≡ at + prefix_len is_ascii_digit (drop at text)
     → past_digits (drop end text) ≡ past_digits (drop at text)

@@ -10,8 +10,8 @@ use Rattle.city_json.specs.Reading.{items_at, items_after, member_at, members_at
 use Rattle.city_json.specs.Tree.{Tree, ItemTrees, no_items, item, item_trees, MemberTrees, no_members, member, member_trees, tree, named_tree, items_tree, members_tree}
 use Rattle.city_json.specs.declared.json.Json.{Json}
 use Rattle.city_json.specs.declared.json.Member.{Member}
-use Rattle.city_json.specs.declared.reading.Mark.{Mark}
-use Rattle.city_json.specs.declared.reading.Mark.TheVariants as mark
+use Rattle.city_json.specs.declared.reading.AfterItem.{AfterItem}
+use Rattle.city_json.specs.declared.reading.AfterItem.TheVariants as mark
 
 -- ---- items
 abbrev pub with_items : ItemTrees → Option (ItemTrees × List ℕ) → Option (ItemTrees × List ℕ)
@@ -28,10 +28,10 @@ with_items-item : (front : ItemTrees) (first : Tree) (found : Option (ItemTrees 
 with_items-item front first None = refl
 with_items-item front first (Some p) = ap (λ all. Some (all, p.1)) (sym (onto_items-one front first p.0))
 
--- One step of the loop over items, by what stands behind the item: `whole` is what reading all of them gives.
+-- One step of the loop over items, by what stands after the item: `whole` is what reading all of them gives.
 module _ (value : List ℕ → Option (Tree × List ℕ)) (front : ItemTrees) (count : ℕ) {one : Tree} {n : ℕ}
-    {bytes behind blank after : List ℕ} {found : Mark} {whole : Option (ItemTrees × List ℕ)}
-    (read : value bytes ≡ Some (one, behind)) (skipped : blank ≡ after_white behind)
+    {bytes beyond blank after : List ℕ} {found : AfterItem} {whole : Option (ItemTrees × List ℕ)}
+    (read : value bytes ≡ Some (one, beyond)) (skipped : blank ≡ after_white beyond)
     (marked : (found, after) ≡ mark_at close_bracket blank)
     (before : with_items front (items_at value n bytes) ≡ whole) (more : n ≡ suc count) where
   after_item : items_at value n bytes ≡ items_after (items_at value count) one (found, after)
@@ -65,10 +65,10 @@ with_members-member : (front : MemberTrees) (first : List ℕ × Tree) (found : 
 with_members-member front first None = refl
 with_members-member front first (Some p) = ap (λ all. Some (all, p.1)) (sym (onto_members-one front first p.0))
 
--- One step of the loop over members, by what stands behind the member: `whole` is what reading all of them gives.
+-- One step of the loop over members, by what stands after the member: `whole` is what reading all of them gives.
 module _ (value : List ℕ → Option (Tree × List ℕ)) (front : MemberTrees) (count : ℕ) (bytes : List ℕ)
-    {one : List ℕ × Tree} {n : ℕ} {behind blank after : List ℕ} {found : Mark} {whole : Option (MemberTrees × List ℕ)}
-    (read : member_at value bytes ≡ Some (one, behind)) (skipped : blank ≡ after_white behind)
+    {one : List ℕ × Tree} {n : ℕ} {beyond blank after : List ℕ} {found : AfterItem} {whole : Option (MemberTrees × List ℕ)}
+    (read : member_at value bytes ≡ Some (one, beyond)) (skipped : blank ≡ after_white beyond)
     (marked : (found, after) ≡ mark_at close_brace blank)
     (before : with_members front (members_at value n bytes) ≡ whole) (more : n ≡ suc count) where
   after_member : members_at value n bytes ≡ members_after (members_at value count) one (found, after)
@@ -112,7 +112,7 @@ pub members-none : (value : List ℕ → Option (Tree × List ℕ)) (front : Mem
 unfolding members_at
 members-none value front n bytes none = rw none refl
 
--- ---- what is pushed is put behind
+-- ---- what is pushed is put after
 items_pushed : (trees : List Tree) (one : Tree)
     → item_trees (trees ++ one ∷ []) ≡ onto_items (item_trees trees) (item one no_items)
 items_pushed [] one = refl

@@ -81,21 +81,21 @@ one_held (other ∷ others) name text_len from end are next ordered held =
 within_here : (name : Name) (text_len from end held_len : ℕ) → text_len ≤ from → end ≤ text_len + held_len
     → name.from ≤ name.end → (text_len ≤ name.end → from ≡ name.from) → after_name text_len from name ≤ end
     → IsWithin text_len held_len name
-within_here name text_len from end held_len behind enough ordered apart last = record {
+within_here name text_len from end held_len beyond enough ordered apart last = record {
   ordered = ordered;
   inside = grind (arith, nat_tests);
-  apart = λ held. omega (arith, behind, apart held);
+  apart = λ held. omega (arith, beyond, apart held);
 }
 
 each_within : (listed : List Name) (text_len from end held_len : ℕ) → LieInOrder text_len from listed end
     → text_len ≤ from → end ≤ text_len + held_len → All (IsWithin text_len held_len) listed
-each_within [] text_len from end held_len are behind enough k d inside = absurd (omega (arith, inside))
-each_within (name ∷ others) text_len from end held_len are behind enough zero d inside =
-    within_here name text_len from end held_len behind enough are.0 are.1
+each_within [] text_len from end held_len are beyond enough k d inside = absurd (omega (arith, inside))
+each_within (name ∷ others) text_len from end held_len are beyond enough zero d inside =
+    within_here name text_len from end held_len beyond enough are.0 are.1
     (none_fewer others text_len (after_name text_len from name) end are.2)
-each_within (name ∷ others) text_len from end held_len are behind enough (suc k) d inside =
+each_within (name ∷ others) text_len from end held_len are beyond enough (suc k) d inside =
     each_within others text_len (after_name text_len from name) end held_len are.2
-    (omega (arith, behind, after text_len from name are.0 are.1)) enough k d (omega (arith, inside))
+    (omega (arith, beyond, after text_len from name are.0 are.1)) enough k d (omega (arith, inside))
 
 pub all_within : (listed : List Name) (text_len held_len : ℕ) → AreListed text_len listed held_len
     → All (IsWithin text_len held_len) listed
@@ -125,15 +125,15 @@ same_name name text_len held more ordered inside = by (nat_lt name.end text_len)
 same_names : (listed : List Name) (text_len from end : ℕ) (held more : List ℕ) → LieInOrder text_len from listed end
     → text_len ≤ from → end ≤ text_len + length held
     → map (listed_name text_len held) listed ≡ map (listed_name text_len (held ++ more)) listed
-same_names [] text_len from end held more are behind enough = refl
-same_names (name ∷ others) text_len from end held more are behind enough =
+same_names [] text_len from end held more are beyond enough = refl
+same_names (name ∷ others) text_len from end held more are beyond enough =
     let here : IsWithin text_len (length held) name =
-    within_here name text_len from end (length held) behind enough are.0 are.1
+    within_here name text_len from end (length held) beyond enough are.0 are.1
     (none_fewer others text_len (after_name text_len from name) end are.2) in
     ap (λ n. n ∷ map (listed_name text_len held) others) (same_name name text_len held more here.ordered here.inside)
     ∙ ap (λ l. listed_name text_len (held ++ more) name ∷ l)
     (same_names others text_len (after_name text_len from name) end held more are.2
-    (omega (arith, behind, after text_len from name are.0 are.1)) enough)
+    (omega (arith, beyond, after text_len from name are.0 are.1)) enough)
 
 -- ---- after a push
 pub pushed_written : (listed listed₂ : List Name) (name : Name) (text_len held_len : ℕ)

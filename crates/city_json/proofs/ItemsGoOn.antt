@@ -103,13 +103,13 @@ items_pass : (levels : ℕ) (items : ItemTrees) (b rest before after : List ℕ)
 items_pass levels no_items b rest before after deep are from =
     subst (λ l. ItemsFrom levels (after_white b) rest l after) (append-nil before) from
 items_pass levels (item value others) b rest before after deep are from =
-    let behind = comma ∷ (with_commas others ++ b) in
+    let beyond = comma ∷ (with_commas others ++ b) in
     let joined : before ++ (compact value ++ comma ∷ with_commas others)
     ≡ ((before ++ compact value) ++ comma ∷ []) ++ with_commas others = simp append_assoc in
     let further = items_pass levels others b rest ((before ++ compact value) ++ comma ∷ []) after deep are.1
     (subst (λ l. ItemsFrom levels (after_white b) rest l after) joined from) in
     let flat : depth value ≡ 1 = triple_flat value are.0 in
-    let taken : Taken levels (compact value ++ behind) behind before (before ++ compact value) = record {
+    let taken : Taken levels (compact value ++ beyond) beyond before (before ++ compact value) = record {
       value = value;
       text = compact value;
       splits = refl;
@@ -118,11 +118,11 @@ items_pass levels (item value others) b rest before after deep are from =
       distinct = triple_distinct value are.0;
       is_shown = refl;
     } in
-    let starts : after_white (with_commas (item value others) ++ b) ≡ compact value ++ behind =
+    let starts : after_white (with_commas (item value others) ++ b) ≡ compact value ++ beyond =
     ap after_white (append_assoc (compact value) (comma ∷ with_commas others) b)
-    ∙ clear value behind (writable_triple value are.0) in
+    ∙ clear value beyond (writable_triple value are.0) in
     subst (λ l. ItemsFrom levels l rest before after) (sym starts)
-    (items_more levels (compact value ++ behind) behind (with_commas others ++ b) rest before (before ++ compact value) after
+    (items_more levels (compact value ++ beyond) beyond (with_commas others ++ b) rest before (before ++ compact value) after
     taken refl further)
 
 -- an array that begins with triples, with a comma after each

@@ -32,25 +32,25 @@ pub record PlainRun (text : List ℕ) (at stop : ℕ) : Type 0 where
 pub plain_run : (text : List ℕ) (at long : ℕ) → long ≡ prefix_len is_plain (take (length text - at) (drop at text))
     → PlainRun text at (at + long)
 plain_run text at long run =
-    let behind = drop at text in
-    let is : long ≡ prefix_len is_plain behind = run ∙ ap (prefix_len is_plain) (rest_is text at) in
+    let beyond = drop at text in
+    let is : long ≡ prefix_len is_plain beyond = run ∙ ap (prefix_len is_plain) (rest_is text at) in
     let count : (at + long) - at ≡ long = omega arith in
-    let slice : slice_range text at (at + long) ≡ take long behind = ap (λ n. take n behind) count in
-    let left : drop long behind ≡ drop (at + long) text = drop-drop long at text in
-    let parts : flat_map written behind ≡ flat_map written (take long behind) ++ flat_map written (drop long behind) =
-    ap (flat_map written) (sym (take-append-drop long behind))
-    ∙ flat_map-append written (take long behind) (drop long behind) in
-    let whole : take long behind ++ flat_map written (drop long behind) ≡ flat_map written behind =
-    subst (λ n. take n behind ++ flat_map written (drop n behind) ≡ flat_map written behind) (sym is)
-    (written_run behind) in
-    let same : flat_map written (take long behind) ≡ take long behind =
-    sym (append_cancel_right (take long behind) (flat_map written (take long behind))
-    (flat_map written (drop long behind)) (whole ∙ parts)) in
-    let read : decoded behind ≡ prepend (take long behind) (decoded (drop long behind)) =
-    subst (λ n. decoded behind ≡ prepend (take n behind) (decoded (drop n behind))) (sym is)
-    (decoded-front behind) in
+    let slice : slice_range text at (at + long) ≡ take long beyond = ap (λ n. take n beyond) count in
+    let left : drop long beyond ≡ drop (at + long) text = drop-drop long at text in
+    let parts : flat_map written beyond ≡ flat_map written (take long beyond) ++ flat_map written (drop long beyond) =
+    ap (flat_map written) (sym (take-append-drop long beyond))
+    ∙ flat_map-append written (take long beyond) (drop long beyond) in
+    let whole : take long beyond ++ flat_map written (drop long beyond) ≡ flat_map written beyond =
+    subst (λ n. take n beyond ++ flat_map written (drop n beyond) ≡ flat_map written beyond) (sym is)
+    (written_run beyond) in
+    let same : flat_map written (take long beyond) ≡ take long beyond =
+    sym (append_cancel_right (take long beyond) (flat_map written (take long beyond))
+    (flat_map written (drop long beyond)) (whole ∙ parts)) in
+    let read : decoded beyond ≡ prepend (take long beyond) (decoded (drop long beyond)) =
+    subst (λ n. decoded beyond ≡ prepend (take n beyond) (decoded (drop n beyond))) (sym is)
+    (decoded-front beyond) in
     record {
-      is_read = read ∙ (ap (λ l. prepend l (decoded (drop long behind))) (sym slice)
+      is_read = read ∙ (ap (λ l. prepend l (decoded (drop long beyond))) (sym slice)
           ∙ ap (λ l. prepend (slice_range text at (at + long)) (decoded l)) left);
       as_is = ap (flat_map written) slice ∙ (same ∙ sym slice);
     }

@@ -7,34 +7,34 @@ use Rattle.city_json.specs.Reading.{after_white}
 use Rattle.city_json.proofs.PassItems.{array_taken, items_begin, items_close, items_more, white_once}
 
 -- an item, and what comes after it
-item_and_more : (others total : ℕ) (b behind rest before mid after : List ℕ)
-    → Taken (total - suc others) b behind before mid → ItemWasTaken (suc others) total behind rest mid after
+item_and_more : (others total : ℕ) (b beyond rest before mid after : List ℕ)
+    → Taken (total - suc others) b beyond before mid → ItemWasTaken (suc others) total beyond rest mid after
     → AreItems (total - suc others) b before (λ left shown. ItemWasTaken others total left rest shown after)
-item_and_more others total b behind rest before mid after taken (next, inl (closes, outside)) = record {
+item_and_more others total b beyond rest before mid after taken (next, inl (closes, outside)) = record {
   left = next;
   mid = mid ++ close_bracket ∷ [];
-  items = items_close (total - suc others) b behind next before mid (mid ++ close_bracket ∷ []) taken closes refl;
+  items = items_close (total - suc others) b beyond next before mid (mid ++ close_bracket ∷ []) taken closes refl;
   outside = outside;
 }
-item_and_more others total b behind rest before mid after taken (next, inr (goes, inside)) = record {
+item_and_more others total b beyond rest before mid after taken (next, inr (goes, inside)) = record {
   left = inside.left;
   mid = inside.mid;
-  items = items_more (total - suc others) b behind next inside.left before mid inside.mid taken goes inside.items;
+  items = items_more (total - suc others) b beyond next inside.left before mid inside.mid taken goes inside.items;
   outside = inside.outside;
 }
 
 -- a value was taken
-pub next_value : (depth total : ℕ) (b at_item behind rest before before' mid after : List ℕ) → 0 < depth
-    → at_item ≡ after_white b → before' ≡ before → Taken (total - depth) at_item behind before' mid
-    → ItemWasTaken depth total behind rest mid after
+pub next_value : (depth total : ℕ) (b at_item beyond rest before before' mid after : List ℕ) → 0 < depth
+    → at_item ≡ after_white b → before' ≡ before → Taken (total - depth) at_item beyond before' mid
+    → ItemWasTaken depth total beyond rest mid after
     → ItemIsNext depth total b rest before after
-next_value zero total b at_item behind rest before before' mid after some skipped is taken further =
+next_value zero total b at_item beyond rest before before' mid after some skipped is taken further =
     absurd (omega (arith, some))
-next_value (suc others) total b at_item behind rest before before' mid after some skipped is taken further =
-    let moved : Taken (total - suc others) (after_white b) behind before mid =
-    subst (λ l. Taken (total - suc others) l behind before mid) skipped
-    (subst (λ l. Taken (total - suc others) at_item behind l mid) is taken) in
-    item_and_more others total (after_white b) behind rest before mid after moved further
+next_value (suc others) total b at_item beyond rest before before' mid after some skipped is taken further =
+    let moved : Taken (total - suc others) (after_white b) beyond before mid =
+    subst (λ l. Taken (total - suc others) l beyond before mid) skipped
+    (subst (λ l. Taken (total - suc others) at_item beyond l mid) is taken) in
+    item_and_more others total (after_white b) beyond rest before mid after moved further
 
 -- one more array is open
 pub next_array : (depth total : ℕ) (b at_item inner rest before before' after : List ℕ) → 0 < depth → depth < total

@@ -36,24 +36,24 @@ next_shown before value others mid after close is then =
     ++ ((value ++ comma ∷ others) ++ close ∷ []) = simp append_assoc in
     then ∙ (ap (λ l. (l ++ comma ∷ []) ++ (others ++ close ∷ [])) is ∙ joined)
 
-pub items_close : (levels : ℕ) (b behind rest before mid after : List ℕ) → Taken levels b behind before mid
-    → after_white behind ≡ close_bracket ∷ rest → after ≡ mid ++ close_bracket ∷ []
+pub items_close : (levels : ℕ) (b beyond rest before mid after : List ℕ) → Taken levels b beyond before mid
+    → after_white beyond ≡ close_bracket ∷ rest → after ≡ mid ++ close_bracket ∷ []
     → ItemsFrom levels b rest before after
-items_close levels b behind rest before mid after taken closes is = record {
+items_close levels b beyond rest before mid after taken closes is = record {
   first = taken.value;
   others = no_items;
-  found = items-last levels taken.value b behind rest (found_of taken) closes;
+  found = items-last levels taken.value b beyond rest (found_of taken) closes;
   distinct = (taken.distinct, tt);
   is_shown = last_shown before (compact taken.value) mid after close_bracket taken.is_shown is;
 }
 
-pub items_more : (levels : ℕ) (b behind next rest before mid after : List ℕ) → Taken levels b behind before mid
-    → after_white behind ≡ comma ∷ next
+pub items_more : (levels : ℕ) (b beyond next rest before mid after : List ℕ) → Taken levels b beyond before mid
+    → after_white beyond ≡ comma ∷ next
     → ItemsFrom levels (after_white next) rest (mid ++ comma ∷ []) after → ItemsFrom levels b rest before after
-items_more levels b behind next rest before mid after taken goes from = record {
+items_more levels b beyond next rest before mid after taken goes from = record {
   first = taken.value;
   others = item from.first from.others;
-  found = items-next levels taken.value (item from.first from.others) b behind next rest
+  found = items-next levels taken.value (item from.first from.others) b beyond next rest
       (found_of taken) goes from.found;
   distinct = (taken.distinct, from.distinct);
   is_shown = next_shown before (compact taken.value)
@@ -103,13 +103,13 @@ array_taken levels b b' rest before before' after some opens is taken = record {
       ∙ append_assoc before (open_bracket ∷ []) (compact_items taken.items ++ close_bracket ∷ []));
 }
 
--- one more item: what the loop reads from `b` on is what it reads behind the comma, an item earlier
-pub items_step : (levels : ℕ) (b behind next rest before mid at_mark behind_mark after : List ℕ)
-    → Taken levels b behind before mid → after_white behind ≡ comma ∷ next → at_mark ≡ mid
-    → behind_mark ≡ at_mark ++ comma ∷ []
-    → ItemsFrom levels (after_white next) rest behind_mark after → ItemsFrom levels b rest before after
-items_step levels b behind next rest before mid at_mark behind_mark after taken goes is₁ is₂ from =
-    items_more levels b behind next rest before mid after taken goes
+-- one more item: what the loop reads from `b` on is what it reads after the comma, an item earlier
+pub items_step : (levels : ℕ) (b beyond next rest before mid at_mark after_a_mark after : List ℕ)
+    → Taken levels b beyond before mid → after_white beyond ≡ comma ∷ next → at_mark ≡ mid
+    → after_a_mark ≡ at_mark ++ comma ∷ []
+    → ItemsFrom levels (after_white next) rest after_a_mark after → ItemsFrom levels b rest before after
+items_step levels b beyond next rest before mid at_mark after_a_mark after taken goes is₁ is₂ from =
+    items_more levels b beyond next rest before mid after taken goes
     (subst (λ l. ItemsFrom levels (after_white next) rest l after) (is₂ ∙ ap (λ l. l ++ comma ∷ []) is₁) from)
 
 -- from where white space was skipped
@@ -135,11 +135,11 @@ items_start levels b b' rest before before' after skips is from =
     ∙ white_once b) is from)
 
 -- the last item, where the bracket was found
-pub items_stop : (levels : ℕ) (b behind rest before mid at_mark behind_mark : List ℕ) → Taken levels b behind before mid
-    → after_white behind ≡ close_bracket ∷ rest → at_mark ≡ mid → behind_mark ≡ at_mark ++ close_bracket ∷ []
-    → ItemsFrom levels b rest before behind_mark
-items_stop levels b behind rest before mid at_mark behind_mark taken closes is₁ is₂ =
-    items_close levels b behind rest before mid behind_mark taken closes (is₂ ∙ ap (λ l. l ++ close_bracket ∷ []) is₁)
+pub items_stop : (levels : ℕ) (b beyond rest before mid at_mark after_a_mark : List ℕ) → Taken levels b beyond before mid
+    → after_white beyond ≡ close_bracket ∷ rest → at_mark ≡ mid → after_a_mark ≡ at_mark ++ close_bracket ∷ []
+    → ItemsFrom levels b rest before after_a_mark
+items_stop levels b beyond rest before mid at_mark after_a_mark taken closes is₁ is₂ =
+    items_close levels b beyond rest before mid after_a_mark taken closes (is₂ ∙ ap (λ l. l ++ close_bracket ∷ []) is₁)
 
 digit_clear : (c : ℕ) (b : List ℕ) → 48 ≤ c → after_white (c ∷ b) ≡ c ∷ b
 digit_clear c b is = after_white-clear (c ∷ b) (grind (arith, nat_tests))
@@ -208,4 +208,4 @@ integer_stop levels text line from at end copied some inside is clear closes =
     (ap after_white (drop_one text end close_bracket inside closes)) refl
     (shown_one line text from end close_bracket (omega arith) inside closes))
 
--- what stands at a mark behind white space
+-- what stands at a mark after white space

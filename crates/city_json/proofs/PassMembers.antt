@@ -84,27 +84,27 @@ next_member before quoted_name value others mid after close is then =
     ++ (((quoted_name ++ colon ∷ value) ++ comma ∷ others) ++ close ∷ []) = simp append_assoc in
     then ∙ (ap (λ l. (l ++ comma ∷ []) ++ (others ++ close ∷ [])) is ∙ joined)
 
-unfoldable pub members_stop : (levels : ℕ) (b behind rest before mid at_mark behind_mark : List ℕ)
-    (one two : List (List ℕ)) (taken : TakenMember levels b behind before mid one two)
-    → after_white behind ≡ close_brace ∷ rest → at_mark ≡ mid → behind_mark ≡ at_mark ++ close_brace ∷ []
-    → MembersFrom levels b rest before behind_mark (taken.name ∷ [])
-members_stop levels b behind rest before mid at_mark behind_mark one two taken closes is₁ is₂ = record {
+unfoldable pub members_stop : (levels : ℕ) (b beyond rest before mid at_mark after_a_mark : List ℕ)
+    (one two : List (List ℕ)) (taken : TakenMember levels b beyond before mid one two)
+    → after_white beyond ≡ close_brace ∷ rest → at_mark ≡ mid → after_a_mark ≡ at_mark ++ close_brace ∷ []
+    → MembersFrom levels b rest before after_a_mark (taken.name ∷ [])
+members_stop levels b beyond rest before mid at_mark after_a_mark one two taken closes is₁ is₂ = record {
   name = taken.name;
   value = taken.value;
   others = no_members;
-  found = members-last levels taken.name taken.value b behind rest (found_member taken) closes;
+  found = members-last levels taken.name taken.value b beyond rest (found_member taken) closes;
   distinct = (taken.distinct, tt);
-  is_shown = last_member before (quoted taken.name) (compact taken.value) mid behind_mark close_brace taken.is_shown
+  is_shown = last_member before (quoted taken.name) (compact taken.value) mid after_a_mark close_brace taken.is_shown
       (is₂ ∙ ap (λ l. l ++ close_brace ∷ []) is₁);
   names_are = refl;
 }
 
-unfoldable pub members_step : (levels : ℕ) (b behind next b' rest before mid at_mark behind_mark before' after : List ℕ)
-    (one two : List (List ℕ)) (listed : List (List ℕ)) (taken : TakenMember levels b behind before mid one two)
-    → after_white behind ≡ comma ∷ next → at_mark ≡ mid → behind_mark ≡ at_mark ++ comma ∷ []
-    → b' ≡ after_white next → before' ≡ behind_mark → MembersFrom levels b' rest before' after listed
+unfoldable pub members_step : (levels : ℕ) (b beyond next b' rest before mid at_mark after_a_mark before' after : List ℕ)
+    (one two : List (List ℕ)) (listed : List (List ℕ)) (taken : TakenMember levels b beyond before mid one two)
+    → after_white beyond ≡ comma ∷ next → at_mark ≡ mid → after_a_mark ≡ at_mark ++ comma ∷ []
+    → b' ≡ after_white next → before' ≡ after_a_mark → MembersFrom levels b' rest before' after listed
     → MembersFrom levels b rest before after (taken.name ∷ listed)
-members_step levels b behind next b' rest before mid at_mark behind_mark before' after one two listed taken goes is₁ is₂
+members_step levels b beyond next b' rest before mid at_mark after_a_mark before' after one two listed taken goes is₁ is₂
     skips is₃ from =
     let shows : before' ≡ mid ++ comma ∷ [] = is₃ ∙ (is₂ ∙ ap (λ l. l ++ comma ∷ []) is₁) in
     let further : FoundMembers levels (member from.name from.value from.others) (after_white next) rest =
@@ -113,7 +113,7 @@ members_step levels b behind next b' rest before mid at_mark behind_mark before'
       name = taken.name;
       value = taken.value;
       others = member from.name from.value from.others;
-      found = members-next levels taken.name taken.value (member from.name from.value from.others) b behind next rest
+      found = members-next levels taken.name taken.value (member from.name from.value from.others) b beyond next rest
           (found_member taken) goes further;
       distinct = (taken.distinct, from.distinct);
       is_shown = next_member before (quoted taken.name) (compact taken.value)
@@ -191,19 +191,19 @@ pub names_left : (base : ℕ) (one two three : List (List ℕ)) (x : List ℕ) �
 names_left base one two three x fits is same = omega (arith, fits, ap length same, ap length is, length_push one x)
 
 -- what takes the members from the next one on takes all, where it does so from the one before the comma on
-pub members_more : (levels base : ℕ) (all b behind b' rest shown_all before mid before' after : List ℕ)
-    (one two three listed : List (List ℕ)) (taken : TakenMember levels b behind before mid one two)
-    → base ≤ length one → three ≡ two → TakenMark comma behind b' mid before'
+pub members_more : (levels base : ℕ) (all b beyond b' rest shown_all before mid before' after : List ℕ)
+    (one two three listed : List (List ℕ)) (taken : TakenMember levels b beyond before mid one two)
+    → base ≤ length one → three ≡ two → TakenMark comma beyond b' mid before'
     → ((l : List (List ℕ)) → MembersFrom levels b rest before after l
     → MembersWhole levels all rest shown_all after (drop base one ++ l))
     → MembersFrom levels b' rest before' after listed
     → MembersWhole levels all rest shown_all after (drop base three ++ listed)
-members_more levels base all b behind b' rest shown_all before mid before' after one two three listed taken fits same mark
+members_more levels base all b beyond b' rest shown_all before mid before' after one two three listed taken fits same mark
     so_far from =
     subst (MembersWhole levels all rest shown_all after)
     (names_more base one two three taken.name listed fits taken.names_are same)
     (so_far (taken.name ∷ listed)
-    (members_step levels b behind mark.next b' rest before mid mid before' before' after one two listed taken mark.is_next
+    (members_step levels b beyond mark.next b' rest before mid mid before' before' after one two listed taken mark.is_next
     refl mark.is_shown mark.starts refl from))
 
 -- ---- the whole text
@@ -214,14 +214,14 @@ unfoldable pub text_taken : (text line : List ℕ) (at end last : ℕ) (start sh
     × Spells text value × Fits value × (IsDeep text → ⊥) × (line ≡ compact value)
 text_taken text line at end last start shown_at shown_end utf8 empty is₁ skipped taken skipped₂ over is₂ =
     let before = after_white-splits text in
-    let behind = after_white-splits (drop end text) in
+    let beyond = after_white-splits (drop end text) in
     let nothing : after_white (drop end text) ≡ [] = sym skipped₂ ∙ drop_all last text over in
-    let splits : text ≡ before.white ++ (taken.text ++ behind.white) =
+    let splits : text ≡ before.white ++ (taken.text ++ beyond.white) =
     before.splits ∙ ap (λ l. before.white ++ l) (sym skipped
-    ∙ (taken.splits ∙ ap (λ l. taken.text ++ l) (behind.splits
-    ∙ (ap (λ l. behind.white ++ l) nothing ∙ append-nil behind.white)))) in
+    ∙ (taken.splits ∙ ap (λ l. taken.text ++ l) (beyond.splits
+    ∙ (ap (λ l. beyond.white ++ l) nothing ∙ append-nil beyond.white)))) in
     let spells : Spells text taken.value =
-    (utf8, (before.white, taken.text, behind.white, splits, before.blank, taken.spells, behind.blank)) in (
+    (utf8, (before.white, taken.text, beyond.white, splits, before.blank, taken.spells, beyond.blank)) in (
       taken.value,
       spells,
       (taken.within, taken.distinct),

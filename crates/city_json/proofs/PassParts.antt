@@ -74,24 +74,24 @@ parts_none levels b rest before after parts none closes is =
           subst (λ l. AreParts (length before) l no_members) (sym none) tt;
     }
 
-pub parts_stop : (levels : ℕ) (b behind rest before mid at_mark behind_mark : List ℕ) (one two : List (List ℕ))
-    (p_one p_two : List MemberPlace) (t : TakenPart levels b behind before mid one two p_one p_two)
-    → after_white behind ≡ close_brace ∷ rest → at_mark ≡ mid → behind_mark ≡ at_mark ++ close_brace ∷ []
-    → PartsFrom levels b rest before behind_mark (t.taken.name ∷ []) (t.part ∷ [])
+pub parts_stop : (levels : ℕ) (b beyond rest before mid at_mark after_a_mark : List ℕ) (one two : List (List ℕ))
+    (p_one p_two : List MemberPlace) (t : TakenPart levels b beyond before mid one two p_one p_two)
+    → after_white beyond ≡ close_brace ∷ rest → at_mark ≡ mid → after_a_mark ≡ at_mark ++ close_brace ∷ []
+    → PartsFrom levels b rest before after_a_mark (t.taken.name ∷ []) (t.part ∷ [])
 unfolding members_stop
-parts_stop levels b behind rest before mid at_mark behind_mark one two p_one p_two t closes is₁ is₂ = record {
-  from = members_stop levels b behind rest before mid at_mark behind_mark one two t.taken closes is₁ is₂;
+parts_stop levels b beyond rest before mid at_mark after_a_mark one two p_one p_two t closes is₁ is₂ = record {
+  from = members_stop levels b beyond rest before mid at_mark after_a_mark one two t.taken closes is₁ is₂;
   are_parts = (t.is_part, tt);
 }
 
-pub parts_step : (levels : ℕ) (b behind next b' rest before mid at_mark behind_mark before' after : List ℕ)
+pub parts_step : (levels : ℕ) (b beyond next b' rest before mid at_mark after_a_mark before' after : List ℕ)
     (one two : List (List ℕ)) (p_one p_two : List MemberPlace) (listed : List (List ℕ)) (parts : List MemberPlace)
-    (t : TakenPart levels b behind before mid one two p_one p_two)
-    → after_white behind ≡ comma ∷ next → at_mark ≡ mid → behind_mark ≡ at_mark ++ comma ∷ [] → b' ≡ after_white next
-    → before' ≡ behind_mark → PartsFrom levels b' rest before' after listed parts
+    (t : TakenPart levels b beyond before mid one two p_one p_two)
+    → after_white beyond ≡ comma ∷ next → at_mark ≡ mid → after_a_mark ≡ at_mark ++ comma ∷ [] → b' ≡ after_white next
+    → before' ≡ after_a_mark → PartsFrom levels b' rest before' after listed parts
     → PartsFrom levels b rest before after (t.taken.name ∷ listed) (t.part ∷ parts)
 unfolding members_step
-parts_step levels b behind next b' rest before mid at_mark behind_mark before' after one two p_one p_two listed parts t
+parts_step levels b beyond next b' rest before mid at_mark after_a_mark before' after one two p_one p_two listed parts t
     goes is₁ is₂ skips is₃ found =
     let shows : before' ≡ mid ++ comma ∷ [] = is₃ ∙ (is₂ ∙ ap (λ l. l ++ comma ∷ []) is₁) in
     let name = t.taken.name in
@@ -107,7 +107,7 @@ parts_step levels b behind next b' rest before mid at_mark behind_mark before' a
     let count : length before' ≡ t.part.end + 1 = ap length shows
     ∙ (length_push mid comma ∙ omega (arith, long, ends, begins)) in
     record {
-      from = members_step levels b behind next b' rest before mid at_mark behind_mark before' after one two listed
+      from = members_step levels b beyond next b' rest before mid at_mark after_a_mark before' after one two listed
           t.taken goes is₁ is₂ skips is₃ found.from;
       are_parts = (
         t.is_part,
@@ -122,21 +122,21 @@ pub parts_more : (one two : List MemberPlace) (part : MemberPlace) (parts : List
 parts_more one two part parts is = sym (ap (λ l. l ++ parts) is ∙ append_assoc one (part ∷ []) parts)
 
 -- what takes the members from the next one on takes all, where it does so from the one before the comma on
-pub parts_go_on : (levels : ℕ) (all b behind b' rest shown_all before mid before' after : List ℕ)
+pub parts_go_on : (levels : ℕ) (all b beyond b' rest shown_all before mid before' after : List ℕ)
     (one two three listed : List (List ℕ)) (p_one p_two parts : List MemberPlace)
-    (t : TakenPart levels b behind before mid one two p_one p_two) → three ≡ two → TakenMark comma behind b' mid before'
+    (t : TakenPart levels b beyond before mid one two p_one p_two) → three ≡ two → TakenMark comma beyond b' mid before'
     → ((l : List (List ℕ)) (p : List MemberPlace) → PartsFrom levels b rest before after l p
     → PartsWhole levels all rest shown_all after (one ++ l) (p_one ++ p))
     → PartsFrom levels b' rest before' after listed parts
     → PartsWhole levels all rest shown_all after (three ++ listed) (p_two ++ parts)
-parts_go_on levels all b behind b' rest shown_all before mid before' after one two three listed p_one p_two parts t same mark
+parts_go_on levels all b beyond b' rest shown_all before mid before' after one two three listed p_one p_two parts t same mark
     so_far from =
     subst (λ l. PartsWhole levels all rest shown_all after l (p_two ++ parts))
     (names_more 0 one two three t.taken.name listed (omega arith) t.taken.names_are same)
     (subst (PartsWhole levels all rest shown_all after (one ++ (t.taken.name ∷ listed)))
     (parts_more p_one p_two t.part parts t.parts_are)
     (so_far (t.taken.name ∷ listed) (t.part ∷ parts)
-    (parts_step levels b behind mark.next b' rest before mid mid before' before' after one two p_one p_two listed parts t
+    (parts_step levels b beyond mark.next b' rest before mid mid before' before' after one two p_one p_two listed parts t
     mark.is_next refl mark.is_shown mark.starts refl from)))
 
 pub whole_parts : (text line : List ℕ) (at end last : ℕ) (shown_at shown_top shown_end : List ℕ) (parts : List MemberPlace)

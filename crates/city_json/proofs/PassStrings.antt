@@ -26,17 +26,17 @@ pub plain_string_is : (text : List ℕ) (at long : ℕ) → IsUtf8 text → 0 < 
     → long ≡ prefix_len is_plain (take (length text - at) (drop at text)) → at + long < length text
     → get_or text (at + long) 0 ≡ quotation_mark → IsPlainString text at (at + long)
 plain_string_is text at long utf8 some opened fits run within closed =
-    let behind = drop at text in
-    let run' : long ≡ prefix_len is_plain behind = run ∙ ap (prefix_len is_plain) (rest_is text at) in
-    let room : long < length behind = omega (arith, length-drop at text) in
-    let mark : get_or behind long 0 ≡ quotation_mark = get_or-drop at text long 0 ∙ closed in
+    let beyond = drop at text in
+    let run' : long ≡ prefix_len is_plain beyond = run ∙ ap (prefix_len is_plain) (rest_is text at) in
+    let room : long < length beyond = omega (arith, length-drop at text) in
+    let mark : get_or beyond long 0 ≡ quotation_mark = get_or-drop at text long 0 ∙ closed in
     let count : (at + long) - at ≡ long = omega arith in
-    let slice : slice_range text at (at + long) ≡ take long behind = ap (λ n. take n behind) count in
+    let slice : slice_range text at (at + long) ≡ take long beyond = ap (λ n. take n beyond) count in
     let place : at + (long + 1) ≡ suc (at + long) = omega arith in
-    let left : take (length behind - (long + 1)) (drop (long + 1) behind) ≡ drop (suc (at + long)) text =
-    take_rest behind (long + 1) ∙ (drop-drop (long + 1) at text ∙ ap (λ n. drop n text) place) in
-    let decodes : decoded behind ≡ Some (take long behind, drop (suc (at + long)) text) =
-    run_closes behind long run' room mark ∙ ap (λ l. Some (take long behind, l)) left in
+    let left : take (length beyond - (long + 1)) (drop (long + 1) beyond) ≡ drop (suc (at + long)) text =
+    take_rest beyond (long + 1) ∙ (drop-drop (long + 1) at text ∙ ap (λ n. drop n text) place) in
+    let decodes : decoded beyond ≡ Some (take long beyond, drop (suc (at + long)) text) =
+    run_closes beyond long run' room mark ∙ ap (λ l. Some (take long beyond, l)) left in
     let start : IsCharBoundary text at =
     subst (IsCharBoundary text) (omega arith)
     (IsCharBoundary-after_ascii text (at - 1) utf8 (omega arith) (omega (arith, opened))) in
@@ -44,21 +44,21 @@ plain_string_is text at long utf8 some opened fits run within closed =
     IsCharBoundary-before_ascii text (at + long) within (omega (arith, closed)) in
     let whole : IsUtf8 (slice_range text at (at + long)) =
     IsUtf8-between text at (at + long) utf8 (omega arith) start stop in
-    let whole' : IsUtf8 (take long behind) = subst IsUtf8 slice whole in
-    let parts : flat_map written behind ≡ flat_map written (take long behind) ++ flat_map written (drop long behind) =
-    ap (flat_map written) (sym (take-append-drop long behind))
-    ∙ flat_map-append written (take long behind) (drop long behind) in
-    let as_is : take long behind ++ flat_map written (drop long behind) ≡ flat_map written behind =
-    subst (λ n. take n behind ++ flat_map written (drop n behind) ≡ flat_map written behind) (sym run')
-    (written_run behind) in
+    let whole' : IsUtf8 (take long beyond) = subst IsUtf8 slice whole in
+    let parts : flat_map written beyond ≡ flat_map written (take long beyond) ++ flat_map written (drop long beyond) =
+    ap (flat_map written) (sym (take-append-drop long beyond))
+    ∙ flat_map-append written (take long beyond) (drop long beyond) in
+    let as_is : take long beyond ++ flat_map written (drop long beyond) ≡ flat_map written beyond =
+    subst (λ n. take n beyond ++ flat_map written (drop n beyond) ≡ flat_map written beyond) (sym run')
+    (written_run beyond) in
     record {
       closed = closed;
-      is_read = string_at-some behind (take long behind) (drop (suc (at + long)) text) decodes
-          ∙ (checked-some (take long behind) (drop (suc (at + long)) text) whole'
+      is_read = string_at-some beyond (take long beyond) (drop (suc (at + long)) text) decodes
+          ∙ (checked-some (take long beyond) (drop (suc (at + long)) text) whole'
           ∙ ap (λ l. Some (l, drop (suc (at + long)) text)) (sym slice));
       compact = ap (flat_map written) slice
-          ∙ (sym (append_cancel_right (take long behind) (flat_map written (take long behind))
-          (flat_map written (drop long behind)) (as_is ∙ parts)) ∙ sym slice);
+          ∙ (sym (append_cancel_right (take long beyond) (flat_map written (take long beyond))
+          (flat_map written (drop long beyond)) (as_is ∙ parts)) ∙ sym slice);
     }
 
 -- what the string's characters and its closing mark are in the text
@@ -125,17 +125,17 @@ pub name_taken : (name b rest before after : List ℕ) (one two : List (List ℕ
 name_taken name b rest before after one two taken listed = record { name = name; taken = taken; names_are = listed }
 
 -- a name, white space, a colon, and white space
-pub start_taken : (b behind next rest before at_name at_colon after_colon after : List ℕ)
-    (one two three : List (List ℕ)) → TakenName b behind before at_name one two → after_white behind ≡ colon ∷ next
+pub start_taken : (b beyond next rest before at_name at_colon after_colon after : List ℕ)
+    (one two three : List (List ℕ)) → TakenName b beyond before at_name one two → after_white beyond ≡ colon ∷ next
     → at_colon ≡ at_name → after_colon ≡ at_colon ++ colon ∷ []
     → rest ≡ after_white next → after ≡ after_colon → three ≡ two → TakenStart b rest before after one three
-start_taken b behind next rest before at_name at_colon after_colon after one two three named goes is₁ is₂ starts is₃
+start_taken b beyond next rest before at_name at_colon after_colon after one two three named goes is₁ is₂ starts is₃
     same =
     let shows : after ≡ at_name ++ colon ∷ [] = is₃ ∙ (is₂ ∙ ap (λ l. l ++ colon ∷ []) is₁) in
     record {
       name = named.name;
       inner = named.taken.inner;
-      left = behind;
+      left = beyond;
       next = next;
       splits = named.taken.splits;
       spells = named.taken.spells;

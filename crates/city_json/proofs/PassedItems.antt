@@ -12,9 +12,9 @@ use Rattle.city_json.specs.NextItems.{HasNoItem, IsNextItem}
 use Rattle.city_json.specs.Tree.{Tree, array, ItemTrees, no_items, item}
 
 -- what stands after an item, and what is left where a comma there is passed
-pub record Passed (behind after : List ℕ) : Type 0 where
-  pub comma_there : (tail : List ℕ) → behind ≡ comma ∷ tail → after ≡ tail
-  pub none_there : (tail : List ℕ) → behind ≡ close_bracket ∷ tail → after ≡ behind
+pub record Passed (beyond after : List ℕ) : Type 0 where
+  pub comma_there : (tail : List ℕ) → beyond ≡ comma ∷ tail → after ≡ tail
+  pub none_there : (tail : List ℕ) → beyond ≡ close_bracket ∷ tail → after ≡ beyond
 
 pub at_end : (text : List ℕ) (end : ℕ) → end ≡ length text → Passed (drop end text) (drop end text)
 at_end text end past =
@@ -87,13 +87,13 @@ module _ (rest after : List ℕ) (len : ℕ) (within : len ≤ length rest) (lea
   next_item some (item first others) of =
       let is : rest ≡ compact first ++ (compact_more_items others ++ close_bracket ∷ []) =
       others_same _ _ _ _ of.is ∙ append_assoc (compact first) (compact_more_items others) (close_bracket ∷ []) in
-      let behind : drop len rest ≡ compact_more_items others ++ close_bracket ∷ [] =
+      let beyond : drop len rest ≡ compact_more_items others ++ close_bracket ∷ [] =
       leaves first (compact_more_items others ++ close_bracket ∷ []) of.writable.0 (omega (arith, of.within))
       (more_stopped others []) is in
       let size : len ≡ length (compact first) = omega (
         arith,
         ap length is,
-        ap length behind,
+        ap length beyond,
         length-append (compact first) (compact_more_items others ++ close_bracket ∷ []),
         length-drop len rest,
         within,
@@ -108,7 +108,7 @@ module _ (rest after : List ℕ) (len : ℕ) (within : len ≤ length rest) (lea
           within = omega (arith, of.within);
         },
         record {
-          is = ap (λ l. open_bracket ∷ l) (left_of others behind);
+          is = ap (λ l. open_bracket ∷ l) (left_of others beyond);
           writable = of.writable.1;
           distinct = of.distinct.1;
           within = omega (arith, of.within);

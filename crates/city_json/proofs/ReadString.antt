@@ -255,7 +255,7 @@ pair_escape-complete first second rest high low unit h unit₂ h₂ =
     ∙ cond-true _ _ _ (low_of low h₂)
     ∙ ap (λ n. Some (n, rest)) number
 
-pub escape_tail : (piece : List ℕ) (c : ℕ) → IsEscape piece c → (behind : List ℕ) × (piece ≡ backslash ∷ behind)
+pub escape_tail : (piece : List ℕ) (c : ℕ) → IsEscape piece c → (beyond : List ℕ) × (piece ≡ backslash ∷ beyond)
 escape_tail piece c (inl letter) = (letter.0 ∷ [], letter.1)
 escape_tail piece c (inr (inl unit)) = (small_u ∷ unit.0, unit.1)
 escape_tail piece c (inr (inr pair)) = (small_u ∷ (pair.0 ++ backslash ∷ small_u ∷ pair.1), pair.4)

@@ -7,8 +7,8 @@ use Rattle.std.proofs.lemmas.Bool.Decides.{nat_tests}
 use Rattle.city_json.specs.Bytes.{comma, open_bracket, open_brace, quotation_mark}
 use Rattle.city_json.specs.Grammar.{IsWhite, IsBlank}
 use Rattle.city_json.specs.Reading.{is_white, after_white, mark_at, after_byte, start_of}
-use Rattle.city_json.specs.declared.reading.Mark.{Mark}
-use Rattle.city_json.specs.declared.reading.Mark.TheVariants as mark
+use Rattle.city_json.specs.declared.reading.AfterItem.{AfterItem}
+use Rattle.city_json.specs.declared.reading.AfterItem.TheVariants as mark
 use Rattle.city_json.specs.declared.reading.Start.TheVariants as start
 
 -- what both parts of a step gave
@@ -23,7 +23,7 @@ is_white-IsWhite b white = grind (arith, nat_tests)
 pub IsWhite-is_white : (b : ℕ) → IsWhite b → is_white b ≡ true
 IsWhite-is_white b white = grind (arith, nat_tests)
 
--- the bytes are white space and what stands behind it
+-- the bytes are white space and what stands after it
 pub record SkipsWhite (b : List ℕ) : Type 0 where
   pub white : List ℕ
   pub blank : IsBlank white
@@ -61,7 +61,7 @@ pub chosen : {X : Type 0} (test : Bool) (x y z : X) → cond test x y ≡ z → 
 chosen true x y z is = inl (refl, is)
 chosen false x y z is = inr (refl, is)
 
-unlike : {X : Type 0} (a b : Mark) (x y : List ℕ) → (a ≡ b → ⊥) → ◌≡◌ {A = Mark × List ℕ} (a, x) (b, y) → X
+unlike : {X : Type 0} (a b : AfterItem) (x y : List ℕ) → (a ≡ b → ⊥) → ◌≡◌ {A = AfterItem × List ℕ} (a, x) (b, y) → X
 unlike a b x y apart is = absurd (apart (ap (λ p. p.0) is))
 
 pub mark_at-comma : (close : ℕ) (b rest : List ℕ) → mark_at close b ≡ (mark.Comma, rest) → b ≡ comma ∷ rest

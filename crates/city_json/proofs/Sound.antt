@@ -11,8 +11,8 @@ use Rattle.city_json.specs.Grammar.{Spaced, SpellsValue}
 use Rattle.city_json.specs.Reading.{after_white, mark_at, after_byte, start_of, word_at, scalar_at, items_at, array_from, member_at, members_at, members_after, object_from, value_at, value_from, text_at}
 use Rattle.city_json.specs.Strings.{SpellsString}
 use Rattle.city_json.specs.Tree.{Tree, null, boolean, number, string, array, object, no_items, MemberTrees, no_members, member}
-use Rattle.city_json.specs.declared.reading.Mark.{Mark}
-use Rattle.city_json.specs.declared.reading.Mark.TheVariants as mark
+use Rattle.city_json.specs.declared.reading.AfterItem.{AfterItem}
+use Rattle.city_json.specs.declared.reading.AfterItem.TheVariants as mark
 use Rattle.city_json.specs.declared.reading.Start.{Start}
 use Rattle.city_json.specs.declared.reading.Start.TheVariants as start
 use Rattle.city_json.specs.NumberAt.{number_at}
@@ -23,12 +23,12 @@ use Rattle.city_json.proofs.SpelledString.{string_at-sound}
 use Rattle.city_json.proofs.SoundItems.{Found, FoundMember, FoundMembers, IsSound, Reader, items_at-sound, members-last, members-next, no_bytes, regroup}
 
 -- a name, white space, a colon, white space, and a value
-pub member-found : (levels : ℕ) (name : List ℕ) (value : Tree) (b text consumed behind after rest : List ℕ)
-    → b ≡ quotation_mark ∷ text → text ≡ consumed ++ behind → SpellsString name (quotation_mark ∷ consumed)
-    → after_white behind ≡ colon ∷ after → Found levels value (after_white after) rest
+pub member-found : (levels : ℕ) (name : List ℕ) (value : Tree) (b text consumed beyond after rest : List ℕ)
+    → b ≡ quotation_mark ∷ text → text ≡ consumed ++ beyond → SpellsString name (quotation_mark ∷ consumed)
+    → after_white beyond ≡ colon ∷ after → Found levels value (after_white after) rest
     → FoundMember levels name value b rest
-member-found levels name value b text consumed behind after rest opens named spells goes found =
-    let white = after_white-splits behind in
+member-found levels name value b text consumed beyond after rest opens named spells goes found =
+    let white = after_white-splits beyond in
     let then = after_white-splits after in
     record {
       text = ((quotation_mark ∷ consumed) ++ white.white) ++ colon ∷ (then.white ++ found.text);
@@ -72,25 +72,25 @@ member_at-sound levels read is_sound b rest named is =
 
 members_after-sound : (levels : ℕ) (more : List ℕ → Option (MemberTrees × List ℕ))
     → ((b rest : List ℕ) (members : MemberTrees) → more b ≡ Some (members, rest) → FoundMembers levels members b rest)
-    → (named : List ℕ × Tree) (b behind rest : List ℕ) (members : MemberTrees) (found : Mark) (after : List ℕ)
-    → FoundMember levels named.0 named.1 b behind → mark_at close_brace (after_white behind) ≡ (found, after)
+    → (named : List ℕ × Tree) (b beyond rest : List ℕ) (members : MemberTrees) (found : AfterItem) (after : List ℕ)
+    → FoundMember levels named.0 named.1 b beyond → mark_at close_brace (after_white beyond) ≡ (found, after)
     → members_after more named (found, after) ≡ Some (members, rest) → FoundMembers levels members b rest
-members_after-sound levels more is_sound named b behind rest members mark.Comma after first marked read =
+members_after-sound levels more is_sound named b beyond rest members mark.Comma after first marked read =
     let step = bind_some (more (after_white after)) (λ others. Some (member named.0 named.1 others.0, others.1))
     (members, rest) read in
     let same = same_Some _ _ step.2 in
     let next : FoundMembers levels step.0.0 (after_white after) step.0.1 =
     is_sound (after_white after) step.0.1 step.0.0 step.1 in
     let all : FoundMembers levels (member named.0 named.1 step.0.0) b step.0.1 =
-    members-next levels named.0 named.1 step.0.0 b behind after step.0.1 first
-    (mark_at-comma close_brace (after_white behind) after marked) next in
+    members-next levels named.0 named.1 step.0.0 b beyond after step.0.1 first
+    (mark_at-comma close_brace (after_white beyond) after marked) next in
     subst (λ (p : MemberTrees × List ℕ). FoundMembers levels p.0 b p.1) same all
-members_after-sound levels more is_sound named b behind rest members mark.Close after first marked read =
+members_after-sound levels more is_sound named b beyond rest members mark.Close after first marked read =
     subst (λ (p : MemberTrees × List ℕ). FoundMembers levels p.0 b p.1)
     (same_Some (member named.0 named.1 no_members, after) (members, rest) read)
-    (members-last levels named.0 named.1 b behind after first
-    (mark_at-close close_brace (after_white behind) after marked))
-members_after-sound levels more is_sound named b behind rest members mark.Neither after first marked read =
+    (members-last levels named.0 named.1 b beyond after first
+    (mark_at-close close_brace (after_white beyond) after marked))
+members_after-sound levels more is_sound named b beyond rest members mark.Neither after first marked read =
     absurd (none-some (members, rest) read)
 
 members_at-sound : (levels : ℕ) (read : Reader) → IsSound levels read
@@ -157,18 +157,18 @@ scalar_at-sound levels c b rest value start.Other is read = absurd (none-some (v
 array_from-sound : (levels : ℕ) (read : Reader) → IsSound levels read
     → (b rest : List ℕ) (value : Tree) (empty : Option (List ℕ)) → after_byte close_bracket (after_white b) ≡ empty
     → array_from read empty (after_white b) ≡ Some (value, rest) → Found (suc levels) value (open_bracket ∷ b) rest
-array_from-sound levels read is_sound b rest value (Some behind) closes is =
+array_from-sound levels read is_sound b rest value (Some beyond) closes is =
     let white = after_white-splits b in
-    let all : Found (suc levels) (array no_items) (open_bracket ∷ b) behind = record {
+    let all : Found (suc levels) (array no_items) (open_bracket ∷ b) beyond = record {
       text = open_bracket ∷ white.white ++ close_bracket ∷ [];
       splits = ap (λ l. open_bracket ∷ l) (white.splits
-          ∙ (ap (λ l. white.white ++ l) (after_byte-some close_bracket (after_white b) behind closes)
-          ∙ sym (append_assoc white.white (close_bracket ∷ []) behind)));
+          ∙ (ap (λ l. white.white ++ l) (after_byte-some close_bracket (after_white b) beyond closes)
+          ∙ sym (append_assoc white.white (close_bracket ∷ []) beyond)));
       spells = (white.white, refl, white.blank);
       within = omega arith;
     } in
     subst (λ (p : Tree × List ℕ). Found (suc levels) p.0 (open_bracket ∷ b) p.1)
-    (same_Some (array no_items, behind) (value, rest) is) all
+    (same_Some (array no_items, beyond) (value, rest) is) all
 array_from-sound levels read is_sound b rest value None closes is =
     let white = after_white-splits b in
     let step = bind_some (items_at read (length (after_white b)) (after_white b)) _ (value, rest) is in
@@ -187,18 +187,18 @@ array_from-sound levels read is_sound b rest value None closes is =
 object_from-sound : (levels : ℕ) (read : Reader) → IsSound levels read
     → (b rest : List ℕ) (value : Tree) (empty : Option (List ℕ)) → after_byte close_brace (after_white b) ≡ empty
     → object_from read empty (after_white b) ≡ Some (value, rest) → Found (suc levels) value (open_brace ∷ b) rest
-object_from-sound levels read is_sound b rest value (Some behind) closes is =
+object_from-sound levels read is_sound b rest value (Some beyond) closes is =
     let white = after_white-splits b in
-    let all : Found (suc levels) (object no_members) (open_brace ∷ b) behind = record {
+    let all : Found (suc levels) (object no_members) (open_brace ∷ b) beyond = record {
       text = open_brace ∷ white.white ++ close_brace ∷ [];
       splits = ap (λ l. open_brace ∷ l) (white.splits
-          ∙ (ap (λ l. white.white ++ l) (after_byte-some close_brace (after_white b) behind closes)
-          ∙ sym (append_assoc white.white (close_brace ∷ []) behind)));
+          ∙ (ap (λ l. white.white ++ l) (after_byte-some close_brace (after_white b) beyond closes)
+          ∙ sym (append_assoc white.white (close_brace ∷ []) beyond)));
       spells = (white.white, refl, white.blank);
       within = omega arith;
     } in
     subst (λ (p : Tree × List ℕ). Found (suc levels) p.0 (open_brace ∷ b) p.1)
-    (same_Some (object no_members, behind) (value, rest) is) all
+    (same_Some (object no_members, beyond) (value, rest) is) all
 object_from-sound levels read is_sound b rest value None closes is =
     let white = after_white-splits b in
     let step = bind_some (members_at read (length (after_white b)) (after_white b)) _ (value, rest) is in
@@ -241,20 +241,20 @@ text_at-sound b value is =
     let before = after_white-splits b in
     let found : Found max_depth step.0.0 (after_white b) step.0.1 =
     value_at-sound max_depth (after_white b) step.0.1 step.0.0 step.1 in
-    let behind = after_white-splits step.0.1 in
+    let beyond = after_white-splits step.0.1 in
     let parts = cond_some (length (after_white step.0.1) == 0) step.0.0 value step.2 in
     let ends : after_white step.0.1 ≡ [] = no_bytes (after_white step.0.1) parts.0 in
     let all : Spaced (SpellsValue step.0.0) b × (depth step.0.0 ≤ max_depth) = (
       (
         before.white,
         found.text,
-        behind.white,
+        beyond.white,
         before.splits
             ∙ ap (λ l. before.white ++ l) (found.splits
-            ∙ ap (λ l. found.text ++ l) (behind.splits ∙ (ap (λ l. behind.white ++ l) ends ∙ append-nil behind.white))),
+            ∙ ap (λ l. found.text ++ l) (beyond.splits ∙ (ap (λ l. beyond.white ++ l) ends ∙ append-nil beyond.white))),
         before.blank,
         found.spells,
-        behind.blank,
+        beyond.blank,
       ),
       found.within,
     ) in

@@ -10,8 +10,8 @@ use Rattle.city_json.specs.Grammar.{IsBlank, Spaced, SpellsValue, SpellsMoreItem
 use Rattle.city_json.specs.Reading.{after_white, mark_at, items_at, items_after}
 use Rattle.city_json.specs.Strings.{SpellsString}
 use Rattle.city_json.specs.Tree.{Tree, ItemTrees, no_items, item, MemberTrees, no_members, member}
-use Rattle.city_json.specs.declared.reading.Mark.{Mark}
-use Rattle.city_json.specs.declared.reading.Mark.TheVariants as mark
+use Rattle.city_json.specs.declared.reading.AfterItem.{AfterItem}
+use Rattle.city_json.specs.declared.reading.AfterItem.TheVariants as mark
 use Rattle.city_json.proofs.Scanning.{bind_some, after_white-splits, mark_at-comma, mark_at-close}
 
 abbrev pub Reader : Type 0
@@ -31,7 +31,7 @@ blank_append : (v w : List ℕ) → IsBlank v → IsBlank w → IsBlank (v ++ w)
 blank_append [] w p q = q
 blank_append (c ∷ v) w p q = (p.0, blank_append v w p.1 q)
 
--- more white space before and behind
+-- more white space before and after
 spaced_wider : (P : List ℕ → Type 0) (v w b : List ℕ) → IsBlank v → IsBlank w → Spaced P b → Spaced P (v ++ (b ++ w))
 spaced_wider P v w b p q s = (
   v ++ s.0,
@@ -63,7 +63,7 @@ pub record FoundMember (levels : ℕ) (name : List ℕ) (value : Tree) (b rest :
   pub spells : SpellsMember name (SpellsValue value) text
   pub within : depth value ≤ levels
 
--- what stands behind other white space, and a comma before that
+-- what stands after other white space, and a comma before that
 module _ (One More : List ℕ → Type 0) (first more : List ℕ)
     (one : (w : List ℕ) → IsBlank w → One (w ++ first)) (others : More more) where
   inner_spells : (w : List ℕ) → IsBlank w → (a b : List ℕ) × (w ++ (first ++ more) ≡ a ++ b) × One a × More b
@@ -74,33 +74,33 @@ module _ (One More : List ℕ → Type 0) (first more : List ℕ)
   comma_spells w blank =
       (w ++ first, more, ap (λ l. comma ∷ l) (sym (append_assoc w first more)), one w blank, others)
 
--- white space behind an item or a member, and then the mark that closes all, or a comma and what follows
-module _ (text b behind : List ℕ) (splits : b ≡ text ++ behind) where
+-- white space after an item or a member, and then the mark that closes all, or a comma and what follows
+module _ (text b beyond : List ℕ) (splits : b ≡ text ++ beyond) where
   abbrev white : List ℕ
-  white = (after_white-splits behind).white
+  white = (after_white-splits beyond).white
 
-  closed_splits : (mark : ℕ) (rest : List ℕ) → after_white behind ≡ mark ∷ rest
+  closed_splits : (mark : ℕ) (rest : List ℕ) → after_white beyond ≡ mark ∷ rest
       → b ≡ ((text ++ white) ++ []) ++ mark ∷ rest
-  closed_splits mark rest closes = splits ∙ (ap (λ l. text ++ l) ((after_white-splits behind).splits
+  closed_splits mark rest closes = splits ∙ (ap (λ l. text ++ l) ((after_white-splits beyond).splits
       ∙ ap (λ l. white ++ l) closes) ∙ simp (append_assoc, append-nil))
 
-  further_splits : (after inner rest : List ℕ) (mark : ℕ) → after_white behind ≡ comma ∷ after
+  further_splits : (after inner rest : List ℕ) (mark : ℕ) → after_white beyond ≡ comma ∷ after
       → after_white after ≡ inner ++ mark ∷ rest
       → b ≡ ((text ++ white) ++ comma ∷ ((after_white-splits after).white ++ inner)) ++ mark ∷ rest
-  further_splits after inner rest mark goes next = splits ∙ (ap (λ l. text ++ l) ((after_white-splits behind).splits
+  further_splits after inner rest mark goes next = splits ∙ (ap (λ l. text ++ l) ((after_white-splits beyond).splits
       ∙ ap (λ l. white ++ l) (goes ∙ ap (λ l. comma ∷ l) ((after_white-splits after).splits
       ∙ ap (λ l. (after_white-splits after).white ++ l) next))) ∙ simp append_assoc)
 
 -- the last item, white space, and the bracket
-pub items-last : (levels : ℕ) (value : Tree) (b behind rest : List ℕ) → Found levels value b behind
-    → after_white behind ≡ close_bracket ∷ rest → FoundItems levels (item value no_items) b rest
-items-last levels value b behind rest found closes =
-    let white = after_white-splits behind in
+pub items-last : (levels : ℕ) (value : Tree) (b beyond rest : List ℕ) → Found levels value b beyond
+    → after_white beyond ≡ close_bracket ∷ rest → FoundItems levels (item value no_items) b rest
+items-last levels value b beyond rest found closes =
+    let white = after_white-splits beyond in
     let spaced : (w : List ℕ) → IsBlank w → Spaced (SpellsValue value) (w ++ (found.text ++ white.white)) =
     λ w blank. (w, found.text, white.white, refl, blank, found.spells, white.blank) in
     record {
       inner = (found.text ++ white.white) ++ [];
-      splits = closed_splits found.text b behind found.splits close_bracket rest closes;
+      splits = closed_splits found.text b beyond found.splits close_bracket rest closes;
       spells = inner_spells (Spaced (SpellsValue value)) (SpellsMoreItems no_items) (found.text ++ white.white) [] spaced
           refl;
       more = comma_spells (Spaced (SpellsValue value)) (SpellsMoreItems no_items) (found.text ++ white.white) [] spaced
@@ -109,11 +109,11 @@ items-last levels value b behind rest found closes =
     }
 
 -- an item, white space, a comma, white space, and further items
-pub items-next : (levels : ℕ) (value : Tree) (others : ItemTrees) (b behind after rest : List ℕ)
-    → Found levels value b behind → after_white behind ≡ comma ∷ after
+pub items-next : (levels : ℕ) (value : Tree) (others : ItemTrees) (b beyond after rest : List ℕ)
+    → Found levels value b beyond → after_white beyond ≡ comma ∷ after
     → FoundItems levels others (after_white after) rest → FoundItems levels (item value others) b rest
-items-next levels value others b behind after rest found goes next =
-    let white = after_white-splits behind in
+items-next levels value others b beyond after rest found goes next =
+    let white = after_white-splits beyond in
     let then = after_white-splits after in
     let tail : List ℕ = comma ∷ (then.white ++ next.inner) in
     let spaced : (w : List ℕ) → IsBlank w → Spaced (SpellsValue value) (w ++ (found.text ++ white.white)) =
@@ -121,7 +121,7 @@ items-next levels value others b behind after rest found goes next =
     let further : SpellsMoreItems others tail = next.more then.white then.blank in
     record {
       inner = (found.text ++ white.white) ++ tail;
-      splits = further_splits found.text b behind found.splits after next.inner rest close_bracket goes next.splits;
+      splits = further_splits found.text b beyond found.splits after next.inner rest close_bracket goes next.splits;
       spells = inner_spells (Spaced (SpellsValue value)) (SpellsMoreItems others) (found.text ++ white.white) tail spaced
           further;
       more = comma_spells (Spaced (SpellsValue value)) (SpellsMoreItems others) (found.text ++ white.white) tail spaced
@@ -129,27 +129,27 @@ items-next levels value others b behind after rest found goes next =
       within = omega (arith, found.within, next.within);
     }
 
-pub members-last : (levels : ℕ) (name : List ℕ) (value : Tree) (b behind rest : List ℕ)
-    → FoundMember levels name value b behind → after_white behind ≡ close_brace ∷ rest
+pub members-last : (levels : ℕ) (name : List ℕ) (value : Tree) (b beyond rest : List ℕ)
+    → FoundMember levels name value b beyond → after_white beyond ≡ close_brace ∷ rest
     → FoundMembers levels (member name value no_members) b rest
-members-last levels name value b behind rest found closes =
-    let white = after_white-splits behind in
+members-last levels name value b beyond rest found closes =
+    let white = after_white-splits beyond in
     let One : List ℕ → Type 0 = SpellsMember name (SpellsValue value) in
     let spaced : (w : List ℕ) → IsBlank w → One (w ++ (found.text ++ white.white)) =
     λ w blank. member_wider name (SpellsValue value) w white.white found.text blank white.blank found.spells in
     record {
       inner = (found.text ++ white.white) ++ [];
-      splits = closed_splits found.text b behind found.splits close_brace rest closes;
+      splits = closed_splits found.text b beyond found.splits close_brace rest closes;
       spells = inner_spells One (SpellsMoreMembers no_members) (found.text ++ white.white) [] spaced refl;
       more = comma_spells One (SpellsMoreMembers no_members) (found.text ++ white.white) [] spaced refl;
       within = omega (arith, found.within);
     }
 
-pub members-next : (levels : ℕ) (name : List ℕ) (value : Tree) (others : MemberTrees) (b behind after rest : List ℕ)
-    → FoundMember levels name value b behind → after_white behind ≡ comma ∷ after
+pub members-next : (levels : ℕ) (name : List ℕ) (value : Tree) (others : MemberTrees) (b beyond after rest : List ℕ)
+    → FoundMember levels name value b beyond → after_white beyond ≡ comma ∷ after
     → FoundMembers levels others (after_white after) rest → FoundMembers levels (member name value others) b rest
-members-next levels name value others b behind after rest found goes next =
-    let white = after_white-splits behind in
+members-next levels name value others b beyond after rest found goes next =
+    let white = after_white-splits beyond in
     let then = after_white-splits after in
     let tail : List ℕ = comma ∷ (then.white ++ next.inner) in
     let One : List ℕ → Type 0 = SpellsMember name (SpellsValue value) in
@@ -158,19 +158,19 @@ members-next levels name value others b behind after rest found goes next =
     let further : SpellsMoreMembers others tail = next.more then.white then.blank in
     record {
       inner = (found.text ++ white.white) ++ tail;
-      splits = further_splits found.text b behind found.splits after next.inner rest close_brace goes next.splits;
+      splits = further_splits found.text b beyond found.splits after next.inner rest close_brace goes next.splits;
       spells = inner_spells One (SpellsMoreMembers others) (found.text ++ white.white) tail spaced further;
       more = comma_spells One (SpellsMoreMembers others) (found.text ++ white.white) tail spaced further;
       within = omega (arith, found.within, next.within);
     }
 
--- the items, by what stands behind the first
+-- the items, by what stands after the first
 items_after-sound : (levels : ℕ) (more : List ℕ → Option (ItemTrees × List ℕ))
     → ((b rest : List ℕ) (items : ItemTrees) → more b ≡ Some (items, rest) → FoundItems levels items b rest)
-    → (value : Tree) (b behind rest : List ℕ) (items : ItemTrees) (found : Mark) (after : List ℕ)
-    → Found levels value b behind → mark_at close_bracket (after_white behind) ≡ (found, after)
+    → (value : Tree) (b beyond rest : List ℕ) (items : ItemTrees) (found : AfterItem) (after : List ℕ)
+    → Found levels value b beyond → mark_at close_bracket (after_white beyond) ≡ (found, after)
     → items_after more value (found, after) ≡ Some (items, rest) → FoundItems levels items b rest
-items_after-sound levels more is_sound value b behind rest items mark.Comma after first marked read =
+items_after-sound levels more is_sound value b beyond rest items mark.Comma after first marked read =
     let step = bind_some (more (after_white after)) (λ others. Some (item value others.0, others.1)) (
       items,
       rest,
@@ -179,14 +179,14 @@ items_after-sound levels more is_sound value b behind rest items mark.Comma afte
     let next : FoundItems levels step.0.0 (after_white after) step.0.1 =
     is_sound (after_white after) step.0.1 step.0.0 step.1 in
     let all : FoundItems levels (item value step.0.0) b step.0.1 =
-    items-next levels value step.0.0 b behind after step.0.1 first
-    (mark_at-comma close_bracket (after_white behind) after marked) next in
+    items-next levels value step.0.0 b beyond after step.0.1 first
+    (mark_at-comma close_bracket (after_white beyond) after marked) next in
     subst (λ (p : ItemTrees × List ℕ). FoundItems levels p.0 b p.1) same all
-items_after-sound levels more is_sound value b behind rest items mark.Close after first marked read =
+items_after-sound levels more is_sound value b beyond rest items mark.Close after first marked read =
     subst (λ (p : ItemTrees × List ℕ). FoundItems levels p.0 b p.1)
     (same_Some (item value no_items, after) (items, rest) read)
-    (items-last levels value b behind after first (mark_at-close close_bracket (after_white behind) after marked))
-items_after-sound levels more is_sound value b behind rest items mark.Neither after first marked read =
+    (items-last levels value b beyond after first (mark_at-close close_bracket (after_white beyond) after marked))
+items_after-sound levels more is_sound value b beyond rest items mark.Neither after first marked read =
     absurd (none-some (items, rest) read)
 
 pub items_at-sound : (levels : ℕ) (read : Reader) → IsSound levels read → (n : ℕ) (b rest : List ℕ) (items : ItemTrees)

@@ -12,7 +12,7 @@ use Rattle.city_json.specs.Strings.{letter_meaning, IsUnescaped, StandsFor, Spel
 use Rattle.city_json.specs.ReadString.{is_plain, escape_at, prepend, decoded, checked, string_at}
 use Rattle.city_json.proofs.ReadString.{checked-some, string_at-some, then_some, IsEscape, escape_tail, and_then_cases, map_cases, escape_at-sound, escape_at-complete, decoded-cons, decoded-nil, decoded-quote, decoded-escape, decoded-run}
 
--- a byte of a character behind its first
+-- a byte of a character after its first
 abbrev IsContinuation : ℕ → Type 0
 IsContinuation b = (128 ≤ b) × (b < 192)
 
@@ -100,12 +100,12 @@ decoded-piece : (piece rest : List ℕ) (c : ℕ) → StandsFor piece c
 decoded-piece piece rest c (inl itself) = ap (λ p. decoded (p ++ rest)) itself.1
     ∙ decoded-run (encode_utf8 c) rest (plain_encode c itself.0)
 decoded-piece piece rest c (inr escape) =
-    let behind = escape_tail piece c escape in
-    ap (λ p. decoded (p ++ rest)) behind.1
-    ∙ decoded-escape (behind.0 ++ rest) (
+    let beyond = escape_tail piece c escape in
+    ap (λ p. decoded (p ++ rest)) beyond.1
+    ∙ decoded-escape (beyond.0 ++ rest) (
       c,
       rest,
-    ) (escape_at-complete behind.0 rest c (subst (λ p. IsEscape p c) behind.1 escape))
+    ) (escape_at-complete beyond.0 rest c (subst (λ p. IsEscape p c) beyond.1 escape))
 
 one_meaning : (t : Bool) (x c : ℕ) (others : Option ℕ) → IsScalar x → (others ≡ Some c → IsScalar c)
     → cond t (Some x) others ≡ Some c → IsScalar c
@@ -333,7 +333,7 @@ string_at-parts bytes text rest h =
           ∙ ap (λ (r : List ℕ × List ℕ). Some r) fits.1,
     )
 
--- what was read as a text is a string that spells it, and what was left stands behind that
+-- what was read as a text is a string that spells it, and what was left stands after that
 pub string_at-sound : (bytes text rest : List ℕ) → string_at bytes ≡ Some (text, rest)
     → (consumed : List ℕ) × (bytes ≡ consumed ++ rest) × SpellsString text (quotation_mark ∷ consumed)
 string_at-sound bytes text rest h =

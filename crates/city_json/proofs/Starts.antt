@@ -14,9 +14,9 @@ by_first-first : (read : Start → List ℕ → Option (Tree × List ℕ)) (byte
     → Some first ≡ slice_get bytes 0 → kind ≡ start_of first → by_first read bytes ≡ read kind bytes
 by_first-first read bytes first kind is starts = rw (begins bytes first is, starts) refl
 
-behind_first : (bytes : List ℕ) → take (length bytes - 1) (drop 1 bytes) ≡ drop 1 bytes
-behind_first [] = refl
-behind_first (b ∷ bytes) = take_all (length (b ∷ bytes) - 1) bytes (omega arith)
+after_the_first : (bytes : List ℕ) → take (length bytes - 1) (drop 1 bytes) ≡ drop 1 bytes
+after_the_first [] = refl
+after_the_first (b ∷ bytes) = take_all (length (b ∷ bytes) - 1) bytes (omega arith)
 
 value_from-scalar : (inner : List ℕ → Option (Tree × List ℕ)) (kind : Start) (bytes : List ℕ) → (kind ≡ start.List → ⊥)
     → (kind ≡ start.Map → ⊥) → value_from inner kind bytes ≡ scalar_at kind bytes
@@ -49,11 +49,11 @@ module _ (levels : ℕ) (bytes : List ℕ) (first : ℕ) (kind : Start) (is : So
 
   pub value_at-array : kind ≡ start.List
       → array_at (value_at (levels - 1)) (take (length bytes - 1) (drop 1 bytes)) ≡ value_at levels bytes
-  value_at-array list = rw (behind_first bytes, value_at-kind, list) refl
+  value_at-array list = rw (after_the_first bytes, value_at-kind, list) refl
 
   pub value_at-object : kind ≡ start.Map
       → object_at (value_at (levels - 1)) (take (length bytes - 1) (drop 1 bytes)) ≡ value_at levels bytes
-  value_at-object map = rw (behind_first bytes, value_at-kind, map) refl
+  value_at-object map = rw (after_the_first bytes, value_at-kind, map) refl
 
   pub value_at-scalar : (kind ≡ start.List → ⊥) → (kind ≡ start.Map → ⊥) → scalar_at kind bytes ≡ value_at levels bytes
   value_at-scalar list map = sym (value_at-kind ∙ value_from-scalar (value_at (levels - 1)) kind bytes list map)

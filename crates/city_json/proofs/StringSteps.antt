@@ -19,11 +19,11 @@ at_end bytes at e h =
     ∙ ap (λ k. get_or bytes at 0 ∷ drop k bytes) next)
 
 -- `&bytes[at + 1..]`
-abbrev behind : List ℕ → ℕ → List ℕ
-behind bytes at = take (length bytes - (at + 1)) (drop (at + 1) bytes)
+abbrev beyond : List ℕ → ℕ → List ℕ
+beyond bytes at = take (length bytes - (at + 1)) (drop (at + 1) bytes)
 
-behind-drop : (bytes : List ℕ) (at : ℕ) → behind bytes at ≡ drop (at + 1) bytes
-behind-drop bytes at = take_all (length bytes - (at + 1)) (drop (at + 1) bytes)
+after-drop : (bytes : List ℕ) (at : ℕ) → beyond bytes at ≡ drop (at + 1) bytes
+after-drop bytes at = take_all (length bytes - (at + 1)) (drop (at + 1) bytes)
     (omega (arith, length-drop (at + 1) bytes))
 
 pub run_closes : (bytes : List ℕ) (at : ℕ) → at ≡ prefix_len is_plain bytes → at < length bytes
@@ -33,7 +33,7 @@ run_closes bytes at e h is =
     at_end bytes at e h ∙ ap (λ b. prepend (take at bytes) (decoded (b ∷ drop (at + 1) bytes))) is
     ∙ ap (prepend (take at bytes)) (decoded-quote (drop (at + 1) bytes))
     ∙ ap (λ t. Some (t, drop (at + 1) bytes)) (append-nil (take at bytes))
-    ∙ ap (λ r. Some (take at bytes, r)) (sym (behind-drop bytes at))
+    ∙ ap (λ r. Some (take at bytes, r)) (sym (after-drop bytes at))
 
 pub run_escapes : (bytes : List ℕ) (at : ℕ) → at ≡ prefix_len is_plain bytes → at < length bytes
     → get_or bytes at 0 ≡ backslash
@@ -42,8 +42,8 @@ pub run_escapes : (bytes : List ℕ) (at : ℕ) → at ≡ prefix_len is_plain b
     × (length (take (length bytes - (at + 1)) (drop (at + 1) bytes)) < length bytes)
 run_escapes bytes at e h is = (
   at_end bytes at e h ∙ ap (λ b. prepend (take at bytes) (decoded (b ∷ drop (at + 1) bytes))) is
-      ∙ ap (λ r. prepend (take at bytes) (decoded (backslash ∷ r))) (sym (behind-drop bytes at)),
-  omega (arith, ap length (behind-drop bytes at), length-drop (at + 1) bytes),
+      ∙ ap (λ r. prepend (take at bytes) (decoded (backslash ∷ r))) (sym (after-drop bytes at)),
+  omega (arith, ap length (after-drop bytes at), length-drop (at + 1) bytes),
 )
 
 pub run_breaks : (bytes : List ℕ) (at : ℕ) → at ≡ prefix_len is_plain bytes → at < length bytes
@@ -63,18 +63,18 @@ run_ends bytes e =
 pub ruleset runs = (run_closes, run_escapes, run_breaks, run_ends)
 
 -- one escape more
-pub escape_more : (bytes text rest run behind after shown text₁ text₂ : List ℕ) (c : ℕ)
-    → decoded bytes ≡ prepend text (decoded rest) → decoded rest ≡ prepend run (decoded (backslash ∷ behind))
-    → escape_at behind ≡ Some (c, after) → text₁ ≡ text ++ run → shown ≡ encode_utf8 c → text₂ ≡ text₁ ++ shown
+pub escape_more : (bytes text rest run beyond after shown text₁ text₂ : List ℕ) (c : ℕ)
+    → decoded bytes ≡ prepend text (decoded rest) → decoded rest ≡ prepend run (decoded (backslash ∷ beyond))
+    → escape_at beyond ≡ Some (c, after) → text₁ ≡ text ++ run → shown ≡ encode_utf8 c → text₂ ≡ text₁ ++ shown
     → decoded bytes ≡ prepend text₂ (decoded after)
-escape_more bytes text rest run behind after shown text₁ text₂ c so_far found escape is₁ is is₂ =
-    so_far ∙ ap (prepend text) (found ∙ ap (prepend run) (decoded-escape behind (c, after) escape))
+escape_more bytes text rest run beyond after shown text₁ text₂ c so_far found escape is₁ is is₂ =
+    so_far ∙ ap (prepend text) (found ∙ ap (prepend run) (decoded-escape beyond (c, after) escape))
     ∙ prepend-prepend text run _ ∙ prepend-prepend (text ++ run) (encode_utf8 c) _
     ∙ ap (λ t. prepend t (decoded after)) (ap (λ t. (text ++ run) ++ t) (sym is) ∙ ap (λ t. t ++ shown) (sym is₁)
     ∙ sym is₂)
 
-pub escape_shortens : (rest behind after : List ℕ) (c : ℕ) → length behind < length rest
-    → escape_at behind ≡ Some (c, after) → length after < length rest
-escape_shortens rest behind after c h escape = let le = escape_at-shorter behind (c, after) escape in omega arith
+pub escape_shortens : (rest beyond after : List ℕ) (c : ℕ) → length beyond < length rest
+    → escape_at beyond ≡ Some (c, after) → length after < length rest
+escape_shortens rest beyond after c h escape = let le = escape_at-shorter beyond (c, after) escape in omega arith
 
 pub ruleset escapes = (decoded-bad_escape, escape_shortens, escape_more)

@@ -1,5 +1,5 @@
 -- Whether names differ, as it is told, and whether they do.
-use Rattle.std.proofs.Common.{◌≡◌, ◌↔◌, ◌&&◌, ◌++◌, ◌∙◌, ℕ, Bool, true, false, List, [], ◌∷◌, Option, Some, None, Result, Ok, Err, Bor, codes, option_and_then, length, drop, if◌then◌else◌, refl, sym, ap, not}
+use Rattle.std.proofs.Common.{◌≡◌, ◌↔◌, ◌&&◌, ◌++◌, ◌<◌, ◌∙◌, ℕ, Bool, true, false, List, [], ◌∷◌, Option, Some, None, Result, Ok, Err, Bor, codes, option_and_then, length, drop, if◌then◌else◌, refl, sym, ap, arith, not}
 use Rattle.std.proofs.lemmas.Bool.{false≢true}
 use Rattle.std.proofs.lemmas.List.{append_assoc}
 use Rattle.std.proofs.lemmas.Slice.Eq.{bytes_eq-Decides}
@@ -70,6 +70,12 @@ members_of (name ∷ others) = member name null (members_of others)
 names-members_of : (listed : List (List ℕ)) → names (members_of listed) ≡ listed
 names-members_of [] = refl
 names-members_of (name ∷ others) = ap (λ l. name ∷ l) (names-members_of others)
+
+-- a single name differs from all others
+pub one_apart : (listed : List (List ℕ)) → length listed < 2 → are_apart listed ≡ true
+one_apart [] few = refl
+one_apart (name ∷ []) few = refl
+one_apart (name ∷ (other ∷ others)) few = absurd (omega (arith, few))
 
 -- whoever tells whether the names of members differ tells whether the names do
 pub apart_as_members : (listed : List (List ℕ)) (answer : Bool)

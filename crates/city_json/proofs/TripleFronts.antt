@@ -94,10 +94,10 @@ earlier bytes i r mark order is closing other = elim (cases_lt i r) [
 ]
 
 -- where a third number ends before a place
-behind_last : (third after q : ℕ) → IsAfter third after → q < 64 → HasBit after q
+after_last : (third after q : ℕ) → IsAfter third after → q < 64 → HasBit after q
     → (r : ℕ) × (q ≡ r + 1) × HasBit third r
-behind_last third after zero is within has = absurd (omega (arith, is.0, has))
-behind_last third after (suc r) is within has =
+after_last third after zero is within has = absurd (omega (arith, is.0, has))
+after_last third after (suc r) is within has =
     let e : suc r ≡ r + 1 = omega arith in (r, e, sym (is.1 r (omega arith)) ∙ ap (bit_at after) (sym e) ∙ has)
 
 -- the triple that begins at a place, before a closing bracket
@@ -150,13 +150,13 @@ module _ (bytes : List ℕ) (long : length bytes ≡ 64) (digits zeros minuses c
         let begins : HasBit starts i =
         omega (arith, inner_is i, has, other, bit_at-lt minuses i, bit_at-lt starts i) in
         let is = has_kind (λ b. b == minus) bytes minuses i kinds.minus_sign sign in
-        let before = behind i (omega (arith, is.0, long)) begins in
+        let before = beyond i (omega (arith, is.0, long)) begins in
         inr (eqb-true _ minus is.1, before.0, before.1)
   ]
     where
-      behind : (i : ℕ) → i < 64 → HasBit starts i → (0 < i) × (is_separator (get_or bytes (i - 1) 0) ≡ true)
-      behind zero low begins = absurd (omega (arith, starts_are.0, begins))
-      behind (suc i) low begins =
+      beyond : (i : ℕ) → i < 64 → HasBit starts i → (0 < i) × (is_separator (get_or bytes (i - 1) 0) ≡ true)
+      beyond zero low begins = absurd (omega (arith, starts_are.0, begins))
+      beyond (suc i) low begins =
           let e : suc i ≡ i + 1 = omega arith in
           let back : suc i - 1 ≡ i = omega arith in (
             omega arith,
@@ -372,14 +372,14 @@ module _ (bytes : List ℕ) (long : length bytes ≡ 64) (digits zeros minuses c
     pub up_to_close : HasBit (bit_and after closes) at → ClosesTriples (take (at + 1) bytes)
     up_to_close has =
         let both = both_bits after closes at has in
-        let last = behind_last third after at is_after inside both.0 in
+        let last = after_last third after at is_after inside both.0 in
         closes_front first second third at inside next_first next_second next_third ends_to numbers_to last.0 last.1
         last.2 both.1
 
     pub up_to_comma : HasBit (bit_and after commas) at → PassesTriples (take (at + 1) bytes)
     up_to_comma has =
         let both = both_bits after commas at has in
-        let last = behind_last third after at is_after inside both.0 in
+        let last = after_last third after at is_after inside both.0 in
         goes_on_front first second third at inside next_first next_second next_third ends_to numbers_to last.0 last.1
         last.2 both.1
 

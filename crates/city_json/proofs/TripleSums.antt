@@ -191,14 +191,14 @@ highest n some fits =
     div_one n p least most = div-eq_of_lt-le {k = 1} p (omega arith) (omega arith)
 
 -- ---- what may stand at a place
-pub ends_fit : (commas opens closes first second third after later behind no_comma no_close no_more no_front : ℕ)
-    → IsAfter third after → IsAfter after later → IsAfter commas behind
+pub ends_fit : (commas opens closes first second third after later beyond no_comma no_close no_more no_front : ℕ)
+    → IsAfter third after → IsAfter after later → IsAfter commas beyond
     → AreWithout (bit_or first second) commas no_comma → AreWithout third closes no_close
-    → AreWithout later (bit_and behind opens) no_more → AreWithout 1 opens no_front
+    → AreWithout later (bit_and beyond opens) no_more → AreWithout 1 opens no_front
     → (i : ℕ) → i < 64 → HasNoBit (bit_or (bit_or (bit_or no_comma no_close) no_more) no_front) i
     → DoEndsFit commas opens closes first second third i
-ends_fit commas opens closes first second third after later behind no_comma no_close no_more no_front is_after is_later
-    is_behind plain shut lone front i low none =
+ends_fit commas opens closes first second third after later beyond no_comma no_close no_more no_front is_after is_later
+    is_past plain shut lone front i low none =
     let a = no_bits (bit_or (bit_or no_comma no_close) no_more) no_front i none in
     let b = no_bits (bit_or no_comma no_close) no_more i a.0 in
     let d = no_bits no_comma no_close i b.0 in
@@ -211,10 +211,10 @@ ends_fit commas opens closes first second third after later behind no_comma no_c
           let e : j + 2 ≡ j + 1 + 1 = omega arith in
           let two : HasBit later (j + 1 + 1) = is_later.1 (j + 1) (omega arith) ∙ is_after.1 j (omega arith) ∙ has in
           let here : HasBit later i = ap (bit_at later) (is ∙ e) ∙ two in
-          let opens_more : HasBit (bit_and behind opens) i =
-          omega (arith, lone i low, b.1, here, bit_at-lt (bit_and behind opens) i) in
-          let parts = both_bits behind opens i opens_more in
-          (parts.1, sym (is_behind.1 (j + 1) (omega arith)) ∙ ap (bit_at behind) (sym (is ∙ e)) ∙ parts.0);
+          let opens_more : HasBit (bit_and beyond opens) i =
+          omega (arith, lone i low, b.1, here, bit_at-lt (bit_and beyond opens) i) in
+          let parts = both_bits beyond opens i opens_more in
+          (parts.1, sym (is_past.1 (j + 1) (omega arith)) ∙ ap (bit_at beyond) (sym (is ∙ e)) ∙ parts.0);
     }
 
 pub numbers_fit : (digits zeros minuses opens inner starts after_minus whole empty bare after_zero runs : ℕ)

@@ -23,7 +23,7 @@ use Rattle.city_json.specs.Compact.{compact_items}
 use Rattle.city_json.specs.Whole.{at_start, Closes, is_place, is_wrong, begins_zero, stage_of, up, down, AreFine, StaysOpen, ups, downs, last_of, zeroed_by, IsItemsText}
 use Rattle.city_json.proofs.Places.{shown_more, slice_more, slice_one}
 use Rattle.city_json.proofs.WholeBytes.{Closes-at, and_false, byte_step, no_mark}
-use Rattle.city_json.proofs.WholeMasks.{block_step, is_close, is_open, no_mark_first, one_at_most}
+use Rattle.city_json.proofs.WholeMasks.{block_step, is_close_bracket, is_open, no_mark_first, one_at_most}
 
 -- ---- open arrays through a block
 mask_l-none : (p : ℕ → Bool) (cs : List ℕ) (c : ℕ) → mask_l (map p (c ∷ cs)) ≡ 0 → (p c ≡ false)
@@ -31,35 +31,35 @@ mask_l-none : (p : ℕ → Bool) (cs : List ℕ) (c : ℕ) → mask_l (map p (c 
 mask_l-none p cs c none = no_mark_first (p c) (mask_l (map p cs)) none
 
 -- no closing bracket is left
-pub stays_none : (d : ℕ) (bs : List ℕ) → 0 < d → mask_l (map is_close bs) ≡ 0 → StaysOpen d bs
+pub stays_none : (d : ℕ) (bs : List ℕ) → 0 < d → mask_l (map is_close_bracket bs) ≡ 0 → StaysOpen d bs
 stays_none d [] some none = some
 stays_none d (c ∷ cs) some none =
-    let here = mask_l-none is_close cs c none in
-    let down_none : down c ≡ 0 = cond-false (is_close c) 1 0 here.0 in
+    let here = mask_l-none is_close_bracket cs c none in
+    let down_none : down c ≡ 0 = cond-false (is_close_bracket c) 1 0 here.0 in
     (some, stays_none (d + up c - down c) cs (omega (arith, down_none)) here.1)
 
 -- up to the first closing bracket
-pub stays_first : (d n : ℕ) (bs : List ℕ) → 0 < d → n ≡ prefix_len (λ b. not (is_close b)) bs → n < length bs
+pub stays_first : (d n : ℕ) (bs : List ℕ) → 0 < d → n ≡ prefix_len (λ b. not (is_close_bracket b)) bs → n < length bs
     → StaysOpen (d + count_by is_open (take n bs) - 1) (drop (n + 1) bs) → StaysOpen d bs
 stays_first d n [] some first within given = absurd (omega arith)
-stays_first d zero (c ∷ cs) some first within given = elim (cases_Bool (is_close c)) [
+stays_first d zero (c ∷ cs) some first within given = elim (cases_Bool (is_close_bracket c)) [
   | inl closing ↦
       let is : c ≡ close_bracket = eqb-true c close_bracket closing in (
         some,
         subst (λ x. StaysOpen (d + up x - down x) cs) (sym is)
             (subst (λ x. StaysOpen x cs) (let e : d + 0 - 1 ≡ d + 0 - 1 = refl in e) given),
       )
-  | inr clear ↦ absurd (let e : prefix_len (λ b. not (is_close b)) (c ∷ cs) ≡ 1
-      + prefix_len (λ b. not (is_close b)) cs = cond-true (not (is_close c)) _ _ (ap not clear) in
+  | inr clear ↦ absurd (let e : prefix_len (λ b. not (is_close_bracket b)) (c ∷ cs) ≡ 1
+      + prefix_len (λ b. not (is_close_bracket b)) cs = cond-true (not (is_close_bracket c)) _ _ (ap not clear) in
       omega (arith, first, e))
 ]
-stays_first d (suc n) (c ∷ cs) some first within given = elim (cases_Bool (is_close c)) [
-  | inl closing ↦ absurd (let e : prefix_len (λ b. not (is_close b)) (c ∷ cs) ≡ 0 =
-      cond-false (not (is_close c)) _ _ (ap not closing) in omega (arith, first, e))
+stays_first d (suc n) (c ∷ cs) some first within given = elim (cases_Bool (is_close_bracket c)) [
+  | inl closing ↦ absurd (let e : prefix_len (λ b. not (is_close_bracket b)) (c ∷ cs) ≡ 0 =
+      cond-false (not (is_close_bracket c)) _ _ (ap not closing) in omega (arith, first, e))
   | inr clear ↦
-      let e : prefix_len (λ b. not (is_close b)) (c ∷ cs) ≡ 1 + prefix_len (λ b. not (is_close b)) cs =
-      cond-true (not (is_close c)) _ _ (ap not clear) in
-      let none : down c ≡ 0 = cond-false (is_close c) 1 0 clear in
+      let e : prefix_len (λ b. not (is_close_bracket b)) (c ∷ cs) ≡ 1 + prefix_len (λ b. not (is_close_bracket b)) cs =
+      cond-true (not (is_close_bracket c)) _ _ (ap not clear) in
+      let none : down c ≡ 0 = cond-false (is_close_bracket c) 1 0 clear in
       let count : count_by is_open (c ∷ take n cs) ≡ up c + count_by is_open (take n cs) =
       sum_by-cons (λ x. cond (is_open x) 1 0) c (take n cs) in
       let same : d + count_by is_open (c ∷ take n cs) - 1 ≡ (d + up c - down c) + count_by is_open (take n cs) - 1 =
@@ -93,46 +93,46 @@ mask_l-drop (suc n) (m ∷ ms) =
     ∙ sym (shr-shr (cond m 1 0 + 2 * mask_l ms) 1 n) ∙ ap (λ x. x / 2 ^ n) (half_mask m (mask_l ms)))
     ∙ mask_l-drop n ms ∙ ap (λ k. mask_l (drop k (m ∷ ms))) (sym next)
 
-pub marks_behind : (f : ℕ → Bool) (n : ℕ) (bs : List ℕ) (mask : ℕ) → mask ≡ mask_l (map f bs)
+pub marks_after : (f : ℕ → Bool) (n : ℕ) (bs : List ℕ) (mask : ℕ) → mask ≡ mask_l (map f bs)
     → mask / 2 ^ n / 2 ≡ mask_l (map f (drop (n + 1) bs))
-marks_behind f n bs mask is = ap (λ x. x / 2 ^ n / 2) is ∙ mask_l-drop n (map f bs)
+marks_after f n bs mask is = ap (λ x. x / 2 ^ n / 2) is ∙ mask_l-drop n (map f bs)
     ∙ ap mask_l (drop-map f (n + 1) bs)
 
--- one round: the place of the first closing bracket, and what is left behind it
+-- one round: the place of the first closing bracket, and what is left after it
 pub round_goes : (d up_bits down_bits place : ℕ) (rest : List ℕ) → 0 < d → 0 < down_bits → length rest ≤ 64
-    → up_bits ≡ mask_l (map is_open rest) → down_bits ≡ mask_l (map is_close rest)
+    → up_bits ≡ mask_l (map is_open rest) → down_bits ≡ mask_l (map is_close_bracket rest)
     → place ≡ count_trailing_zeros 64 down_bits
-    → (behind : List ℕ) × (length behind ≤ 64) × (up_bits / 2 ^ place / 2 ≡ mask_l (map is_open behind))
-    × (down_bits / 2 ^ place / 2 ≡ mask_l (map is_close behind))
-    × (StaysOpen (d + ones (up_bits % 2 ^ place) - 1) behind → StaysOpen d rest)
+    → (beyond : List ℕ) × (length beyond ≤ 64) × (up_bits / 2 ^ place / 2 ≡ mask_l (map is_open beyond))
+    × (down_bits / 2 ^ place / 2 ≡ mask_l (map is_close_bracket beyond))
+    × (StaysOpen (d + ones (up_bits % 2 ^ place) - 1) beyond → StaysOpen d rest)
 round_goes d up_bits down_bits place rest some closing short is_up is_down first =
-    let at_place : place ≡ prefix_len (λ b. not (is_close b)) rest = first ∙ ap (count_trailing_zeros 64) is_down
-    ∙ trailing_mask_l is_close 64 rest short (omega (arith, is_down, closing)) in
+    let at_place : place ≡ prefix_len (λ b. not (is_close_bracket b)) rest = first ∙ ap (count_trailing_zeros 64) is_down
+    ∙ trailing_mask_l is_close_bracket 64 rest short (omega (arith, is_down, closing)) in
     let within : place < length rest = below_end rest (omega (arith, is_down, closing)) at_place in
     let count : ones (up_bits % 2 ^ place) ≡ count_by is_open (take place rest) = ap (λ x. ones (x % 2 ^ place)) is_up
     ∙ ap ones (mask_l-take place (map is_open rest) ∙ ap mask_l (take-map is_open place rest))
     ∙ ones-mask_l is_open (take place rest) in (
       drop (place + 1) rest,
       omega (arith, length-drop (place + 1) rest, short),
-      marks_behind is_open place rest up_bits is_up,
-      marks_behind is_close place rest down_bits is_down,
+      marks_after is_open place rest up_bits is_up,
+      marks_after is_close_bracket place rest down_bits is_down,
       λ given. stays_first d place rest some at_place within
           (subst (λ x. StaysOpen (d + x - 1) (drop (place + 1) rest)) count given),
     )
   where
-    below_end : (bs : List ℕ) → 0 < mask_l (map is_close bs) → place ≡ prefix_len (λ b. not (is_close b)) bs
+    below_end : (bs : List ℕ) → 0 < mask_l (map is_close_bracket bs) → place ≡ prefix_len (λ b. not (is_close_bracket b)) bs
         → place < length bs
     below_end bs some is = omega (arith, is, prefix_below bs some)
       where
-        prefix_below : (bs : List ℕ) → 0 < mask_l (map is_close bs) → prefix_len (λ b. not (is_close b)) bs < length bs
+        prefix_below : (bs : List ℕ) → 0 < mask_l (map is_close_bracket bs) → prefix_len (λ b. not (is_close_bracket b)) bs < length bs
         prefix_below [] some = absurd (omega arith)
-        prefix_below (b ∷ bs) some = elim (cases_Bool (is_close b)) [
-          | inl closing ↦ (let e : prefix_len (λ b. not (is_close b)) (b ∷ bs) ≡ 0 =
-              cond-false (not (is_close b)) _ _ (ap not closing) in omega (arith, e))
+        prefix_below (b ∷ bs) some = elim (cases_Bool (is_close_bracket b)) [
+          | inl closing ↦ (let e : prefix_len (λ b. not (is_close_bracket b)) (b ∷ bs) ≡ 0 =
+              cond-false (not (is_close_bracket b)) _ _ (ap not closing) in omega (arith, e))
           | inr clear ↦
-              let e : prefix_len (λ b. not (is_close b)) (b ∷ bs) ≡ 1 + prefix_len (λ b. not (is_close b)) bs =
-              cond-true (not (is_close b)) _ _ (ap not clear) in
-              let none : ◌≡◌ {A = ℕ} (cond (is_close b) 1 0) 0 = cond-false (is_close b) 1 0 clear in
+              let e : prefix_len (λ b. not (is_close_bracket b)) (b ∷ bs) ≡ 1 + prefix_len (λ b. not (is_close_bracket b)) bs =
+              cond-true (not (is_close_bracket b)) _ _ (ap not clear) in
+              let none : ◌≡◌ {A = ℕ} (cond (is_close_bracket b) 1 0) 0 = cond-false (is_close_bracket b) 1 0 clear in
               omega (arith, e, prefix_below bs (omega (arith, none, some)))
         ]
 
@@ -144,16 +144,16 @@ pub count-ups : (bs : List ℕ) → count_by is_open bs ≡ ups bs
 count-ups [] = refl
 count-ups (c ∷ cs) = sum_by-cons (λ x. cond (is_open x) 1 0) c cs ∙ ap (λ n. up c + n) (count-ups cs)
 
-pub count-downs : (bs : List ℕ) → count_by is_close bs ≡ downs bs
+pub count-downs : (bs : List ℕ) → count_by is_close_bracket bs ≡ downs bs
 count-downs [] = refl
-count-downs (c ∷ cs) = sum_by-cons (λ x. cond (is_close x) 1 0) c cs ∙ ap (λ n. down c + n) (count-downs cs)
+count-downs (c ∷ cs) = sum_by-cons (λ x. cond (is_close_bracket x) 1 0) c cs ∙ ap (λ n. down c + n) (count-downs cs)
 
 -- as many as a mask has bits
 pub opens_of : (bs : List ℕ) (opens : ℕ) → opens ≡ mask_l (map is_open bs) → ones opens ≡ ups bs
 opens_of bs opens is = ap ones is ∙ ones-mask_l is_open bs ∙ count-ups bs
 
-pub closes_of : (bs : List ℕ) (closes : ℕ) → closes ≡ mask_l (map is_close bs) → ones closes ≡ downs bs
-closes_of bs closes is = ap ones is ∙ ones-mask_l is_close bs ∙ count-downs bs
+pub closes_of : (bs : List ℕ) (closes : ℕ) → closes ≡ mask_l (map is_close_bracket bs) → ones closes ≡ downs bs
+closes_of bs closes is = ap ones is ∙ ones-mask_l is_close_bracket bs ∙ count-downs bs
 
 pub stays_positive : (d : ℕ) (bs : List ℕ) → StaysOpen d bs → downs bs < d + ups bs
 stays_positive d [] deep = omega (arith, deep)
@@ -189,7 +189,7 @@ module _ (text : List ℕ) (at : ℕ) (within : at + 64 ≤ length text) where
       ∙ last_place (get_or text (at - 1) 0) z (chunk at 64 text) place fine
 
   module _ (d opens closes : ℕ) (is_up : opens ≡ mask_l (map is_open (chunk at 64 text)))
-      (is_down : closes ≡ mask_l (map is_close (chunk at 64 text))) (deep : StaysOpen d (chunk at 64 text)) where
+      (is_down : closes ≡ mask_l (map is_close_bracket (chunk at 64 text))) (deep : StaysOpen d (chunk at 64 text)) where
     opens_are : ones opens ≡ ups (chunk at 64 text)
     opens_are = opens_of (chunk at 64 text) opens is_up
 

@@ -147,10 +147,10 @@ module _ (levels : ℕ) (text : List ℕ) (Outer : List ℕ → Type 0) where
       → Inside levels after_comma (c ∷ text) Outer
   digit_comma c low high i = first_digit c low high i after_comma (λ value others inner is. is)
 
-  opened : (inner rest more behind : List ℕ) → rest ≡ more ++ close_bracket ∷ behind
+  opened : (inner rest more beyond : List ℕ) → rest ≡ more ++ close_bracket ∷ beyond
       → open_bracket ∷ (inner ++ close_bracket ∷ rest) ≡ (open_bracket ∷ inner ++ close_bracket ∷ more) ++ close_bracket
-      ∷ behind
-  opened inner rest more behind is = rw is (simp append_assoc)
+      ∷ beyond
+  opened inner rest more beyond is = rw is (simp append_assoc)
 
   opened_items : (inner more : List ℕ)
       → open_bracket ∷ (inner ++ close_bracket ∷ more) ≡ (open_bracket ∷ inner ++ close_bracket ∷ []) ++ more

@@ -46,8 +46,8 @@ is_comma c = c == comma
 abbrev pub is_open : ℕ → Bool
 is_open c = c == open_bracket
 
-abbrev pub is_close : ℕ → Bool
-is_close c = c == close_bracket
+abbrev pub is_close_bracket : ℕ → Bool
+is_close_bracket c = c == close_bracket
 
 abbrev pub begins_item : ℕ → Bool
 begins_item c = (c == open_bracket) || (c == comma)
@@ -63,8 +63,8 @@ no_wrong o m k n c_comma c_digit c_open c_close a b c d = λ i. a i || (b i || (
 pub fine_from_masks : (p : ℕ) (z : Bool) (bs : List ℕ)
     → mask_l (map is_place bs) ≡ 2 ^ length bs - 1
     → mask_l (both (lag (is_open p) (map is_open bs)) (map is_comma bs)) ≡ 0
-    → mask_l (both (lag (is_close p) (map is_close bs)) (map (λ c. is_ascii_digit c || is_open c) bs)) ≡ 0
-    → mask_l (both (lag (is_comma p) (map is_comma bs)) (map (λ c. is_comma c || is_close c) bs)) ≡ 0
+    → mask_l (both (lag (is_close_bracket p) (map is_close_bracket bs)) (map (λ c. is_ascii_digit c || is_open c) bs)) ≡ 0
+    → mask_l (both (lag (is_comma p) (map is_comma bs)) (map (λ c. is_comma c || is_close_bracket c) bs)) ≡ 0
     → mask_l (both (lag (is_ascii_digit p) (map is_ascii_digit bs)) (map is_open bs)) ≡ 0
     → mask_l (both (lag z (vains p bs)) (map is_ascii_digit bs)) ≡ 0
     → AreFine p z bs
@@ -78,8 +78,8 @@ fine_from_masks p z (c ∷ cs) places open_comma close_digit comma_comma digit_o
     let f = no_mark_first _ _ digit_open in
     let g = no_mark_first _ _ late in (
       a.0,
-      no_wrong (is_open p) (is_comma p) (is_close p) (is_ascii_digit p) (is_comma c) (is_ascii_digit c) (is_open c)
-          (is_close c) b.0 d.0 e.0 f.0,
+      no_wrong (is_open p) (is_comma p) (is_close_bracket p) (is_ascii_digit p) (is_comma c) (is_ascii_digit c) (is_open c)
+          (is_close_bracket c) b.0 d.0 e.0 f.0,
       g.0,
       fine_from_masks c (begins_zero p c) cs a.1 b.1 d.1 e.1 f.1 g.1,
     )
@@ -175,13 +175,13 @@ length-vains p (c ∷ cs) = ap suc (length-vains c cs)
 module _ (p : ℕ) (z : Bool) (bs : List ℕ) (long : length bs ≡ 64)
     (digits commas opens closes zeros after_item after_open after_close after_comma after_digit after_vain : ℕ)
     (d : digits ≡ mask_l (map is_ascii_digit bs)) (m : commas ≡ mask_l (map is_comma bs))
-    (o : opens ≡ mask_l (map is_open bs)) (k : closes ≡ mask_l (map is_close bs))
+    (o : opens ≡ mask_l (map is_open bs)) (k : closes ≡ mask_l (map is_close_bracket bs))
     (n : zeros ≡ mask_l (map is_zero bs))
-    (items_behind : (marks : List Bool) → length marks ≡ 64 → bit_or opens commas ≡ mask_l marks
+    (items_beyond : (marks : List Bool) → length marks ≡ 64 → bit_or opens commas ≡ mask_l marks
     → after_item ≡ mask_l (lag (begins_item p) marks)) where
   pub vain_is : bit_and zeros after_item ≡ mask_l (vains p bs)
   vain_is = and_is (map is_zero bs) (lag (begins_item p) (map begins_item bs)) zeros after_item n
-      (items_behind (map begins_item bs) (length-map bs begins_item
+      (items_beyond (map begins_item bs) (length-map bs begins_item
       ∙ long) (or_is is_open is_comma bs opens commas o m))
 
   pub ends_zeroed : not (bit_and (bit_and zeros after_item / 2 ^ 63) 1 == 0) ≡ zeroed_by p z bs
@@ -196,7 +196,7 @@ module _ (p : ℕ) (z : Bool) (bs : List ℕ) (long : length bs ≡ 64)
       → ((marks : List Bool) → length marks ≡ 64 → opens ≡ mask_l marks → after_open ≡ mask_l (lag (is_open p) marks))
       → bit_and after_open commas ≡ 0
       → ((marks : List Bool) → length marks ≡ 64 → closes ≡ mask_l marks
-      → after_close ≡ mask_l (lag (is_close p) marks)) → bit_and after_close (bit_or digits opens) ≡ 0
+      → after_close ≡ mask_l (lag (is_close_bracket p) marks)) → bit_and after_close (bit_or digits opens) ≡ 0
       → ((marks : List Bool) → length marks ≡ 64 → commas ≡ mask_l marks
       → after_comma ≡ mask_l (lag (is_comma p) marks)) → bit_and after_comma (bit_or commas closes) ≡ 0
       → ((marks : List Bool) → length marks ≡ 64 → digits ≡ mask_l marks
@@ -204,21 +204,21 @@ module _ (p : ℕ) (z : Bool) (bs : List ℕ) (long : length bs ≡ 64)
       → ((marks : List Bool) → length marks ≡ 64 → bit_and zeros after_item ≡ mask_l marks
       → after_vain ≡ mask_l (lag z marks)) → bit_and after_vain digits ≡ 0
       → AreFine p z bs
-  fine_is all behind_o e1 behind_k e2 behind_m e3 behind_d e4 behind_v e5 =
+  fine_is all after_o e1 after_k e2 after_m e3 after_d e4 after_v e5 =
       fine_from_masks p z bs
-      (sym (or_is is_ascii_digit (λ c. is_comma c || (is_open c || is_close c)) bs digits
+      (sym (or_is is_ascii_digit (λ c. is_comma c || (is_open c || is_close_bracket c)) bs digits
       (bit_or commas (bit_or opens closes)) d
-      (or_is is_comma (λ c. is_open c || is_close c) bs commas (bit_or opens closes) m
-      (or_is is_open is_close bs opens closes o k))) ∙ all ∙ ap (λ l. 2 ^ l - 1) (sym long))
+      (or_is is_comma (λ c. is_open c || is_close_bracket c) bs commas (bit_or opens closes) m
+      (or_is is_open is_close_bracket bs opens closes o k))) ∙ all ∙ ap (λ l. 2 ^ l - 1) (sym long))
       (sym (and_is (lag (is_open p) (map is_open bs)) (map is_comma bs) after_open commas
-      (behind_o (map is_open bs) (length-map bs is_open ∙ long) o) m) ∙ e1)
-      (sym (and_is (lag (is_close p) (map is_close bs)) (map (λ c. is_ascii_digit c || is_open c) bs) after_close
-      (bit_or digits opens) (behind_k (map is_close bs) (length-map bs is_close ∙ long) k)
+      (after_o (map is_open bs) (length-map bs is_open ∙ long) o) m) ∙ e1)
+      (sym (and_is (lag (is_close_bracket p) (map is_close_bracket bs)) (map (λ c. is_ascii_digit c || is_open c) bs) after_close
+      (bit_or digits opens) (after_k (map is_close_bracket bs) (length-map bs is_close_bracket ∙ long) k)
       (or_is is_ascii_digit is_open bs digits opens d o)) ∙ e2)
-      (sym (and_is (lag (is_comma p) (map is_comma bs)) (map (λ c. is_comma c || is_close c) bs) after_comma
-      (bit_or commas closes) (behind_m (map is_comma bs) (length-map bs is_comma ∙ long) m)
-      (or_is is_comma is_close bs commas closes m k)) ∙ e3)
+      (sym (and_is (lag (is_comma p) (map is_comma bs)) (map (λ c. is_comma c || is_close_bracket c) bs) after_comma
+      (bit_or commas closes) (after_m (map is_comma bs) (length-map bs is_comma ∙ long) m)
+      (or_is is_comma is_close_bracket bs commas closes m k)) ∙ e3)
       (sym (and_is (lag (is_ascii_digit p) (map is_ascii_digit bs)) (map is_open bs) after_digit opens
-      (behind_d (map is_ascii_digit bs) (length-map bs is_ascii_digit ∙ long) d) o) ∙ e4)
+      (after_d (map is_ascii_digit bs) (length-map bs is_ascii_digit ∙ long) d) o) ∙ e4)
       (sym (and_is (lag z (vains p bs)) (map is_ascii_digit bs) after_vain digits
-      (behind_v (vains p bs) (length-vains p bs ∙ long) vain_is) d) ∙ e5)
+      (after_v (vains p bs) (length-vains p bs ∙ long) vain_is) d) ∙ e5)

@@ -76,7 +76,7 @@ pub letter_taken : (text line : List ℕ) (from at : ℕ) → from ≤ at → at
 letter_taken text line from at copied within escapes is =
     let letter = get_or text (at + 1) 0 in
     let known = letter_written letter is in
-    let behind : drop (at + 1) text ≡ letter ∷ drop (at + 1 + 1) text = drop_one text (at + 1) letter within refl in
+    let beyond : drop (at + 1) text ≡ letter ∷ drop (at + 1 + 1) text = drop_one text (at + 1) letter within refl in
     let next : (at + 1) + 1 ≡ at + 2 = omega arith in
     let pair : slice_range text at (at + 2) ≡ backslash ∷ letter ∷ [] =
     slice_more text at (at + 1) (at + 2) (omega arith) (omega arith)
@@ -85,7 +85,7 @@ letter_taken text line from at copied within escapes is =
     ∙ slice_one text (at + 1) letter within refl)) in
     record {
       character = known.character;
-      is_read = ap escape_at behind ∙ (known.is_read (drop (at + 1 + 1) text)
+      is_read = ap escape_at beyond ∙ (known.is_read (drop (at + 1 + 1) text)
           ∙ ap (λ n. Some (known.character, drop n text)) next);
       is_shown = shown_more line text from at (at + 2) copied (omega arith)
           ∙ ap (λ l. shown line text from at ++ l) (pair ∙ sym known.is_written);

@@ -9,8 +9,8 @@ use Rattle.city_json.specs.ReadString.{string_at}
 use Rattle.city_json.specs.Tree.{Tree, null, boolean, number, string, array, object, ItemTrees, no_items, item, MemberTrees, no_members, member}
 use Rattle.city_json.specs.declared.reading.Start.{Start}
 use Rattle.city_json.specs.declared.reading.Start.TheVariants as start
-use Rattle.city_json.specs.declared.reading.Mark.{Mark}
-use Rattle.city_json.specs.declared.reading.Mark.TheVariants as mark
+use Rattle.city_json.specs.declared.reading.AfterItem.{AfterItem}
+use Rattle.city_json.specs.declared.reading.AfterItem.TheVariants as mark
 
 infixl 10 ◌>>=◌
 abbrev pub ◌>>=◌ : {A B : Type 0} → Option A → (A → Option B) → Option B
@@ -53,7 +53,7 @@ string_value_at bytes = do
   Some (string found.0, found.1)
 
 -- what ends an item or a member: a comma, the closing byte, or neither
-abbrev pub mark_at : ℕ → List ℕ → Mark × List ℕ
+abbrev pub mark_at : ℕ → List ℕ → AfterItem × List ℕ
 mark_at close [] = (mark.Neither, [])
 mark_at close (b ∷ bytes) =
     if b == comma then (mark.Comma, bytes)
@@ -66,7 +66,7 @@ after_byte wanted [] = None
 after_byte wanted (b ∷ bytes) = if b == wanted then Some bytes else None
 
 -- the items after a first one, by what stands after it: `more` reads the further ones
-abbrev pub items_after : (List ℕ → Option (ItemTrees × List ℕ)) → Tree → Mark × List ℕ → Option (ItemTrees × List ℕ)
+abbrev pub items_after : (List ℕ → Option (ItemTrees × List ℕ)) → Tree → AfterItem × List ℕ → Option (ItemTrees × List ℕ)
 items_after more value (mark.Comma, bytes) = do
   others ← more (after_white bytes)
   Some (item value others.0, others.1)
@@ -100,7 +100,7 @@ member_at value bytes = do
   found ← value (after_white after)
   Some ((name.0, found.0), found.1)
 
-abbrev pub members_after : (List ℕ → Option (MemberTrees × List ℕ)) → List ℕ × Tree → Mark × List ℕ
+abbrev pub members_after : (List ℕ → Option (MemberTrees × List ℕ)) → List ℕ × Tree → AfterItem × List ℕ
     → Option (MemberTrees × List ℕ)
 members_after more named (mark.Comma, bytes) = do
   others ← more (after_white bytes)

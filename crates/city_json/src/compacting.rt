@@ -1,7 +1,7 @@
 //! The compact text of an object in one pass over its text, with no tree between them.
 //!
 //! The pass goes over the text once, checks it, and writes nothing anew where the text is in its compact spelling
-//! already: it copies. It decides no refusal; where it is silent, the floor behind it tells why ([`floor`]).
+//! already: it copies. It decides no refusal; where it is silent, the floor after it tells why ([`floor`]).
 
 mod draft;
 mod ends;

@@ -64,8 +64,8 @@ impl<'a> ItemTexts<'a> {
         rest[0] == b']'
     }
 
-    /// Passes the next item, whose text has this length.
-    pub fn pass(&mut self, len: usize)
+    /// Leaves the next item out, whose text has this length.
+    pub fn skip(&mut self, len: usize)
         requires some { ¬ IsCompactOf self.old (array no_items) }
         requires within { len < length self.old }
         requires is { LeavesValue 128 (drop 1 self.old) (drop len (drop 1 self.old)) }
@@ -96,7 +96,7 @@ impl<'a> ItemTexts<'a> {
         if len == 0 {
             return None;
         }
-        self.pass(len);
+        self.skip(len);
         Some(&rest[..len])
     }
 }

@@ -52,7 +52,7 @@ enum Start {
 
 /// What ends an item or a member.
 #[derive(Clone, Copy)]
-enum Mark {
+enum AfterItem {
     Comma,
     Close,
     Neither,
@@ -83,13 +83,13 @@ fn after_white(bytes: &[u8]) -> &[u8]
     rest
 }
 
-fn mark_at(close: u8, bytes: &[u8]) -> (Mark, &[u8])
+fn mark_at(close: u8, bytes: &[u8]) -> (AfterItem, &[u8])
     ensures { (result.0, result.1.now) ≡ mark_at close bytes.now }
 {
     match bytes {
-        [b',', rest @ ..] => (Mark::Comma, rest),
-        [byte, rest @ ..] if *byte == close => (Mark::Close, rest),
-        _ => (Mark::Neither, bytes),
+        [b',', rest @ ..] => (AfterItem::Comma, rest),
+        [byte, rest @ ..] if *byte == close => (AfterItem::Close, rest),
+        _ => (AfterItem::Neither, bytes),
     }
 }
 
@@ -104,7 +104,7 @@ fn after_byte(wanted: u8, bytes: &[u8]) -> Option<&[u8]>
 
 /// What is held of a text while it is read, beside what is made of it.
 #[derive(Drop)]
-struct Held {
+struct ReadState {
     alloc: Global,
     /// The names of the objects that are open, those of an inner one last.
     names: OpenNames,
@@ -169,7 +169,7 @@ fn read_scalar<'a, M: Make>(
 }
 
 /// The name whose opening quotation mark stands before the bytes. It is put after those of the objects that are open.
-fn read_name<'a, M: Make>(held: &mut Held, bytes: &'a [u8]) -> Made<'a, M::Name>
+fn read_name<'a, M: Make>(held: &mut ReadState, bytes: &'a [u8]) -> Made<'a, M::Name>
     ensures made { Makes (λ made name. M.is_name made name × (held.new.names ≡ held.old.names ++ name ∷ [])) result
         (string_at bytes.now) }
     ensures are_distinct { held.new.are_distinct ≡ held.old.are_distinct }
@@ -180,7 +180,11 @@ fn read_name<'a, M: Make>(held: &mut Held, bytes: &'a [u8]) -> Made<'a, M::Name>
 }
 
 #[cycle(value)]
-fn read_value<'a, M: Make>(held: &mut Held, levels: usize, bytes: &'a [u8]) -> Made<'a, M::Value>
+fn read_value<'a, M: Make>(
+    held: &mut ReadState,
+    levels: usize,
+    bytes: &'a [u8],
+) -> Made<'a, M::Value>
     ensures made { Makes (IsToldOf M.is is_distinct held.old.are_distinct held.new.are_distinct) result
         (value_at levels bytes.now) }
     ensures names { OnOk result (held.new.names ≡ held.old.names) }
@@ -200,7 +204,11 @@ fn read_value<'a, M: Make>(held: &mut Held, levels: usize, bytes: &'a [u8]) -> M
 }
 
 #[cycle(value)]
-fn read_array<'a, M: Make>(held: &mut Held, levels: usize, bytes: &'a [u8]) -> Made<'a, M::Value>
+fn read_array<'a, M: Make>(
+    held: &mut ReadState,
+    levels: usize,
+    bytes: &'a [u8],
+) -> Made<'a, M::Value>
     ensures made { Makes (IsToldOf M.is is_distinct held.old.are_distinct held.new.are_distinct) result
         (array_at (value_at levels) bytes.now) }
     ensures names { OnOk result (held.new.names ≡ held.old.names) }
@@ -214,7 +222,11 @@ fn read_array<'a, M: Make>(held: &mut Held, levels: usize, bytes: &'a [u8]) -> M
 }
 
 #[cycle(value)]
-fn read_items<'a, M: Make>(held: &mut Held, levels: usize, bytes: &'a [u8]) -> Made<'a, M::Items>
+fn read_items<'a, M: Make>(
+    held: &mut ReadState,
+    levels: usize,
+    bytes: &'a [u8],
+) -> Made<'a, M::Items>
     ensures made { Makes (IsToldOf M.are_items are_distinct_items held.old.are_distinct held.new.are_distinct) result
         (items_at (value_at levels) (length bytes.now) bytes.now) }
     ensures names { OnOk result (held.new.names ≡ held.old.names) }
@@ -226,16 +238,20 @@ fn read_items<'a, M: Make>(held: &mut Held, levels: usize, bytes: &'a [u8]) -> M
         M::push_item(&mut items, value)?;
         let (mark, after) = mark_at(b']', after_white(after));
         match mark {
-            Mark::Comma => rest = after_white(after),
-            Mark::Close => return Ok((items, after)),
-            Mark::Neither => return Err(Fault::Syntax),
+            AfterItem::Comma => rest = after_white(after),
+            AfterItem::Close => return Ok((items, after)),
+            AfterItem::Neither => return Err(Fault::Syntax),
         }
     }
     Err(Fault::Syntax)
 }
 
 #[cycle(value)]
-fn read_object<'a, M: Make>(held: &mut Held, levels: usize, bytes: &'a [u8]) -> Made<'a, M::Value>
+fn read_object<'a, M: Make>(
+    held: &mut ReadState,
+    levels: usize,
+    bytes: &'a [u8],
+) -> Made<'a, M::Value>
     ensures made { Makes (IsToldOf M.is is_distinct held.old.are_distinct held.new.are_distinct) result
         (object_at (value_at levels) bytes.now) }
     ensures names { OnOk result (held.new.names ≡ held.old.names) }
@@ -255,7 +271,7 @@ fn read_object<'a, M: Make>(held: &mut Held, levels: usize, bytes: &'a [u8]) -> 
 /// The names of the members are put after the others, and whether they differ is not looked at.
 #[cycle(value)]
 fn read_members<'a, M: Make>(
-    held: &mut Held,
+    held: &mut ReadState,
     levels: usize,
     bytes: &'a [u8],
 ) -> Made<'a, M::Members>
@@ -271,9 +287,9 @@ fn read_members<'a, M: Make>(
         M::push_member(&mut members, name, value)?;
         let (mark, after) = mark_at(b'}', after_white(after));
         match mark {
-            Mark::Comma => rest = after_white(after),
-            Mark::Close => return Ok((members, after)),
-            Mark::Neither => return Err(Fault::Syntax),
+            AfterItem::Comma => rest = after_white(after),
+            AfterItem::Close => return Ok((members, after)),
+            AfterItem::Neither => return Err(Fault::Syntax),
         }
     }
     Err(Fault::Syntax)
@@ -281,7 +297,7 @@ fn read_members<'a, M: Make>(
 
 #[cycle(value)]
 fn read_member<'a, M: Make>(
-    held: &mut Held,
+    held: &mut ReadState,
     levels: usize,
     bytes: &'a [u8],
 ) -> Made<'a, (M::Name, M::Value)>
@@ -307,7 +323,7 @@ fn read_text<M: Make>(alloc: Global, bytes: &[u8]) -> Result<(M::Value, bool), F
         (λ told. (value : Tree) × (text_at bytes.now ≡ Some value) × M.is told.0 value × (told.1 ≡ is_distinct value))
         (λ fault. Refuses fault (text_at bytes.now)) }
 {
-    let mut held = Held {
+    let mut held = ReadState {
         alloc,
         names: OpenNames::new(alloc),
         are_distinct: true,

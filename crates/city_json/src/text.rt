@@ -49,6 +49,7 @@ impl Str {
         Str::of(alloc, self.as_str())
     }
 
+    /// Its characters, lent.
     pub fn as_str(&self) -> &str
         ensures { result.now ≡ self.now }
     {
@@ -115,6 +116,7 @@ impl NumText {
         Ok(NumText { text })
     }
 
+    /// Its bytes as they were written, lent.
     pub fn as_bytes(&self) -> &[u8]
         ensures bytes { result.now ≡ self.now }
         ensures number { IsNumber self.now }

@@ -33,6 +33,7 @@ pub struct SystemFiles {
 }
 
 impl SystemFiles {
+    /// The files of the system that the program runs on.
     pub fn new(rt: HostRuntime) -> SystemFiles {
         SystemFiles { rt }
     }

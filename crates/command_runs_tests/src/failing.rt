@@ -272,7 +272,7 @@ fn short_writes_are_gathered(rt: HostRuntime) -> Result<(), Fault> {
     Ok(())
 }
 
-/// Whether a run behind a buffer, of whose writes so many fail, answers this status, says this, and is
+/// Whether a run after a buffer, of whose writes so many fail, answers this status, says this, and is
 /// flushed unless a write failed.
 fn is_ended<H>(
     rt: &H,

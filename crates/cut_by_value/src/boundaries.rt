@@ -40,7 +40,7 @@ fn number_boundaries(value: &Json, numbering: &mut Numbering) -> Result<(), Faul
 }
 
 /// Values in which boundaries may stand.
-trait Held {
+trait HoldsBoundaries {
     // The boundaries in one, and whether these are right, of so many vertices.
     ghost held: { Self → Tree → List Tree };
 
@@ -63,7 +63,7 @@ trait Held {
 #[derive(Clone, Copy, Drop)]
 struct Geometry;
 
-impl Held for Geometry {
+impl HoldsBoundaries for Geometry {
     ghost held = { λ kind. own_boundary };
 
     ghost is_held = { λ kind. IsGeometry };
@@ -79,7 +79,7 @@ impl Held for Geometry {
 #[derive(Clone, Copy, Drop)]
 struct Address;
 
-impl Held for Address {
+impl HoldsBoundaries for Address {
     ghost held = { λ kind. address_boundary };
 
     ghost is_held = { λ kind. IsAddress };
@@ -93,7 +93,11 @@ impl Held for Address {
 }
 
 /// Numbers the vertices that the items name, each of this kind.
-fn number_each<H: Held>(kind: &H, items: &[Json], numbering: &mut Numbering) -> Result<(), Fault>
+fn number_each<H: HoldsBoundaries>(
+    kind: &H,
+    items: &[Json],
+    numbering: &mut Numbering,
+) -> Result<(), Fault>
     ensures long { length numbering.new.table.items ≡ length numbering.old.table.items }
     ensures bounded { OnOk result (AllByRecursion
         (H.is_held kind.now (length numbering.old.table.items)) (map tree items.now)) }

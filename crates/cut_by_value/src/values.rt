@@ -3,7 +3,8 @@ ghost use Rattle.std.specs.Prelude.{◌↔◌, IsTrue, ◌≡◌, ◌≢◌, ℕ
 ghost use Rattle.city_json.specs.Members.{member_of};
 ghost use Rattle.city_json.specs.Tree.{tree, named_tree, items_tree, members_tree, string};
 ghost use Rattle.city_feature.specs.Shapes.{IsObject, IsText};
-ghost use Rattle.city_families.specs.Items.{items_in, items_of, members_in};
+ghost use Rattle.city_json.specs.ObjectTexts.{members_in};
+ghost use Rattle.city_families.specs.Items.{items_in, items_of};
 
 use byte_streams::Fault;
 use city_json::{Json, Member};

@@ -29,7 +29,7 @@ use Rattle.city_families.specs.Places.{IsFamily, IsGraph, name_at}
 use Rattle.city_families.specs.Points.{CountsUp, SamePoints}
 use Rattle.city_families.specs.Reach.{Reached}
 use Rattle.city_families.specs.Search.{After}
-use Rattle.cut_on_text.specs.Skeletons.{AreSkeletons, IsSkeleton, LeafPlace, SkeletonTexts, id_at, leaves_at, place_at, text_at, uses_at, woven}
+use Rattle.cut_on_text.specs.Skeletons.{AreSkeletons, IsSkeleton, LeafPlace, SkeletonTexts, id_at, leaves_at, place_at, skeleton_text_at, uses_at, woven}
 use Rattle.cut_on_text.specs.VertexTexts.{StandAt}
 use Rattle.city_families.proofs.FeatureList.{first_place}
 use Rattle.city_families.proofs.FeatureParts.{chosen_are_those, object_name, places_inside}
@@ -124,7 +124,7 @@ labelled count label (leaf ∷ others) small all = (
 object_text : (count : ℕ) (skeletons : SkeletonTexts) (k : ℕ) (named : List ℕ × Tree) (label : ℕ → ℕ)
     → count < 2 ^ 64 → IsSkeleton count skeletons k named
     → quoted named.0 ++ colon ∷ compact (relabelled_object (renumbered label) named.1)
-    ≡ text_at skeletons (λ vertex. decimal (label vertex)) k
+    ≡ skeleton_text_at skeletons (λ vertex. decimal (label vertex)) k
 object_text count skeletons k named label small is =
     is.is (renumbered label)
     ∙ woven_same skeletons.text (place_at skeletons k).text (place_at skeletons (k + 1)).text (leaves_at skeletons k)
@@ -136,26 +136,26 @@ object_text count skeletons k named label small is =
 more_members : (count : ℕ) (skeletons : SkeletonTexts) (pairs : List (List ℕ × Tree)) (label : ℕ → ℕ) (places : List ℕ)
     → count < 2 ^ 64 → AllByRecursion (λ k. IsSkeleton count skeletons k (named_at pairs k)) places
     → compact_more_members (member_trees (relabelled_objects (renumbered label) (map (named_at pairs) places)))
-    ≡ more_listed (map (text_at skeletons (λ vertex. decimal (label vertex))) places)
+    ≡ more_listed (map (skeleton_text_at skeletons (λ vertex. decimal (label vertex))) places)
 more_members count skeletons pairs label [] small each = refl
 more_members count skeletons pairs label (p ∷ ps) small each =
     let first = object_text count skeletons p (named_at pairs p) label small each.0 in
     let rest = more_members count skeletons pairs label ps small each.1 in
     ap (λ l. comma ∷ (l ++ compact_more_members (member_trees (relabelled_objects (renumbered label)
     (map (named_at pairs) ps))))) first
-    ∙ ap (λ l. comma ∷ (text_at skeletons (λ vertex. decimal (label vertex)) p ++ l)) rest
+    ∙ ap (λ l. comma ∷ (skeleton_text_at skeletons (λ vertex. decimal (label vertex)) p ++ l)) rest
 
 all_members : (count : ℕ) (skeletons : SkeletonTexts) (pairs : List (List ℕ × Tree)) (label : ℕ → ℕ) (places : List ℕ)
     → count < 2 ^ 64 → AllByRecursion (λ k. IsSkeleton count skeletons k (named_at pairs k)) places
     → compact_members (member_trees (relabelled_objects (renumbered label) (map (named_at pairs) places)))
-    ≡ listed (map (text_at skeletons (λ vertex. decimal (label vertex))) places)
+    ≡ listed (map (skeleton_text_at skeletons (λ vertex. decimal (label vertex))) places)
 all_members count skeletons pairs label [] small each = refl
 all_members count skeletons pairs label (p ∷ ps) small each =
     let first = object_text count skeletons p (named_at pairs p) label small each.0 in
     let rest = more_members count skeletons pairs label ps small each.1 in
     ap (λ l. l ++ compact_more_members (member_trees (relabelled_objects (renumbered label)
     (map (named_at pairs) ps)))) first
-    ∙ ap (λ l. text_at skeletons (λ vertex. decimal (label vertex)) p ++ l) rest
+    ∙ ap (λ l. skeleton_text_at skeletons (λ vertex. decimal (label vertex)) p ++ l) rest
 
 more_vertices : (makings : Makings) (points : List Triple) (order : List ℕ)
     → StandAt makings.vertices makings.starts points → AllByRecursion (λ k. k < length points) order
@@ -280,10 +280,10 @@ module _ (pairs : List (List ℕ × Tree)) (points : List Triple) (makings : Mak
       let rest : List ℕ → List ℕ → List ℕ = λ objects own.
       objects ++ (middle_text ++ (open_bracket ∷ (own ++ close_bracket ∷ []))) in
       ap (λ n. codes "{\"type\":\"CityJSONFeature\",\"id\":" ++ (n ++ (codes ",\"CityObjects\":{"
-      ++ rest (listed (map (text_at makings.skeletons (λ vertex. decimal (label vertex))) places))
+      ++ rest (listed (map (skeleton_text_at makings.skeletons (λ vertex. decimal (label vertex))) places))
       (listed (map (vertex_at makings) order))))) name
       ∙ (sym (head_made (name_at (member_trees pairs) root)
-      (rest (listed (map (text_at makings.skeletons (λ vertex. decimal (label vertex))) places))
+      (rest (listed (map (skeleton_text_at makings.skeletons (λ vertex. decimal (label vertex))) places))
       (listed (map (vertex_at makings) order))))
       ∙ (ap (λ l. head_text (name_at (member_trees pairs) root) ++ rest l (listed (map (vertex_at makings) order)))
       (sym members)

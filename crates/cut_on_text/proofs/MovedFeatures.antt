@@ -21,7 +21,7 @@ use Rattle.city_feature.specs.Feature.{AreVertices, FeatureValue, IsMovable, mov
 use Rattle.city_feature.specs.FeatureLine.{SpellsFeature}
 use Rattle.city_families.specs.Chosen.{point_at}
 use Rattle.city_families.specs.CityObjects.{IsReached}
-use Rattle.city_families.specs.Cut.{feature_tree, last_members}
+use Rattle.city_families.specs.Cut.{feature_tree, appearance_members}
 use Rattle.cut_on_text.specs.FeatureText.{tail_text}
 use Rattle.city_families.specs.HeldTexts.{with_end}
 use Rattle.city_families.specs.Lines.{texts_of}
@@ -110,7 +110,7 @@ name_utf8 (member name value others) (suc k) all = name_utf8 others k all.2
 
 feature_writable : (id : List ℕ) (objects : List (List ℕ × Tree)) (vertices : Tree) (appearance : Option Tree)
     → IsUtf8 id → AreWritableMembers (member_trees objects) → IsWritable vertices
-    → AreWritableMembers (last_members appearance) → IsWritable (feature_tree id objects vertices appearance)
+    → AreWritableMembers (appearance_members appearance) → IsWritable (feature_tree id objects vertices appearance)
 feature_writable id objects vertices appearance id_is objects_are vertices_are last =
     (utf8 _ refl, utf8 _ refl, (utf8 _ refl, id_is, (utf8 _ refl, objects_are, (utf8 _ refl, vertices_are, last))))
 
@@ -131,7 +131,7 @@ module _ (pairs : List (List ℕ × Tree)) (points : List Triple) (makings : Mak
     (of_root : IsFamily (member_trees pairs) root (family makings.graph root)) (range : All IsInRange points)
     (writable : IsWritable (object (member_trees pairs))) (distinct : IsDistinct (object (member_trees pairs)))
     (k : Triple) (vertices starts : List ℕ) (stand' : StandAt vertices starts (map (moved_or_same k) points))
-    (appearance : Option Tree) (last : AreWritableMembers (last_members appearance)) where
+    (appearance : Option Tree) (last : AreWritableMembers (appearance_members appearance)) where
   abbrev makings' : Makings
   makings' = record { skeletons = makings.skeletons; vertices = vertices; starts = starts; graph = makings.graph }
 
@@ -228,7 +228,7 @@ module _ (makings : Makings) (of : AreMakings makings) (k : Triple) (vertices st
         linked = of.linked;
       }
 
-  pub moved_texts : (appearance : Option Tree) → AreWritableMembers (last_members appearance) → (roots : List ℕ)
+  pub moved_texts : (appearance : Option Tree) → AreWritableMembers (appearance_members appearance) → (roots : List ℕ)
       → AllByRecursion (λ root. root < length makings.graph) roots → (features : List FeatureValue)
       → AllZip SpellsFeature
       (with_end (tail_text appearance) (map (made_text makings) roots)) features
@@ -248,11 +248,11 @@ module _ (makings : Makings) (of : AreMakings makings) (k : Triple) (vertices st
 
 -- ---- what all of them end in
 pub last_writable : (members : MemberTrees) → AreWritableMembers members
-    → AreWritableMembers (last_members (first_named (codes "appearance") members))
+    → AreWritableMembers (appearance_members (first_named (codes "appearance") members))
 last_writable no_members all = tt
 last_writable (member name value others) all = by (bytes_eq name (codes "appearance")) (last_writable others all.2)
   where
-    by : (b : Bool) → AreWritableMembers (last_members (first_named (codes "appearance") others))
-        → AreWritableMembers (last_members (if b then Some value else first_named (codes "appearance") others))
+    by : (b : Bool) → AreWritableMembers (appearance_members (first_named (codes "appearance") others))
+        → AreWritableMembers (appearance_members (if b then Some value else first_named (codes "appearance") others))
     by true rest = (utf8 _ refl, all.1, tt)
     by false rest = rest

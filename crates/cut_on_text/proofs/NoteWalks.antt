@@ -4,7 +4,7 @@ use Rattle.std.proofs.Math.Seq.{drop-append_seam, take-append_seam}
 use Rattle.std.proofs.lemmas.List.{drop-map, length-map, length-take-le, map-append, take-append-drop, take-map}
 use Rattle.std.specs.Fmt.{decimal}
 use Rattle.cut_on_text.specs.Skeletons.{LeafPlace, woven}
-use Rattle.cut_on_text.specs.Sketches.{ArePlaced, IsNoted, LeafNoted, vertices_of}
+use Rattle.cut_on_text.specs.Sketches.{ArePlaced, IsNoted, LeafNoted, leaf_vertices}
 use Rattle.cut_on_text.specs.Walks.{Labelling, Walks, walks_both, walks_leaf, walks_so, walks_text}
 use Rattle.cut_on_text.proofs.Woven.{placed_both, slice_end, slice_middle, slice_none, woven_both, woven_front}
 
@@ -15,7 +15,7 @@ pub record Notes (noted : List LeafPlace) (line : List ℕ) (noted' : List LeafP
   pub written : line' ≡ line ++ text
   pub more : noted' ≡ noted ++ new
   pub placed : ArePlaced (length line) (length line') new
-  pub named : uses ≡ vertices_of new
+  pub named : uses ≡ leaf_vertices new
   pub is : (change : List ℕ → List ℕ) → own change
       ≡ woven line' (length line) (length line') new (λ vertex. change (decimal vertex))
 
@@ -64,7 +64,7 @@ notes_both n₀ line₀ n₁ line₁ n₂ line₂ uses uses₂ own own₂ a b = 
   written = b.written ∙ (ap (λ l. l ++ b.text) a.written ∙ append_assoc line₀ a.text b.text);
   more = b.more ∙ (ap (λ l. l ++ b.new) a.more ∙ append_assoc n₀ a.new b.new);
   placed = placed_both (length line₀) (length line₁) (length line₂) a.new b.new a.placed b.placed;
-  named = ap (λ l. l ++ uses₂) a.named ∙ (ap (λ l. vertices_of a.new ++ l) b.named
+  named = ap (λ l. l ++ uses₂) a.named ∙ (ap (λ l. leaf_vertices a.new ++ l) b.named
       ∙ sym (map-append (λ (leaf : LeafPlace). leaf.vertex) a.new b.new));
   is = λ change.
       let label : ℕ → List ℕ = λ vertex. change (decimal vertex) in
@@ -122,11 +122,11 @@ noted_apart noted line split noted' line' first second own notes is =
       split_is = is ∙ ap (λ k. length noted + k) (sym some);
       placed = subst (ArePlaced (length line) (length line')) (sym whole) notes.placed;
       named =
-          let last : second ≡ vertices_of (drop n notes.new) =
+          let last : second ≡ leaf_vertices (drop n notes.new) =
           sym (drop-append_seam first second) ∙ (ap (drop n) notes.named ∙ drop-map vertex n notes.new) in
-          let front : first ≡ vertices_of (take n notes.new) =
+          let front : first ≡ leaf_vertices (take n notes.new) =
           sym (take-append_seam first second) ∙ (ap (take n) notes.named ∙ take-map vertex n notes.new) in
-          ap (λ l. l ++ first) last ∙ ap (λ l. vertices_of (drop n notes.new) ++ l) front;
+          ap (λ l. l ++ first) last ∙ ap (λ l. leaf_vertices (drop n notes.new) ++ l) front;
       is = λ change. notes.is change ∙ ap (λ l. woven line' (length line) (length line') l
           (λ vertex. change (decimal vertex))) (sym whole);
     }

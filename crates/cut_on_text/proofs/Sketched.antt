@@ -15,7 +15,7 @@ use Rattle.city_families.specs.Boundaries.{IsBounded, boundaries, relabelled_obj
 use Rattle.city_families.specs.Chosen.{named_at}
 use Rattle.city_families.specs.Leaves.{leaves}
 use Rattle.cut_on_text.specs.Skeletons.{AreSkeletons, IsSkeleton, LeafPlace, SkeletonPlace, SkeletonTexts, no_place, place_at, woven}
-use Rattle.cut_on_text.specs.Sketches.{ArePlaced, IsNoted, IsSketch, vertices_of}
+use Rattle.cut_on_text.specs.Sketches.{ArePlaced, IsNoted, IsSketch, leaf_vertices}
 use Rattle.cut_on_text.proofs.NoteWalks.{noted_after, noted_so}
 use Rattle.cut_on_text.proofs.TextFeatures.{as_many_parts}
 use Rattle.cut_on_text.proofs.Woven.{slice_end, slice_front, slice_middle, woven_front}
@@ -80,8 +80,8 @@ pub record IsLaid (count : ℕ) (text : List ℕ) (noted : List LeafPlace) (star
   pub before_last : start.split ≤ next.leaves
   pub noted_within : next.leaves ≤ length noted
   pub name : slice_range text start.text start.name ≡ quoted named.0
-  pub uses : flat_map leaves (boundaries named.1) ≡ vertices_of (slice_range noted start.split next.leaves)
-      ++ vertices_of (slice_range noted start.leaves start.split)
+  pub uses : flat_map leaves (boundaries named.1) ≡ leaf_vertices (slice_range noted start.split next.leaves)
+      ++ leaf_vertices (slice_range noted start.leaves start.split)
   pub placed : ArePlaced start.text next.text (slice_range noted start.leaves next.leaves)
   pub is : (change : List ℕ → List ℕ) → quoted named.0 ++ colon ∷ compact (relabelled_object change named.1)
       ≡ woven text start.text next.text (slice_range noted start.leaves next.leaves)
@@ -138,8 +138,8 @@ laid_last count noted line start noted' line' named sketch =
       before_last = omega (arith, notes.split_is, long, both);
       noted_within = omega arith;
       name = sketch.name;
-      uses = notes.named ∙ (ap (λ l. vertices_of l ++ vertices_of first) (sym back)
-          ∙ ap (λ l. vertices_of (slice_range noted' start.split (length noted')) ++ vertices_of l) (sym front));
+      uses = notes.named ∙ (ap (λ l. leaf_vertices l ++ leaf_vertices first) (sym back)
+          ∙ ap (λ l. leaf_vertices (slice_range noted' start.split (length noted')) ++ leaf_vertices l) (sym front));
       placed = subst (ArePlaced start.text (length line')) (sym all)
           (subst (λ n. ArePlaced n (length line') (first ++ second)) (sym sketch.text) notes.placed);
       is = λ change.
@@ -169,8 +169,8 @@ laid_on count text more noted others start next named laid =
       noted_within = omega (arith, laid.noted_within, length-append noted others);
       name = slice_front text more start.text start.name laid.named_order laid.named_within ∙ laid.name;
       uses = laid.uses
-          ∙ (ap (λ l. vertices_of l ++ vertices_of (slice_range noted start.leaves start.split)) (sym back)
-          ∙ ap (λ l. vertices_of (slice_range (noted ++ others) start.split next.leaves) ++ vertices_of l) (sym front));
+          ∙ (ap (λ l. leaf_vertices l ++ leaf_vertices (slice_range noted start.leaves start.split)) (sym back)
+          ∙ ap (λ l. leaf_vertices (slice_range (noted ++ others) start.split next.leaves) ++ leaf_vertices l) (sym front));
       placed = subst (ArePlaced start.text next.text) (sym all) laid.placed;
       is = λ change.
           let label : ℕ → List ℕ = λ vertex. change (decimal vertex) in
@@ -193,8 +193,8 @@ laid_to count text noted start next next' named same same_leaves laid = record {
   before_last = omega (arith, laid.before_last, same_leaves);
   noted_within = omega (arith, laid.noted_within, same_leaves);
   name = laid.name;
-  uses = laid.uses ∙ ap (λ n. vertices_of (slice_range noted start.split n)
-      ++ vertices_of (slice_range noted start.leaves start.split)) (sym same_leaves);
+  uses = laid.uses ∙ ap (λ n. leaf_vertices (slice_range noted start.split n)
+      ++ leaf_vertices (slice_range noted start.leaves start.split)) (sym same_leaves);
   placed = subst (λ n. ArePlaced start.text n (slice_range noted start.leaves next'.leaves)) (sym same)
       (subst (λ n. ArePlaced start.text next.text (slice_range noted start.leaves n)) (sym same_leaves) laid.placed);
   is = λ change.

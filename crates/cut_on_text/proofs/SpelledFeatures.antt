@@ -27,10 +27,11 @@ use Rattle.city_feature.specs.FeatureLine.{SpellsFeature}
 use Rattle.city_feature.specs.Header.{HeaderValue}
 use Rattle.city_families.specs.Boundaries.{relabelled_objects}
 use Rattle.city_families.specs.CityObjects.{IsReached, has_parents, objects_of, roots, vertices_of}
-use Rattle.city_families.specs.Cut.{IsCut, IsFeatureOf, feature_tree, last_members}
+use Rattle.city_families.specs.Cut.{IsCut, IsFeatureOf, feature_tree, appearance_members}
 use Rattle.cut_on_text.specs.FeatureText.{tail_text}
 use Rattle.city_families.specs.HeldTexts.{AreOwnParts, HeldTexts, texts_in, with_end}
-use Rattle.city_families.specs.Items.{items_in, members_in}
+use Rattle.city_json.specs.ObjectTexts.{members_in}
+use Rattle.city_families.specs.Items.{items_in}
 use Rattle.city_families.specs.Leaves.{renumbered}
 use Rattle.city_families.specs.Lines.{texts_of}
 use Rattle.city_families.proofs.Copies.{decimal_is_number}
@@ -217,7 +218,7 @@ module _ (document : Tree) (writable : IsWritable document) (fits : Fits documen
         (member (codes "id") (string id)
         (member (codes "CityObjects") (object (member_trees is.objects))
         (member (codes "vertices") (vertices_tree feature.vertices)
-        (last_members appearance))))
+        (appearance_members appearance))))
 
     -- the feature with this appearance
     abbrev with_its : Option Tree → FeatureValue

@@ -1,10 +1,13 @@
 -- A text is at least as long as the lists that it spells.
 use Rattle.std.proofs.Common.{◌≡◌, ◌≤◌, ◌+◌, ◌++◌, ℕ, Bool, true, false, List, [], ◌∷◌, Some, bytes_eq, length, length-append, refl, ap, subst, arith}
 use Rattle.city_json.specs.Bytes.{close_bracket, close_brace, colon}
+use Rattle.city_json.specs.Compact.{compact}
+use Rattle.city_json.specs.CompactTexts.{IsCompactOf}
 use Rattle.city_json.specs.Grammar.{Spaced, Spells, SpellsItems, SpellsMember, SpellsMembers, SpellsMoreItems, SpellsMoreMembers, SpellsValue}
 use Rattle.city_json.specs.Members.{first_named, member_of}
 use Rattle.city_json.specs.Tree.{Tree, null, boolean, number, string, array, object, ItemTrees, no_items, item, MemberTrees, no_members, member}
 use Rattle.city_feature.specs.Feature.{item_count}
+use Rattle.city_json.proofs.CompactLaws.{compact-spells}
 
 more_items : (items : ItemTrees) (b : List ℕ) → SpellsMoreItems items b → item_count items ≤ length b
 more_items no_items b spells = omega arith
@@ -31,6 +34,14 @@ spaced_within P b spaced = omega (
   length-append spaced.0 (spaced.1 ++ spaced.2),
   length-append spaced.1 spaced.2,
 )
+
+-- the compact text of an array has a byte for each item
+pub compact_within : (items : ItemTrees) (text : List ℕ) → IsCompactOf text (array items) → item_count items ≤ length text
+compact_within items text of =
+    let spaced = (compact-spells (array items) of.writable).1 in
+    let inner = array_within items spaced.1 spaced.5 in
+    let outer = spaced_within (SpellsValue (array items)) (compact (array items)) spaced in
+    omega (arith, inner, outer, ap length of.is)
 
 member_within : (name : List ℕ) (items : ItemTrees) (b : List ℕ) → SpellsMember name (SpellsValue (array items)) b
     → item_count items ≤ length b

@@ -18,11 +18,12 @@ use Rattle.city_feature.specs.LineTexts.{SpellsVertices}
 use Rattle.city_feature.specs.Shapes.{IsArray, IsObject, WhereThere}
 use Rattle.city_families.specs.Boundaries.{IsBounded}
 use Rattle.city_families.specs.CityObjects.{AllBelong, AreCityObjects, IsReached, LacksChild, objects_of, roots, vertices_of}
-use Rattle.city_families.specs.Cut.{AreFeatures, HasFrame, IsCut, IsCuttable, IsDocument, header_tree}
+use Rattle.city_families.specs.Cut.{AreFeatures, HasFrame, IsCut, IsCuttable, IsCityDocument, header_tree}
 use Rattle.cut_on_text.specs.PlacedObjects.{AreObjects, PlacedObjects}
 use Rattle.cut_on_text.specs.FeatureText.{tail_text}
 use Rattle.cut_on_text.specs.HeaderText.{HasHeader}
-use Rattle.city_families.specs.Items.{items_in, members_in}
+use Rattle.city_json.specs.ObjectTexts.{members_in}
+use Rattle.city_families.specs.Items.{items_in}
 use Rattle.city_json.specs.CompactTexts.{IsCompactOf}
 use Rattle.cut_on_text.specs.VertexTexts.{HasPoints}
 use Rattle.city_families.proofs.HeaderMembers.{header_grid, other_member}
@@ -71,7 +72,7 @@ tail_there given found value none line₁ line₂ line₃ is of empty first seco
 pub document_is : (document : Tree) (objects : MemberTrees) (items : ItemTrees) → IsCityJson (header_tree document)
     → unwrap_or (member_of (codes "CityObjects") document) (object no_members) ≡ object objects
     → unwrap_or (member_of (codes "vertices") document) (array no_items) ≡ array items → AreCityObjects objects
-    → IsDocument document
+    → IsCityDocument document
 document_is document objects items city_json objects_are vertices_are are =
     let objects_in = members_or (member_of (codes "CityObjects") document) objects objects_are in
     let vertices_in = items_or (member_of (codes "vertices") document) items vertices_are in (

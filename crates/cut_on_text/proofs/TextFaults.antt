@@ -15,11 +15,12 @@ use Rattle.city_feature.specs.Shapes.{IsArray, IsObject, WhereThere}
 use Rattle.city_json.specs.CompactTexts.{IsCompactOf}
 use Rattle.city_families.specs.Chosen.{named_at}
 use Rattle.city_families.specs.CityObjects.{AreCityObjects, LacksChild, objects_of, vertices_of}
-use Rattle.city_families.specs.Cut.{HasFrame, HasValidVertices, IsDocument, RefusesCut, RefusesFrame, header_tree}
+use Rattle.city_families.specs.Cut.{HasFrame, HasValidVertices, IsCityDocument, RefusesCut, RefusesFrame, header_tree}
 use Rattle.cut_on_text.specs.Faults.{HoldsCityObjects, RefusesObjects}
 use Rattle.cut_on_text.specs.PlacedObjects.{AreObjects, PlacedObjects}
 use Rattle.cut_on_text.specs.Graphs.{SomeNamesMissing}
-use Rattle.city_families.specs.Items.{items_of, members_in, values}
+use Rattle.city_json.specs.ObjectTexts.{members_in}
+use Rattle.city_families.specs.Items.{items_of, values}
 use Rattle.cut_on_text.specs.Kin.{HasChildrenText}
 use Rattle.cut_on_text.specs.Overviews.{HasChildrenIn}
 use Rattle.city_families.specs.Table.{IsTable}
@@ -120,13 +121,13 @@ vertices_in members = unwrap_or (first_named (codes "vertices") members) (array 
 
 pub other_vertices : (text : List ℕ) (is : Bool) (members : MemberTrees)
     → ((value : Tree) → IsCompactOf text value → IsTrue is ↔ IsArray value) → is ≡ false
-    → IsCompactOf text (vertices_in members) → IsDocument (object members) → ⊥
+    → IsCompactOf text (vertices_in members) → IsCityDocument (object members) → ⊥
 other_vertices text is members test none of document = not_both is
     ((test (vertices_in members) of).1 (array_or (first_named (codes "vertices") members) document.0.4)) none
 
 pub other_objects : (text : List ℕ) (is : Bool) (members : MemberTrees)
     → ((value : Tree) → IsCompactOf text value → IsTrue is ↔ HoldsCityObjects value) → is ≡ false
-    → IsCompactOf text (objects_in members) → IsDocument (object members) → ⊥
+    → IsCompactOf text (objects_in members) → IsCityDocument (object members) → ⊥
 other_objects text is members test none of document = not_both is ((test (objects_in members) of).1
     (object_or (first_named (codes "CityObjects") members) document.0.3 document.1)) none
 

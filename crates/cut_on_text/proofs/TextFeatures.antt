@@ -19,7 +19,7 @@ use Rattle.city_feature.specs.Feature.{FeatureValue, vertices_tree}
 use Rattle.city_families.specs.Boundaries.{IsBounded, boundaries, relabelled_object, relabelled_objects, uses}
 use Rattle.city_families.specs.Chosen.{named_at, point_at}
 use Rattle.city_families.specs.Copied.{Copies}
-use Rattle.city_families.specs.Cut.{IsFeatureOf, feature_tree, last_members}
+use Rattle.city_families.specs.Cut.{IsFeatureOf, feature_tree, appearance_members}
 use Rattle.cut_on_text.specs.PlacedObjects.{IsObjectAt}
 use Rattle.cut_on_text.specs.FeatureText.{head_text, middle_text, tail_text}
 use Rattle.city_families.specs.Leaves.{leaves}
@@ -213,7 +213,7 @@ pub feature_text : (id : List ℕ) (objects : List (List ℕ × Tree)) (vertices
 feature_text id objects vertices appearance =
     regroup (quoted (codes "type")) (quoted (codes "CityJSONFeature")) (quoted (codes "id")) (quoted id)
     (quoted (codes "CityObjects")) (compact_members (member_trees objects)) (quoted (codes "vertices"))
-    (compact vertices) (compact_more_members (last_members appearance))
+    (compact vertices) (compact_more_members (appearance_members appearance))
 
 module _ (pairs : List (List ℕ × Tree)) (points : List Triple) (root : ℕ) (places table t' o' line₁ line₂ : List ℕ)
     (family : IsFamily (member_trees pairs) root places) (distinct : IsDistinct (object (member_trees pairs)))

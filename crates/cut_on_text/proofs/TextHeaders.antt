@@ -17,7 +17,7 @@ use Rattle.city_feature.proofs.LineTexts.{utf8}
 use Rattle.city_feature.specs.Changes.{changed_named, without_named}
 use Rattle.city_families.specs.Cut.{header_tree}
 use Rattle.city_families.proofs.MemberChanges.{kept, none_is_unchanged}
-use Rattle.cut_on_text.specs.HeaderText.{header_members, header_value, members_after, members_from}
+use Rattle.cut_on_text.specs.HeaderText.{header_members, value_in_header, members_text_after, members_from}
 use Rattle.cut_on_text.proofs.TextMembers.{new_none}
 
 -- ---- member by member, it is the document's header
@@ -92,7 +92,7 @@ dropped no_members differ = refl
 dropped (member name value others) differ = elim (cases_Bool (bytes_eq name (codes "appearance"))) [
   | inl e ↦ rw e (ap (header_members false) (sym (none_dropped (codes "appearance") others
       (subst (λ n. IsNewName n others) ((bytes_eq-Decides name (codes "appearance")).0 e) differ.0))) ∙ (dropped others differ.1))
-  | inr e ↦ rw e (ap (member name (header_value name value)) (dropped others differ.1))
+  | inr e ↦ rw e (ap (member name (value_in_header name value)) (dropped others differ.1))
 ]
 
 pub is_header_tree : (members : MemberTrees) (drops : Bool) → HasDistinctNames members
@@ -116,7 +116,7 @@ writable_header drops (member name value others) all = elim (cases_Bool (drops &
 ]
   where
     one : (b c : Bool) → bytes_eq name (codes "CityObjects") ≡ b → bytes_eq name (codes "vertices") ≡ c
-        → IsWritable (header_value name value)
+        → IsWritable (value_in_header name value)
     one true c e d = rw e tt
     one false true e d = rw (e, d) tt
     one false false e d = rw (e, d) all.1
@@ -129,7 +129,7 @@ header_writable members differ writable =
 
 -- ---- written one after another
 pub after_more : (line : List ℕ) (members : MemberTrees) → 1 < length line
-    → members_after line members ≡ compact_more_members members
+    → members_text_after line members ≡ compact_more_members members
 after_more [] members long = absurd (omega (arith, long))
 after_more (first ∷ []) members long = absurd (omega (arith, long))
 after_more (first ∷ (second ∷ more)) members long = refl
@@ -159,17 +159,17 @@ same_test name other given marked utf8 also is marks = elim (cases_Bool (bytes_e
 -- a member is written after what comes before it
 pub member_written : (name : List ℕ) (value : Tree) (drops : Bool) (others : MemberTrees)
     (line before marked given shown : List ℕ) → (drops && bytes_eq name (codes "appearance")) ≡ false
-    → line ++ members_after line (member name (header_value name value) (header_members drops others))
-    ≡ before ++ compact_members (member name (header_value name value) (header_members drops others))
-    → 0 < length before → marked ≡ quoted name ++ colon ∷ [] → given ≡ compact (header_value name value)
+    → line ++ members_text_after line (member name (value_in_header name value) (header_members drops others))
+    ≡ before ++ compact_members (member name (value_in_header name value) (header_members drops others))
+    → 0 < length before → marked ≡ quoted name ++ colon ∷ [] → given ≡ compact (value_in_header name value)
     → shown ≡ (before ++ marked) ++ given
-    → line ++ members_after line (header_members drops (member name value others))
-    ≡ shown ++ members_after shown (header_members drops others)
+    → line ++ members_text_after line (header_members drops (member name value others))
+    ≡ shown ++ members_text_after shown (header_members drops others)
 member_written name value drops others line before marked given shown stays begun some marks is written =
-    rw stays (begun ∙ (regroup before (quoted name) (compact (header_value name value))
+    rw stays (begun ∙ (regroup before (quoted name) (compact (value_in_header name value))
     (compact_more_members (header_members drops others))
     ∙ (ap (λ l. l ++ compact_more_members (header_members drops others))
-    (ap (λ m. (before ++ m) ++ compact (header_value name value)) (sym marks)
+    (ap (λ m. (before ++ m) ++ compact (value_in_header name value)) (sym marks)
     ∙ (ap (λ v. (before ++ marked) ++ v) (sym is) ∙ sym written))
     ∙ ap (λ l. shown ++ l) (sym (after_more shown (header_members drops others) long)))))
   where
@@ -189,7 +189,7 @@ member_written name value drops others line before marked given shown stays begu
 
 pub comma_written : (line shown : List ℕ) (name : List ℕ) (value : Tree) (others : MemberTrees) → 1 < length line
     → shown ≡ line ++ comma ∷ []
-    → line ++ members_after line (member name value others) ≡ shown ++ compact_members (member name value others)
+    → line ++ members_text_after line (member name value others) ≡ shown ++ compact_members (member name value others)
 comma_written line shown name value others long is =
     ap (λ l. line ++ l) (after_more line (member name value others) long)
     ∙ (regroup line (compact_members (member name value others))
@@ -219,7 +219,7 @@ no_more_members zero front [] (member name value others) are past = absurd are
 -- what was written of the members so far, and what is left of them, make the whole
 abbrev pub IsHeaderSoFar : Bool → MemberTrees → ℕ → List ℕ → Type 0
 IsHeaderSoFar drops members k line =
-    line ++ members_after line (header_members drops (members_from k members))
+    line ++ members_text_after line (header_members drops (members_from k members))
     ≡ open_brace ∷ compact_members (header_members drops members)
 
 pub begun : (none line : List ℕ) → line ≡ none ++ open_brace ∷ [] → 0 < length line
@@ -235,8 +235,8 @@ pub header_goes_on : (text : List ℕ) (members : MemberTrees) (parts : List Mem
     → ((named : List ℕ) (value : Tree) (others : MemberTrees) → IsUtf8 named
     → slice_range text (get_or parts k d).at (get_or parts k d).value ≡ quoted named ++ colon ∷ []
     → slice_range text (get_or parts k d).value (get_or parts k d).end ≡ compact value
-    → line ++ members_after line (header_members drops (member named value others))
-    ≡ line' ++ members_after line' (header_members drops others))
+    → line ++ members_text_after line (header_members drops (member named value others))
+    ≡ line' ++ members_text_after line' (header_members drops others))
     → IsHeaderSoFar drops members (k + 1) line'
 header_goes_on text members parts k d drops line line' of are within so_far written =
     let lies = member_in_part members (open_brace ∷ []) (close_brace ∷ []) parts k d are within in
@@ -247,17 +247,17 @@ header_goes_on text members parts k d drops line line' of are within so_far writ
     (ap (λ l. slice_range l (get_or parts k d).value (get_or parts k d).end) of.is ∙ lies.valued) in
     let one : suc k ≡ k + 1 = omega arith in
     subst (λ n. IsHeaderSoFar drops members n line') one
-    (sym step ∙ (ap (λ m. line ++ members_after line (header_members drops m)) (sym next) ∙ so_far))
+    (sym step ∙ (ap (λ m. line ++ members_text_after line (header_members drops m)) (sym next) ∙ so_far))
 
 pub header_ends : (drops : Bool) (members : MemberTrees) (parts : List MemberPlace) (k : ℕ) (line text : List ℕ)
     → AreParts 1 parts members → length parts ≤ k → IsHeaderSoFar drops members k line
     → text ≡ line ++ close_brace ∷ [] → text ≡ compact (object (header_members drops members))
 header_ends drops members parts k line text are past so_far is =
     is ∙ ap (λ l. l ++ close_brace ∷ []) (nothing line
-    ∙ (ap (λ m. line ++ members_after line (header_members drops m)) (sym (no_more_members k 1 parts members are past))
+    ∙ (ap (λ m. line ++ members_text_after line (header_members drops m)) (sym (no_more_members k 1 parts members are past))
     ∙ so_far))
   where
-    nothing : (line : List ℕ) → line ≡ line ++ members_after line no_members
+    nothing : (line : List ℕ) → line ≡ line ++ members_text_after line no_members
     nothing [] = refl
     nothing (first ∷ []) = refl
     nothing (first ∷ (second ∷ more)) = sym (append-nil (first ∷ (second ∷ more)))

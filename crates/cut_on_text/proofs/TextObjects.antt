@@ -13,7 +13,7 @@ use Rattle.city_feature.proofs.LineTexts.{utf8}
 use Rattle.city_feature.specs.Shapes.{IsArray, WhereThere}
 use Rattle.city_families.specs.Boundaries.{IsAddress, IsBounded, IsGeometry, address_boundary, boundaries, changed_members, own_boundary, relabelled_addresses, relabelled_geometries, relabelled_object}
 use Rattle.city_families.specs.Copied.{Copies, Numbers}
-use Rattle.cut_on_text.specs.Holders.{AreHeld, AreHeldIn, boundary_in, copied_to, end_of, held_uses, name_of, other_than, part_in, relabelled_held, uses_in}
+use Rattle.cut_on_text.specs.Holders.{AreHeld, AreHeldIn, boundary_in, copied_to, part_end, held_uses, name_of, other_than, part_in, relabelled_held, uses_in}
 use Rattle.city_families.specs.Items.{items_of}
 use Rattle.city_families.specs.Leaves.{leaves}
 use Rattle.city_families.specs.Numbered.{AreNumbered}
@@ -214,8 +214,8 @@ module _ (text : List ℕ) (parts : List MemberPlace) (members : MemberTrees) (o
   four a b c d e = simp append_assoc
 
   object_copied : (first : Holder) (p q : Option MemberPlace) → IsHolderPart first text parts p
-      → IsHolderPart (other_than first) text parts q → IfSome q (λ part. end_of 0 p ≤ part.value)
-      → (up_to 0 p first ++ up_to (end_of 0 p) q (other_than first)) ++ drop (end_of (end_of 0 p) q) text
+      → IsHolderPart (other_than first) text parts q → IfSome q (λ part. part_end 0 p ≤ part.value)
+      → (up_to 0 p first ++ up_to (part_end 0 p) q (other_than first)) ++ drop (part_end (part_end 0 p) q) text
       ≡ compact (object (relabelled_in_turn first change members))
   object_copied first None None here there ordered =
       let others = changed_absent (name_of (other_than first)) (relabelled_held (other_than first) change) members
@@ -287,9 +287,9 @@ WalkedFrom L first count s line s' line' value = IsBounded count value
 both_walked : {S : Type 0} {L : Labelling S} (first : Holder) (count : ℕ) (text : List ℕ) (held : HeldParts) (s : S)
     (line : List ℕ) (s₁ : S) (line₁ : List ℕ) (s₂ : S) (line₂ line₃ : List ℕ) → HasHolders text held
     → MemberMade L text first count 0 (part_in first held) s line s₁ line₁
-    → MemberMade L text (other_than first) count (end_of 0 (part_in first held)) (part_in (other_than first) held) s₁ line₁
-    s₂ line₂ → IfSome (part_in (other_than first) held) (λ part. end_of 0 (part_in first held) ≤ part.value)
-    → line₃ ≡ line₂ ++ drop (end_of (end_of 0 (part_in first held)) (part_in (other_than first) held)) text
+    → MemberMade L text (other_than first) count (part_end 0 (part_in first held)) (part_in (other_than first) held) s₁ line₁
+    s₂ line₂ → IfSome (part_in (other_than first) held) (λ part. part_end 0 (part_in first held) ≤ part.value)
+    → line₃ ≡ line₂ ++ drop (part_end (part_end 0 (part_in first held)) (part_in (other_than first) held)) text
     → (value : Tree) → IsCompactOf text value → WalkedFrom L first count s line s₂ line₃ value
 both_walked {L = L} first count text held s line s₁ line₁ s₂ line₂ line₃ has one two ordered back =
     of_object (WalkedFrom L first count s line s₂ line₃) text has.parts has.listed (λ members of are.
@@ -301,8 +301,8 @@ both_walked {L = L} first count text held s line s₁ line₁ s₂ line₂ line�
     let uses₂ = uses_in (other_than first) (object members) in
     let own : (List ℕ → List ℕ) → List ℕ = λ change. copied_to text 0 p first change (object members) in
     let own₂ : (List ℕ → List ℕ) → List ℕ = λ change.
-    copied_to text (end_of 0 p) q (other_than first) change (object members) in
-    let rest = drop (end_of (end_of 0 p) q) text in (
+    copied_to text (part_end 0 p) q (other_than first) change (object members) in
+    let rest = drop (part_end (part_end 0 p) q) text in (
       bounded first count members here.0 there.0,
       walks_so s line s₂ line₃ ((uses ++ uses₂) ++ []) (uses ++ uses₂) (λ change. (own change ++ own₂ change) ++ rest)
           (λ change. compact (relabelled_object change (object members)))
@@ -320,7 +320,7 @@ to_end text at = take_all (length text - at) (drop at text) (omega (arith, lengt
 pub object_walked : {S : Type 0} {L : Labelling S} (first second : Holder) (count count₂ : ℕ) (text : List ℕ)
     (held : HeldParts) (p q : Option MemberPlace) (middle end : ℕ) (back : List ℕ) (s : S) (line : List ℕ) (s₁ : S)
     (line₁ : List ℕ) (s₂ : S) (line₂ line₃ : List ℕ) → HasHolders text held → second ≡ other_than first
-    → p ≡ part_in first held → q ≡ part_in second held → count₂ ≡ count → middle ≡ end_of 0 p → end ≡ end_of middle q
+    → p ≡ part_in first held → q ≡ part_in second held → count₂ ≡ count → middle ≡ part_end 0 p → end ≡ part_end middle q
     → MemberMade L text first count 0 p s line s₁ line₁ → MemberMade L text second count₂ middle q s₁ line₁ s₂ line₂
     → IfSome q (λ part. middle ≤ part.value) → back ≡ slice_range text end (length text) → line₃ ≡ line₂ ++ back
     → (value : Tree) → IsCompactOf text value → WalkedFrom L first count s line s₂ line₃ value
@@ -328,15 +328,15 @@ object_walked first second count count₂ text held p q middle end back s line s
     begins ends one two ordered rest more =
     let q' = part_in (other_than first) held in
     let q_is : q ≡ q' = is₂ ∙ ap (λ h. part_in h held) other in
-    let middle_is : middle ≡ end_of 0 (part_in first held) = begins ∙ ap (end_of 0) is in
+    let middle_is : middle ≡ part_end 0 (part_in first held) = begins ∙ ap (part_end 0) is in
     both_walked first count text held s line s₁ line₁ s₂ line₂ line₃ has
     (made_again text first first count count 0 0 (part_in first held) p s line s₁ line₁ refl refl refl is one)
-    (made_again text (other_than first) second count count₂ (end_of 0 (part_in first held)) middle q' q s₁ line₁ s₂ line₂
+    (made_again text (other_than first) second count count₂ (part_end 0 (part_in first held)) middle q' q s₁ line₁ s₂ line₂
     other long middle_is q_is two)
     (subst (λ m. IfSome q' (λ part. m ≤ part.value)) middle_is
     (subst (λ o. IfSome o (λ part. middle ≤ part.value)) q_is ordered))
-    (more ∙ ap (λ l. line₂ ++ l) (rest ∙ (to_end text end ∙ ap (λ n. drop n text) (ends ∙ (ap (λ m. end_of m q) middle_is
-    ∙ ap (end_of (end_of 0 (part_in first held))) q_is)))))
+    (more ∙ ap (λ l. line₂ ++ l) (rest ∙ (to_end text end ∙ ap (λ n. drop n text) (ends ∙ (ap (λ m. part_end m q) middle_is
+    ∙ ap (part_end (part_end 0 (part_in first held))) q_is)))))
 
 pub both_uses : (value : Tree)
     → uses_in Geometry value ++ uses_in Address value ≡ flat_map leaves (boundaries value)

@@ -13,7 +13,7 @@ use Rattle.std.specs.Simd.Lanes.{mask_l}
 use Rattle.std.specs.Str.Parse.{AllDigits}
 use Rattle.city_json.proofs.PartsOfNumbers.{digits_of_whole}
 use Rattle.city_json.proofs.Places.{slice_more}
-use Rattle.city_json.proofs.WholeArrays.{marks_behind}
+use Rattle.city_json.proofs.WholeArrays.{marks_after}
 use Rattle.city_json.specs.Bytes.{comma, open_bracket, close_bracket, digit_zero, minus}
 use Rattle.city_json.specs.Compact.{compact, compact_items, compact_more_items}
 use Rattle.city_json.specs.Tree.{Tree, ItemTrees, array, item, no_items}
@@ -23,59 +23,59 @@ use Rattle.city_grid.specs.Axes.{IsInRange, Triple}
 use Rattle.city_grid.specs.Vertex.{vertex_tree}
 use Rattle.city_feature.specs.Feature.{vertices_tree}
 use Rattle.city_families.specs.Chosen.{point_at}
-use Rattle.cut_on_text.specs.TripleStarts.{IsTriplesArray, is_close, starts_behind}
+use Rattle.cut_on_text.specs.TripleStarts.{IsTriplesArray, is_close_bracket, starts_after_closes}
 use Rattle.cut_on_text.specs.VertexTexts.{StandAt}
 use Rattle.cut_on_text.proofs.TextPoints.{trees_of}
 use Rattle.city_json.proofs.Triples.{slice_length}
 
 -- ---- the first closing bracket of a block
 abbrev open_len : List ℕ → ℕ
-open_len bs = prefix_len (λ b. not (is_close b)) bs
+open_len bs = prefix_len (λ b. not (is_close_bracket b)) bs
 
 pub record IsFirst (at : ℕ) (bs : List ℕ) (n : ℕ) : Type 0 where
   pub within : n < length bs
-  pub starts : starts_behind at bs ≡ (at + n + 2) ∷ starts_behind (at + n + 1) (drop (n + 1) bs)
+  pub starts : starts_after_closes at bs ≡ (at + n + 2) ∷ starts_after_closes (at + n + 1) (drop (n + 1) bs)
 
-first_close : (at : ℕ) (bs : List ℕ) → 0 < mask_l (map is_close bs) → IsFirst at bs (open_len bs)
+first_close : (at : ℕ) (bs : List ℕ) → 0 < mask_l (map is_close_bracket bs) → IsFirst at bs (open_len bs)
 first_close at [] some = absurd (omega arith)
-first_close at (b ∷ bs) some = elim (cases_Bool (is_close b)) [
+first_close at (b ∷ bs) some = elim (cases_Bool (is_close_bracket b)) [
   | inl closing ↦
-      let none : open_len (b ∷ bs) ≡ 0 = cond-false (not (is_close b)) _ _ (ap not closing) in
+      let none : open_len (b ∷ bs) ≡ 0 = cond-false (not (is_close_bracket b)) _ _ (ap not closing) in
       let same : at ≡ at + 0 = omega arith in
       subst (IsFirst at (b ∷ bs)) (sym none) (record {
         within = omega arith;
-        starts = cond-true (is_close b) _ _ closing ∙ ap (λ k. (k + 2) ∷ starts_behind (k + 1) bs) same;
+        starts = cond-true (is_close_bracket b) _ _ closing ∙ ap (λ k. (k + 2) ∷ starts_after_closes (k + 1) bs) same;
       })
   | inr clear ↦
-      let more : open_len (b ∷ bs) ≡ 1 + open_len bs = cond-true (not (is_close b)) _ _ (ap not clear) in
-      let none : ◌≡◌ {A = ℕ} (cond (is_close b) 1 0) 0 = cond-false (is_close b) 1 0 clear in
+      let more : open_len (b ∷ bs) ≡ 1 + open_len bs = cond-true (not (is_close_bracket b)) _ _ (ap not clear) in
+      let none : ◌≡◌ {A = ℕ} (cond (is_close_bracket b) 1 0) 0 = cond-false (is_close_bracket b) 1 0 clear in
       let rest = first_close (at + 1) bs (omega (arith, none, some)) in
       let n = open_len bs in
       let place : at + 1 + n ≡ at + (1 + n) = omega arith in
       let next : suc (n + 1) ≡ 1 + n + 1 = omega arith in
       subst (IsFirst at (b ∷ bs)) (sym more) (record {
         within = omega (arith, rest.within);
-        starts = cond-false (is_close b) _ _ clear ∙ rest.starts
-            ∙ ap (λ k. (k + 2) ∷ starts_behind (k + 1) (drop (n + 1) bs)) place
-            ∙ ap (λ m. (at + (1 + n) + 2) ∷ starts_behind (at + (1 + n) + 1) (drop m (b ∷ bs))) next;
+        starts = cond-false (is_close_bracket b) _ _ clear ∙ rest.starts
+            ∙ ap (λ k. (k + 2) ∷ starts_after_closes (k + 1) (drop (n + 1) bs)) place
+            ∙ ap (λ m. (at + (1 + n) + 2) ∷ starts_after_closes (at + (1 + n) + 1) (drop m (b ∷ bs))) next;
       })
 ]
 
-none_close : (at : ℕ) (bs : List ℕ) → mask_l (map is_close bs) ≡ 0 → starts_behind at bs ≡ []
+none_close : (at : ℕ) (bs : List ℕ) → mask_l (map is_close_bracket bs) ≡ 0 → starts_after_closes at bs ≡ []
 none_close at [] none = refl
-none_close at (b ∷ bs) none = elim (cases_Bool (is_close b)) [
-  | inl closing ↦ absurd (let one : ◌≡◌ {A = ℕ} (cond (is_close b) 1 0) 1 = cond-true (is_close b) 1 0 closing in
+none_close at (b ∷ bs) none = elim (cases_Bool (is_close_bracket b)) [
+  | inl closing ↦ absurd (let one : ◌≡◌ {A = ℕ} (cond (is_close_bracket b) 1 0) 1 = cond-true (is_close_bracket b) 1 0 closing in
       omega (arith, one, none))
   | inr clear ↦
-      let down : ◌≡◌ {A = ℕ} (cond (is_close b) 1 0) 0 = cond-false (is_close b) 1 0 clear in
-      cond-false (is_close b) _ _ clear ∙ none_close (at + 1) bs (omega (arith, down, none))
+      let down : ◌≡◌ {A = ℕ} (cond (is_close_bracket b) 1 0) 0 = cond-false (is_close_bracket b) 1 0 clear in
+      cond-false (is_close_bracket b) _ _ clear ∙ none_close (at + 1) bs (omega (arith, down, none))
 ]
 
 -- the rest of a block is gone through from one closing bracket to the next
 pub record IsPlace (text : List ℕ) (end marks place : ℕ) (starts all : List ℕ) : Type 0 where
   pub within : place ≤ end
-  pub bits : marks ≡ mask_l (map is_close (slice_range text place end))
-  pub goes_on : all ≡ starts ++ starts_behind place (slice_range text place end)
+  pub bits : marks ≡ mask_l (map is_close_bracket (slice_range text place end))
+  pub goes_on : all ≡ starts ++ starts_after_closes place (slice_range text place end)
 
 module _ (text : List ℕ) (end marks place : ℕ) (starts all : List ℕ) (p : IsPlace text end marks place starts all) where
   pub place_last : marks ≡ 0 → starts ≡ all
@@ -88,70 +88,70 @@ module _ (text : List ℕ) (end marks place : ℕ) (starts all : List ℕ) (p : 
   place_next len starts' inside near some is pushed =
       let bs = slice_range text place end in
       let long : length bs ≡ end - place = slice_length text place end inside in
-      let more : 0 < mask_l (map is_close bs) = omega (arith, some, p.bits) in
+      let more : 0 < mask_l (map is_close_bracket bs) = omega (arith, some, p.bits) in
       let first : len ≡ open_len bs = is ∙ ap (count_trailing_zeros 64) p.bits
-      ∙ trailing_mask_l is_close 64 bs (omega (arith, long, near)) more in
+      ∙ trailing_mask_l is_close_bracket 64 bs (omega (arith, long, near)) more in
       let found = subst (IsFirst place bs) (sym first) (first_close place bs more) in
       let less : place + len < end = omega (arith, found.within, long) in
       let count : end - place ≡ (len + 1) + (end - (place + len + 1)) = omega (arith, less) in
       let next : place + (len + 1) ≡ place + len + 1 = omega arith in
-      let behind : drop (len + 1) bs ≡ slice_range text (place + len + 1) end =
+      let beyond : drop (len + 1) bs ≡ slice_range text (place + len + 1) end =
       ap (λ k. drop (len + 1) (take k (drop place text))) count
       ∙ drop-take (len + 1) (end - (place + len + 1)) (drop place text)
       ∙ ap (take (end - (place + len + 1))) (drop-drop (len + 1) place text ∙ ap (λ k. drop k text) next) in
       subst (λ k. IsPlace text end (marks / 2 ^ len / 2) k starts' all) (sym next) (record {
         within = omega (arith, less);
-        bits = marks_behind is_close len bs marks p.bits ∙ ap (λ l. mask_l (map is_close l)) behind;
+        bits = marks_after is_close_bracket len bs marks p.bits ∙ ap (λ l. mask_l (map is_close_bracket l)) beyond;
         goes_on = p.goes_on ∙ ap (λ l. starts ++ l) found.starts
-            ∙ sym (append_assoc starts ((place + len + 2) ∷ []) (starts_behind (place + len + 1) (drop (len + 1) bs)))
-            ∙ ap (λ l. l ++ starts_behind (place + len + 1) (drop (len + 1) bs)) (sym pushed)
-            ∙ ap (λ l. starts' ++ starts_behind (place + len + 1) l) behind;
+            ∙ sym (append_assoc starts ((place + len + 2) ∷ []) (starts_after_closes (place + len + 1) (drop (len + 1) bs)))
+            ∙ ap (λ l. l ++ starts_after_closes (place + len + 1) (drop (len + 1) bs)) (sym pushed)
+            ∙ ap (λ l. starts' ++ starts_after_closes (place + len + 1) l) beyond;
       })
 
 -- ---- one part of the text after another
-behind_append : (at : ℕ) (xs ys : List ℕ)
-    → starts_behind at (xs ++ ys) ≡ starts_behind at xs ++ starts_behind (at + length xs) ys
-behind_append at [] ys = let same : at ≡ at + 0 = omega arith in ap (λ k. starts_behind k ys) same
-behind_append at (x ∷ xs) ys =
+after_append : (at : ℕ) (xs ys : List ℕ)
+    → starts_after_closes at (xs ++ ys) ≡ starts_after_closes at xs ++ starts_after_closes (at + length xs) ys
+after_append at [] ys = let same : at ≡ at + 0 = omega arith in ap (λ k. starts_after_closes k ys) same
+after_append at (x ∷ xs) ys =
     let place : at + 1 + length xs ≡ at + suc (length xs) = omega arith in
-    let rest : starts_behind (at + 1) (xs ++ ys) ≡ starts_behind (at + 1) xs ++ starts_behind (at + suc (length xs)) ys =
-    behind_append (at + 1) xs ys ∙ ap (λ k. starts_behind (at + 1) xs ++ starts_behind k ys) place in
-    elim (cases_Bool (is_close x)) [
-      | inl closing ↦ cond-true (is_close x) _ _ closing ∙ ap (λ l. (at + 2) ∷ l) rest
-          ∙ ap (λ l. l ++ starts_behind (at + suc (length xs)) ys) (sym (cond-true (is_close x) _ _ closing))
-      | inr clear ↦ cond-false (is_close x) _ _ clear ∙ rest
-          ∙ ap (λ l. l ++ starts_behind (at + suc (length xs)) ys) (sym (cond-false (is_close x) _ _ clear))
+    let rest : starts_after_closes (at + 1) (xs ++ ys) ≡ starts_after_closes (at + 1) xs ++ starts_after_closes (at + suc (length xs)) ys =
+    after_append (at + 1) xs ys ∙ ap (λ k. starts_after_closes (at + 1) xs ++ starts_after_closes k ys) place in
+    elim (cases_Bool (is_close_bracket x)) [
+      | inl closing ↦ cond-true (is_close_bracket x) _ _ closing ∙ ap (λ l. (at + 2) ∷ l) rest
+          ∙ ap (λ l. l ++ starts_after_closes (at + suc (length xs)) ys) (sym (cond-true (is_close_bracket x) _ _ closing))
+      | inr clear ↦ cond-false (is_close_bracket x) _ _ clear ∙ rest
+          ∙ ap (λ l. l ++ starts_after_closes (at + suc (length xs)) ys) (sym (cond-false (is_close_bracket x) _ _ clear))
     ]
 
 -- with the starts that the rest of the text tells of, these are all
 abbrev pub GoesOn : List ℕ → ℕ → ℕ → List ℕ → Type 0
-GoesOn text last at starts = 1 ∷ starts_behind 0 (slice_range text 0 last) ≡ starts ++ starts_behind at (slice_range text at last)
+GoesOn text last at starts = 1 ∷ starts_after_closes 0 (slice_range text 0 last) ≡ starts ++ starts_after_closes at (slice_range text at last)
 
 pub goes_on_after : (text : List ℕ) (last at next : ℕ) (starts starts' : List ℕ) → at ≤ next → next ≤ last
     → last ≤ length text → GoesOn text last at starts
-    → starts' ≡ starts ++ starts_behind at (slice_range text at next) → GoesOn text last next starts'
+    → starts' ≡ starts ++ starts_after_closes at (slice_range text at next) → GoesOn text last next starts'
 goes_on_after text last at next starts starts' onward within inside on pushed =
     let one = slice_range text at next in
     let long : length one ≡ next - at = slice_length text at next (omega (arith, within, inside)) in
     let place : at + length one ≡ next = omega (arith, long, onward) in
-    on ∙ ap (λ l. starts ++ starts_behind at l) (slice_more text at next last onward within)
-    ∙ ap (λ l. starts ++ l) (behind_append at one (slice_range text next last)
-    ∙ ap (λ k. starts_behind at one ++ starts_behind k (slice_range text next last)) place)
-    ∙ sym (append_assoc starts (starts_behind at one) (starts_behind next (slice_range text next last)))
-    ∙ ap (λ l. l ++ starts_behind next (slice_range text next last)) (sym pushed)
+    on ∙ ap (λ l. starts ++ starts_after_closes at l) (slice_more text at next last onward within)
+    ∙ ap (λ l. starts ++ l) (after_append at one (slice_range text next last)
+    ∙ ap (λ k. starts_after_closes at one ++ starts_after_closes k (slice_range text next last)) place)
+    ∙ sym (append_assoc starts (starts_after_closes at one) (starts_after_closes next (slice_range text next last)))
+    ∙ ap (λ l. l ++ starts_after_closes next (slice_range text next last)) (sym pushed)
 
 pub goes_on_to : (text : List ℕ) (last at : ℕ) (starts : List ℕ) → at ≤ last → last ≤ at → GoesOn text last at starts
-    → starts ≡ 1 ∷ starts_behind 0 (slice_range text 0 last)
+    → starts ≡ 1 ∷ starts_after_closes 0 (slice_range text 0 last)
 goes_on_to text last at starts before past on =
     let same : last ≡ at = omega (arith, before, past) in
-    sym (on ∙ ap (λ k. starts ++ starts_behind at (slice_range text at k)) same
-    ∙ ap (λ l. starts ++ starts_behind at l) (between_none text at) ∙ append-nil starts)
+    sym (on ∙ ap (λ k. starts ++ starts_after_closes at (slice_range text at k)) same
+    ∙ ap (λ l. starts ++ starts_after_closes at l) (between_none text at) ∙ append-nil starts)
 
 -- ---- the brackets of triples
 abbrev IsOpen : List ℕ → Type 0
-IsOpen = AllByRecursion (λ c. is_close c ≡ false)
+IsOpen = AllByRecursion (λ c. is_close_bracket c ≡ false)
 
-open_digit : (c : ℕ) → 48 ≤ c → c ≤ 57 → is_close c ≡ false
+open_digit : (c : ℕ) → 48 ≤ c → c ≤ 57 → is_close_bracket c ≡ false
 open_digit c low high = grind (arith, nat_tests)
 
 open_digits : (ds : List ℕ) → AllDigits 10 ds → IsOpen ds
@@ -172,31 +172,31 @@ open_numeral text n = subst IsOpen (sym n.splits)
     sign (inl none) = subst IsOpen (sym none) tt
     sign (inr some) = subst IsOpen (sym some.0) (refl, tt)
 
-behind_open : (at : ℕ) (run rest : List ℕ) → IsOpen run → starts_behind at (run ++ rest) ≡ starts_behind (at + length run) rest
-behind_open at [] rest all = let same : at ≡ at + 0 = omega arith in ap (λ k. starts_behind k rest) same
-behind_open at (b ∷ run) rest all =
+after_open : (at : ℕ) (run rest : List ℕ) → IsOpen run → starts_after_closes at (run ++ rest) ≡ starts_after_closes (at + length run) rest
+after_open at [] rest all = let same : at ≡ at + 0 = omega arith in ap (λ k. starts_after_closes k rest) same
+after_open at (b ∷ run) rest all =
     let place : at + 1 + length run ≡ at + suc (length run) = omega arith in
-    cond-false (is_close b) _ _ all.0 ∙ behind_open (at + 1) run rest all.1 ∙ ap (λ k. starts_behind k rest) place
+    cond-false (is_close_bracket b) _ _ all.0 ∙ after_open (at + 1) run rest all.1 ∙ ap (λ k. starts_after_closes k rest) place
 
 regroup : (x y z : List ℕ) → (x ++ (comma ∷ (y ++ (comma ∷ (z ++ []))))) ++ close_bracket ∷ []
     ≡ (x ++ (comma ∷ (y ++ (comma ∷ z)))) ++ close_bracket ∷ []
 regroup x y z = simp (append_assoc, append-nil)
 
-abbrev Behind : ℕ → List ℕ → List ℕ → Type 0
-Behind at text rest = starts_behind at (text ++ rest) ≡ (at + length text + 1) ∷ starts_behind (at + length text) rest
+abbrev StartsAfter : ℕ → List ℕ → List ℕ → Type 0
+StartsAfter at text rest = starts_after_closes at (text ++ rest) ≡ (at + length text + 1) ∷ starts_after_closes (at + length text) rest
 
-behind_closed : (at : ℕ) (run rest : List ℕ) → IsOpen run → Behind at (run ++ close_bracket ∷ []) rest
-behind_closed at run rest all =
+after_closed : (at : ℕ) (run rest : List ℕ) → IsOpen run → StartsAfter at (run ++ close_bracket ∷ []) rest
+after_closed at run rest all =
     let long : length (run ++ close_bracket ∷ []) ≡ length run + 1 = length-append run (close_bracket ∷ []) in
     let first : at + length run + 2 ≡ at + length (run ++ close_bracket ∷ []) + 1 = omega (arith, long) in
     let place : at + length run + 1 ≡ at + length (run ++ close_bracket ∷ []) = omega (arith, long) in
-    ap (starts_behind at) (append_assoc run (close_bracket ∷ []) rest)
-    ∙ behind_open at run (close_bracket ∷ rest) all
-    ∙ ap (λ k. k ∷ starts_behind (at + length run + 1) rest) first
-    ∙ ap (λ k. (at + length (run ++ close_bracket ∷ []) + 1) ∷ starts_behind k rest) place
+    ap (starts_after_closes at) (append_assoc run (close_bracket ∷ []) rest)
+    ∙ after_open at run (close_bracket ∷ rest) all
+    ∙ ap (λ k. k ∷ starts_after_closes (at + length run + 1) rest) first
+    ∙ ap (λ k. (at + length (run ++ close_bracket ∷ []) + 1) ∷ starts_after_closes k rest) place
 
-behind_triple : (at : ℕ) (value : Tree) (rest : List ℕ) → IsTriple value → Behind at (compact value) rest
-behind_triple at value rest t =
+after_triple : (at : ℕ) (value : Tree) (rest : List ℕ) → IsTriple value → StartsAfter at (compact value) rest
+after_triple at value rest t =
     let run = open_bracket ∷ (t.x ++ (comma ∷ (t.y ++ (comma ∷ t.z)))) in
     let same : run ++ close_bracket ∷ [] ≡ compact value =
     ap (λ l. open_bracket ∷ l) (sym (regroup t.x t.y t.z)) ∙ ap compact (sym t.is) in
@@ -204,7 +204,7 @@ behind_triple at value rest t =
     let open_y : IsOpen (comma ∷ (t.y ++ (comma ∷ t.z))) =
     (refl, open_append t.y (comma ∷ t.z) (open_numeral t.y t.short_y) open_z) in
     let all : IsOpen run = (refl, open_append t.x (comma ∷ (t.y ++ (comma ∷ t.z))) (open_numeral t.x t.short_x) open_y) in
-    subst (λ l. Behind at l rest) same (behind_closed at run rest all)
+    subst (λ l. StartsAfter at l rest) same (after_closed at run rest all)
 
 -- where the vertices after a comma or the first bracket at `at` are followed by others
 abbrev starts_after : ℕ → ItemTrees → List ℕ
@@ -212,19 +212,19 @@ starts_after at no_items = []
 starts_after at (item value others) =
     (at + 1 + length (compact value) + 1) ∷ starts_after (at + 1 + length (compact value)) others
 
-more_behind : (at : ℕ) (items : ItemTrees) → AreTriples items
-    → starts_behind at (compact_more_items items) ≡ starts_after at items
-more_behind at no_items are = refl
-more_behind at (item value others) are =
-    behind_triple (at + 1) value (compact_more_items others) are.0
-    ∙ ap (λ l. (at + 1 + length (compact value) + 1) ∷ l) (more_behind (at + 1 + length (compact value)) others are.1)
+more_after : (at : ℕ) (items : ItemTrees) → AreTriples items
+    → starts_after_closes at (compact_more_items items) ≡ starts_after at items
+more_after at no_items are = refl
+more_after at (item value others) are =
+    after_triple (at + 1) value (compact_more_items others) are.0
+    ∙ ap (λ l. (at + 1 + length (compact value) + 1) ∷ l) (more_after (at + 1 + length (compact value)) others are.1)
 
-all_behind : (items : ItemTrees) → AreTriples items
-    → starts_behind 0 (open_bracket ∷ compact_items items) ≡ starts_after 0 items
-all_behind no_items are = refl
-all_behind (item value others) are =
-    behind_triple 1 value (compact_more_items others) are.0
-    ∙ ap (λ l. (0 + 1 + length (compact value) + 1) ∷ l) (more_behind (0 + 1 + length (compact value)) others are.1)
+all_after : (items : ItemTrees) → AreTriples items
+    → starts_after_closes 0 (open_bracket ∷ compact_items items) ≡ starts_after 0 items
+all_after no_items are = refl
+all_after (item value others) are =
+    after_triple 1 value (compact_more_items others) are.0
+    ∙ ap (λ l. (0 + 1 + length (compact value) + 1) ∷ l) (more_after (0 + 1 + length (compact value)) others are.1)
 
 -- ---- where they stand
 stand_cons : (text starts : List ℕ) (s n : ℕ) (p : Triple) (ps : List Triple)
@@ -276,7 +276,7 @@ stand_from text tail at (p ∷ ps) lies =
         ∙ drop-append-add (compact (vertex_tree p)) (compact_more_items (trees_of (q ∷ qs)) ++ tail) 1
 
 pub stand_there : (text starts : List ℕ) (last : ℕ) → IsTriplesArray text → last ≡ length text - 1
-    → starts ≡ 1 ∷ starts_behind 0 (slice_range text 0 last)
+    → starts ≡ 1 ∷ starts_after_closes 0 (slice_range text 0 last)
     → (points : List Triple) × (text ≡ compact (vertices_tree points)) × All IsInRange points × StandAt text starts points
 stand_there text starts last (items, are, written) is_last is =
     let printed = triples.vertices items are in
@@ -288,8 +288,8 @@ stand_there text starts last (items, are, written) is_last is =
     let count : last - 0 ≡ length inner = omega (arith, long, is_last) in
     let front : slice_range text 0 last ≡ inner = ap (λ n. take n (drop 0 text)) count ∙ ap (take (length inner)) same
     ∙ take-append_seam inner (close_bracket ∷ []) in
-    let all : 1 ∷ starts_after 0 (trees_of ps) ≡ starts = ap (λ l. 1 ∷ l) (sym (ap (starts_behind 0) front
-    ∙ all_behind (trees_of ps) triples)) ∙ sym is in (
+    let all : 1 ∷ starts_after 0 (trees_of ps) ≡ starts = ap (λ l. 1 ∷ l) (sym (ap (starts_after_closes 0) front
+    ∙ all_after (trees_of ps) triples)) ∙ sym is in (
       ps,
       same,
       printed.range,

@@ -8,7 +8,7 @@ IsDecimal byte = (48 ≤ byte) × (byte ≤ 57)
 abbrev pub IsMark : ℕ → Type 0
 IsMark byte = (byte ≡ open_bracket) ⊎ ((byte ≡ close_bracket) ⊎ (byte ≡ comma))
 
--- behind digits that write `value`: further digits, with which it stays below `count`, or a bracket or a comma, and so on
+-- after digits that write `value`: further digits, with which it stays below `count`, or a bracket or a comma, and so on
 abbrev pub AreBounds : ℕ → ℕ → List ℕ → Type 0
 AreBounds count value [] = Unit {0}
 AreBounds count value (byte ∷ rest) =

@@ -4,7 +4,7 @@ use Rattle.city_json.specs.Bytes.{colon, comma, open_brace, close_brace}
 use Rattle.city_json.specs.Compact.{compact_more_members, quoted}
 use Rattle.city_json.specs.Tree.{Tree}
 use Rattle.city_json.specs.Writable.{AreWritableMembers}
-use Rattle.city_families.specs.Cut.{last_members}
+use Rattle.city_families.specs.Cut.{appearance_members}
 
 -- what stands before the objects of the feature that the object `id` begins
 abbrev pub head_text : List ℕ → List ℕ
@@ -19,8 +19,8 @@ middle_text = close_brace ∷ (comma ∷ (quoted (codes "vertices") ++ colon ∷
 
 -- what stands after the vertices
 abbrev pub tail_text : Option Tree → List ℕ
-tail_text appearance = compact_more_members (last_members appearance) ++ (close_brace ∷ [])
+tail_text appearance = compact_more_members (appearance_members appearance) ++ (close_brace ∷ [])
 
 -- what stands there in features with some appearance, or with none
 abbrev pub IsTail : List ℕ → Type 0
-IsTail text = (appearance : Option Tree) × AreWritableMembers (last_members appearance) × (text ≡ tail_text appearance)
+IsTail text = (appearance : Option Tree) × AreWritableMembers (appearance_members appearance) × (text ≡ tail_text appearance)

@@ -7,8 +7,8 @@ use Rattle.city_feature.specs.Header.{IsHeader}
 use Rattle.city_families.specs.Cut.{header_tree}
 
 -- what stands there for the value of a member of this name
-abbrev pub header_value : List ℕ → Tree → Tree
-header_value name value =
+abbrev pub value_in_header : List ℕ → Tree → Tree
+value_in_header name value =
     if bytes_eq name (codes "CityObjects") then object no_members
     else if bytes_eq name (codes "vertices") then array no_items
     else value
@@ -18,13 +18,13 @@ abbrev pub header_members : Bool → MemberTrees → MemberTrees
 header_members drops no_members = no_members
 header_members drops (member name value others) =
     if drops && bytes_eq name (codes "appearance") then header_members drops others
-    else member name (header_value name value) (header_members drops others)
+    else member name (value_in_header name value) (header_members drops others)
 
 -- the text of members that come after what was written of an object: with a comma before them, unless that is its brace
-abbrev pub members_after : List ℕ → MemberTrees → List ℕ
-members_after [] members = compact_members members
-members_after (first ∷ []) members = compact_members members
-members_after (first ∷ (second ∷ more)) members = compact_more_members members
+abbrev pub members_text_after : List ℕ → MemberTrees → List ℕ
+members_text_after [] members = compact_members members
+members_text_after (first ∷ []) members = compact_members members
+members_text_after (first ∷ (second ∷ more)) members = compact_more_members members
 
 -- the members from a place on
 abbrev pub members_from : ℕ → MemberTrees → MemberTrees

@@ -53,13 +53,13 @@ abbrev pub held_uses : Holder → Tree → List ℕ
 held_uses holder value = flat_map leaves (flat_map (boundary_in holder) (items_of (Some value)))
 
 -- where a member begins whose value begins at `value`, with its name and its colon before it
-abbrev pub begin_of : Holder → ℕ → ℕ
-begin_of holder value = value - length (quoted (name_of holder) ++ colon ∷ [])
+abbrev pub holder_begin : Holder → ℕ → ℕ
+holder_begin holder value = value - length (quoted (name_of holder) ++ colon ∷ [])
 
 -- the part in which such a member lies; none, where it ends at 0
 abbrev pub part_unless : Holder → ℕ → ℕ → Option MemberPlace
 part_unless holder value end =
-    if end == 0 then None else Some (record { at = begin_of holder value; value = value; end = end })
+    if end == 0 then None else Some (record { at = holder_begin holder value; value = value; end = end })
 
 -- ---- of a city object, where the member may be there or not
 abbrev pub part_in : Holder → HeldParts → Option MemberPlace
@@ -73,9 +73,9 @@ abbrev pub uses_in : Holder → Tree → List ℕ
 uses_in holder value = flat_map leaves (flat_map (boundary_in holder) (items_of (member_of (name_of holder) value)))
 
 -- how far the text of the object is copied, once this part of it is
-abbrev pub end_of : ℕ → Option MemberPlace → ℕ
-end_of from None = from
-end_of from (Some part) = part.end
+abbrev pub part_end : ℕ → Option MemberPlace → ℕ
+part_end from None = from
+part_end from (Some part) = part.end
 
 -- what is copied up to there, with other texts at the leaves
 abbrev pub copied_to : List ℕ → ℕ → Option MemberPlace → Holder → (List ℕ → List ℕ) → Tree → List ℕ

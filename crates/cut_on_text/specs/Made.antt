@@ -12,7 +12,7 @@ use Rattle.cut_on_text.specs.FeatureText.{middle_text}
 use Rattle.city_families.specs.Places.{IsGraph}
 use Rattle.cut_on_text.specs.Rosters.{RosterState}
 use Rattle.city_families.specs.Search.{InRange}
-use Rattle.cut_on_text.specs.Skeletons.{AreSkeletons, SkeletonTexts, id_at, text_at, uses_at}
+use Rattle.cut_on_text.specs.Skeletons.{AreSkeletons, SkeletonTexts, id_at, skeleton_text_at, uses_at}
 use Rattle.cut_on_text.specs.VertexTexts.{StandAt}
 
 -- the numbers below `count`, in their order
@@ -82,7 +82,7 @@ order_of makings root = first_uses [] (flat_map (uses_at makings.skeletons) (fam
 abbrev pub feature_text : SkeletonTexts → (ℕ → List ℕ) → ℕ → List ℕ → List ℕ → List ℕ
 feature_text skeletons vertex root places order =
     codes "{\"type\":\"CityJSONFeature\",\"id\":" ++ (id_at skeletons root ++ (codes ",\"CityObjects\":{"
-    ++ (listed (map (text_at skeletons (λ k. decimal (place_in order k))) places)
+    ++ (listed (map (skeleton_text_at skeletons (λ k. decimal (place_in order k))) places)
     ++ (middle_text ++ (open_bracket ∷ (listed (map vertex order) ++ close_bracket ∷ []))))))
 
 -- of the feature that the object at a place begins

@@ -55,8 +55,8 @@ woven text from end (leaf ∷ others) label =
     slice_range text from leaf.at ++ (label leaf.vertex ++ woven text leaf.at end others label)
 
 -- the text of an object, its name before it, with these labels
-abbrev pub text_at : SkeletonTexts → (ℕ → List ℕ) → ℕ → List ℕ
-text_at skeletons label k =
+abbrev pub skeleton_text_at : SkeletonTexts → (ℕ → List ℕ) → ℕ → List ℕ
+skeleton_text_at skeletons label k =
     woven skeletons.text (place_at skeletons k).text (place_at skeletons (k + 1)).text (leaves_at skeletons k) label
 
 -- the object at this place is this one, with boundaries that name vertices below `count`
@@ -68,7 +68,7 @@ pub record IsSkeleton (count : ℕ) (skeletons : SkeletonTexts) (k : ℕ) (named
   pub before_last : (place_at skeletons k).split ≤ (place_at skeletons (k + 1)).leaves
   pub within : All (λ leaf. leaf.vertex < count) (leaves_at skeletons k)
   pub is : (change : List ℕ → List ℕ) → quoted named.0 ++ colon ∷ compact (relabelled_object change named.1)
-      ≡ text_at skeletons (λ vertex. change (decimal vertex)) k
+      ≡ skeleton_text_at skeletons (λ vertex. change (decimal vertex)) k
 
 -- and each is
 pub record AreSkeletons (count : ℕ) (skeletons : SkeletonTexts) (pairs : List (List ℕ × Tree)) : Type 0 where

@@ -14,8 +14,8 @@ abbrev pub LeafNoted : List LeafPlace → List ℕ → List LeafPlace → List �
 LeafNoted noted line noted' line' vertex =
     (line' ≡ line) × (noted' ≡ noted ++ record { at = length line; vertex = vertex } ∷ [])
 
-abbrev pub vertices_of : List LeafPlace → List ℕ
-vertices_of noted = map (λ leaf. leaf.vertex) noted
+abbrev pub leaf_vertices : List LeafPlace → List ℕ
+leaf_vertices noted = map (λ leaf. leaf.vertex) noted
 
 -- the leaves stand in order from one place to another
 abbrev pub ArePlaced : ℕ → ℕ → List LeafPlace → Type 0
@@ -32,7 +32,7 @@ pub record IsNoted (noted : List LeafPlace) (line : List ℕ) (split : ℕ) (not
   pub more : noted' ≡ noted ++ (first ++ second)
   pub split_is : split ≡ length noted + length first
   pub placed : ArePlaced (length line) (length line') (first ++ second)
-  pub named : uses ≡ vertices_of second ++ vertices_of first
+  pub named : uses ≡ leaf_vertices second ++ leaf_vertices first
   pub is : (change : List ℕ → List ℕ) → own change
       ≡ woven line' (length line) (length line') (first ++ second) (λ vertex. change (decimal vertex))
 

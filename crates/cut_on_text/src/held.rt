@@ -19,7 +19,7 @@ use crate::on_text::made::MadeTexts;
 use byte_streams::{Fault, Line, Sink, write_all};
 use city_grid::Shift;
 use line_sink::LineSink;
-use std::alloc::Global;
+use std::alloc::{AllocError, Global};
 use std::marker::Model;
 use std::mem;
 
@@ -108,29 +108,27 @@ enum OwnTexts {
     Made(MadeTexts),
 }
 
-/// Puts a text after a line. The only fault is [`Fault::Memory`].
-fn append_held(text: &[u8], line: &mut Line) -> Result<(), Fault>
+/// Puts a text after a line.
+fn append_held(text: &[u8], line: &mut Line) -> Result<(), AllocError>
     ensures ok { OnOk result (line.new ≡ line.old ++ text.now) }
     ensures some { OnErr result ((count : ℕ) × (line.new ≡ line.old ++ take count text.now)) }
-    ensures fault { IfErr result (λ fault. fault ≡ Fault.Memory) }
 {
     match line.append(text) {
         Ok(()) => return Ok(()),
-        Err(_) => return Err(Fault::Memory),
+        Err(refused) => return Err(refused),
     }
 }
 
-/// Puts a made text after a line. The only fault is [`Fault::Memory`].
+/// Puts a made text after a line, which refuses a write for want of memory alone.
 fn append_made(
     alloc: Global,
     texts: &mut MadeTexts,
     at: usize,
     line: &mut Line,
-) -> Result<(), Fault>
+) -> Result<(), AllocError>
     requires { at < length texts.old }
     ensures ok { OnOk result (line.new ≡ line.old ++ get_or texts.old at []) }
     ensures some { OnErr result ((count : ℕ) × (line.new ≡ line.old ++ take count (get_or texts.old at []))) }
-    ensures fault { IfErr result (λ fault. fault ≡ Fault.Memory) }
     ensures same { texts.new ≡ texts.old }
 {
     let mut sink = LineSink::new(mem::replace(line, Line::new(alloc)));
@@ -138,7 +136,7 @@ fn append_made(
     *line = sink.into_line();
     match written {
         Ok(()) => return Ok(()),
-        Err(_) => return Err(Fault::Memory),
+        Err(_) => return Err(AllocError),
     }
 }
 
@@ -187,13 +185,12 @@ impl OwnTexts {
         }
     }
 
-    /// Puts the text at a place after a line. The only fault is [`Fault::Memory`].
-    fn append(&mut self, alloc: Global, at: usize, line: &mut Line) -> Result<(), Fault>
+    /// Puts the text at a place after a line.
+    fn append(&mut self, alloc: Global, at: usize, line: &mut Line) -> Result<(), AllocError>
         requires { at < length (own_texts self.old) }
         ensures ok { OnOk result (line.new ≡ line.old ++ get_or (own_texts self.old) at []) }
         ensures some { OnErr result ((count : ℕ)
             × (line.new ≡ line.old ++ take count (get_or (own_texts self.old) at []))) }
-        ensures fault { IfErr result (λ fault. fault ≡ Fault.Memory) }
         ensures same { self.new ≡ self.old }
     {
         match self {
@@ -386,14 +383,21 @@ impl FeatureTexts {
         self.own.write(at, output)
     }
 
-    /// Appends what the text at a place has of its own. The only fault is [`Fault::Memory`], after which some first bytes of
-    /// it may have been appended.
-    pub fn append_own(&mut self, alloc: Global, at: usize, line: &mut Line) -> Result<(), Fault>
+    /// Appends what the text at a place has of its own.
+    ///
+    /// # Errors
+    ///
+    /// [`AllocError`] where there is not enough memory; some first bytes of it may have been appended then.
+    pub fn append_own(
+        &mut self,
+        alloc: Global,
+        at: usize,
+        line: &mut Line,
+    ) -> Result<(), AllocError>
         requires { at < length self.old.own }
         ensures ok { OnOk result (line.new ≡ line.old ++ get_or self.old.own at []) }
         ensures some { OnErr result ((count : ℕ)
             × (line.new ≡ line.old ++ take count (get_or self.old.own at []))) }
-        ensures fault { IfErr result (λ fault. fault ≡ Fault.Memory) }
         ensures same { self.new ≡ self.old }
     {
         self.own.append(alloc, at, line)

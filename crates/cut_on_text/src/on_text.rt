@@ -61,7 +61,7 @@ use graph::kin_of;
 use headers::header_of;
 use made::MadeTexts;
 use overview::{Overview, overview_of};
-use points::{VertexTexts, Vertices, written_vertices};
+use points::{GrownVertices, VertexTexts, written_vertices};
 use skeletons::skeletons_of;
 use std::alloc::Global;
 use texts::{append_text, objects_text, vertices_text};
@@ -90,7 +90,7 @@ fn tail_of(alloc: Global, document: &ObjectText<'_>) -> Option<Line>
     Some(tail)
 }
 
-/// What the texts of the features have of their own that the families of the objects are, made when they are asked for.
+/// The features that the families of the objects are: what each text has of its own is made when it is asked for.
 /// `None`: a boundary is at fault, or a place is 2^32 or more, or out of memory.
 fn made_texts(
     alloc: Global,
@@ -207,7 +207,7 @@ fn cut_compacted_triples(
     if !is_array(text) {
         return None;
     }
-    let Ok(Vertices { text, starts }) = written_vertices(alloc, text) else {
+    let Ok(GrownVertices { text, starts }) = written_vertices(alloc, text) else {
         return None;
     };
     let text = text.items();

@@ -236,13 +236,13 @@ fn form_of<'a>(form: &'a str, wanted: &str) -> &'a str {
     }
 }
 
-/// Whether the row holds: its line and its text are this form, in which they stand for `ROW`. Where it is quick, no value
+/// Whether the row holds: its line and its text are this form, in which they stand for `ROW`. Where it needs no value, none
 /// is built.
 pub(crate) fn holds(
     alloc: Global,
     form: &str,
     row: &str,
-    is_quick: bool,
+    needs_no_value: bool,
 ) -> Result<bool, AllocError> {
     let (asked, texts) = split(row);
     let (given, wanted) = split(texts);
@@ -250,7 +250,7 @@ pub(crate) fn holds(
     let text = filled(alloc, form_of(form, wanted), wanted)?;
     Ok(
         gives_asked(alloc, &line, asked, &text)
-            && (!is_quick || takes_memory_over(alloc, &line, field(asked, 1))),
+            && (!needs_no_value || takes_memory_over(alloc, &line, field(asked, 1))),
     )
 }
 

@@ -135,14 +135,14 @@ fn common_lines_have_one_answer(rt: HostRuntime) {
 }
 
 /// How many of six hundred drawn lines are answered with no value built; none where one is not answered as its value is.
-fn quick_count(alloc: Global) -> Option<u64> {
+fn count_without_value(alloc: Global) -> Option<u64> {
     let mut draws = Draws { state: 2 };
     let mut count = 0u64;
     for _ in 0..600 {
         let is_common = !draws.pick("common|common|common|").is_empty();
         let names = draws.pick("|Building|Road,Bridge|Road");
         match drawn_is_told(alloc, &mut draws, names, is_common) {
-            Ok((true, is_quick)) => count = count.saturating_add(is_quick as u64),
+            Ok((true, needs_no_value)) => count = count.saturating_add(needs_no_value as u64),
             _ => return None,
         }
     }
@@ -151,6 +151,6 @@ fn quick_count(alloc: Global) -> Option<u64> {
 
 #[test]
 fn lines_of_any_kind_have_one_answer(rt: HostRuntime) {
-    let count = quick_count(rt.alloc()).unwrap_or(0);
+    let count = count_without_value(rt.alloc()).unwrap_or(0);
     assert!(rt; count > 50 && count < 500, "{count}");
 }

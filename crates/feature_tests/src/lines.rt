@@ -8,9 +8,9 @@ use std::alloc::{AllocError, AllocGlobal, Global};
 use std::process::Abort;
 
 /// The rows of a table hold.
-fn expect(rt: &(impl Abort + AllocGlobal), form: &str, table: &str, is_quick: bool) {
+fn expect(rt: &(impl Abort + AllocGlobal), form: &str, table: &str, needs_no_value: bool) {
     for row in table.lines() {
-        let answer = holds(rt.alloc(), form, row, is_quick);
+        let answer = holds(rt.alloc(), form, row, needs_no_value);
         assert!(rt; row.is_empty() || answer == Ok(true), "{row}");
     }
 }
@@ -334,11 +334,11 @@ fn expect_filled(
     rt: &(impl Abort + AllocGlobal),
     (form, row): (&str, &str),
     (table, other): (&str, &str),
-    is_quick: bool,
+    needs_no_value: bool,
 ) -> Result<(), AllocError> {
     let form = filled(rt.alloc(), form, row)?;
     let table = filled(rt.alloc(), table, other)?;
-    expect(rt, &form, &table, is_quick);
+    expect(rt, &form, &table, needs_no_value);
     Ok(())
 }
 

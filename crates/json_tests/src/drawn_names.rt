@@ -71,7 +71,7 @@ impl Drawn {
         self.compact.push_str(plain)
     }
 
-    /// The number of the name at a place behind these: a new one, or one of these.
+    /// The number of the name at a place after these: a new one, or one of these.
     fn number(&mut self, place: u64, before: &[u64]) -> u64 {
         if self.comes(self.repeated) {
             let at = self.chance.below(before.len() as u64) as usize;
@@ -83,7 +83,7 @@ impl Drawn {
         place.wrapping_mul(4).wrapping_add(self.chance.below(kinds))
     }
 
-    /// Puts the name at a place behind these, and notes whether it is another one than each of these.
+    /// Puts the name at a place after these, and notes whether it is another one than each of these.
     fn put_name(
         &mut self,
         alloc: Global,

@@ -167,7 +167,7 @@ fn a_number_shows_its_bytes(rt: HostRuntime) {
 }
 
 /// Whether numbers of so many digits are taken as they are, and none with a byte more in the digits' midst, whatever
-/// stands behind them.
+/// stands after them.
 fn are_taken(alloc: Global, digits: usize) -> bool {
     let ends: [&'static [u8]; 4] = [
         b"",

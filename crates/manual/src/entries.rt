@@ -5,7 +5,7 @@ use std::alloc::{AllocError, Global};
 
 /// What an entry tells of.
 #[derive(Clone, Copy)]
-pub(crate) enum Kind {
+pub(crate) enum EntryKind {
     /// The whole program, which comes first.
     Program,
     Command,
@@ -23,7 +23,7 @@ pub(crate) enum Kind {
 /// The program, a command, or one of its options, which come after it.
 #[derive(Clone, Copy)]
 pub(crate) struct Entry<'a> {
-    pub(crate) kind: Kind,
+    pub(crate) kind: EntryKind,
     pub(crate) command: &'a str,
     pub(crate) option: &'a str,
     pub(crate) help: &'a str,
@@ -38,7 +38,7 @@ pub(crate) fn entries<'a>(alloc: Global) -> Result<Vec<Entry<'a>>, AllocError> {
 fn entries_of<'a>(alloc: Global, program: &Command<'a>) -> Result<Vec<Entry<'a>>, AllocError> {
     let mut entries = Vec::new(alloc);
     entries.push(Entry {
-        kind: Kind::Program,
+        kind: EntryKind::Program,
         command: program.get_name(),
         option: "",
         help: sentence(program.get_about()),
@@ -51,16 +51,16 @@ fn entries_of<'a>(alloc: Global, program: &Command<'a>) -> Result<Vec<Entry<'a>>
 
 fn add_command<'a>(entries: &mut Vec<Entry<'a>>, command: &Command<'a>) -> Result<(), AllocError> {
     let mut entry = Entry {
-        kind: Kind::Command,
+        kind: EntryKind::Command,
         command: command.get_name(),
         option: "",
         help: sentence(command.get_about()),
     };
     entries.push(entry)?;
-    entry.kind = Kind::NoFiles;
+    entry.kind = EntryKind::NoFiles;
     for arg in command.get_arguments() {
         if arg.is_positional() {
-            entry.kind = Kind::Files;
+            entry.kind = EntryKind::Files;
         } else {
             entries.push(entry_of(entry.command, arg))?;
         }
@@ -78,11 +78,11 @@ fn entry_of<'a>(command: &'a str, option: &Arg<'a>) -> Entry<'a> {
     }
 }
 
-fn kind_of(option: &Arg<'_>) -> Kind {
+fn kind_of(option: &Arg<'_>) -> EntryKind {
     match option.get_action() {
-        ArgAction::Set if option.get_id() == "cotype" => Kind::Types,
-        ArgAction::Set | ArgAction::Append => Kind::Valued,
-        _ => Kind::Flag,
+        ArgAction::Set if option.get_id() == "cotype" => EntryKind::Types,
+        ArgAction::Set | ArgAction::Append => EntryKind::Valued,
+        _ => EntryKind::Flag,
     }
 }
 

@@ -1,5 +1,5 @@
 //! The parts of a file, filled with what each entry says.
-use crate::entries::{Entry, Kind};
+use crate::entries::{Entry, EntryKind};
 use crate::output::Output;
 use crate::page::add_told;
 
@@ -48,15 +48,15 @@ pub(crate) fn add_sections(
     }
 }
 
-fn text_for<'a>(section: &Section<'a>, kind: Kind) -> &'a str {
+fn text_for<'a>(section: &Section<'a>, kind: EntryKind) -> &'a str {
     match kind {
-        Kind::Program => section.program,
-        Kind::Command => section.command,
-        Kind::Flag => section.flag,
-        Kind::Valued => section.valued,
-        Kind::Types => section.types,
-        Kind::Files => section.files,
-        Kind::NoFiles => section.no_files,
+        EntryKind::Program => section.program,
+        EntryKind::Command => section.command,
+        EntryKind::Flag => section.flag,
+        EntryKind::Valued => section.valued,
+        EntryKind::Types => section.types,
+        EntryKind::Files => section.files,
+        EntryKind::NoFiles => section.no_files,
     }
 }
 

@@ -13,7 +13,7 @@ use Rattle.tile_stream.specs.Filtered.{failures_after_merge}
 use Rattle.tile_merge.specs.Feeds.{Course}
 use Rattle.tile_merge.specs.Giving.{Giving, Mixing, merging}
 use Rattle.tile_merge.specs.Merged.{MergedAll, Merges, WroteMerge, WroteFrontOf, IsRefusedEarly, IsOutputFault, IsRefusedMerge, merged_texts, merged_outcomes}
-use Rattle.tile_merge.specs.Opened.{AllThree, AreJoined, MayGive, OpenState}
+use Rattle.tile_merge.specs.Opened.{AllThree, AreJoined, MayGiveOpened, OpenState}
 use Rattle.tile_merge.specs.Rounds.{course_texts, course_ends}
 use Rattle.tile_stream.specs.Stream.{stream}
 use Rattle.tile_stream.specs.Texts.{Outcome}
@@ -77,7 +77,7 @@ module _ {A E : Type 0} where
 module _ {R : Type 0} (gives : Giving R) (IsWanted : FeatureValue → Type 0) (base : Base) (Mixes : Mixing)
     (readers : List R) (tiles : List (OpenState R)) (shifts : List Triple) (line : List ℕ)
     (joined : AreJoined gives base readers tiles shifts line) (courses : List Course)
-    (given : AllThree (MayGive gives IsWanted) tiles shifts courses) (out : List (List ℕ))
+    (given : AllThree (MayGiveOpened gives IsWanted) tiles shifts courses) (out : List (List ℕ))
     (mixes : Mixes (course_texts courses) out) (old new : Option (List ℕ)) where
   all : AreMerged gives IsWanted readers joined.headers shifts courses
   all = are_merged gives IsWanted readers tiles joined.headers shifts courses joined.opened given

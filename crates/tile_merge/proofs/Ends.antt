@@ -7,7 +7,7 @@ use Rattle.std.specs.List.{AllZip, cons_option}
 use Rattle.tile_stream.proofs.GoneThrough.{is_longer}
 use Rattle.tile_merge.proofs.Threes.{take_next}
 
--- what holds of all items holds of one behind a front
+-- what holds of all items holds of one after a front
 pub all_at : {X : Type 0} (P : X → Type 0) (all front : List X) (x : X) (after : List X) → all ≡ front ++ x ∷ after
     → All P all → P x
 all_at P all front x after whole holds =

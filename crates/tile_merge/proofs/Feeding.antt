@@ -16,7 +16,7 @@ use Rattle.tile_merge.specs.declared.merging.ends.TileEnd.{TileEnd}
 use Rattle.tile_merge.specs.EndNotes.{end_of, ended_so}
 use Rattle.tile_merge.specs.Opened.{OpenState}
 use Rattle.tile_merge.specs.Rounds.{IsFeedOf, WroteTurn, WroteTurnFront}
-use Rattle.tile_merge.specs.Feeds.{FeedState, Course, behind, course_of, text_before, most_ahead, ThenComes, NotesCome, MayTake, ReadsOn, TakesTurn, SomeCourse}
+use Rattle.tile_merge.specs.Feeds.{FeedState, Course, queue_after, course_of, text_before, most_ahead, ThenComes, NotesCome, MayTake, ReadsOn, TakesTurn, SomeCourse}
 use Rattle.tile_stream.specs.Stream.{with_newline}
 use Rattle.tile_stream.specs.Texts.{Outcome}
 use Rattle.tile_stream.specs.Unread.{Unread, most_left}
@@ -90,27 +90,27 @@ module _ (Then More : Course → Type 0) where
 abbrev line_note : List ℕ → Note
 line_note text = LineNote text
 
-pub behind_longer : (texts : List (List ℕ)) (queue : Queue) (note : Note)
-    → behind texts (longer queue note) ≡ longer (behind texts queue) note
-behind_longer texts queue (LineNote text) =
+pub after_longer : (texts : List (List ℕ)) (queue : Queue) (note : Note)
+    → queue_after texts (longer queue note) ≡ longer (queue_after texts queue) note
+after_longer texts queue (LineNote text) =
     ap (λ left. record { closed = queue.closed; left = left })
     (sym (append_assoc (map line_note texts) queue.left (LineNote text ∷ [])))
-behind_longer texts queue (EndNote end) =
+after_longer texts queue (EndNote end) =
     ap (λ left. record { closed = true; left = left })
     (sym (append_assoc (map line_note texts) queue.left (EndNote end ∷ [])))
 
-pub open_behind : (texts : List (List ℕ)) (left : List Note) → has_end left ≡ false
+pub open_after : (texts : List (List ℕ)) (left : List Note) → has_end left ≡ false
     → has_end (map line_note texts ++ left) ≡ false
-open_behind [] left is = is
-open_behind (text ∷ texts) left is = open_behind texts left is
+open_after [] left is = is
+open_after (text ∷ texts) left is = open_after texts left is
 
 module _ (Then : Course → Type 0) where
-  notes_behind : (texts : List (List ℕ)) (left : List Note) (all : List (List ℕ)) (ended : TileEnd)
+  notes_after : (texts : List (List ℕ)) (left : List Note) (all : List (List ℕ)) (ended : TileEnd)
       → NotesCome Then (map line_note texts ++ left) all ended
       → (more : List (List ℕ)) × (all ≡ texts ++ more) × NotesCome Then left more ended
-  notes_behind [] left all ended come = (all, refl, come)
-  notes_behind (text ∷ texts) left all ended come =
-      let there = notes_behind texts left come.0 ended come.2 in
+  notes_after [] left all ended come = (all, refl, come)
+  notes_after (text ∷ texts) left all ended come =
+      let there = notes_after texts left come.0 ended come.2 in
       (there.0, come.1 ∙ ap (λ ts. text ∷ ts) there.1, there.2)
 
   notes_first : (texts : List (List ℕ)) (left : List Note) (more : List (List ℕ)) (ended : TileEnd)
@@ -120,14 +120,14 @@ module _ (Then : Course → Type 0) where
 
 -- the next of the texts stands first, and where there is none the queue is all
 pub first_left : (texts : List (List ℕ)) (at : ℕ) → at < length texts → (queue : Queue)
-    → (behind (drop at texts) queue).left ≡ LineNote (get_or texts at []) ∷ (behind (drop (at + 1) texts) queue).left
+    → (queue_after (drop at texts) queue).left ≡ LineNote (get_or texts at []) ∷ (queue_after (drop (at + 1) texts) queue).left
 first_left texts at within queue = ap (λ ts. map line_note ts ++ queue.left) (drop_more texts at [] within)
 
 pub note_left : (texts : List (List ℕ)) (at : ℕ) → length texts ≤ at → (queue next : Queue) (text : List ℕ)
     → queue.left ≡ LineNote text ∷ next.left
-    → (behind (drop at texts) queue).left ≡ LineNote text ∷ (behind (drop at texts) next).left
+    → (queue_after (drop at texts) queue).left ≡ LineNote text ∷ (queue_after (drop at texts) next).left
 note_left texts at beyond queue next text is =
-    subst (λ (ts : List (List ℕ)). (behind ts queue).left ≡ LineNote text ∷ (behind ts next).left)
+    subst (λ (ts : List (List ℕ)). (queue_after ts queue).left ≡ LineNote text ∷ (queue_after ts next).left)
     (sym (drop_all at texts beyond)) is
 
 -- a feed that was just made: the texts of the first line were taken
@@ -138,7 +138,7 @@ module _ {R : Type 0} (gives : Giving R) (IsWanted : FeatureValue → Type 0) (t
     unread = now;
     shift = shift;
     capacity = capacity;
-    notes = behind first queue;
+    notes = queue_after first queue;
     count = count;
     last = None;
   }
@@ -153,7 +153,7 @@ module _ {R : Type 0} (gives : Giving R) (IsWanted : FeatureValue → Type 0) (t
       let Is : Queue → Type 0 = λ q. IsFeedOf gives IsWanted tile shift (new_feed first q count) in
       subst Is (sym is) (
         λ course may.
-            let there = notes_behind Then first [] course.texts course.ended may in (
+            let there = notes_after Then first [] course.texts course.ended may in (
               subst (λ ts. MayComeTo gives IsWanted shift tile.unread ts course.ended.stop) (sym there.1)
                   (texts there.0 course.ended.stop there.2.0),
               omega (arith, there.2.1, counts, ap length there.1, length-append first there.0),
@@ -190,7 +190,7 @@ pub set_there : (queues : QueuesState) (queue : Queue) → length queues.tiles �
     → queue_of (with_queue queues 0 queue) 0 ≡ queue
 set_there queues queue one = get_or-set_same queues.tiles 0 queue _ (omega (arith, one))
 
--- a feed before and after one more note was read, behind which no end note stood
+-- a feed before and after one more note was read, after which no end note stood
 module _ {R : Type 0} (gives : Giving R) (IsWanted : FeatureValue → Type 0) (shift : Triple)
     (places later_places count : ℕ) (last : Option TileEnd) (before after : Unread R) (queue : Queue)
     (is_open : queue.closed ≡ false) (no_end : has_end queue.left ≡ false) where

@@ -10,14 +10,14 @@ use Rattle.tile_merge.specs.Giving.{Giving}
 use Rattle.tile_merge.specs.EndNotes.{outcomes_in, totals_in}
 use Rattle.tile_merge.specs.Feeds.{FeedState, Course}
 use Rattle.tile_merge.specs.Merged.{HeadedTile, MergedTile, HaveHeads, headers_of, merged_shifts, merged_texts, merged_outcomes, ComesToTexts, Merges}
-use Rattle.tile_merge.specs.Opened.{AllThree, MayGive, OpenState, IsOpened}
+use Rattle.tile_merge.specs.Opened.{AllThree, MayGiveOpened, OpenState, IsOpened}
 use Rattle.tile_merge.specs.Rounds.{IsFeedOf, MayTakeAll, SomeCourses, course_texts, course_ends}
 use Rattle.tile_stream.proofs.HeldFirst.{something, tile_comes}
 
 module _ {R : Type 0} (gives : Giving R) (IsWanted : FeatureValue → Type 0) where
   pub given_all : (tiles : List (OpenState R)) (shifts : List Triple) (feeds : List (FeedState R))
       (courses : List Course) → AllThree (IsFeedOf gives IsWanted) tiles shifts feeds
-      → MayTakeAll gives IsWanted feeds courses → AllThree (MayGive gives IsWanted) tiles shifts courses
+      → MayTakeAll gives IsWanted feeds courses → AllThree (MayGiveOpened gives IsWanted) tiles shifts courses
   given_all [] [] [] [] fed may = tt
   given_all (tile ∷ tiles) (shift ∷ shifts) (feed ∷ feeds) (course ∷ courses) fed may =
       (fed.0.0 course may.0, given_all tiles shifts feeds courses fed.1 may.1)
@@ -59,7 +59,7 @@ module _ {R : Type 0} (gives : Giving R) (IsWanted : FeatureValue → Type 0) wh
     pub totals_are : totals_in (course_ends courses) ≡ map length (merged_texts merged)
 
   pub are_merged : (readers : List R) (tiles : List (OpenState R)) (headers : List HeaderValue) (shifts : List Triple)
-      (courses : List Course) → AllThree (IsOpened gives) readers tiles headers → AllThree (MayGive gives IsWanted) tiles shifts courses
+      (courses : List Course) → AllThree (IsOpened gives) readers tiles headers → AllThree (MayGiveOpened gives IsWanted) tiles shifts courses
       → AreMerged readers headers shifts courses
   are_merged [] [] [] [] [] opened given = record {
     merged = [];

@@ -15,15 +15,15 @@ use Rattle.byte_streams.specs.declared.places.LineFault.{LineFault}
 use Rattle.tile_merge.proofs.Threes.{all_three_push}
 
 -- a head that was given of lines that may be left is one of a tile that the reader may give
-module _ (MayBe MayGive : TileLines → Type 0) (same : (tile : TileLines) → MayBe tile → MayGive tile) where
+module _ (MayBe MayGiveOpened : TileLines → Type 0) (same : (tile : TileLines) → MayBe tile → MayGiveOpened tile) where
   head_here : (after : TileLines → Type 0) (header : HeaderValue) (held : Held) → GivesHead MayBe after header held
-      → GivesHead MayGive after header held
+      → GivesHead MayGiveOpened after header held
   head_here after header held gives left leaves =
       let head = gives left leaves in
       (head.0, same head.0 head.1, head.2)
 
   pub head_given : (after : TileLines → Type 0) (header : HeaderValue) (there : HeldLine)
-      → GivesHeld MayBe after header there → GivesHeld MayGive after header there
+      → GivesHeld MayBe after header there → GivesHeld MayGiveOpened after header there
   head_given after header there gives = (gives.0, gives.1, head_here after header gives.0 gives.2)
 
 -- ---- three lists, place by place ----

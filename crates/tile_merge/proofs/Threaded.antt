@@ -15,7 +15,7 @@ use Rattle.tile_merge.specs.EndNotes.{outcomes_in, totals_in}
 use Rattle.tile_merge.specs.Feeds.{Course}
 use Rattle.tile_merge.specs.Interleaves.{Interleaves}
 use Rattle.tile_merge.specs.Merged.{MergedAll, IsRefusedMerge}
-use Rattle.tile_merge.specs.Opened.{AllThree, AreJoined, MayGive, OpenState}
+use Rattle.tile_merge.specs.Opened.{AllThree, AreJoined, MayGiveOpened, OpenState}
 use Rattle.tile_merge.specs.Rounds.{course_ends, course_texts}
 use Rattle.tile_stream.specs.Stream.{with_newline, stream}
 use Rattle.tile_merge.specs.Threads.{Begun, RunningState, AreUncancelled, HasGiven, HaveGiven, IsRunOf, LinesSoFar, MayComeOf, begun_of, lines_taken}
@@ -88,7 +88,7 @@ module _ {R : Type 0} (gives : Giving R) where
   module _ (choice : Choice) where
     gave : (tile : OpenState R) (shift : Triple) (run now : RunningState R) (course : Course)
         → IsRunOf gives choice tile shift run → now.begun ≡ run.begun → HasGiven gives now course
-        → MayGive gives (IsChosen choice) tile shift course
+        → MayGiveOpened gives (IsChosen choice) tile shift course
     gave tile shift run now course is same given =
         let May : Begun R → Type 0 = λ begun. MayComeOf gives begun course.texts course.ended.stop in
         (is.comes course.texts course.ended.stop (subst May same given.comes), given.counted)
@@ -96,7 +96,7 @@ module _ {R : Type 0} (gives : Giving R) where
     gave_all : (tiles : List (OpenState R)) (shifts : List Triple) (running now : List (RunningState R))
         (courses : List Course) → AllThree (IsRunOf gives choice) tiles shifts running
         → begun_of now ≡ begun_of running
-        → HaveGiven gives now courses → AllThree (MayGive gives (IsChosen choice)) tiles shifts courses
+        → HaveGiven gives now courses → AllThree (MayGiveOpened gives (IsChosen choice)) tiles shifts courses
     gave_all [] [] [] [] [] runs same have = tt
     gave_all (tile ∷ tiles) (shift ∷ shifts) (run ∷ running) (one ∷ now) (course ∷ courses) runs same have =
         let first : one.begun ≡ run.begun = cc same in
@@ -122,7 +122,7 @@ module _ {R : Type 0} (gives : Giving R) (choice : Choice) (base : Base) (reader
     (old new : Option (List ℕ)) (failures newer : ℕ)
     (so_far : LinesSoFar (begun_of running) line now wrote old new failures newer) (courses : List Course)
     (have : HaveGiven gives now courses) where
-  given : AllThree (MayGive gives (IsChosen choice)) tiles shifts courses
+  given : AllThree (MayGiveOpened gives (IsChosen choice)) tiles shifts courses
   given = gave_all gives choice tiles shifts running now courses runs so_far.same have
 
   abbrev parted : (rests : List (List (List ℕ))) × AllThree AreParted (lines_taken now) (course_texts courses) rests

@@ -46,18 +46,18 @@ at_seam (x ∷ front) back within =
       written = λ new. ap (λ xs. x ∷ xs) (more.written new);
     }
 
-nothing_behind : {X : Type 0} (front back : List X) → length (front ++ back) ≤ length front → back ≡ []
-nothing_behind [] [] short = refl
-nothing_behind [] (x ∷ back) short = absurd (omega (arith, short))
-nothing_behind (x ∷ front) back short = nothing_behind front back (omega (arith, short))
+nothing_after : {X : Type 0} (front back : List X) → length (front ++ back) ≤ length front → back ≡ []
+nothing_after [] [] short = refl
+nothing_after [] (x ∷ back) short = absurd (omega (arith, short))
+nothing_after (x ∷ front) back short = nothing_after front back (omega (arith, short))
 
--- the part of a pairing behind a front
-AllZip-behind : {A B : Type 0} (P : A → B → Type 0) (front : List A) (x : A) (others : List A) (ys : List B)
+-- the part of a pairing after a front
+AllZip-after : {A B : Type 0} (P : A → B → Type 0) (front : List A) (x : A) (others : List A) (ys : List B)
     → AllZip P (front ++ x ∷ others) ys → (y : B) × (rest : List B) × P x y × AllZip P others rest
-AllZip-behind P [] x others [] all = absurd all
-AllZip-behind P [] x others (y ∷ ys) all = (y, ys, all.0, all.1)
-AllZip-behind P (a ∷ front) x others [] all = absurd all
-AllZip-behind P (a ∷ front) x others (y ∷ ys) all = AllZip-behind P front x others ys all.1
+AllZip-after P [] x others [] all = absurd all
+AllZip-after P [] x others (y ∷ ys) all = (y, ys, all.0, all.1)
+AllZip-after P (a ∷ front) x others [] all = absurd all
+AllZip-after P (a ∷ front) x others (y ∷ ys) all = AllZip-after P front x others ys all.1
 
 AllZip-joined : {A B : Type 0} (P : A → B → Type 0) (front back : List A) (ys zs : List B) → AllZip P front ys
     → AllZip P back zs → AllZip P (front ++ back) (ys ++ zs)
@@ -109,7 +109,7 @@ module _ {R : Type 0} (gives : Giving R) (IsWanted : FeatureValue → Type 0)
     -- all tiles took their turns
     pub round_end : length now ≤ place → WroteRound gives IsWanted before now any old mid
     round_end all =
-        let none = nothing_behind so_far.after so_far.rest
+        let none = nothing_after so_far.after so_far.rest
         (omega (arith, all, so_far.place_is, ap length so_far.now_is)) in
         let first = so_far.before_is ∙ ap (λ xs. so_far.first ++ xs) none ∙ append-nil so_far.first in
         let after = so_far.now_is ∙ ap (λ xs. so_far.after ++ xs) none ∙ append-nil so_far.after in
@@ -141,21 +141,21 @@ module _ {R : Type 0} (gives : Giving R) (IsWanted : FeatureValue → Type 0)
           → SomeCourse (MayTake gives IsWanted (get_or now place default))
       turn_some some default =
           let all = subst (λ feeds. MayTakeAll gives IsWanted feeds some.0) is_before some.1 in
-          let one = AllZip-behind (MayTake gives IsWanted) so_far.first seam.item seam.others some.0 all in
+          let one = AllZip-after (MayTake gives IsWanted) so_far.first seam.item seam.others some.0 all in
           subst (λ feed. SomeCourse (MayTake gives IsWanted feed)) (sym (is_item default)) (one.0, one.2)
 
       -- what was written could not be passed on before the turn
       pub turn_unwritten : SomeCourses (MayTakeAll gives IsWanted before)
           → WroteTurnsFront gives IsWanted [] before old mid
       turn_unwritten some =
-          let behind = AllZip-behind (MayTake gives IsWanted) so_far.first seam.item seam.others some.0
+          let beyond = AllZip-after (MayTake gives IsWanted) so_far.first seam.item seam.others some.0
           (subst (λ feeds. MayTakeAll gives IsWanted feeds some.0) is_before some.1) in
           let after = round_some gives IsWanted so_far.first so_far.after given so_far.round.1 in
           let front = round_back gives IsWanted so_far.first so_far.after given so_far.round.1 after.0 after.1 in
-          let rest = behind.0 ∷ behind.1 in
+          let rest = beyond.0 ∷ beyond.1 in
           let all = front.all ++ rest in
           let may = AllZip-joined (MayTake gives IsWanted) so_far.first (seam.item ∷ seam.others) front.all rest
-          front.may (behind.2, behind.3) in
+          front.may (beyond.2, beyond.3) in
           let texts = texts_given given in
           let others = firsts (course_texts rest) in
           let later = turns (rests (course_texts all)) in
@@ -213,9 +213,9 @@ module _ {R : Type 0} (gives : Giving R) (IsWanted : FeatureValue → Type 0)
         item_text : TakesTurn gives IsWanted seam.item new (Some text)
         item_text = subst (λ feed. TakesTurn gives IsWanted feed new (Some text)) (is_item default) turn
 
-        behind : (course : Course) × (rest : List Course) × MayTake gives IsWanted seam.item course
+        beyond : (course : Course) × (rest : List Course) × MayTake gives IsWanted seam.item course
             × AllZip (MayTake gives IsWanted) seam.others rest
-        behind = AllZip-behind (MayTake gives IsWanted) so_far.first seam.item seam.others some.0
+        beyond = AllZip-after (MayTake gives IsWanted) so_far.first seam.item seam.others some.0
             (subst (λ feeds. MayTakeAll gives IsWanted feeds some.0) is_before some.1)
 
         pub turn_failed : (newer : Option (List ℕ)) (taken : ℕ) → Appends mid newer (take taken (with_newline text))
@@ -225,10 +225,10 @@ module _ {R : Type 0} (gives : Giving R) (IsWanted : FeatureValue → Type 0)
             let front = round_back gives IsWanted so_far.first so_far.after given so_far.round.1 after.0 after.1 in
             let here = item_text.1 in
             let course = text_before text here.0 in
-            let rest = behind.1 in
+            let rest = beyond.1 in
             let all = front.all ++ course ∷ rest in
             let may = AllZip-joined (MayTake gives IsWanted) so_far.first (seam.item ∷ seam.others) front.all
-            (course ∷ rest) front.may (item_text.0 here.0 here.1, behind.3) in
+            (course ∷ rest) front.may (item_text.0 here.0 here.1, beyond.3) in
             let texts = texts_given given in
             let others = firsts (course_texts rest) in
             let later = turns (rests (course_texts all)) in

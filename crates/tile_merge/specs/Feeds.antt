@@ -21,9 +21,9 @@ pub record FeedState (R : Type 0) : Type 0 where
   pub count : ℕ
   pub last : Option TileEnd
 
--- these texts, and behind them the notes of a queue
-abbrev pub behind : List (List ℕ) → Queue → Queue
-behind texts queue = record { closed = queue.closed; left = map (λ text. LineNote text) texts ++ queue.left }
+-- these texts, and after them the notes of a queue
+abbrev pub queue_after : List (List ℕ) → Queue → Queue
+queue_after texts queue = record { closed = queue.closed; left = map (λ text. LineNote text) texts ++ queue.left }
 
 -- the texts that a tile still gives, and how it has ended then
 pub record Course : Type 0 where

@@ -34,8 +34,8 @@ pub record IsOpened {R : Type 0} (gives : Giving R) (reader : R) (tile : OpenSta
   pub most : most_to_come tile.unread ≤ most_texts
 
 -- what may come of a tile that was opened, moved by its shift, and how many texts that are
-abbrev pub MayGive : {R : Type 0} → Giving R → (FeatureValue → Type 0) → OpenState R → Triple → Course → Type 0
-MayGive gives IsWanted tile shift course =
+abbrev pub MayGiveOpened : {R : Type 0} → Giving R → (FeatureValue → Type 0) → OpenState R → Triple → Course → Type 0
+MayGiveOpened gives IsWanted tile shift course =
     MayComeTo gives IsWanted shift tile.unread course.texts course.ended.stop
     × (course.ended.count ≡ length course.texts)
 

@@ -6,7 +6,7 @@ use Rattle.city_feature.specs.Feature.{FeatureValue}
 use Rattle.city_grid.specs.Axes.{Triple}
 use Rattle.tile_merge.specs.Giving.{Giving}
 use Rattle.tile_merge.specs.Feeds.{FeedState, Course, MayTake, SomeCourse, TakesTurn, most_ahead}
-use Rattle.tile_merge.specs.Opened.{AllThree, MayGive, OpenState}
+use Rattle.tile_merge.specs.Opened.{AllThree, MayGiveOpened, OpenState}
 use Rattle.tile_stream.specs.Coming.{MayComeTo, SomethingComes}
 use Rattle.tile_stream.specs.Stream.{with_newline}
 use Rattle.tile_merge.specs.Turns.{turns}
@@ -15,7 +15,7 @@ use Rattle.tile_merge.specs.declared.merging.ends.TileEnd.{TileEnd}
 -- what may be ahead may come of the tile, moved by its shift; and something may be ahead where something may come
 abbrev pub IsFeedOf : {R : Type 0} → Giving R → (FeatureValue → Type 0) → OpenState R → Triple → FeedState R → Type 0
 IsFeedOf gives IsWanted tile shift feed =
-    ((course : Course) → MayTake gives IsWanted feed course → MayGive gives IsWanted tile shift course)
+    ((course : Course) → MayTake gives IsWanted feed course → MayGiveOpened gives IsWanted tile shift course)
     × (SomethingComes (MayComeTo gives IsWanted shift tile.unread) → SomeCourse (MayTake gives IsWanted feed))
 
 abbrev pub course_texts : List Course → List (List (List ℕ))

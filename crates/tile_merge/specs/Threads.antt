@@ -181,8 +181,8 @@ GoesOnWriting before now wrote result mid new failures newer =
     → LinesSoFar begun header now result old new count newer
 
 -- the threads may have been asked to stop, where the writing failed
-abbrev pub GoesOn : {R : Type 0} → List (RunningState R) → List (RunningState R) → Result (Unit {0}) Fault → Type 0
-GoesOn before now wrote =
+abbrev pub GoesOnCancelling : {R : Type 0} → List (RunningState R) → List (RunningState R) → Result (Unit {0}) Fault → Type 0
+GoesOnCancelling before now wrote =
     (begun : List (Begun _)) (header : List ℕ) (old new : Option (List ℕ)) (count newer : ℕ)
     → LinesSoFar begun header before wrote old new count newer
     → LinesSoFar begun header now wrote old new count newer

@@ -172,7 +172,7 @@ fn expect_order(rt: &(impl Abort + AllocGlobal), capacity: u32, table: &str) {
 
 /// Before a tile is read, what was written is passed on, and its queued texts are written: of two tiles that come through
 /// one pipe, so that the one takes what the other would; where a line has begun after a blank one; before the end; with no
-/// blank line. Where a line stands behind blank ones, nothing is passed on at these.
+/// blank line. Where a line stands after blank ones, nothing is passed on at these.
 const IN_TURN: &str = "
 HEADER | HEADER | A1 EMPTY | B1 | C1 =>=> HEADER A1 B1 C1 => [2, 1] => 12wf1wf2wf1wf2f1f
 HEADER A1 EMPTY {\"type\":\"CityJSONFeature\",~ | \"id\":\"b1\",\"CityObjects\":{\"b1\":{\"type\":\"Building\"}},\"vertices\":[[1,2,3]]} => HEADER C1 => HEADER A1 C1 B1 => [2, 1] => 12wwwf1wf2f1f
@@ -219,8 +219,8 @@ fn is_filtered(alloc: Global, line: &str) -> Result<bool, AllocError> {
     Ok(filters(alloc, &scene, features.count()))
 }
 
-/// The same of a filter: blank lines and lines of white space, with a line behind them, with the front of one, with none;
-/// one by one; behind the header; behind a document.
+/// The same of a filter: blank lines and lines of white space, with a line after them, with the front of one, with none;
+/// one by one; after the header; after a document.
 const FILTERED: &str = "
 HEADER | A1 | B1 => HEADER A1 B1 => 1wff1wf1wf1f
 HEADER A1 EMPTY | B1 => HEADER A1 B1 => 1wwf1wf1f

@@ -101,7 +101,7 @@ struct Gated {
     waits_at: u64,
     seen: Arc<AtomicU64, Global>,
     least: u64,
-    behind: &'static str,
+    beyond: &'static str,
 }
 
 impl Gated {
@@ -137,13 +137,13 @@ impl Read for Gated {
         let Some(line) = self.line() else {
             return Ok(0);
         };
-        let (line, behind) = (line.as_bytes(), self.behind.as_bytes());
-        if to.len() < line.len() || to.len() - line.len() < behind.len() {
+        let (line, beyond) = (line.as_bytes(), self.beyond.as_bytes());
+        if to.len() < line.len() || to.len() - line.len() < beyond.len() {
             return Err(io::Error::from(ErrorKind::Other));
         }
-        let end = line.len() + behind.len();
+        let end = line.len() + beyond.len();
         to[..line.len()].copy_from_slice(line);
-        to[line.len()..end].copy_from_slice(behind);
+        to[line.len()..end].copy_from_slice(beyond);
         Ok(end)
     }
 }
@@ -160,15 +160,15 @@ fn waiting(
     begun: &Arc<AtomicU64, Global>,
     gate: (u64, &Arc<AtomicU64, Global>, u64),
 ) -> Result<Device<Gated>, AllocError> {
-    waiting_behind(features, begun, gate, "\n")
+    waiting_after(features, begun, gate, "\n")
 }
 
-/// The same with these bytes behind each line.
-fn waiting_behind(
+/// The same with these bytes after each line.
+fn waiting_after(
     features: u64,
     begun: &Arc<AtomicU64, Global>,
     (waits_at, seen, least): (u64, &Arc<AtomicU64, Global>, u64),
-    behind: &'static str,
+    beyond: &'static str,
 ) -> Result<Device<Gated>, AllocError> {
     Ok(Device::new(Gated {
         features,
@@ -177,7 +177,7 @@ fn waiting_behind(
         waits_at,
         seen: Arc::try_clone(seen)?,
         least,
-        behind,
+        beyond,
     }))
 }
 
@@ -240,7 +240,7 @@ fn three(
         waits_at: 0,
         seen: second,
         least: 0,
-        behind: "\n",
+        beyond: "\n",
     }))?;
     readers.push(waiting(1, third, (0, third, 0))?)?;
     Ok(readers)
@@ -474,19 +474,19 @@ impl Write for Gathering {
     }
 }
 
-/// A tile that does not end before its first feature was passed on, with these bytes behind each line.
+/// A tile that does not end before its first feature was passed on, with these bytes after each line.
 fn passes_on<H>(
     rt: &H,
     in_turn: bool,
     capacity: u32,
-    behind: &'static str,
+    beyond: &'static str,
 ) -> Result<bool, AllocError>
 where
     H: Abort + AllocGlobal + Threads + Wait + Copy + Send + 'static,
 {
     let (begun, passed_on) = (shared(rt.alloc())?, shared(rt.alloc())?);
     let mut readers = Vec::new(rt.alloc());
-    readers.push(waiting_behind(1, &begun, (3, &passed_on, 130), behind)?)?;
+    readers.push(waiting_after(1, &begun, (3, &passed_on, 130), beyond)?)?;
     let mut output = Device::new(Gathering {
         gathered: 0,
         passed_on,
@@ -496,10 +496,10 @@ where
 
 #[test]
 fn what_has_come_is_passed_on(rt: HostRuntime) {
-    for behind in ["\n", "\n\n", "\n \t\r\n\n"] {
+    for beyond in ["\n", "\n\n", "\n \t\r\n\n"] {
         for (in_turn, capacity) in [(false, 1u32), (false, 64), (true, 1), (true, 4), (true, 64)] {
-            let passes = passes_on(&rt, in_turn, capacity, behind);
-            assert!(rt; passes == Ok(true), "{capacity} {behind:?}");
+            let passes = passes_on(&rt, in_turn, capacity, beyond);
+            assert!(rt; passes == Ok(true), "{capacity} {beyond:?}");
         }
     }
 }

@@ -7,8 +7,8 @@ use Rattle.city_feature.specs.Feature.{FeatureValue}
 use Rattle.city_feature.specs.FeatureLine.{GivesFeature, RefusesFeatureLine}
 use Rattle.city_grid.specs.Axes.{Triple}
 use Rattle.tile_stream.specs.Coming.{LeftComesTo, LinesMayComeTo, SomethingComes}
-use Rattle.tile_stream.specs.Texts.{Outcome, EndsAfter, LinesComeTo}
-use Rattle.tile_stream.specs.Tile.{Part, TileLines, part_of, line_before, nothing_left, only_fault}
+use Rattle.tile_stream.specs.Texts.{Outcome, EndsAfterLine, LinesComeTo}
+use Rattle.tile_stream.specs.Tile.{Stretch, TileLines, stretch_of, line_before, nothing_left, only_fault}
 use Rattle.tile_stream.specs.Whole.{TakesLine}
 use Rattle.tile_stream.specs.Unread.{Unread, Leaves, MayBeOver, IsRefused, IsFaultFrom, BeginsFrom, ComesFrom}
 use Rattle.tile_stream.proofs.Leaving.{begins_before}
@@ -17,7 +17,7 @@ abbrev at_line : ℕ → Fault → LineFault
 at_line number fault = record { line = number; fault = fault }
 
 -- memory may run out at the next line
-memory_in : (Gives : List ℕ → Option (List ℕ) → Type 0) (Refuses : Fault → List ℕ → Type 0) (lines : List Part)
+memory_in : (Gives : List ℕ → Option (List ℕ) → Type 0) (Refuses : Fault → List ℕ → Type 0) (lines : List Stretch)
     (fault : Option LineFault) (last number : ℕ) → ComesFrom number lines fault last
     → LinesComeTo Gives Refuses lines fault last [] (Some (at_line number Memory))
 memory_in Gives Refuses [] None last number comes = (refl, (refl, comes))
@@ -25,18 +25,18 @@ memory_in Gives Refuses [] (Some fault) last number comes = (refl, inr (refl, co
 memory_in Gives Refuses (line ∷ others) fault last number comes = inl (refl, inr (refl, comes))
 
 pub ends_after : (number next : ℕ) (outcome : Outcome) → number < next → IsFaultFrom next outcome
-    → EndsAfter number outcome
+    → EndsAfterLine number outcome
 ends_after number next None below from = tt
 ends_after number next (Some at) below from = omega (arith, below, from)
 
-ends_from : (first number : ℕ) (outcome : Outcome) → first ≤ number → EndsAfter number outcome
+ends_from : (first number : ℕ) (outcome : Outcome) → first ≤ number → EndsAfterLine number outcome
     → IsFaultFrom first outcome
 ends_from first number None low after = tt
 ends_from first number (Some at) low after = omega (arith, low, after)
 
 -- something comes of the lines that are left
 module _ (IsWanted : FeatureValue → Type 0) (k : Triple) (number : ℕ) where
-  lines_come : (lines : List Part) (fault : Option LineFault) (last : ℕ) → BeginsFrom number lines fault
+  lines_come : (lines : List Stretch) (fault : Option LineFault) (last : ℕ) → BeginsFrom number lines fault
       → SomethingComes (LeftComesTo IsWanted k number (record { lines = lines; fault = fault; last = last }))
   lines_come [] None last begins = ([], (None, (tt, (refl, tt))))
   lines_come [] (Some fault) last begins = ([], (Some fault, (begins, (refl, inl refl))))
@@ -70,8 +70,8 @@ module _ {R : Type 0} (gives : R → List ℕ → Bool → Type 0) (IsWanted : F
     fault_comes other number from refused = (only_fault number other, (refused, from), (from, (refl, inl refl)))
 
     module _ (after : Unread R) (number : ℕ) (bytes : List ℕ) (taken : TakesLine gives before after number bytes) where
-      abbrev line : Part
-      line = part_of number taken.line.0 bytes
+      abbrev line : Stretch
+      line = stretch_of number taken.line.0 bytes
 
       pub line_comes : (given : Option (List ℕ)) → GivesFeature IsWanted k bytes given
           → (texts : List (List ℕ)) (outcome : Outcome) → Comes after texts outcome

@@ -19,7 +19,7 @@ use Rattle.city_feature.specs.Header.{HeaderValue, HoldsCity, IsHeader, RefusesH
 use Rattle.city_feature.specs.Values.{HeaderJson, header_value}
 use Rattle.tile_stream.specs.Head.{SpellsHead, SpellsHeadOf, HoldsHead, RefusesHeadValue, RefusesHead, SpellsNoCity, HasNoHead, LinesHaveNoHead, SomeTile, GivesHead, GivesHeld}
 use Rattle.tile_stream.specs.Held.{HeldLine}
-use Rattle.tile_stream.specs.Tile.{Part, TileLines, part_of, line_before, nothing_left, only_fault}
+use Rattle.tile_stream.specs.Tile.{Stretch, TileLines, stretch_of, line_before, nothing_left, only_fault}
 use Rattle.byte_streams.specs.declared.places.LineFault.{LineFault}
 use Rattle.tile_stream.specs.Unread.{GivesLine, MayBeOver, IsRefused, ComesFrom}
 
@@ -85,7 +85,7 @@ module _ (line : List ℕ) (json : Json) (spells : Spells line (tree json)) (fit
   pub header_refused : (fault : Fault) → RefusesHeader fault (tree json) → RefusesHead fault line
   header_refused fault refused = inr (tree json, spells, fits, inr (none, refused))
 
-memory_in : (lines : List Part) (fault : Option LineFault) (last number : ℕ) → 0 < number
+memory_in : (lines : List Stretch) (fault : Option LineFault) (last number : ℕ) → 0 < number
     → ComesFrom number lines fault last → LinesHaveNoHead lines fault last (at_line number Memory)
 memory_in [] None last number counted comes = inr (counted, (refl, comes))
 memory_in [] (Some fault) last number counted comes = inr (counted, (refl, comes))
@@ -109,7 +109,7 @@ module _ (before : TileLines → Type 0) where
       gives_one : (header : HeaderValue) (features : List FeatureValue) → SpellsHead bytes header features
           → GivesHead before after header (record { line = number; features = features })
       gives_one header features spells left leaves =
-          let line = part_of number gives.0 bytes in
+          let line = stretch_of number gives.0 bytes in
           (line_before line left, gives.1 left leaves, (line, refl, refl, spells))
 
       pub gives_head : (header : HeaderValue) (texts : List (List ℕ)) → SpellsHeadOf bytes header texts
@@ -120,7 +120,7 @@ module _ (before : TileLines → Type 0) where
       pub head_fault : (left : TileLines) → after left → (fault : Fault) → RefusesHead fault bytes
           → SomeTile before (λ tile. HasNoHead tile (at_line number fault))
       head_fault left leaves fault refused =
-          (line_before (part_of number gives.0 bytes) left, gives.1 left leaves, inl (refl, refused))
+          (line_before (stretch_of number gives.0 bytes) left, gives.1 left leaves, inl (refl, refused))
 
 -- a head is not refused because a write failed
 pub no_failed_write : (line : List ℕ) (fault : Fault) → RefusesHead fault line → fault ≢ Write

@@ -7,7 +7,7 @@ use Rattle.city_feature.specs.FeatureLine.{GivesFeature, RefusesFeatureLine}
 use Rattle.city_grid.specs.Axes.{Triple}
 use Rattle.tile_stream.specs.Coming.{LinesMayComeTo, LeftComesTo, MayComeTo, MayLeave, GivesTexts, SomethingComes}
 use Rattle.tile_stream.specs.Held.{Held, HeldLine, AreTextsOf, LinesGive, RefusesLines, TextsFirst, TileComesTo}
-use Rattle.tile_stream.specs.Texts.{Outcome, ComesTo, EndsAfter}
+use Rattle.tile_stream.specs.Texts.{Outcome, ComesTo, EndsAfterLine}
 use Rattle.tile_stream.specs.Tile.{TileLines}
 use Rattle.tile_stream.specs.TileState.{TileState}
 use Rattle.tile_stream.specs.Unread.{Unread, EndsFrom}
@@ -64,7 +64,7 @@ module _ {R : Type 0} (gives : R → List ℕ → Bool → Type 0) (IsWanted : F
         → (texts : List (List ℕ)) (outcome : Outcome) → (comes : MayComeTo gives IsWanted k tile texts outcome)
         → TileComesTo IsWanted k held comes.0 texts outcome
     tile_comes held are later texts outcome comes =
-        let After : List (List ℕ) → Outcome → Type 0 = λ more end. EndsAfter held.line end
+        let After : List (List ℕ) → Outcome → Type 0 = λ more end. EndsAfterLine held.line end
         × ComesTo (GivesFeature IsWanted k) (RefusesFeatureLine k) comes.0 more end in
         held_first IsWanted k held tile.held are (LeftComesTo IsWanted k tile.lines.number comes.0) After
         (λ more end left. (ends_after held.line tile.lines.number end (omega (arith, later, are.0)) left.0, left.1))

@@ -2,7 +2,7 @@ pub mod Coming
 pub mod Comings
 pub mod Filtering
 pub mod FirstBytes
-pub mod FirstParts
+pub mod FirstStretches
 pub mod GoneThrough
 pub mod Heads
 pub mod HeldFeatures

@@ -10,12 +10,12 @@ module _ (new rest : List ℕ) (len : ℕ) (whole : length new ≡ len) where
   all_left count within = between_from_start (take len (new ++ rest)) count ∙ take-take count len (new ++ rest) within
       ∙ take-append-le count new rest (omega (arith, whole, within))
 
-  -- what was held stands first, and what was read behind it
+  -- what was held stands first, and what was read after it
   module _ (kept : List ℕ) (held : ℕ) (same : take held new ≡ kept) where
     pub kept_first : held ≤ len → slice_range (take len (new ++ rest)) 0 held ≡ kept
     kept_first within = all_left held within ∙ same
 
-    pub read_behind : (count : ℕ) → held + count ≤ len
+    pub read_after : (count : ℕ) → held + count ≤ len
         → slice_range (take len (new ++ rest)) 0 (held + count) ≡ kept ++ take count (drop held new)
-    read_behind count within = all_left (held + count) within ∙ take-add held count new
+    read_after count within = all_left (held + count) within ∙ take-add held count new
         ∙ ap (λ front. front ++ take count (drop held new)) same

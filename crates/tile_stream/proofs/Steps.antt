@@ -105,7 +105,7 @@ module _ (before : List (List ℕ) → Outcome → Type 0) (old : Option (List �
           let outcome = some.1.0 in
           let written = flat_map with_newline so_far.texts in
           let first = first_of_longer taken (with_newline text) (flat_map with_newline more) in
-          let part : take (length written + first.0) (flat_map with_newline (so_far.texts ++ text ∷ more)) ≡ written
+          let stretch : take (length written + first.0) (flat_map with_newline (so_far.texts ++ text ∷ more)) ≡ written
           ++ take taken (with_newline text) =
           ap (take (length written + first.0)) (flat_map-append with_newline so_far.texts (text ∷ more))
           ∙ take-append-add written (flat_map with_newline (text ∷ more)) first.0
@@ -114,7 +114,7 @@ module _ (before : List (List ℕ) → Outcome → Type 0) (old : Option (List �
             outcome,
             length written + first.0,
             so_far.back (text ∷ more) outcome (gives more outcome some.1.1),
-            subst (Appends old newer) (sym part) (Appends-trans old new newer _ _ so_far.written appends),
+            subst (Appends old newer) (sym stretch) (Appends-trans old new newer _ _ so_far.written appends),
           )
 
 -- a text and its newline are written, one after the other
@@ -208,7 +208,7 @@ module _ (before mid : List (List ℕ) → Outcome → Type 0) (old between : Op
       → IsRefusedAfter mid fault tile line between new → IsRefusedAfter before fault tile line old new
   refused_more Write tile line new (no_tile, no_line, (texts, outcome, taken, comes, wrote)) =
       let written = flat_map with_newline so_far.texts in
-      let part : take (length written + taken) (flat_map with_newline (so_far.texts ++ texts)) ≡ written
+      let stretch : take (length written + taken) (flat_map with_newline (so_far.texts ++ texts)) ≡ written
       ++ take taken (flat_map with_newline texts) =
       ap (take (length written + taken)) (flat_map-append with_newline so_far.texts texts)
       ∙ take-append-add written (flat_map with_newline texts) taken in (
@@ -219,7 +219,7 @@ module _ (before mid : List (List ℕ) → Outcome → Type 0) (old between : Op
           outcome,
           length written + taken,
           so_far.back texts outcome comes,
-          subst (Appends old new) (sym part) (Appends-trans old between new _ _ so_far.written wrote),
+          subst (Appends old new) (sym stretch) (Appends-trans old between new _ _ so_far.written wrote),
         ),
       )
   refused_more other tile line new stopped =

@@ -15,7 +15,7 @@ use Rattle.city_feature.specs.Header.{HeaderValue, HoldsCity, IsHeader, RefusesH
 use Rattle.tile_stream.specs.Ahead.{MayCome}
 use Rattle.tile_stream.specs.Held.{Held, HeldLine, AreTextsOf}
 use Rattle.tile_stream.specs.Texts.{IsOutOfMemory}
-use Rattle.tile_stream.specs.Tile.{Part, TileLines, line_before}
+use Rattle.tile_stream.specs.Tile.{Stretch, TileLines, line_before}
 use Rattle.tile_stream.specs.Unread.{Unread, Leaves, GivesLine, StandsAt}
 
 -- A value with city objects or vertices is a document and is cut; each other one is a header, and
@@ -52,7 +52,7 @@ RefusesHead fault line =
 -- the first line stands for this header and holds these features, and these lines come after it
 abbrev pub HasHead : TileLines → HeaderValue → Held → TileLines → Type 0
 HasHead tile header held after =
-    (line : Part)
+    (line : Stretch)
     × (tile ≡ line_before line after)
     × (line.number ≡ held.line)
     × SpellsHead line.bytes header held.features
@@ -63,7 +63,7 @@ IsOutOfMemoryBy number at = (0 < at.line) × IsOutOfMemory number at
 
 -- why there is none: there is no line; or the tile is at fault before its first line ends; or that
 -- line is refused; memory may run out before
-abbrev pub LinesHaveNoHead : List Part → Option LineFault → ℕ → LineFault → Type 0
+abbrev pub LinesHaveNoHead : List Stretch → Option LineFault → ℕ → LineFault → Type 0
 LinesHaveNoHead [] None last at = ((at.line ≡ 0) × (at.fault ≡ NoHeader)) ⊎ IsOutOfMemoryBy last at
 LinesHaveNoHead [] (Some fault) last at = (at ≡ fault) ⊎ IsOutOfMemoryBy fault.line at
 LinesHaveNoHead (line ∷ others) fault last at =

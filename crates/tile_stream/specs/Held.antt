@@ -6,7 +6,7 @@ use Rattle.byte_streams.specs.declared.fault.Fault.TheVariants.{VertexRange, Mem
 use Rattle.city_feature.specs.Feature.{FeatureValue, IsMovable, moved}
 use Rattle.city_feature.specs.FeatureLine.{GivesFeature, RefusesFeatureLine, SpellsFeature, TellsWanted, IsTextOf}
 use Rattle.city_grid.specs.Axes.{Triple}
-use Rattle.tile_stream.specs.Texts.{Outcome, EndsAfter, ComesTo}
+use Rattle.tile_stream.specs.Texts.{Outcome, EndsAfterLine, ComesTo}
 use Rattle.tile_stream.specs.Tile.{TileLines}
 
 -- the features that the line of this number holds
@@ -92,5 +92,5 @@ TextsFirst IsWanted k there Then texts outcome =
 abbrev pub TileComesTo : (FeatureValue → Type 0) → Triple → Held → TileLines → List (List ℕ) → Outcome → Type 0
 TileComesTo IsWanted k held after texts outcome =
     HeldFirst IsWanted k held (λ more end.
-    EndsAfter held.line end
+    EndsAfterLine held.line end
     × ComesTo (GivesFeature IsWanted k) (RefusesFeatureLine k) after more end) texts outcome

@@ -4,7 +4,7 @@ pub mod Filtered
 pub mod GivenTexts
 pub mod Head
 pub mod Held
-pub mod Parts
+pub mod Stretches
 pub mod Progress
 pub mod Stream
 pub mod TapeLines

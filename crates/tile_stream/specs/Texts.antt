@@ -5,7 +5,7 @@ use Rattle.std.specs.Prelude.{◌≡◌, ◌⊎◌, ◌++◌, ◌≤◌, ◌<◌
 use Rattle.byte_streams.specs.declared.fault.Fault.{Fault}
 use Rattle.byte_streams.specs.declared.fault.Fault.TheVariants.{Memory}
 use Rattle.byte_streams.specs.declared.places.LineFault.{LineFault}
-use Rattle.tile_stream.specs.Tile.{Part, TileLines}
+use Rattle.tile_stream.specs.Tile.{Stretch, TileLines}
 
 -- how a tile ended: nothing is wrong, or the number of the line at which it stopped, and why
 abbrev pub Outcome : Type 0
@@ -15,7 +15,7 @@ Outcome = Option LineFault
 abbrev pub IsOutOfMemory : ℕ → LineFault → Type 0
 IsOutOfMemory number at = (at.fault ≡ Memory) × (at.line ≤ number)
 
--- how a tile ends after its last line, at the part of this number: as it is, or out of memory
+-- how a tile ends after its last line, at the stretch of this number: as it is, or out of memory
 abbrev pub EndsSo : Option LineFault → ℕ → Outcome → Type 0
 EndsSo None last None = Unit {0}
 EndsSo None last (Some at) = IsOutOfMemory last at
@@ -23,26 +23,26 @@ EndsSo (Some fault) last None = ⊥
 EndsSo (Some fault) last (Some at) = (at ≡ fault) ⊎ IsOutOfMemory fault.line at
 
 -- the tile stops at this line: it is refused, or memory ran out
-abbrev pub StopsAt : (Fault → List ℕ → Type 0) → Part → Outcome → Type 0
+abbrev pub StopsAt : (Fault → List ℕ → Type 0) → Stretch → Outcome → Type 0
 StopsAt Refuses line None = ⊥
 StopsAt Refuses line (Some at) =
     ((at.line ≡ line.number) × Refuses at.fault line.bytes) ⊎ IsOutOfMemory line.number at
 
 -- the tile ends after the line of this number
-abbrev pub EndsAfter : ℕ → Outcome → Type 0
-EndsAfter number None = Unit {0}
-EndsAfter number (Some at) = number < at.line
+abbrev pub EndsAfterLine : ℕ → Outcome → Type 0
+EndsAfterLine number None = Unit {0}
+EndsAfterLine number (Some at) = number < at.line
 
--- These lines, and then the fault of the tile, which ends at the part of this number, come to these
+-- These lines, and then the fault of the tile, which ends at the stretch of this number, come to these
 -- texts and end so.
-abbrev pub LinesComeTo : (List ℕ → Option (List ℕ) → Type 0) → (Fault → List ℕ → Type 0) → List Part → Option LineFault → ℕ → List (List ℕ) → Outcome → Type 0
+abbrev pub LinesComeTo : (List ℕ → Option (List ℕ) → Type 0) → (Fault → List ℕ → Type 0) → List Stretch → Option LineFault → ℕ → List (List ℕ) → Outcome → Type 0
 LinesComeTo Gives Refuses [] fault last texts outcome = (texts ≡ []) × EndsSo fault last outcome
 LinesComeTo Gives Refuses (line ∷ others) fault last texts outcome =
     ((texts ≡ []) × StopsAt Refuses line outcome)
     ⊎ ((given : Option (List ℕ))
     × (more : List (List ℕ))
     × Gives line.bytes given
-    × EndsAfter line.number outcome
+    × EndsAfterLine line.number outcome
     × LinesComeTo Gives Refuses others fault last more outcome
     × (texts ≡ option_to_list given ++ more))
 

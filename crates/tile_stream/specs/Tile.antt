@@ -1,4 +1,4 @@
--- The lines of a tile: the parts between newlines, numbered from 1, blank ones left out, up to the first fault.
+-- The lines of a tile: the stretches between newlines, numbered from 1, blank ones left out, up to the first fault.
 use Rattle.std.specs.Prelude.{◌+◌, ◌-◌, ◌==◌, ◌&&◌, ◌||◌, ℕ, Bool, not, List, [], ◌∷◌, Option, Some, None, length, filter, filter_map, take_while, option_map, is_none, nat_le, nat_lt, if◌then◌else◌}
 use Rattle.std.specs.List.{slice_split, list_all}
 use Rattle.byte_streams.specs.Limits.{max_line_bytes, max_tile_bytes}
@@ -17,22 +17,22 @@ abbrev pub tile_of : List ℕ → Bool → Tile
 tile_of bytes fails = record { bytes = bytes; fails = fails }
 
 -- what stands between two newlines: its number from 1, the byte at which it begins from 0, and its bytes
-pub record Part : Type 0 where
+pub record Stretch : Type 0 where
   pub number : ℕ
   pub start : ℕ
   pub bytes : List ℕ
 
-abbrev pub part_of : ℕ → ℕ → List ℕ → Part
-part_of number start bytes = record { number = number; start = start; bytes = bytes }
+abbrev pub stretch_of : ℕ → ℕ → List ℕ → Stretch
+stretch_of number start bytes = record { number = number; start = start; bytes = bytes }
 
 abbrev pub is_newline : ℕ → Bool
 is_newline b = b == newline
 
--- each part begins after the newline that ends the one before it
-abbrev pub number_parts : ℕ → ℕ → List (List ℕ) → List Part
-number_parts number start [] = []
-number_parts number start (bytes ∷ others) =
-    record { number = number; start = start; bytes = bytes } ∷ number_parts (number + 1) (start + length bytes + 1) others
+-- each stretch begins after the newline that ends the one before it
+abbrev pub number_stretches : ℕ → ℕ → List (List ℕ) → List Stretch
+number_stretches number start [] = []
+number_stretches number start (bytes ∷ others) =
+    record { number = number; start = start; bytes = bytes } ∷ number_stretches (number + 1) (start + length bytes + 1) others
 
 -- the most bytes that a line and a tile may have
 abbrev pub limits_of : ℕ → ℕ → Limits
@@ -62,58 +62,58 @@ fault_between limits size fails start end =
     else (if is_broken_off size fails end then Some Read
     else None))
 
-abbrev pub fault_at : Limits → ℕ → Bool → Part → Option Fault
-fault_at limits size fails part = fault_between limits size fails part.start (part.start + length part.bytes)
+abbrev pub fault_at : Limits → ℕ → Bool → Stretch → Option Fault
+fault_at limits size fails stretch = fault_between limits size fails stretch.start (stretch.start + length stretch.bytes)
 
 -- A blank line has only spaces, tabs and carriage returns, or nothing. The carriage return of CR LF belongs to the line.
 abbrev pub is_blank : List ℕ → Bool
 is_blank line = list_all (λ b. (b == space) || (b == tab) || (b == carriage_return)) line
 
 -- the number of a line, and why it is refused
-abbrev pub faulty_line : Limits → ℕ → Bool → Part → Option LineFault
-faulty_line limits size fails part = option_map (λ fault. record { line = part.number; fault = fault }) (fault_at limits size fails part)
+abbrev pub faulty_line : Limits → ℕ → Bool → Stretch → Option LineFault
+faulty_line limits size fails stretch = option_map (λ fault. record { line = stretch.number; fault = fault }) (fault_at limits size fails stretch)
 
 abbrev pub first_of : {X : Type 0} → List X → Option X
 first_of [] = None
 first_of (x ∷ xs) = Some x
 
--- the number of the last of these parts, or where there is none of the part before them
-abbrev pub last_number : ℕ → List Part → ℕ
+-- the number of the last of these stretches, or where there is none of the stretch before them
+abbrev pub last_number : ℕ → List Stretch → ℕ
 last_number before [] = before
-last_number before (part ∷ others) = last_number part.number others
+last_number before (stretch ∷ others) = last_number stretch.number others
 
--- What a tile gives: the lines before the first part at fault, blank ones left out, and that fault, if
--- there is one; and the number of the part at which it ends, the one at fault or else its last.
+-- What a tile gives: the lines before the first stretch at fault, blank ones left out, and that fault, if
+-- there is one; and the number of the stretch at which it ends, the one at fault or else its last.
 pub record TileLines : Type 0 where
-  pub lines : List Part
+  pub lines : List Stretch
   pub fault : Option LineFault
   pub last : ℕ
 
--- the part at fault, or else the last of these
-abbrev pub end_number : Option LineFault → List Part → ℕ
-end_number None some_parts = last_number 0 some_parts
-end_number (Some at) some_parts = at.line
+-- the stretch at fault, or else the last of these
+abbrev pub end_number : Option LineFault → List Stretch → ℕ
+end_number None some_stretches = last_number 0 some_stretches
+end_number (Some at) some_stretches = at.line
 
--- what these parts give, in a tile of `size` bytes
-abbrev pub lines_of_parts : Limits → ℕ → Bool → List Part → TileLines
-lines_of_parts limits size fails some_parts = record {
-  lines = filter (λ part. not (is_blank part.bytes)) (take_while (λ part. is_none (fault_at limits size fails part)) some_parts);
-  fault = first_of (filter_map (faulty_line limits size fails) some_parts);
-  last = end_number (first_of (filter_map (faulty_line limits size fails) some_parts)) some_parts;
+-- what these stretches give, in a tile of `size` bytes
+abbrev pub lines_of_stretches : Limits → ℕ → Bool → List Stretch → TileLines
+lines_of_stretches limits size fails some_stretches = record {
+  lines = filter (λ stretch. not (is_blank stretch.bytes)) (take_while (λ stretch. is_none (fault_at limits size fails stretch)) some_stretches);
+  fault = first_of (filter_map (faulty_line limits size fails) some_stretches);
+  last = end_number (first_of (filter_map (faulty_line limits size fails) some_stretches)) some_stretches;
 }
 
 -- what a tile gives from byte `start` on, where the line of this number begins and these bytes follow
 abbrev pub lines_from : Limits → ℕ → ℕ → List ℕ → Bool → TileLines
-lines_from limits number start bytes fails = lines_of_parts limits (start + length bytes) fails (number_parts number start (slice_split is_newline bytes))
+lines_from limits number start bytes fails = lines_of_stretches limits (start + length bytes) fails (number_stretches number start (slice_split is_newline bytes))
 
 abbrev pub tile_lines : Limits → Tile → TileLines
 tile_lines limits tile = lines_from limits 1 0 tile.bytes tile.fails
 
 -- a line, and then what else is given
-abbrev pub line_before : Part → TileLines → TileLines
-line_before part after = record { lines = part ∷ after.lines; fault = after.fault; last = after.last }
+abbrev pub line_before : Stretch → TileLines → TileLines
+line_before stretch after = record { lines = stretch ∷ after.lines; fault = after.fault; last = after.last }
 
--- nothing is to come after the part of this number
+-- nothing is to come after the stretch of this number
 abbrev pub nothing_left : ℕ → TileLines
 nothing_left number = record { lines = []; fault = None; last = number }
 

@@ -9,7 +9,7 @@ use Rattle.byte_streams.specs.declared.places.LineFault.{LineFault}
 use Rattle.tile_stream.specs.declared.lines.state.State.{State}
 use Rattle.tile_stream.specs.declared.lines.state.State.TheVariants.{Open, Over, Refused}
 use Rattle.tile_stream.specs.Ahead.{Ahead, MayCome}
-use Rattle.tile_stream.specs.Tile.{Part, TileLines, part_of, is_newline, is_blank, tile_of, tile_lines, lines_from, line_before, nothing_left, only_fault}
+use Rattle.tile_stream.specs.Tile.{Stretch, TileLines, stretch_of, is_newline, is_blank, tile_of, tile_lines, lines_from, line_before, nothing_left, only_fault}
 
 -- What is ahead of the reader, the number of the next line, the byte at which it begins, and, once no
 -- more is read, what is left.
@@ -54,24 +54,24 @@ Leaves gives lines left = LeavesIf lines.ended gives lines left
 abbrev pub IsOfTile : (List ℕ → Bool → Type 0) → Limits → TileLines → Type 0
 IsOfTile gives limits left = (bytes : List ℕ) × (fails : Bool) × gives bytes fails × (left ≡ tile_lines limits (tile_of bytes fails))
 
--- a part in front: a line where it is not blank
-abbrev pub part_before : Part → TileLines → TileLines
-part_before part left = if is_blank part.bytes then left else line_before part left
+-- a stretch in front: a line where it is not blank
+abbrev pub stretch_before : Stretch → TileLines → TileLines
+stretch_before stretch left = if is_blank stretch.bytes then left else line_before stretch left
 
--- Whatever may be left now may, with this part in front, have been left before.
-abbrev pub GivesPart : (TileLines → Type 0) → (TileLines → Type 0) → ℕ → List ℕ → Type 0
-GivesPart before after number bytes = (start : ℕ) × ((left : TileLines) → after left → before (part_before (part_of number start bytes) left))
+-- Whatever may be left now may, with this stretch in front, have been left before.
+abbrev pub GivesStretch : (TileLines → Type 0) → (TileLines → Type 0) → ℕ → List ℕ → Type 0
+GivesStretch before after number bytes = (start : ℕ) × ((left : TileLines) → after left → before (stretch_before (stretch_of number start bytes) left))
 
 -- Whatever may be left now may, with this line in front, have been left before.
 abbrev pub GivesLine : (TileLines → Type 0) → (TileLines → Type 0) → ℕ → List ℕ → Type 0
-GivesLine before after number bytes = (start : ℕ) × ((left : TileLines) → after left → before (line_before (part_of number start bytes) left))
+GivesLine before after number bytes = (start : ℕ) × ((left : TileLines) → after left → before (line_before (stretch_of number start bytes) left))
 
 -- The first line, or where there is none the fault, bears this number or a higher one.
 abbrev pub IsFaultFrom : ℕ → Option LineFault → Type 0
 IsFaultFrom number None = Unit {0}
 IsFaultFrom number (Some at) = number ≤ at.line
 
-abbrev pub BeginsFrom : ℕ → List Part → Option LineFault → Type 0
+abbrev pub BeginsFrom : ℕ → List Stretch → Option LineFault → Type 0
 BeginsFrom number [] fault = IsFaultFrom number fault
 BeginsFrom number (line ∷ others) fault = number ≤ line.number
 
@@ -81,7 +81,7 @@ EndsFrom number None = Unit {0}
 EndsFrom number (Some left) = BeginsFrom number left.lines left.fault
 
 -- What comes next, a line, a fault or the end, bears this number or a higher one.
-abbrev pub ComesFrom : ℕ → List Part → Option LineFault → ℕ → Type 0
+abbrev pub ComesFrom : ℕ → List Stretch → Option LineFault → ℕ → Type 0
 ComesFrom number [] None last = number ≤ last
 ComesFrom number [] (Some at) last = number ≤ at.line
 ComesFrom number (line ∷ others) fault last = number ≤ line.number
@@ -101,7 +101,7 @@ StandsAt number limits before after =
     × All (λ b. is_newline b ≡ false) front
     × ((bytes : List ℕ) (fails : Bool) → after bytes fails → before (lines_from limits number start (front ++ bytes) fails))
 
--- Nothing may have been left, since some part was the last.
+-- Nothing may have been left, since some stretch was the last.
 abbrev pub MayBeOver : (TileLines → Type 0) → Type 0
 MayBeOver before = (last : ℕ) × before (nothing_left last)
 

@@ -1,21 +1,21 @@
 -- Lines that stand whole among the bytes that were read.
 use Rattle.std.specs.Prelude.{◌≡◌, ◌≤◌, ◌<◌, ◌-◌, ◌||◌, ℕ, Bool, false, List, [], ◌∷◌, None, length, slice_index, take}
 use Rattle.city_json.specs.Bytes.{newline}
-use Rattle.tile_stream.specs.Parts.{IsPart}
-use Rattle.tile_stream.specs.Tile.{TileLines, is_blank, is_newline, nothing_left, part_of}
-use Rattle.tile_stream.specs.Unread.{GivesLine, Unread, Leaves, part_before}
+use Rattle.tile_stream.specs.Stretches.{IsStretch}
+use Rattle.tile_stream.specs.Tile.{TileLines, is_blank, is_newline, nothing_left, stretch_of}
+use Rattle.tile_stream.specs.Unread.{GivesLine, Unread, Leaves, stretch_before}
 
 -- The next line, blank or not, stands whole in front, and has this length.
 pub record IsWholeLine {R : Type 0} (lines : Unread R) (count : ℕ) : Type 0 where
   pub going : lines.ended ≡ None
-  pub part : IsPart lines.limits lines.start lines.ahead.held count
+  pub stretch : IsStretch lines.limits lines.start lines.ahead.held count
 
--- It is the next of what may have been left before. Where no newline ends it, nothing was left behind it.
+-- It is the next of what may have been left before. Where no newline ends it, nothing was left after it.
 pub record IsNext {R : Type 0} (gives : R → List ℕ → Bool → Type 0) (before now : Unread R) (count : ℕ) : Type 0 where
   pub whole : IsWholeLine now count
   pub back : (left : TileLines) → Leaves gives now left → Leaves gives before left
   pub last : count ≡ length now.ahead.held
-      → Leaves gives before (part_before (part_of now.number now.start now.ahead.held) (nothing_left now.number))
+      → Leaves gives before (stretch_before (stretch_of now.number now.start now.ahead.held) (nothing_left now.number))
 
 -- It is the next that is not blank, and bears the number of what came next before or a higher one.
 pub record IsNextLine {R : Type 0} (gives : R → List ℕ → Bool → Type 0) (before now : Unread R) (count : ℕ) : Type 0 where
@@ -30,12 +30,12 @@ pub record TakesLine {R : Type 0} (gives : R → List ℕ → Bool → Type 0) (
   pub later : number < after.number
 
 -- it may stand in a blank line, or end a line
-abbrev pub is_white : ℕ → Bool
-is_white b = is_newline b || is_blank (b ∷ [])
+abbrev pub is_blank_or_newline : ℕ → Bool
+is_blank_or_newline b = is_newline b || is_blank (b ∷ [])
 
 -- A byte stands there that stands in no blank line, and a newline after it.
 pub record IsEnded (bytes : List ℕ) (at : ℕ) : Type 0 where
-  pub full : is_white (slice_index bytes at) ≡ false
+  pub full : is_blank_or_newline (slice_index bytes at) ≡ false
   pub end : ℕ
   pub later : at < end
   pub within : end < length bytes

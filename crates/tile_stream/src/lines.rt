@@ -3,19 +3,19 @@ ghost use Rattle.std.specs.Prelude.{◌≡◌, ◌≤◌, ◌<◌, ◌+◌, ◌+
 ghost use Rattle.byte_streams.specs.Limits.{max_tile_bytes};
 ghost use Rattle.city_json.specs.Bytes.{newline};
 ghost use Rattle.tile_stream.specs.Ahead.{MayCome};
-ghost use Rattle.tile_stream.specs.Parts.{HoldsNewline};
+ghost use Rattle.tile_stream.specs.Stretches.{HoldsNewline};
 ghost use Rattle.tile_stream.specs.Tile.{TileLines, only_fault, limits_of, stream_limits};
-ghost use Rattle.tile_stream.specs.Unread.{Unread, Leaves, IsOfTile, GivesPart, GivesLine, MayBeOver, StandsAt, IsRefused, IsLineFault, IsAgain, BeginsFrom, EndsFrom, is_refused, most_left, has_failed, failed_reads_between};
+ghost use Rattle.tile_stream.specs.Unread.{Unread, Leaves, IsOfTile, GivesStretch, GivesLine, MayBeOver, StandsAt, IsRefused, IsLineFault, IsAgain, BeginsFrom, EndsFrom, is_refused, most_left, has_failed, failed_reads_between};
 ghost use Rattle.tile_stream.specs.Whole.{HoldsLine, IsNext, IsNextLine, IsWholeLine, TakesLine};
 
-mod parts;
 mod read_ahead;
 mod state;
+mod stretches;
 
 use crate::limits::{Limits, STREAM_LIMITS};
-use crate::lines::parts::{complete_part, is_blank};
 use crate::lines::read_ahead::ReadAhead;
 use crate::lines::state::State;
+use crate::lines::stretches::{complete_stretch, is_blank};
 use byte_streams::{Fault, Line, LineFault, Source};
 use std::alloc::Global;
 use std::marker::Model;
@@ -28,7 +28,7 @@ pub struct NumberedLine {
 }
 
 /// The lines of a tile, taken from its reader while it is read. Of the tile it holds the line that it is at, and at
-/// most 64 KiB behind that.
+/// most 64 KiB after that.
 #[derive(Debug, Drop)]
 pub struct Lines<R> {
     alloc: Global,
@@ -183,13 +183,13 @@ impl<R: Source> Lines<R> {
         ensures failures { R.failures self.new.ahead.reader ≡ failed_reads_between
             (has_failed self.old) (has_failed self.new) (R.failures self.old.ahead.reader) }
     {
-        'parts: loop {
+        'stretches: loop {
             match self.state {
                 State::Open => {}
                 State::Over(_) => return Ok(None),
                 State::Refused(fault) => return Err(fault),
             }
-            match complete_part(&mut self.ahead, self.limits, self.start) {
+            match complete_stretch(&mut self.ahead, self.limits, self.start) {
                 Ok(count) => {
                     if !is_blank(self.front(count)) {
                         return Ok(Some(count));
@@ -213,8 +213,8 @@ impl<R: Source> Lines<R> {
     /// ends the tile is over.
     pub(crate) fn leave_line(&mut self, count: usize) -> u64
         requires { IsWholeLine self.old count }
-        ensures part { (before : Unread R) → IsNext R.gives before self.old count
-            → GivesPart (Leaves R.gives before) (Leaves R.gives self.new) result
+        ensures stretch { (before : Unread R) → IsNext R.gives before self.old count
+            → GivesStretch (Leaves R.gives before) (Leaves R.gives self.new) result
             (take count self.old.ahead.held) }
         ensures line { (before : Unread R) → IsNextLine R.gives before self.old count
             → TakesLine R.gives before self.new result (take count self.old.ahead.held) }

@@ -386,7 +386,7 @@ fn are_two(
 }
 
 /// The lengths of two lines, where 65,536 bytes are read at once: the first ends within what is read at first, at its end,
-/// or behind it; the second ends with what is read, or takes several reads, also behind one that was given room.
+/// or after it; the second ends with what is read, or takes several reads, also after one that was given room.
 const PAIRS: [(usize, usize); 8] = [
     (10, 65_525),
     (65_535, 65_536),
@@ -398,7 +398,7 @@ const PAIRS: [(usize, usize); 8] = [
     (400_000, 70_000),
 ];
 
-/// Whether the lines are taken where each read gives all that is asked for, or less, and where the reader fails behind the
+/// Whether the lines are taken where each read gives all that is asked for, or less, and where the reader fails after the
 /// front of the second.
 fn are_taken_from_pieces(alloc: Global, lengths: (usize, usize)) -> Result<bool, AllocError> {
     let mut agree = true;

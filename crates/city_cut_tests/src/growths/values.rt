@@ -303,7 +303,7 @@ fn bin_is_filled(rt: &(impl AllocGlobal + Eprint)) -> Result<bool, Fault> {
 }
 
 /// Two names and sixteen that begin and end alike, some with escapes, in the text alone and in the compact text, too; one
-/// with an escape behind as many without as there is room for at first; and seventeen of one print, without and with one.
+/// with an escape after as many without as there is room for at first; and seventeen of one print, without and with one.
 const ESCAPED_NAMES: [(&str, &str); 5] = [
     (
         r#"{"oneprint one pr":0,"bBoIXfIOr4wAR7 ":1,"ruVVmC0Y8nJQfyy":2,"rM9JBGSD8w5avfX":3,"bh2YlyUP2PuLRS ":4,"bzi5CeMZraM7khq":5,"Wrt7ojSdWPQxLja":6,"Uv3jNHb2lhws2kJ":7,"mVzpsEL EQIQKDJ":8,"rekmL5_K8xX5C3s":9,"EXADgun2FlLPtsf":0,"J7oRNKoQ91l5xHW":1,"WJ_gVlJqWYU _ps":2,"5bS_Bs8782UTIww":3,"EHF 33z2FvT4ERp":4,"JqnNY1PYyYj 9Lt":5,"BPxtfzFDNeUz9XE":6}"#,

@@ -144,9 +144,9 @@ type_in_text value id name more writable is letters begins =
     let (type_tree, further, members_is, type_writable, type_is) =
     member_front members (compact_more_members others ++ close_brace ∷ []) (codes "type") _
     (utf8 (codes "type") refl) members_writable members_are in
-    let behind = compact_more_members further ++ close_brace ∷ (compact_more_members others ++ close_brace ∷ []) in
-    let (text, type_tree_is, text_utf8, text_is) = string_front behind _ type_tree type_writable (ap rest_of type_is) in
-    let same : text ≡ name = (same_reads text name behind more (sym (read_quoted text behind text_utf8)
+    let beyond = compact_more_members further ++ close_brace ∷ (compact_more_members others ++ close_brace ∷ []) in
+    let (text, type_tree_is, text_utf8, text_is) = string_front beyond _ type_tree type_writable (ap rest_of type_is) in
+    let same : text ≡ name = (same_reads text name beyond more (sym (read_quoted text beyond text_utf8)
     ∙ ap (λ l. string_at (rest_of l)) text_is ∙ read_letters name more letters)).0 in
     ap (λ t. member_in (codes "type") (member_in id (Some t))) value_is
     ∙ ap (λ m. member_in (codes "type") (first_named id m)) objects_is

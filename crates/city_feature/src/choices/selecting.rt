@@ -10,7 +10,7 @@ use crate::choices::Choice;
 use crate::choices::area::Area;
 use crate::choices::extents::meets;
 use crate::choices::types::Types;
-use crate::features::Feature;
+use crate::features::values::Feature;
 use city_grid::Vertex;
 use city_json::Json;
 

@@ -7,7 +7,7 @@ ghost use Rattle.city_feature.specs.Header.{HasGrid, HoldsCity, IsCityJson, IsHe
 ghost use Rattle.city_feature.specs.Header.{RefusesGrid, RefusesHeader};
 
 use crate::headers::Header;
-use crate::kinds::{Kind, is_there, is_where_there, says};
+use crate::kinds::{MemberKind, is_there, is_where_there, says};
 use byte_streams::Fault;
 use city_grid::{Transform, transform};
 use city_json::Json;
@@ -18,10 +18,10 @@ fn is_city_json(value: &Json) -> bool
     ensures { IsTrue result ↔ IsCityJson (tree value.now) }
 {
     says(value, "type", "CityJSON")
-        && is_where_there(value, "metadata", Kind::Object)
-        && is_where_there(value, "extensions", Kind::Object)
-        && is_where_there(value, "CityObjects", Kind::Object)
-        && is_where_there(value, "vertices", Kind::Array)
+        && is_where_there(value, "metadata", MemberKind::Object)
+        && is_where_there(value, "extensions", MemberKind::Object)
+        && is_where_there(value, "CityObjects", MemberKind::Object)
+        && is_where_there(value, "vertices", MemberKind::Array)
 }
 
 /// Whether its version is 2.0.
@@ -36,8 +36,8 @@ fn is_version_2(value: &Json) -> bool
 pub fn is_document(value: &Json) -> bool
     ensures { IsTrue result ↔ HoldsCity (tree value.now) }
 {
-    is_there(value, "CityObjects", Kind::FilledObject)
-        || is_there(value, "vertices", Kind::FilledArray)
+    is_there(value, "CityObjects", MemberKind::FilledObject)
+        || is_there(value, "vertices", MemberKind::FilledArray)
 }
 
 /// The transform of the member `transform` (CityJSON 2.0, Transform Object).

@@ -9,7 +9,7 @@ use lib.Bits.{bit_or}
 use lib.Count.{count_trailing_zeros}
 use lib.Lanes.{mask_l, top, zip2}
 use Rattle.std.specs.List.{AllByRecursion}
-use Rattle.city_json.proofs.WholeArrays.{marks_behind}
+use Rattle.city_json.proofs.WholeArrays.{marks_after}
 use Rattle.city_grid.specs.NumberEnds.{AreTripleEnds, ends_number, number_len}
 
 -- ---- the bits of up to 64 bytes
@@ -63,7 +63,7 @@ run_found stops bytes some short is =
     let more : 0 < mask_l (map ends_number bytes) = omega (arith, is, some) in
     let len : count_trailing_zeros 64 stops ≡ number_len bytes =
     ap (count_trailing_zeros 64) is ∙ trailing_mask_l ends_number 64 bytes short more in
-    (len, omega (arith, len, stopped bytes more), marks_behind ends_number (count_trailing_zeros 64 stops) bytes stops is)
+    (len, omega (arith, len, stopped bytes more), marks_after ends_number (count_trailing_zeros 64 stops) bytes stops is)
 
 -- ---- windows of a text
 pub record IsWindow (text window : List ℕ) (at count : ℕ) : Type 0 where
@@ -159,7 +159,7 @@ near text at count stops x y z after_x after_y after_z short within bits finds_x
     let window = take count (drop at text) in
     let w : IsWindow text window at count = record { is = refl; within = within } in
     let shifted : stops / 2 ≡ mask_l (map ends_number (drop 1 window)) =
-    omega arith ∙ marks_behind ends_number 0 window stops bits in
+    omega arith ∙ marks_after ends_number 0 window stops bits in
     let long = window_long text window at count w in
     let found = finds_x (drop 1 window) (omega (arith, long, length-drop 1 window)) shifted in
     let some : 1 ≤ count = omega (arith, long, length-drop 1 window, found.1) in

@@ -193,10 +193,7 @@ impl Names {
         }
         let listed = &self.listed[base..];
         if listed.len() <= MAX_COMPARED_AT_ONCE {
-            if few_are_apart(listed, text, &self.held) {
-                return Some(());
-            }
-            return None;
+            return few_are_apart(listed, text, &self.held);
         }
         many_are_apart(alloc, listed, text, &self.held)
     }
@@ -214,24 +211,27 @@ fn first_held(text_len: usize, listed: &[Name], end: usize) -> usize
     end
 }
 
-/// Whether the names are pairwise different: each is compared with each.
+/// That the names are pairwise different: each is compared with each. `None`: two are equal.
 #[inline(always)]
-fn few_are_apart(listed: &[Name], text: &[u8], held: &[u8]) -> bool
+fn few_are_apart(listed: &[Name], text: &[u8], held: &[u8]) -> Option<()>
     requires within { All (IsWithin (length text.now) (length held.now)) listed.now }
-    ensures { IsTrue result → (members : MemberTrees) → names members ≡ map (name_bytes text.now held.now) listed.now
-        → HasDistinctNames members }
+    ensures { OnSome result ((members : MemberTrees) → names members ≡ map (name_bytes text.now held.now) listed.now
+        → HasDistinctNames members) }
 {
     if let [first, second] = listed {
-        return !second.has_bytes(first.bytes(text, held), text, held);
+        if second.has_bytes(first.bytes(text, held), text, held) {
+            return None;
+        }
+        return Some(());
     }
     let mut rest = listed;
     while let [first, others @ ..] = rest {
         if !is_new(first.bytes(text, held), others, text, held) {
-            return false;
+            return None;
         }
         rest = others;
     }
-    true
+    Some(())
 }
 
 /// Whether the name is none of these.
@@ -259,14 +259,11 @@ fn many_are_apart(alloc: Global, listed: &[Name], text: &[u8], held: &[u8]) -> O
 {
     let are_few = listed.len() <= MAX_COMPARED;
     let is_sieved = !(are_few && is_any_held(listed, text, held));
-    if is_sieved && are_sieved_apart(listed, text, held) {
+    if is_sieved && let Some(()) = sieved_apart(listed, text, held) {
         return Some(());
     }
     if are_few {
-        if few_are_apart(listed, text, held) {
-            return Some(());
-        }
-        return None;
+        return few_are_apart(listed, text, held);
     }
     sorted_apart(alloc, listed, text, held)
 }
@@ -293,76 +290,77 @@ fn is_any_held(listed: &[Name], text: &[u8], held: &[u8]) -> bool {
     !held.is_empty() && listed.iter().any(|name| name.end as usize >= text.len())
 }
 
-/// Whether a sieve tells each name from all before it, by the ends of the names or by all their bytes. Where names are too
-/// many for that, none is looked at.
-fn are_sieved_apart(listed: &[Name], text: &[u8], held: &[u8]) -> bool
+/// That a sieve tells each name from all before it, by the ends of the names or by all their bytes. `None`: it does not, or
+/// they are too many for it, and none is looked at.
+fn sieved_apart(listed: &[Name], text: &[u8], held: &[u8]) -> Option<()>
     requires within { All (IsWithin (length text.now) (length held.now)) listed.now }
-    ensures { IsTrue result → (members : MemberTrees) → names members ≡ map (name_bytes text.now held.now) listed.now
-        → HasDistinctNames members }
+    ensures { OnSome result ((members : MemberTrees) → names members ≡ map (name_bytes text.now held.now) listed.now
+        → HasDistinctNames members) }
 {
-    are_sieved_by(Print::Ends, listed, text, held) || are_sieved_by(Print::All, listed, text, held)
+    if let Some(()) = sieved_by(Print::Ends, listed, text, held) {
+        return Some(());
+    }
+    sieved_by(Print::All, listed, text, held)
 }
 
 /// The same by one print of each.
-fn are_sieved_by(print: Print, listed: &[Name], text: &[u8], held: &[u8]) -> bool
+fn sieved_by(print: Print, listed: &[Name], text: &[u8], held: &[u8]) -> Option<()>
     requires within { All (IsWithin (length text.now) (length held.now)) listed.now }
-    ensures { IsTrue result → (members : MemberTrees) → names members ≡ map (name_bytes text.now held.now) listed.now
-        → HasDistinctNames members }
+    ensures { OnSome result ((members : MemberTrees) → names members ≡ map (name_bytes text.now held.now) listed.now
+        → HasDistinctNames members) }
 {
     if listed.len() <= FEW_SIEVED {
-        return pass_small(print, listed, text, held);
+        return sieved_by_small(print, listed, text, held);
     }
     if listed.len() <= MAX_SIEVED {
-        return pass_large(print, listed, text, held);
+        return sieved_by_large(print, listed, text, held);
     }
-    false
+    None
 }
 
-/// Whether each name is told from all before it by two sets of 2,048 bits.
+/// That each name is told from all before it by two sets of 2,048 bits. `None`: one is not.
 #[inline(never)]
-fn pass_small(print: Print, listed: &[Name], text: &[u8], held: &[u8]) -> bool
+fn sieved_by_small(print: Print, listed: &[Name], text: &[u8], held: &[u8]) -> Option<()>
     requires within { All (IsWithin (length text.now) (length held.now)) listed.now }
-    ensures { IsTrue result → (members : MemberTrees) → names members ≡ map (name_bytes text.now held.now) listed.now
-        → HasDistinctNames members }
+    ensures { OnSome result ((members : MemberTrees) → names members ≡ map (name_bytes text.now held.now) listed.now
+        → HasDistinctNames members) }
 {
     let (mut first, mut second) = ([0; 32], [0; 32]);
-    pass(print, listed, text, held, &mut first, &mut second)
+    sieved(print, listed, text, held, &mut first, &mut second)
 }
 
 /// The same by two sets of 16,384 bits.
 #[inline(never)]
-fn pass_large(print: Print, listed: &[Name], text: &[u8], held: &[u8]) -> bool
+fn sieved_by_large(print: Print, listed: &[Name], text: &[u8], held: &[u8]) -> Option<()>
     requires within { All (IsWithin (length text.now) (length held.now)) listed.now }
-    ensures { IsTrue result → (members : MemberTrees) → names members ≡ map (name_bytes text.now held.now) listed.now
-        → HasDistinctNames members }
+    ensures { OnSome result ((members : MemberTrees) → names members ≡ map (name_bytes text.now held.now) listed.now
+        → HasDistinctNames members) }
 {
     let (mut first, mut second) = ([0; 256], [0; 256]);
-    pass(print, listed, text, held, &mut first, &mut second)
+    sieved(print, listed, text, held, &mut first, &mut second)
 }
 
-/// Whether each name is told from all before it by these two sets.
+/// The same by these two sets.
 #[inline(always)]
-fn pass(
+fn sieved(
     print: Print,
     listed: &[Name],
     text: &[u8],
     held: &[u8],
     first: &mut [u64],
     second: &mut [u64],
-) -> bool
+) -> Option<()>
     requires within { All (IsWithin (length text.now) (length held.now)) listed.now }
     requires first { 0 < length first.old }
     requires second { 0 < length second.old }
-    ensures { IsTrue result → (members : MemberTrees) → names members ≡ map (name_bytes text.now held.now) listed.now
-        → HasDistinctNames members }
+    ensures { OnSome result ((members : MemberTrees) → names members ≡ map (name_bytes text.now held.now) listed.now
+        → HasDistinctNames members) }
 {
     for name in listed {
         let print_of_name = print.of(name.bytes(text, held));
-        if !mark(first, second, print_of_name) {
-            return false;
-        }
+        mark(first, second, print_of_name)?;
     }
-    true
+    Some(())
 }
 
 fn prints_of(alloc: Global, listed: &[Name], text: &[u8], held: &[u8]) -> Option<Vec<u64>>

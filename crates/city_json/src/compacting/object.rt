@@ -52,7 +52,7 @@ impl TextPlace {
         }
     }
 
-    /// The text in the memory in which it stands; the other memory is dropped. Room behind a text that stands where it
+    /// The text in the memory in which it stands; the other memory is dropped. Room after a text that stands where it
     /// was read is given back.
     pub fn into_line(self, read: Vec<u8>, buffer: Line) -> Line
         ensures { result ≡ placed_text self read.items buffer }

@@ -40,7 +40,7 @@ struct EndMarks {
     third: u64,
 }
 
-/// A bit for each comma behind a triple, for each closing bracket there, and for each byte that may not stand where it
+/// A bit for each comma after a triple, for each closing bracket there, and for each byte that may not stand where it
 /// stands. What the first two tell holds as far as no byte up to there is wrong.
 #[derive(Clone, Copy, Drop)]
 struct Found {

@@ -329,7 +329,7 @@ fn begins_with_zero(before: u8, byte: u8) -> bool
 
 /// A bit for each digit, comma and bracket of a block.
 #[derive(Clone, Copy, Drop)]
-struct Marks {
+struct BlockMarks {
     digits: u64,
     commas: u64,
     opens: u64,
@@ -337,13 +337,13 @@ struct Marks {
 }
 
 #[inline(always)]
-fn marks_in(block: u8x64) -> Marks
+fn marks_in(block: u8x64) -> BlockMarks
     ensures digits { result.digits ≡ mask_l (map is_ascii_digit block) }
     ensures commas { result.commas ≡ mask_l (map (λ b. b == comma) block) }
     ensures opens { result.opens ≡ mask_l (map (λ b. b == open_bracket) block) }
     ensures closes { result.closes ≡ mask_l (map (λ b. b == close_bracket) block) }
 {
-    Marks {
+    BlockMarks {
         digits: digit_marks(block),
         commas: marks_of(block, b','),
         opens: marks_of(block, b'['),
@@ -353,7 +353,7 @@ fn marks_in(block: u8x64) -> Marks
 
 /// Whether each of the first bytes of a block may stand where it stands, after the byte `before`.
 #[inline(always)]
-fn is_front_fine(block: u8x64, marks: Marks, before: u8, zeroed: bool, len: usize) -> bool
+fn is_front_fine(block: u8x64, marks: BlockMarks, before: u8, zeroed: bool, len: usize) -> bool
     requires digits { marks.digits ≡ mask_l (map is_ascii_digit block) }
     requires commas { marks.commas ≡ mask_l (map (λ b. b == comma) block) }
     requires opens { marks.opens ≡ mask_l (map (λ b. b == open_bracket) block) }
@@ -411,7 +411,7 @@ fn closes_at(depth: usize, opens: u64, closes: u64, last: usize) -> bool
 
 /// How many bytes there are up to the last closing bracket before any byte that may not stand in the arrays.
 #[inline(always)]
-fn front_len(marks: Marks) -> usize
+fn front_len(marks: BlockMarks) -> usize
     ensures { result ≤ 64 }
 {
     let places = marks.digits | (marks.commas | (marks.opens | marks.closes));

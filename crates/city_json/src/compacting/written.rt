@@ -12,7 +12,7 @@ pub(super) const SHORT: usize = 16;
 /// Where there is too little room, so much more is made than is wanted at once.
 const AHEAD: usize = 1024;
 
-/// What is written so far, and the room behind it, in which any bytes stand: few bytes are written by a move of
+/// What is written so far, and the room after it, in which any bytes stand: few bytes are written by a move of
 /// [`SHORT`], and those that are too many are written over.
 #[derive(Drop)]
 pub(super) struct Written {
@@ -41,7 +41,7 @@ impl Written {
         }
     }
 
-    /// The bytes, without the room behind them.
+    /// The bytes, without the room after them.
     pub(super) fn into_line(self) -> Line
         ensures { result ≡ self }
     {

@@ -1,6 +1,6 @@
 //! The names of the members of the objects that are open while a text is read, and whether those of one object differ.
 ghost use Rattle.std.specs.Prelude.{◌≡◌, ◌↔◌, ◌++◌, ◌∷◌, ◌+◌, ◌<◌, ◌≤◌, [], take, drop, length, map, IfOk, IsTrue, OnOk};
-ghost use Rattle.city_json.specs.Distinct.{are_apart, is_new_name};
+ghost use Rattle.city_json.specs.Distinct.{are_apart};
 ghost use Rattle.city_json.specs.Fits.{HasDistinctNames};
 ghost use Rattle.city_json.specs.Members.{names};
 ghost use Rattle.city_json.specs.OpenNames.{AreEnds, names_between, begin_of};
@@ -8,9 +8,6 @@ ghost use Rattle.city_json.specs.Tree.{MemberTrees};
 
 use std::alloc::{AllocError, Global};
 use std::marker::Model;
-
-/// The most names of an object that are compared with one another. Past it sorting them is faster.
-const MAX_COMPARED: usize = 16;
 
 /// Names, decoded, in the order in which they were put. All lie in the same bytes, one after another.
 #[derive(Drop)]
@@ -76,42 +73,16 @@ impl OpenNames {
         text_at(&self.bytes, &self.ends, place)
     }
 
-    /// Whether no two of the names from `base` on are equal. Memory is taken for more than [`MAX_COMPARED`] names only.
-    /// The time is near linear in the names' bytes, whatever they are.
+    /// Whether no two of the names from `base` on are equal. The time is near linear in the names' bytes, whatever they are.
     pub(super) fn are_apart_from(&self, base: usize) -> Result<bool, AllocError>
         requires { base ≤ length self.now }
         ensures { IfOk result (λ apart. apart ≡ are_apart (drop base self.now)) }
     {
-        if self.len() - base <= MAX_COMPARED {
-            return Ok(self.few_are_apart(base));
+        if self.len() - base < 2 {
+            return Ok(true);
         }
         let listed = self.listed_from(base)?;
         Ok(are_apart_when_sorted(listed))
-    }
-
-    fn few_are_apart(&self, base: usize) -> bool
-        requires { base ≤ length self.now }
-        ensures { result ≡ are_apart (drop base self.now) }
-    {
-        for place in base..self.len() {
-            if !self.is_new_name(self.name(place), place + 1) {
-                return false;
-            }
-        }
-        true
-    }
-
-    /// Whether the name is none of those from `base` on.
-    fn is_new_name(&self, name: &[u8], base: usize) -> bool
-        requires { base ≤ length self.now }
-        ensures { result ≡ is_new_name name.now (drop base self.now) }
-    {
-        for place in base..self.len() {
-            if self.name(place) == name {
-                return false;
-            }
-        }
-        true
     }
 
     fn listed_from(&self, base: usize) -> Result<Vec<&[u8]>, AllocError>

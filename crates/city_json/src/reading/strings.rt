@@ -11,7 +11,7 @@ use byte_streams::Fault;
 
 /// What a run of bytes that stand for themselves ends at.
 #[derive(Clone, Copy)]
-enum End {
+enum RunEnd {
     Closing,
     Escape,
     Broken,
@@ -27,12 +27,12 @@ pub(super) fn string<'t, 'a: 't>(
 {
     let (run, end, rest) = split_run(bytes);
     match end {
-        End::Closing => Ok((checked(run)?, rest)),
-        End::Escape => {
+        RunEnd::Closing => Ok((checked(run)?, rest)),
+        RunEnd::Escape => {
             let rest = decode(bytes, decoded)?;
             Ok((checked(decoded)?, rest))
         }
-        End::Broken => Err(Fault::Syntax),
+        RunEnd::Broken => Err(Fault::Syntax),
     }
 }
 
@@ -48,15 +48,15 @@ fn decode<'a>(bytes: &'a [u8], to: &mut Vec<u8>) -> Result<&'a [u8], Fault>
         let (run, end, after) = split_run(rest);
         to.extend_from_slice(run)?;
         match end {
-            End::Closing => return Ok(after),
-            End::Escape => {
+            RunEnd::Closing => return Ok(after),
+            RunEnd::Escape => {
                 let Some((c, after)) = escape(after) else {
                     return Err(Fault::Syntax);
                 };
                 to.extend_from_slice(c.encode_utf8(&mut [0; 4]).as_bytes())?;
                 rest = after;
             }
-            End::Broken => return Err(Fault::Syntax),
+            RunEnd::Broken => return Err(Fault::Syntax),
         }
     }
 }
@@ -70,18 +70,18 @@ pub(crate) fn decode_into<'a>(bytes: &'a [u8], to: &mut Vec<u8>) -> Option<&'a [
 
 /// The bytes at the front that stand for themselves, what they end at, and what follows that.
 #[tactic(auto, using(crate::proofs::StringSteps::runs))]
-fn split_run(bytes: &[u8]) -> (&[u8], End, &[u8])
+fn split_run(bytes: &[u8]) -> (&[u8], RunEnd, &[u8])
     ensures { IsPlainRun bytes.now result.0.now result.1 result.2.now }
 {
     let at = plain_len(bytes);
     if at == bytes.len() {
-        return (bytes, End::Broken, &[]);
+        return (bytes, RunEnd::Broken, &[]);
     }
     let (run, rest) = (&bytes[..at], &bytes[at + 1..]);
     match bytes[at] {
-        b'"' => (run, End::Closing, rest),
-        b'\\' => (run, End::Escape, rest),
-        _ => (run, End::Broken, rest),
+        b'"' => (run, RunEnd::Closing, rest),
+        b'\\' => (run, RunEnd::Escape, rest),
+        _ => (run, RunEnd::Broken, rest),
     }
 }
 

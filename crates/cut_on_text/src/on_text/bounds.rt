@@ -26,7 +26,7 @@ use city_feature::{is_array, is_object};
 use city_json::{ItemTexts, MemberPlace, between, part_named};
 use std::alloc::Global;
 
-/// The number that the digits write up to this one, where those before it write `value`; 0 behind a bracket or a comma.
+/// The number that the digits write up to this one, where those before it write `value`; 0 after a bracket or a comma.
 /// `None`: no boundary has this byte there.
 fn value_with(value: u128, byte: u8, count: usize) -> Option<u128>
     requires { value < 2 ^ 64 }
@@ -48,7 +48,7 @@ fn value_with(value: u128, byte: u8, count: usize) -> Option<u128>
     Some(next)
 }
 
-/// A byte that stands in no boundary of so many vertices.
+/// That a byte stands here which stands in no boundary of so many vertices. `None`: there is none.
 fn wrong_byte(text: &[u8], count: usize) -> Option<()>
     ensures { OnSome result (¬ AreBounds count 0 text.now) }
 {
@@ -62,7 +62,7 @@ fn wrong_byte(text: &[u8], count: usize) -> Option<()>
     None
 }
 
-/// What makes this the compact text of something else than a boundary of so many vertices.
+/// That no boundary of so many vertices has this compact text. `None`: none was found that would say so.
 fn wrong_boundary(text: &[u8], count: usize) -> Option<()>
     ensures { OnSome result ((value : Tree) → IsCompactOf text.now value → ¬ IsBoundary count value) }
 {

@@ -15,7 +15,7 @@ use std::alloc::Global;
 
 /// What is written so far: a line, and after it the text from `from` on, which is still to be copied.
 #[derive(Drop)]
-pub(super) struct Draft {
+pub(super) struct CopyDraft {
     pub line: Line,
     pub from: usize,
 }
@@ -34,7 +34,7 @@ fn ends_item(text: &[u8], at: usize) -> bool
 
 /// Copies the text up to the byte before `at`.
 #[inline(always)]
-fn put_front(text: &[u8], at: usize, draft: &mut Draft) -> Option<()>
+fn put_front(text: &[u8], at: usize, draft: &mut CopyDraft) -> Option<()>
     requires some { draft.old.from < at }
     requires within { at ≤ length text.now }
     ensures { OnSome result (draft.new.line ≡ shown draft.old.line text.now draft.old.from (at - 1)) }
@@ -47,7 +47,7 @@ fn put_front(text: &[u8], at: usize, draft: &mut Draft) -> Option<()>
 
 /// Copies the text up to `at`, and writes a number.
 #[inline(always)]
-fn put_number(text: &[u8], at: usize, number: usize, draft: &mut Draft) -> Option<()>
+fn put_number(text: &[u8], at: usize, number: usize, draft: &mut CopyDraft) -> Option<()>
     requires { at ≤ length text.now }
     ensures { OnSome result (draft.new.line ≡ shown draft.old.line text.now draft.old.from at ++ decimal number) }
 {
@@ -71,7 +71,7 @@ pub(super) trait Labels {
         ensures { result ≡ count self.now };
 
     /// Copies the text up to `at`, and puts a vertex's label there.
-    fn label(&mut self, text: &[u8], at: usize, vertex: usize, draft: &mut Draft) -> Option<()>
+    fn label(&mut self, text: &[u8], at: usize, vertex: usize, draft: &mut CopyDraft) -> Option<()>
         requires within { at ≤ length text.now }
         requires known { vertex < count self.old }
         ensures count { OnSome result (count self.new ≡ count self.old) }
@@ -91,7 +91,13 @@ impl Labels for Numbering {
     }
 
     #[inline(always)]
-    fn label(&mut self, text: &[u8], at: usize, vertex: usize, draft: &mut Draft) -> Option<()> {
+    fn label(
+        &mut self,
+        text: &[u8],
+        at: usize,
+        vertex: usize,
+        draft: &mut CopyDraft,
+    ) -> Option<()> {
         let Ok(_) = self.note(vertex) else {
             return None;
         };
@@ -103,7 +109,7 @@ impl Labels for Numbering {
 #[derive(Drop)]
 pub(super) struct Copier<L> {
     pub alloc: Global,
-    pub draft: Draft,
+    pub draft: CopyDraft,
     pub labels: L,
 }
 

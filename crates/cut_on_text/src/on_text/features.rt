@@ -21,7 +21,7 @@ ghost use Rattle.city_families.specs.Search.{InRange};
 ghost use Rattle.cut_on_text.specs.VertexTexts.{StandAt};
 
 use super::city_objects::CityObjects;
-use super::drafts::{Copier, Draft};
+use super::drafts::{Copier, CopyDraft};
 use super::objects::append_object;
 use super::points::{VertexTexts, append_points};
 use super::texts::append_text;
@@ -175,8 +175,8 @@ fn most_held(objects: &CityObjects<'_>, vertices: &VertexTexts<'_>) -> usize {
         .saturating_add(objects.len().saturating_mul(FIXED_LEN))
 }
 
-/// What the texts of the features that the families of the objects are have of their own. No more than one family is held.
-/// `None`: a boundary is at fault, or out of memory; nothing in it: there is too much of it to be held.
+/// The features that the families of the objects are: what each text has of its own. No more than one family is held.
+/// `None`: a boundary is at fault, or out of memory. `Some(None)`: there is too much of it to be held.
 pub(super) fn feature_texts(
     alloc: Global,
     objects: &CityObjects<'_>,
@@ -194,7 +194,7 @@ pub(super) fn feature_texts(
 {
     let mut copier = Copier {
         alloc,
-        draft: Draft {
+        draft: CopyDraft {
             line: Line::from_vec(Vec::with_capacity(alloc, objects.text().len()).ok()?),
             from: 0,
         },

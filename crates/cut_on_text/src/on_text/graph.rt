@@ -1,5 +1,5 @@
 //! Which city objects are children of which, by their texts.
-ghost use Rattle.std.specs.Prelude.{◌≡◌, ◌≢◌, ℕ, List, Contains, IfErr, IfOk, IfSome, IsTrue, IsUtf8, OnSome, Some, map, slice_get};
+ghost use Rattle.std.specs.Prelude.{◌≡◌, ◌≢◌, ℕ, List, Contains, IfErr, IfOk, IfSome, IsUtf8, OnSome, Some, map, slice_get};
 ghost use Rattle.std.specs.Borrow.{Bor};
 ghost use Rattle.std.specs.List.{AllByRecursion, AllZip};
 ghost use Rattle.city_json.specs.Compact.{quoted};
@@ -13,13 +13,13 @@ ghost use Rattle.city_families.specs.Table.{IsTable};
 
 use super::city_objects::CityObjects;
 use super::kin::texts_of;
-use super::names::Names;
+use super::names::ObjectNames;
 use byte_streams::Fault;
 use city_families::{Graph, Kin, check_belonging};
 use std::alloc::Global;
 
 /// The places of these names. `None`: one is not there, or out of memory.
-fn places_of(alloc: Global, named: &[&[u8]], table: &Names<'_>) -> Option<Vec<usize>>
+fn places_of(alloc: Global, named: &[&[u8]], table: &ObjectNames<'_>) -> Option<Vec<usize>>
     ensures { IfSome result (λ places. (names : List (List ℕ)) → IsTable names table.now
         → ArePlaced names (map (λ (one : Bor (List ℕ)). string one.now) named.now) places.items) }
 {
@@ -32,7 +32,7 @@ fn places_of(alloc: Global, named: &[&[u8]], table: &Names<'_>) -> Option<Vec<us
 }
 
 /// The places of the children that this text of an array names.
-fn row_of(alloc: Global, text: &[u8], table: &Names<'_>) -> Option<Vec<usize>>
+fn row_of(alloc: Global, text: &[u8], table: &ObjectNames<'_>) -> Option<Vec<usize>>
     ensures { IfSome result (λ row. (names : List (List ℕ)) → AllByRecursion IsUtf8 names
         → IsTable (map quoted names) table.now → HasRow names text.now row.items) }
 {
@@ -41,7 +41,7 @@ fn row_of(alloc: Global, text: &[u8], table: &Names<'_>) -> Option<Vec<usize>>
 }
 
 /// For each object the places of its children, of which the texts are given.
-pub(super) fn graph_of(alloc: Global, children: &[&[u8]], table: &Names<'_>) -> Option<Graph>
+pub(super) fn graph_of(alloc: Global, children: &[&[u8]], table: &ObjectNames<'_>) -> Option<Graph>
     ensures { IfSome result (λ graph. (names : List (List ℕ)) → AllByRecursion IsUtf8 names
         → IsTable (map quoted names) table.now → HaveRows names children.now graph) }
 {
@@ -53,36 +53,34 @@ pub(super) fn graph_of(alloc: Global, children: &[&[u8]], table: &Names<'_>) -> 
     Some(graph)
 }
 
-/// Whether one of these names is not there.
-fn is_missing(named: &[&[u8]], table: &Names<'_>) -> bool
-    ensures { IsTrue result → (names : List (List ℕ)) → IsTable names table.now → (one : Bor (List ℕ))
-        × Contains named.now one × ((k : ℕ) → slice_get names k ≢ Some one.now) }
+/// That one of these names is not there. `None`: all are.
+fn missing_one(named: &[&[u8]], table: &ObjectNames<'_>) -> Option<()>
+    ensures { OnSome result ((names : List (List ℕ)) → IsTable names table.now → (one : Bor (List ℕ))
+        × Contains named.now one × ((k : ℕ) → slice_get names k ≢ Some one.now)) }
 {
     for name in named {
         let Some(_) = table.place(name) else {
-            return true;
+            return Some(());
         };
     }
-    false
+    None
 }
 
 /// The fault that a child is missing which the array of this text names. `None`: none is, or it is no array of
 /// texts, or out of memory.
-fn missing_name(alloc: Global, text: &[u8], table: &Names<'_>) -> Option<Fault>
+fn missing_name(alloc: Global, text: &[u8], table: &ObjectNames<'_>) -> Option<Fault>
     ensures told { IfSome result (λ fault. fault ≡ Fault.ChildMissing) }
     ensures is { OnSome result ((names : List (List ℕ)) → AllByRecursion IsUtf8 names
         → IsTable (map quoted names) table.now → NamesMissing names text.now) }
 {
     let named = texts_of(alloc, text)?;
-    if !is_missing(&named, table) {
-        return None;
-    }
+    missing_one(&named, table)?;
     Some(Fault::ChildMissing)
 }
 
 /// The fault that a child is missing which an object names, of which the texts of the children are given. `None`:
 /// none was found, or out of memory.
-fn missing_child(alloc: Global, children: &[&[u8]], table: &Names<'_>) -> Option<Fault>
+fn missing_child(alloc: Global, children: &[&[u8]], table: &ObjectNames<'_>) -> Option<Fault>
     ensures told { IfSome result (λ fault. fault ≡ Fault.ChildMissing) }
     ensures is { OnSome result ((names : List (List ℕ)) → AllByRecursion IsUtf8 names
         → IsTable (map quoted names) table.now → SomeNamesMissing names children.now) }
@@ -109,7 +107,7 @@ pub(super) fn kin_of(
     ensures kin { IfSome result (λ kin. IfOk kin (λ kin. AreKin objects.now kin.children kin.parents.items)) }
     ensures refused { IfSome result (λ kin. IfErr kin (RefusesKin objects.now)) }
 {
-    let table = Names::new(alloc, objects)?;
+    let table = ObjectNames::new(alloc, objects)?;
     let Some(graph) = graph_of(alloc, &children, &table) else {
         let fault = missing_child(alloc, &children, &table)?;
         return Some(Err(fault));

@@ -8,7 +8,7 @@ ghost use Rattle.city_json.specs.ObjectTexts.{members_of, object_of};
 ghost use Rattle.city_json.specs.Tree.{MemberTrees, Tree, member, tree};
 ghost use Rattle.city_feature.specs.Header.{IsHeader, RefusesHeader};
 ghost use Rattle.city_families.specs.Cut.{header_tree};
-ghost use Rattle.cut_on_text.specs.HeaderText.{HasHeader, header_members, header_value, members_after};
+ghost use Rattle.cut_on_text.specs.HeaderText.{HasHeader, header_members, value_in_header, members_text_after};
 
 use super::known;
 use super::texts::append_text;
@@ -21,7 +21,7 @@ use std::alloc::Global;
 /// What stands in the header for the value of a member, whose name is given with its marks and its colon.
 fn value_in_header<'a>(name: &[u8], value: &'a [u8]) -> &'a [u8]
     ensures { (named : List ℕ) (old : Tree) → IsUtf8 named → name.now ≡ quoted named ++ colon ∷ []
-        → value.now ≡ compact old → result.now ≡ compact (header_value named old) }
+        → value.now ≡ compact old → result.now ≡ compact (value_in_header named old) }
 {
     if name == b"\"CityObjects\":".as_slice() {
         return b"{}";
@@ -48,7 +48,7 @@ fn append_comma(line: &mut Line) -> Option<()>
     requires { 0 < length line.old }
     ensures some { OnSome result (0 < length line.new) }
     ensures written { OnSome result ((name : List ℕ) (value : Tree) (others : MemberTrees)
-        → line.old ++ members_after line.old (member name value others)
+        → line.old ++ members_text_after line.old (member name value others)
         ≡ line.new ++ compact_members (member name value others)) }
 {
     if line.items().len() > 1 {
@@ -69,8 +69,8 @@ fn append_member(
     ensures written { OnSome result ((named : List ℕ) (value : Tree) (others : MemberTrees) → IsUtf8 named
         → slice_range text.now part.now.at part.now.value ≡ quoted named ++ colon ∷ []
         → slice_range text.now part.now.value part.now.end ≡ compact value
-        → line.old ++ members_after line.old (header_members drops_appearance (member named value others))
-        ≡ line.new ++ members_after line.new (header_members drops_appearance others)) }
+        → line.old ++ members_text_after line.old (header_members drops_appearance (member named value others))
+        ≡ line.new ++ members_text_after line.new (header_members drops_appearance others)) }
 {
     let name = between(text, part.at, part.value)?;
     let value = between(text, part.value, part.end)?;

@@ -2,7 +2,7 @@
 ghost use Rattle.std.specs.Prelude.{◌≡◌, ◌++◌, [], ◌∷◌, IfSome, OnSome};
 ghost use Rattle.city_json.specs.Bytes.{colon};
 ghost use Rattle.city_json.specs.Compact.{quoted};
-ghost use Rattle.cut_on_text.specs.Holders.{begin_of, name_of, other_than, part_in, part_unless, split_by};
+ghost use Rattle.cut_on_text.specs.Holders.{holder_begin, name_of, other_than, part_in, part_unless, split_by};
 
 use city_json::MemberPlace;
 use std::marker::Model;
@@ -89,8 +89,8 @@ struct ShortValue {
 }
 
 /// Where a member with this name and its colon begins whose value begins there.
-fn begin_of(holder: Holder, value: usize) -> usize
-    ensures { result ≡ begin_of holder value }
+fn holder_begin(holder: Holder, value: usize) -> usize
+    ensures { result ≡ holder_begin holder value }
 {
     value.saturating_sub(holder.mark().len())
 }
@@ -105,7 +105,7 @@ fn short_value(holder: Holder, part: Option<MemberPlace>) -> Option<ShortValue>
     if part.end == 0 {
         return None;
     }
-    if part.at != begin_of(holder, part.value) {
+    if part.at != holder_begin(holder, part.value) {
         return None;
     }
     let value = u32::try_from(part.value).ok()?;
@@ -121,7 +121,7 @@ fn part_at(holder: Holder, short: &ShortValue) -> Option<MemberPlace>
     }
     let value = short.value as usize;
     Some(MemberPlace {
-        at: begin_of(holder, value),
+        at: holder_begin(holder, value),
         value,
         end: short.end as usize,
     })

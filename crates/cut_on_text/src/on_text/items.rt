@@ -176,7 +176,7 @@ fn append_item<L: Labels>(
             if len == 0 {
                 return None;
             }
-            items.pass(len);
+            items.skip(len);
             Some(())
         }
         Holder::Address => {

@@ -11,18 +11,18 @@ ghost use Rattle.city_json.specs.Tree.{Tree};
 ghost use Rattle.city_json.specs.Writable.{AreWritableMembers};
 ghost use Rattle.city_feature.specs.Feature.{FeatureValue, IsMovable, moved};
 ghost use Rattle.city_feature.specs.FeatureLine.{SpellsFeature};
-ghost use Rattle.city_families.specs.Cut.{last_members};
+ghost use Rattle.city_families.specs.Cut.{appearance_members};
 ghost use Rattle.cut_on_text.specs.FeatureText.{middle_text, tail_text};
 ghost use Rattle.city_families.specs.HeldTexts.{with_end};
 ghost use Rattle.city_families.specs.Lines.{texts_of};
 ghost use Rattle.cut_on_text.specs.Made.{AreMakings, beginners, comma_before, feature_text, first_uses, listed, made_text, place_in, vertex_in};
 ghost use Rattle.cut_on_text.specs.Moved.{chosen_of};
 ghost use Rattle.city_families.specs.Search.{InRange};
-ghost use Rattle.cut_on_text.specs.Skeletons.{text_at, uses_at, woven};
+ghost use Rattle.cut_on_text.specs.Skeletons.{skeleton_text_at, uses_at, woven};
 ghost use Rattle.cut_on_text.specs.Written.{Writes};
 
 use super::moving::moved_vertices;
-use super::points::{VertexTexts, Vertices};
+use super::points::{GrownVertices, VertexTexts};
 use super::ranges::between;
 use super::skeletons::{Leaf, Skeletons};
 use crate::gathering::gather;
@@ -38,7 +38,7 @@ use std::marker::Model;
 const DIGITS: usize = 20;
 
 /// A copy of these. `None`: out of memory.
-fn copied(alloc: Global, vertices: &VertexTexts<'_>) -> Option<Vertices>
+fn copied(alloc: Global, vertices: &VertexTexts<'_>) -> Option<GrownVertices>
     ensures text { IfSome result (λ copy. copy.text ≡ vertices.now.text.now) }
     ensures starts { IfSome result (λ copy. copy.starts.items ≡ vertices.now.starts.items) }
 {
@@ -46,7 +46,7 @@ fn copied(alloc: Global, vertices: &VertexTexts<'_>) -> Option<Vertices>
     text.extend_from_slice(vertices.text).ok()?;
     let mut starts = Vec::with_capacity(alloc, vertices.starts.len()).ok()?;
     starts.extend_from_slice(&vertices.starts).ok()?;
-    Some(Vertices {
+    Some(GrownVertices {
         text: Line::from_vec(text),
         starts,
     })
@@ -91,7 +91,7 @@ fn write_object<W: Sink>(
     requires at { at + 1 < length skeletons.now.places }
     requires leaves { All (λ leaf. leaf.vertex < order.now.count) skeletons.now.leaves }
     ensures { Writes W.taken W.failures output.old wrote.old output.new wrote.new
-        (text_at skeletons.now (λ vertex. decimal (place_in order.now.order vertex)) at) }
+        (skeleton_text_at skeletons.now (λ vertex. decimal (place_in order.now.order vertex)) at) }
 {
     let text = skeletons.text();
     let mut from = skeletons.begin(at);
@@ -114,7 +114,7 @@ fn write_objects<W: Sink>(
     requires places { All (λ at. at + 1 < length skeletons.now.places) places.now }
     requires leaves { All (λ leaf. leaf.vertex < order.now.count) skeletons.now.leaves }
     ensures { Writes W.taken W.failures output.old wrote.old output.new wrote.new
-        (listed (map (text_at skeletons.now (λ vertex. decimal (place_in order.now.order vertex))) places.now)) }
+        (listed (map (skeleton_text_at skeletons.now (λ vertex. decimal (place_in order.now.order vertex))) places.now)) }
 {
     for place in 0..places.len() {
         write_comma(place, output, wrote);
@@ -124,7 +124,7 @@ fn write_objects<W: Sink>(
 
 /// Writes these vertices.
 fn write_vertices<W: Sink>(
-    vertices: &Vertices,
+    vertices: &GrownVertices,
     order: &[usize],
     output: &mut W,
     wrote: &mut Result<(), Fault>,
@@ -151,7 +151,7 @@ fn write_head<W: Sink>(id: &[u8], output: &mut W, wrote: &mut Result<(), Fault>)
 
 /// Writes these vertices, and what stands between the objects of a feature and them.
 fn write_rest<W: Sink>(
-    vertices: &Vertices,
+    vertices: &GrownVertices,
     order: &[usize],
     output: &mut W,
     wrote: &mut Result<(), Fault>,
@@ -241,7 +241,7 @@ fn keep_chosen(roots: &mut Vec<usize>, chosen: &[bool])
 #[derive(Debug)]
 pub(crate) struct MadeTexts {
     skeletons: Skeletons,
-    vertices: Vertices,
+    vertices: GrownVertices,
     graph: Graph,
     roots: Vec<usize>,
     family: Roster,
@@ -375,7 +375,7 @@ impl MadeTexts {
     /// [`Fault::Memory`] where there is not enough memory.
     pub(crate) fn move_by(&mut self, alloc: Global, shift: Shift) -> Result<(), Fault>
         ensures ok { OnOk result ((appearance : Option Tree) (features : List FeatureValue)
-            → AreWritableMembers (last_members appearance)
+            → AreWritableMembers (appearance_members appearance)
             → AllZip SpellsFeature (with_end (tail_text appearance) self.old) features
             → AllByRecursion (λ feature. IsMovable feature shift) features
             → with_end (tail_text appearance) self.new

@@ -4,7 +4,7 @@ ghost use Rattle.city_grid.specs.Axes.{IsInRange, Triple};
 ghost use Rattle.cut_on_text.specs.Moved.{moved_or_same};
 ghost use Rattle.cut_on_text.specs.VertexTexts.{HoldVertices, StandAt};
 
-use super::points::Vertices;
+use super::points::GrownVertices;
 use byte_streams::Fault;
 use city_feature::vertex_of;
 use city_grid::{Shift, Vertex, moved};
@@ -24,9 +24,9 @@ fn move_vertex(vertex: Vertex, shift: Shift) -> Vertex
 /// [`Fault::Memory`].
 pub(super) fn moved_vertices(
     alloc: Global,
-    vertices: &Vertices,
+    vertices: &GrownVertices,
     shift: Shift,
-) -> Result<Vertices, Fault>
+) -> Result<GrownVertices, Fault>
     requires { HoldVertices vertices.now.text vertices.now.starts.items }
     ensures ok { IfOk result (λ there. (points : List Triple)
         → StandAt vertices.now.text vertices.now.starts.items points → All IsInRange points
@@ -34,7 +34,7 @@ pub(super) fn moved_vertices(
     ensures fault { IfErr result (λ fault. fault ≡ Fault.Memory) }
 {
     let count = vertices.starts.len().saturating_sub(1);
-    let mut there = Vertices::with_room(alloc, vertices.text.items().len(), count)?;
+    let mut there = GrownVertices::with_room(alloc, vertices.text.items().len(), count)?;
     for at in 0..count {
         let vertex = vertex_of(alloc, vertices.vertex(at))?;
         there.push(&move_vertex(vertex, shift))?;

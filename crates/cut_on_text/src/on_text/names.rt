@@ -17,13 +17,13 @@ use std::marker::Model;
 /// The objects that lie in these parts of a text, in the order of their names. Contracts see the name of each, with its
 /// marks, and its place.
 #[derive(Drop)]
-pub(super) struct Names<'a> {
+pub(super) struct ObjectNames<'a> {
     text: &'a [u8],
     parts: &'a [ShortPart],
     order: Vec<u32>,
 }
 
-impl<'a> Model for Names<'a> {
+impl<'a> Model for ObjectNames<'a> {
     ghost use Rattle.std.specs.Prelude.{ℕ, List, map};
     ghost use Rattle.std.specs.Borrow.{Bor};
     ghost use Rattle.city_families.specs.Table.{names_with};
@@ -67,9 +67,9 @@ fn sort_places(text: &[u8], parts: &[ShortPart], places: &mut [u32])
     });
 }
 
-impl<'a> Names<'a> {
+impl<'a> ObjectNames<'a> {
     /// The names of these objects. `None`: there are 2^32 or more, or out of memory.
-    pub(super) fn new(alloc: Global, objects: &'a CityObjects<'_>) -> Option<Names<'a>>
+    pub(super) fn new(alloc: Global, objects: &'a CityObjects<'_>) -> Option<ObjectNames<'a>>
         ensures { IfSome result (λ table. (pairs : List (List ℕ × Tree)) → AreObjects objects.now pairs
             → IsTable (map (λ (pair : List ℕ × Tree). quoted pair.0) pairs) table) }
     {
@@ -80,7 +80,7 @@ impl<'a> Names<'a> {
         };
         let mut order = first_places(alloc, count)?;
         sort_places(text, parts, &mut order);
-        Some(Names { text, parts, order })
+        Some(ObjectNames { text, parts, order })
     }
 
     /// The place of a name.

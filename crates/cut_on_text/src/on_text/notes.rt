@@ -9,7 +9,7 @@ ghost use Rattle.city_families.specs.Leaves.{leaves};
 ghost use Rattle.cut_on_text.specs.Overviews.{HasHolders};
 ghost use Rattle.cut_on_text.specs.Sketches.{IsNoted};
 
-use super::drafts::{Copier, Draft, Labels};
+use super::drafts::{Copier, CopyDraft, Labels};
 use super::holders::HeldParts;
 use super::numbers::append_between;
 use super::objects::append_member;
@@ -67,7 +67,13 @@ impl Labels for NotedLeaves {
         self.count
     }
 
-    fn label(&mut self, text: &[u8], at: usize, vertex: usize, draft: &mut Draft) -> Option<()> {
+    fn label(
+        &mut self,
+        text: &[u8],
+        at: usize,
+        vertex: usize,
+        draft: &mut CopyDraft,
+    ) -> Option<()> {
         if draft.from > at {
             return None;
         }

@@ -7,7 +7,7 @@ ghost use Rattle.city_json.specs.Tree.{MemberTrees, Tree, object};
 ghost use Rattle.city_json.specs.declared.compacting.places.MemberPlace.{MemberPlace};
 ghost use Rattle.city_families.specs.Boundaries.{IsBounded, boundaries, relabelled_object};
 ghost use Rattle.city_families.specs.Copied.{Copies, Numbers};
-ghost use Rattle.cut_on_text.specs.Holders.{AreHeldIn, copied_to, end_of, other_than, uses_in};
+ghost use Rattle.cut_on_text.specs.Holders.{AreHeldIn, copied_to, part_end, other_than, uses_in};
 ghost use Rattle.city_families.specs.Leaves.{leaves};
 ghost use Rattle.cut_on_text.specs.Overviews.{HasHolders, IsHolderPart};
 ghost use Rattle.cut_on_text.specs.Walks.{Walks};
@@ -30,7 +30,7 @@ pub(super) fn append_member<L: Labels>(
     copier: &mut Copier<L>,
 ) -> Option<usize>
     ensures count { OnSome result (L.count copier.new.labels ≡ L.count copier.old.labels) }
-    ensures end { IfSome result (λ end. end ≡ end_of from part) }
+    ensures end { IfSome result (λ end. end ≡ part_end from part) }
     ensures ordered { OnSome result (IfSome part (λ part. from ≤ part.value)) }
     ensures made { OnSome result ((parts : List MemberPlace) (members : MemberTrees)
         → IsCompactOf text.now (object members) → AreParts 1 parts members → IsHolderPart holder text.now parts part

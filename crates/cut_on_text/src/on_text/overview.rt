@@ -125,7 +125,7 @@ fn expected(len: usize, at: usize, count: usize) -> usize {
     (len.saturating_sub(at) / mean).saturating_add(1)
 }
 
-/// Makes room for an object at `at` and for those that may come after it, so that little is copied and left behind.
+/// Makes room for an object at `at` and for those that may come after it, so that little is copied and left after.
 fn make_room(len: usize, at: usize, to: &mut Overview<'_>) -> Option<()>
     ensures places { to.new.places.items ≡ to.old.places.items }
     ensures parents { to.new.parents.items ≡ to.old.parents.items }

@@ -1,5 +1,5 @@
 //! The vertices of a document, by where they stand in its compact text.
-ghost use Rattle.std.specs.Prelude.{◌≡◌, ◌++◌, ◌∷◌, [], ◌<◌, ◌+◌, List, length, map, IfErr, IfOk, OnOk, OnSome};
+ghost use Rattle.std.specs.Prelude.{◌≡◌, ◌++◌, ◌∷◌, [], ◌<◌, ◌+◌, ◌^◌, List, length, map, IfErr, IfOk, OnOk, OnSome};
 ghost use Rattle.city_json.specs.Compact.{compact, compact_more_items};
 ghost use Rattle.city_json.specs.CompactTexts.{IsCompactOf};
 ghost use Rattle.city_json.specs.Tree.{ItemTrees, array, item_trees};
@@ -33,20 +33,24 @@ pub(super) struct VertexTexts<'a> {
 
 /// The texts of vertices, each with a comma before it, and where each begins, as [`VertexTexts`] has it.
 #[derive(Debug, Drop)]
-pub(super) struct Vertices {
+pub(super) struct GrownVertices {
     pub text: Line,
     pub starts: Vec<u32>,
 }
 
-impl Vertices {
+impl GrownVertices {
     /// None, with room for so many and for texts of this length in all.
-    pub(super) fn with_room(alloc: Global, len: usize, count: usize) -> Result<Vertices, AllocError>
+    pub(super) fn with_room(
+        alloc: Global,
+        len: usize,
+        count: usize,
+    ) -> Result<GrownVertices, AllocError>
         ensures { IfOk result (λ vertices. IsGrown vertices.text vertices.starts.items []) }
     {
         let text = Line::from_vec(Vec::with_capacity(alloc, len)?);
         let mut starts = Vec::with_capacity(alloc, count)?;
         push_place(1, &mut starts)?;
-        Ok(Vertices { text, starts })
+        Ok(GrownVertices { text, starts })
     }
 
     /// One more.
@@ -70,7 +74,7 @@ impl Vertices {
     }
 }
 
-impl TakeVertex for Vertices {
+impl TakeVertex for GrownVertices {
     ghost has = { λ vertices taken. IsGrown vertices.text vertices.starts.items taken };
 
     fn take(&mut self, vertex: Vertex) -> Result<(), AllocError> {
@@ -83,11 +87,11 @@ impl TakeVertex for Vertices {
 /// # Errors
 ///
 /// Those of [`take_vertices`].
-pub(super) fn written_vertices(alloc: Global, text: &[u8]) -> Result<Vertices, Fault>
+pub(super) fn written_vertices(alloc: Global, text: &[u8]) -> Result<GrownVertices, Fault>
     ensures { IfOk result (λ vertices. (items : ItemTrees) → IsCompactOf text.now (array items)
         → (points : List Triple) × AreVertices items points × StandAt vertices.text vertices.starts.items points) }
 {
-    let mut vertices = Vertices::with_room(alloc, text.len(), text.len() / COMMON_LEN)?;
+    let mut vertices = GrownVertices::with_room(alloc, text.len(), text.len() / COMMON_LEN)?;
     take_vertices(alloc, text, &mut vertices)?;
     Ok(vertices)
 }
@@ -99,13 +103,10 @@ struct Counted {
 }
 
 impl TakeVertex for Counted {
-    ghost has = { λ counted taken. counted.count ≡ length taken };
+    ghost has = { λ counted taken. length taken < 2 ^ 64 → counted.count ≡ length taken };
 
     fn take(&mut self, _vertex: Vertex) -> Result<(), AllocError> {
-        let Some(count) = self.count.checked_add(1) else {
-            return Err(AllocError);
-        };
-        self.count = count;
+        self.count = self.count.wrapping_add(1);
         Ok(())
     }
 }

@@ -11,7 +11,7 @@ ghost use Rattle.cut_on_text.specs.Sketches.{IsSketch};
 mod reading;
 
 use super::city_objects::CityObjects;
-use super::drafts::{Copier, Draft};
+use super::drafts::{Copier, CopyDraft};
 use super::notes::{NotedLeaves, note_object};
 use super::texts::append_text;
 use byte_streams::{Line, push};
@@ -52,14 +52,14 @@ impl Leaf {
 
 /// Where the part of an object begins.
 #[derive(Clone, Copy, Debug)]
-pub(crate) struct Start {
+pub(crate) struct ObjectStart {
     text: u32,
     name: u32,
     leaves: u32,
     split: u32,
 }
 
-impl Model for Start {
+impl Model for ObjectStart {
     ghost use Rattle.cut_on_text.specs.Skeletons.{SkeletonPlace};
 
     ghost Value = { SkeletonPlace };
@@ -71,16 +71,16 @@ impl Model for Start {
         record { text = place.text; name = place.name; leaves = place.leaves; split = place.split } };
 }
 
-impl Start {
+impl ObjectStart {
     /// Where it begins, where all of these are below 2^32.
-    fn new(text: usize, name: usize, leaves: usize, split: usize) -> Option<Start>
+    fn new(text: usize, name: usize, leaves: usize, split: usize) -> Option<ObjectStart>
         ensures { IfSome result (λ start. start ≡ record { text = text; name = name; leaves = leaves; split = split }) }
     {
         let text = u32::try_from(text).ok()?;
         let name = u32::try_from(name).ok()?;
         let leaves = u32::try_from(leaves).ok()?;
         let split = u32::try_from(split).ok()?;
-        Some(Start {
+        Some(ObjectStart {
             text,
             name,
             leaves,
@@ -94,7 +94,7 @@ impl Start {
 pub(crate) struct Skeletons {
     text: Line,
     leaves: Vec<Leaf>,
-    places: Vec<Start>,
+    places: Vec<ObjectStart>,
 }
 
 impl Model for Skeletons {
@@ -111,7 +111,7 @@ fn note_named(
     objects: &CityObjects<'_>,
     at: usize,
     copier: &mut Copier<NotedLeaves>,
-) -> Option<Start>
+) -> Option<ObjectStart>
     ensures count { OnSome result (copier.new.labels.count ≡ copier.old.labels.count) }
     ensures made { IfSome result (λ start. (pairs : List (List ℕ × Tree))
         → AreObjects objects.now pairs
@@ -126,7 +126,7 @@ fn note_named(
     let name = copier.draft.line.items().len();
     append_text(b":", &mut copier.draft.line)?;
     let split = note_object(one.value, &one.held, copier)?;
-    Start::new(begin, name, leaves, split)
+    ObjectStart::new(begin, name, leaves, split)
 }
 
 /// The objects that lie in these parts of a text, with boundaries that name vertices below `count`. `None`: one is
@@ -144,7 +144,7 @@ pub(super) fn skeletons_of(
 {
     let mut copier = Copier {
         alloc,
-        draft: Draft {
+        draft: CopyDraft {
             line: Line::from_vec(Vec::with_capacity(alloc, objects.text().len()).ok()?),
             from: 0,
         },
@@ -157,7 +157,7 @@ pub(super) fn skeletons_of(
     }
     let end = copier.draft.line.items().len();
     let last = copier.labels.leaves.len();
-    push(Start::new(end, end, last, last)?, &mut places)?;
+    push(ObjectStart::new(end, end, last, last)?, &mut places)?;
     Some(Skeletons {
         text: copier.draft.line,
         leaves: copier.labels.leaves,

@@ -8,7 +8,7 @@ ghost use Rattle.city_json.specs.Triples.{HasTriples};
 ghost use Rattle.city_grid.specs.Axes.{IsInRange, Triple};
 ghost use Rattle.city_feature.specs.Feature.{vertices_tree};
 ghost use Rattle.city_feature.specs.LineTexts.{SpellsVertices};
-ghost use Rattle.cut_on_text.specs.TripleStarts.{IsTriplesArray, is_close, starts_behind};
+ghost use Rattle.cut_on_text.specs.TripleStarts.{IsTriplesArray, is_close_bracket, starts_after_closes};
 ghost use Rattle.cut_on_text.specs.VertexTexts.{HasPoints, StandAt};
 
 use super::points::COMMON_LEN;
@@ -37,7 +37,7 @@ pub fn triples_text<'a>(document: &ObjectText<'a>, triples: Span) -> Option<&'a 
 /// A bit for each byte that closes an array.
 #[inline(always)]
 fn closes_in(block: u8x64) -> u64
-    ensures { result ≡ mask_l (map is_close block) }
+    ensures { result ≡ mask_l (map is_close_bracket block) }
 {
     block.simd_eq(u8x64::splat(b']')).to_bitmask()
 }
@@ -47,7 +47,7 @@ fn closes_in(block: u8x64) -> u64
 fn push_block(text: &[u8], at: usize, starts: &mut Vec<u32>) -> Option<()>
     requires { at + 64 ≤ length text.now }
     ensures { OnSome result (starts.new.items
-        ≡ starts.old.items ++ starts_behind at (slice_range text.now at (at + 64))) }
+        ≡ starts.old.items ++ starts_after_closes at (slice_range text.now at (at + 64))) }
 {
     let mut closes = closes_in(u8x64::from_slice(&text[at..]));
     let mut place = at;
@@ -67,7 +67,7 @@ fn push_block(text: &[u8], at: usize, starts: &mut Vec<u32>) -> Option<()>
 fn push_byte(text: &[u8], at: usize, starts: &mut Vec<u32>) -> Option<()>
     requires { at < length text.now }
     ensures { OnSome result (starts.new.items
-        ≡ starts.old.items ++ starts_behind at (slice_range text.now at (at + 1))) }
+        ≡ starts.old.items ++ starts_after_closes at (slice_range text.now at (at + 1))) }
 {
     if text[at] == b']' {
         return push_place(at + 2, starts).ok();

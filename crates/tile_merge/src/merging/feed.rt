@@ -36,11 +36,11 @@ pub(crate) struct Feed<R> {
 
 impl<R> Model for Feed<R> {
     ghost use Rattle.std.specs.Coded.{codes};
-    ghost use Rattle.city_feature.specs.contracts.features.Feature as feature_type;
+    ghost use Rattle.city_feature.specs.contracts.features.values.Feature as feature_type;
     ghost use Rattle.std.specs.Prelude.{◌≡◌, ◌≤◌, ◌<◌, ◌+◌, [], false, drop, length};
     ghost use Rattle.tile_handoff.specs.Notes.{has_end};
     ghost use Rattle.tile_handoff.specs.Queues.{queue_of};
-    ghost use Rattle.tile_merge.specs.Feeds.{FeedState, behind};
+    ghost use Rattle.tile_merge.specs.Feeds.{FeedState, queue_after};
     ghost use Rattle.tile_stream.specs.TileState.{most_texts};
     ghost use Rattle.tile_stream.specs.Unread.{most_left};
 
@@ -52,7 +52,7 @@ impl<R> Model for Feed<R> {
       unread = feed.reader.lines;
       shift = feed.shift;
       capacity = feed.notes.capacity;
-      notes = behind (drop feed.written feed.first) (queue_of feed.notes 0);
+      notes = queue_after (drop feed.written feed.first) (queue_of feed.notes 0);
       count = feed.count;
       last = feed.last;
     } };

@@ -27,7 +27,7 @@ pub(crate) struct OpenTile<R> {
 
 impl<R> Model for OpenTile<R> {
     ghost use Rattle.std.specs.Coded.{codes};
-    ghost use Rattle.city_feature.specs.contracts.features.Feature as feature_type;
+    ghost use Rattle.city_feature.specs.contracts.features.values.Feature as feature_type;
     ghost use Rattle.tile_merge.specs.Opened.{OpenState};
 
     ghost Value = { OpenState R };

@@ -3,10 +3,10 @@ ghost use Rattle.std.specs.Prelude.{◌≡◌, ◌≤◌, ◌<◌, ◌-◌, ◌+
 ghost use Rattle.std.specs.Vec.{VecUnchanged};
 ghost use Rattle.byte_streams.specs.Failures.{after_call};
 ghost use Rattle.byte_streams.specs.Source.{GivesFirst};
-ghost use Rattle.tile_stream.specs.Parts.{HasNoNewline, IsFillFault, ReadsMore, failed_reads_after_call};
-ghost use Rattle.tile_stream.specs.Whole.{EndsTexts, HoldsLine, is_white};
+ghost use Rattle.tile_stream.specs.Stretches.{HasNoNewline, IsFillFault, ReadsMore, failed_reads_after_call};
+ghost use Rattle.tile_stream.specs.Whole.{EndsTexts, HoldsLine, is_blank_or_newline};
 
-use crate::lines::parts::is_blank;
+use crate::lines::stretches::is_blank;
 use byte_streams::limits::MAX_PIECE_BYTES;
 use byte_streams::{Fault, Source};
 use memchr::memrchr;
@@ -25,7 +25,7 @@ pub struct ReadAhead<R> {
     piece: Vec<u8>,
     at: usize,
     filled: usize,
-    // behind the last byte of a line that is not blank and ends among those that are held, or not behind `at`
+    // after the last byte of a line that is not blank and ends among those that are held, or not after `at`
     texts: usize,
 }
 
@@ -101,7 +101,7 @@ impl<R: Source> ReadAhead<R> {
         self.at = 0;
     }
 
-    /// One read, behind the bytes that are held, among which no line ends. Returns how many bytes came, which is 0 at
+    /// One read, after the bytes that are held, among which no line ends. Returns how many bytes came, which is 0 at
     /// the end.
     ///
     /// # Errors
@@ -124,14 +124,14 @@ impl<R: Source> ReadAhead<R> {
         self.at = 0;
         self.filled = held;
         self.texts = 0;
-        let count = read_behind(&mut self.reader, &mut self.piece, held)?;
+        let count = read_after(&mut self.reader, &mut self.piece, held)?;
         self.filled = held + count;
         self.texts = texts_end(&self.piece[..self.filled], held);
         Ok(count)
     }
 }
 
-/// Makes room behind the bytes from `at` to `filled`: they are moved to the front, or, where they stand there, the buffer
+/// Makes room after the bytes from `at` to `filled`: they are moved to the front, or, where they stand there, the buffer
 /// grows if it is full, by 64 KiB.
 fn make_room(piece: &mut Vec<u8>, at: usize, filled: usize) -> Result<(), AllocError>
     requires order { at ≤ filled }
@@ -153,8 +153,8 @@ fn make_room(piece: &mut Vec<u8>, at: usize, filled: usize) -> Result<(), AllocE
     piece.resize(filled + MAX_PIECE_BYTES, 0)
 }
 
-/// One read into what stands behind the first `held` bytes, which stay, of at most 64 KiB.
-fn read_behind<R: Source>(reader: &mut R, piece: &mut [u8], held: usize) -> Result<usize, Fault>
+/// One read into what stands after the first `held` bytes, which stay, of at most 64 KiB.
+fn read_after<R: Source>(reader: &mut R, piece: &mut [u8], held: usize) -> Result<usize, Fault>
     requires { held < length piece.old }
     ensures front { take held piece.new ≡ take held piece.old }
     ensures length { length piece.new ≡ length piece.old }
@@ -172,27 +172,27 @@ fn read_behind<R: Source>(reader: &mut R, piece: &mut [u8], held: usize) -> Resu
 }
 
 /// Whether a byte may stand in a blank line, or ends a line.
-fn is_white(byte: u8) -> bool
-    ensures { result ≡ is_white byte }
+fn is_blank_or_newline(byte: u8) -> bool
+    ensures { result ≡ is_blank_or_newline byte }
 {
     byte == b'\n' || is_blank(&[byte])
 }
 
-/// The place behind the last byte before `end` that is not white, or 0 where there is none.
+/// The place after the last byte before `end` that is not white, or 0 where there is none.
 fn full_end(bytes: &[u8], end: usize) -> usize
     requires { end ≤ length bytes.now }
     ensures within { result ≤ end }
-    ensures full { 0 < result → is_white (slice_index bytes.now (result - 1)) ≡ false }
-    ensures white { (i : ℕ) → result ≤ i → i < end → is_white (slice_index bytes.now i) ≡ true }
+    ensures full { 0 < result → is_blank_or_newline (slice_index bytes.now (result - 1)) ≡ false }
+    ensures white { (i : ℕ) → result ≤ i → i < end → is_blank_or_newline (slice_index bytes.now i) ≡ true }
 {
     let mut at = end;
-    'bytes: while at > 0 && is_white(bytes[at - 1]) {
+    'bytes: while at > 0 && is_blank_or_newline(bytes[at - 1]) {
         at -= 1;
     }
     at
 }
 
-/// The place behind the last byte of a line that is not blank and that a newline ends, or 0 where there is none. No
+/// The place after the last byte of a line that is not blank and that a newline ends, or 0 where there is none. No
 /// newline stands among the first `seen` bytes.
 fn texts_end(bytes: &[u8], seen: usize) -> usize
     requires within { seen ≤ length bytes.now }

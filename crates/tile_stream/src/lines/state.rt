@@ -6,7 +6,7 @@ use byte_streams::LineFault;
 pub enum State {
     /// Lines may be to come.
     Open,
-    /// The last part was taken, which has this number.
+    /// The last stretch was taken, which has this number.
     Over(u64),
     /// A line was refused.
     Refused(LineFault),

@@ -11,7 +11,7 @@ use byte_streams::{Fault, Line};
 use city_cut::FeatureTexts;
 use city_feature::{Choice, OwnBuffers, own_is_wanted, own_text};
 use city_grid::Shift;
-use std::alloc::Global;
+use std::alloc::{AllocError, Global};
 
 /// The texts of the features that the first line of a tile holds itself.
 #[derive(Debug, Drop)]
@@ -119,9 +119,8 @@ fn stored_texts(
 }
 
 /// Puts a text, where there is one, after the others.
-fn push_given(given: Option<Line>, texts: &mut Vec<Line>) -> Result<(), Fault>
-    ensures ok { OnOk result (texts.new.items ≡ texts.old.items ++ option_to_list given) }
-    ensures fault { IfErr result (λ fault. fault ≡ Fault.Memory) }
+fn push_given(given: Option<Line>, texts: &mut Vec<Line>) -> Result<(), AllocError>
+    ensures { OnOk result (texts.new.items ≡ texts.old.items ++ option_to_list given) }
 {
     let Some(text) = given else {
         return Ok(());
@@ -151,13 +150,17 @@ impl Buffers {
 }
 
 /// What the feature at a place has of its own, in the line.
-fn take_own(alloc: Global, held: &mut FeatureTexts, at: usize, own: &mut Line) -> Result<(), Fault>
+fn take_own(
+    alloc: Global,
+    held: &mut FeatureTexts,
+    at: usize,
+    own: &mut Line,
+) -> Result<(), AllocError>
     requires within { at < length held.old.own }
     requires parts { AreOwnParts held.old }
     ensures own { OnOk result (own.new ≡ get_or held.old.own at []) }
     ensures part { OnOk result (IsOwnPart own.new held.old.common) }
     ensures whole { OnOk result (get_or (texts_in held.old) at [] ≡ own.new ++ held.old.common) }
-    ensures fault { IfErr result (λ fault. fault ≡ Fault.Memory) }
     ensures same { held.new ≡ held.old }
 {
     own.truncate(0);

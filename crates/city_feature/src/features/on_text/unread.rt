@@ -39,8 +39,8 @@ fn extent_of_triples(text: &[u8], from: usize, end: usize) -> Option<Extent>
     }
 }
 
-/// Whether the extent of the vertices meets the area that stand in a text as triples. `None`: there are none, or one is not
-/// found so.
+/// Whether the vertices that stand in a text as triples have an extent that meets the area. `None`: there are none, or one
+/// is not found so.
 pub fn triples_meet(area: &Area, text: &[u8], triples: Span) -> Option<bool>
     requires triples { HasTriples text.now triples }
     ensures { IfSome result (λ meets. (ps : List Triple)

@@ -7,7 +7,7 @@ use Rattle.cut_by_value.proofs.boundaries.number_each.Goals as goal
 pub returns-in_err-number-clause-fault : goal.returns-in_err-number-clause-fault
 returns-in_err-number-clause-fault g c =
     let p = err_from_is_err_and c.from_residual.result c.from_residual.ensures.1 in
-    let is_held = g.H.Held.is_held c.args.kind.now in
+    let is_held = g.H.HoldsBoundaries.is_held c.args.kind.now in
     rw (p.1, p.2) (elim c.in_err-number.ensures.fault [
       | inl memory ↦ inl memory
       | inr wrong ↦ inr (

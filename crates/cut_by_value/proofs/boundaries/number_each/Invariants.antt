@@ -9,10 +9,10 @@ abbrev pub invariant-loop-item : goal.invariant-loop-item
 invariant-loop-item g l =
     record {
       long : length l.numbering.table.items ≡ length l.fn.numbering.table.items;
-      bounded : AllByRecursion (g.H.Held.is_held l.kind (length l.fn.numbering.table.items))
+      bounded : AllByRecursion (g.H.HoldsBoundaries.is_held l.kind (length l.fn.numbering.table.items))
           (map tree (take l.item-index l.items));
       numbered : (uses : List ℕ)
           → AreNumbered uses l.fn.numbering.table.items l.fn.numbering.order.items
-          → AreNumbered (uses ++ flat_map leaves (flat_map (g.H.Held.held l.kind) (map tree (take l.item-index l.items))))
+          → AreNumbered (uses ++ flat_map leaves (flat_map (g.H.HoldsBoundaries.held l.kind) (map tree (take l.item-index l.items))))
           l.numbering.table.items l.numbering.order.items;
     }

@@ -35,7 +35,7 @@ pub(super) struct FedTile<R> {
 
 impl<R> Model for FedTile<R> {
     ghost use Rattle.std.specs.Coded.{codes};
-    ghost use Rattle.city_feature.specs.contracts.features.Feature as feature_type;
+    ghost use Rattle.city_feature.specs.contracts.features.values.Feature as feature_type;
     ghost use Rattle.tile_merge.specs.Threads.{Fed};
 
     ghost Value = { Fed R };

@@ -47,7 +47,7 @@ struct CallerSide {
 
 impl<R: Source> Model for RunningTile<R> {
     ghost use Rattle.std.specs.Coded.{codes};
-    ghost use Rattle.city_feature.specs.contracts.features.Feature as feature_type;
+    ghost use Rattle.city_feature.specs.contracts.features.values.Feature as feature_type;
     ghost use Rattle.std.specs.Prelude.{◌≡◌, ◌++◌, [], length};
     ghost use Rattle.rtrb.specs.Ring.{sent, received, IsPair};
     ghost use Rattle.tile_handoff.specs.Ends.{notes_put, notes_taken, ArePair};

@@ -2,7 +2,7 @@
 ghost use Rattle.std.specs.Prelude.{◌≡◌, ◌≤◌, ◌<◌, ◌++◌, ◌∷◌, ℕ, List, Option, Some, None, true, [], IfOk, IfErr, OnOk, IsOk, IsTrue, filter_map};
 ghost use Rattle.byte_streams.specs.Failures.{Wrote, after_call};
 ghost use Rattle.tile_stream.specs.Stream.{stream};
-ghost use Rattle.tile_merge.specs.Threads.{AreFresh, are_all_ended, GoesOn, GoesOnWriting, LinesSoFar, TextsGoOn, begun_of, first_texts};
+ghost use Rattle.tile_merge.specs.Threads.{AreFresh, are_all_ended, GoesOnCancelling, GoesOnWriting, LinesSoFar, TextsGoOn, begun_of, first_texts};
 
 use crate::merging::ends::Ending;
 use crate::merging::threaded::running::RunningTile;
@@ -113,7 +113,7 @@ fn write_note<R: Source + Drop, W: Sink>(
 
 /// Asks the threads to stop, where a write failed.
 fn cancel_if_failed<R: Source + Drop>(tiles: &mut [RunningTile<R>], wrote: Result<(), Fault>)
-    ensures { GoesOn tiles.old tiles.new wrote }
+    ensures { GoesOnCancelling tiles.old tiles.new wrote }
 {
     if wrote.is_ok() {
         return;

@@ -13,7 +13,7 @@ closing-preserved c =
     let place = c.skip-place.result in
     let before_end : place ≤ length text = c.skip-place.ensures.within in
     let inside : place < length text = omega (arith, before_end, c.if-place-text.false) in
-    let is_close : get_or text place 0 ≡ close_bracket = omega (arith, c.if-text-place-ne93.false) in
+    let is_close_bracket : get_or text place 0 ≡ close_bracket = omega (arith, c.if-text-place-ne93.false) in
     let some : 0 < c.closing.left = c.closing-test.true in
     let first : c.args.at ≤ c.closing.end = c.closing.invariant.onward in
     let onward : c.closing.end ≤ place = c.skip-place.ensures.onward inside in
@@ -28,9 +28,9 @@ closing-preserved c =
           (one_closes c.closing.left total (drop c.closing.end text) (drop (place + 1) text) rest
           (shown now.line text now.from c.closing.end) (shown draft.line text draft.from (place + 1)) after some
           (at_mark text (drop c.closing.end text) place close_bracket
-          (c.skip-place.ensures.skipped inside) inside is_close)
+          (c.skip-place.ensures.skipped inside) inside is_close_bracket)
           (mark_shown draft.line text (shown now.line text now.from c.closing.end) draft.from place close_bracket copied
-          inside is_close (c.skip-place.ensures.is_shown inside)) further);
+          inside is_close_bracket (c.skip-place.ensures.is_shown inside)) further);
     }
 
 pub returns-then-text-place-eq44-clause-goes_on : goal.returns-then-text-place-eq44-clause-goes_on

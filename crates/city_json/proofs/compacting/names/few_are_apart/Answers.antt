@@ -1,5 +1,4 @@
-use Rattle.std.specs.Bool.{IsTrue}
-use Rattle.std.proofs.Common.{◌≡◌, Bool, true, false, not, ◌∙◌, ap, drop, length, map, arith, refl, subst}
+use Rattle.std.proofs.Common.{◌∙◌, ap, drop, length, map, arith, refl, subst}
 use Rattle.std.proofs.lemmas.List.{nil_from_length}
 use Rattle.std.proofs.lemmas.List.Elements.{All-drop, All-take}
 use Rattle.city_json.specs.Fits.{IsNewName}
@@ -7,12 +6,8 @@ use Rattle.city_json.specs.MemberName.{IsWithin, name_bytes}
 use Rattle.city_json.proofs.NamesApart.{differ_step_at, none_differ, two_apart}
 use Rattle.city_json.proofs.compacting.names.few_are_apart.Goals as goal
 
-not_true : (b : Bool) → IsTrue (not b) → b ≡ false
-not_true false so = refl
-not_true true so = cc
-
 pub returns : goal.returns
-returns c = λ ok. c.loop-rest.invariant.differ
+returns c = c.loop-rest.invariant.differ
     (λ members is. none_differ members (is
     ∙ ap (map (name_bytes c.args.text.now c.args.held.now)) (nil_from_length c.loop-rest.rest.now (omega arith))))
 
@@ -29,9 +24,9 @@ loop-rest-preserved c = record {
 }
 
 pub returns-in-len2 : goal.returns-in-len2
-returns-in-len2 c = λ ok.
+returns-in-len2 c =
     two_apart (name_bytes c.args.text.now c.args.held.now) c.args.listed.now _ c.bytes.result.now
-    c.in-len2.len_at_least c.in-len2.len_below c.bytes.ensures (c.has_bytes.ensures (not_true c.has_bytes.result ok))
+    c.in-len2.len_at_least c.in-len2.len_below c.bytes.ensures (c.has_bytes.ensures c.if-has_bytes.false)
 
 pub is_new-requires : goal.is_new-requires
 is_new-requires c = record {

@@ -7,4 +7,4 @@ use Rattle.cut_on_text.proofs.on_text.graph.missing_name.Goals as goal
 pub returns-clause-is : goal.returns-clause-is
 returns-clause-is c = λ names utf8 table value of. missing_said names c.deref.result.now value
     (subst (λ given. AreQuoted given value) (sym c.deref.ensures.value) (c.in_ok-named.ensures value of))
-    (c.is_missing.ensures c.if-not-is_missing.false (map quoted names) table)
+    (c.in_ok-missing_one.ensures (map quoted names) table)

@@ -1,7 +1,7 @@
 use Rattle.std.proofs.Common.{◌∙◌, refl, sym}
 use Rattle.cut_on_text.proofs.TextHeaders.{member_written}
 use Rattle.cut_on_text.proofs.TextMembers.{on_some_more}
-use Rattle.cut_on_text.specs.HeaderText.{header_members, header_value}
+use Rattle.cut_on_text.specs.HeaderText.{header_members, value_in_header}
 use Rattle.cut_on_text.proofs.on_text.headers.append_member.Goals as goal
 
 pub returns-then-is_left_out-clause-written : goal.returns-then-is_left_out-clause-written
@@ -13,7 +13,7 @@ returns-clause-written c = on_some_more c.append_text-2.result (λ appended name
     member_written named value c.args.drops_appearance others c.args.line.now c.append_comma.new.line
     c.in_ok-name.name.now c.value_in_header.result.now c.append_text-2.new.line
     (sym (c.is_left_out.ensures named utf8_named (c.in_ok-name.ensures.some ∙ marks)) ∙ c.if-is_left_out.false)
-    (c.in_ok-append_comma.ensures.written named (header_value named value)
+    (c.in_ok-append_comma.ensures.written named (value_in_header named value)
     (header_members c.args.drops_appearance others)) c.in_ok-append_comma.ensures.some
     (c.in_ok-name.ensures.some ∙ marks)
     (c.value_in_header.ensures named value utf8_named (c.in_ok-name.ensures.some ∙ marks) (c.in_ok-value.ensures.some ∙ is))

@@ -1,5 +1,5 @@
 use Rattle.std.proofs.Common.{◌++◌, ◌≤◌, ◌+◌, ◌-◌, slice_range}
-use Rattle.cut_on_text.specs.TripleStarts.{starts_behind}
+use Rattle.cut_on_text.specs.TripleStarts.{starts_after_closes}
 use Rattle.cut_on_text.proofs.TripleStarts.{IsPlace}
 use Rattle.cut_on_text.proofs.on_text.triples.push_block.Given as goal
 
@@ -7,7 +7,7 @@ abbrev pub invariant-closes : goal.invariant-closes
 invariant-closes l = record {
   onward : l.at ≤ l.place;
   place : IsPlace l.text (l.at + 64) l.closes l.place l.starts.items
-      (l.fn.starts.items ++ starts_behind l.at (slice_range l.text l.at (l.at + 64)));
+      (l.fn.starts.items ++ starts_after_closes l.at (slice_range l.text l.at (l.at + 64)));
 }
 
 abbrev pub decreases-closes : goal.decreases-closes

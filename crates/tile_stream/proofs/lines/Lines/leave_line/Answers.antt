@@ -4,8 +4,8 @@ use Rattle.tile_stream.specs.Unread.{Unread, ended_by}
 use Rattle.tile_stream.proofs.Leaving.{left_ended, left_last, taken_line}
 use Rattle.tile_stream.proofs.lines.Lines.leave_line.Goals as goal
 
-pub returns-then-count-held-clause-part : goal.returns-then-count-held-clause-part
-returns-then-count-held-clause-part g c before stands =
+pub returns-then-count-held-clause-stretch : goal.returns-then-count-held-clause-stretch
+returns-then-count-held-clause-stretch g c before stands =
     let s = c.self.inside in
     let now : Unread _ = record { ahead = s.ahead; limits = s.limits; number = s.number; start = s.start; ended = ended_by s.state } in
     let next = rw (← c.self.view_is) at stands in
@@ -18,11 +18,11 @@ returns-then-count-held-clause-line g c before stands =
     let s = c.self.inside in
     let now : Unread _ = record { ahead = s.ahead; limits = s.limits; number = s.number; start = s.start; ended = ended_by s.state } in
     let next = rw (← c.self.view_is) at stands in
-    let part = rw (← c.self.view_is) at (returns-then-count-held-clause-part g c before stands.next) in
-    rw (← c.self.view_is) (taken_line g.R.Source.gives before now _ c.args.count next (omega arith) part)
+    let stretch = rw (← c.self.view_is) at (returns-then-count-held-clause-stretch g c before stands.next) in
+    rw (← c.self.view_is) (taken_line g.R.Source.gives before now _ c.args.count next (omega arith) stretch)
 
-pub returns-else-count-held-clause-part : goal.returns-else-count-held-clause-part
-returns-else-count-held-clause-part g c before stands =
+pub returns-else-count-held-clause-stretch : goal.returns-else-count-held-clause-stretch
+returns-else-count-held-clause-stretch g c before stands =
     let s = c.self.inside in
     let now : Unread _ = record { ahead = s.ahead; limits = s.limits; number = s.number; start = s.start; ended = ended_by s.state } in
     let next = rw (← c.self.view_is) at stands in
@@ -34,5 +34,5 @@ returns-else-count-held-clause-line g c before stands =
     let s = c.self.inside in
     let now : Unread _ = record { ahead = s.ahead; limits = s.limits; number = s.number; start = s.start; ended = ended_by s.state } in
     let next = rw (← c.self.view_is) at stands in
-    let part = rw (← c.self.view_is) at (returns-else-count-held-clause-part g c before stands.next) in
-    rw (← c.self.view_is) (taken_line g.R.Source.gives before now _ c.args.count next (omega arith) part)
+    let stretch = rw (← c.self.view_is) at (returns-else-count-held-clause-stretch g c before stands.next) in
+    rw (← c.self.view_is) (taken_line g.R.Source.gives before now _ c.args.count next (omega arith) stretch)

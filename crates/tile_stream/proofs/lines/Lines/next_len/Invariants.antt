@@ -4,9 +4,9 @@ use Rattle.tile_stream.specs.Unread.{Leaves, most_left, has_failed, is_refused, 
 use Rattle.tile_stream.specs.Whole.{HoldsLine}
 use Rattle.tile_stream.proofs.lines.Lines.next_len.Given as goal
 
--- what may be left now may have been left at the start: only blank parts were skipped
-abbrev pub invariant-parts : goal.invariant-parts
-invariant-parts g l = record {
+-- what may be left now may have been left at the start: only blank stretches were skipped
+abbrev pub invariant-stretches : goal.invariant-stretches
+invariant-stretches g l = record {
   back : (left : TileLines) → Leaves g.R.Source.gives l.self left → Leaves g.R.Source.gives l.initial.self left;
   kept : IsSameOrOpen l.initial.self.ended l.self.ended;
   later : l.initial.self.number ≤ l.self.number;
@@ -18,5 +18,5 @@ invariant-parts g l = record {
   failures : g.R.Source.failures l.self.ahead.reader ≡ g.R.Source.failures l.initial.self.ahead.reader;
 }
 
-abbrev pub decreases-parts : goal.decreases-parts
-decreases-parts g l = most_left l.self
+abbrev pub decreases-stretches : goal.decreases-stretches
+decreases-stretches g l = most_left l.self

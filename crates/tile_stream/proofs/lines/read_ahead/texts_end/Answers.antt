@@ -1,4 +1,4 @@
-use Rattle.tile_stream.proofs.Coming.{none_behind}
+use Rattle.tile_stream.proofs.Coming.{none_after}
 use Rattle.tile_stream.proofs.StandingLines.{ends_before, none_ends}
 use Rattle.tile_stream.proofs.lines.read_ahead.texts_end.Goals as goal
 
@@ -10,4 +10,4 @@ returns-in-Some c =
 pub returns-in-None : goal.returns-in-None
 returns-in-None c =
     none_ends c.args.bytes.now
-    (none_behind c.args.bytes.now c.args.seen c.requires.seen c.requires.within c.in-None.ensures)
+    (none_after c.args.bytes.now c.args.seen c.requires.seen c.requires.within c.in-None.ensures)

@@ -29,7 +29,7 @@ held-preserved c =
           (with_end common c.held.texts.items) c.held.invariant.made within given
           (rw c.held.invariant.same at c.in_ok-given.ensures.ok)
           (with_end common c.push_given.new.texts.items)
-          (ap (with_end common) c.in_ok-push_given.ensures.ok
+          (ap (with_end common) c.in_ok-push_given.ensures
           ∙ more_mapped (λ front. front ++ common) c.held.texts.items c.in_ok-given.given);
     }
 

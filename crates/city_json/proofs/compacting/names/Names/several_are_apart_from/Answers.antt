@@ -48,13 +48,13 @@ many_are_apart-requires c = record {
       c.deref-2.ensures.value;
 }
 
-pub returns-then-few_are_apart : goal.returns-then-few_are_apart
-returns-then-few_are_apart c = λ members is.
-    c.few_are_apart.ensures c.if-few_are_apart.true members (is
+pub returns-then-listed-le-MAX_COMPARED_AT_ONCE : goal.returns-then-listed-le-MAX_COMPARED_AT_ONCE
+returns-then-listed-le-MAX_COMPARED_AT_ONCE c = on_some_more c.few_are_apart.result (λ apart members is.
+    apart members (is
     ∙ from_base c.args.text.now c.args.self.now c.self.inside.listed.items c.deref.result.now c.self.inside.held.items
     c.deref-then-listed-le-MAX_COMPARED_AT_ONCE.result.now c.self.inside.text_len c.args.base
     (omega (arith, c.if-text-self.false)) (sym c.self.view_is)
-    c.deref.ensures.value c.deref-then-listed-le-MAX_COMPARED_AT_ONCE.ensures.value)
+    c.deref.ensures.value c.deref-then-listed-le-MAX_COMPARED_AT_ONCE.ensures.value)) c.few_are_apart.ensures
 
 pub returns : goal.returns
 returns c = on_some_more c.many_are_apart.result (λ apart members is.

@@ -16,7 +16,7 @@ returns-clause-appended c _ =
     let bytes = chunk from 16 text in
     let most = length room - len in
     let part = take most (drop len room) in
-    let behind = post_of len most room in
+    let beyond = post_of len most room in
     let next = len + (c.args.at - from) in
     let within : 16 ≤ length (drop from text) = omega (arith, c.requires.within, length-drop from text) in
     let bytes_are : length bytes ≡ 16 = length-take-le 16 (drop from text) within in
@@ -25,8 +25,8 @@ returns-clause-appended c _ =
     omega (arith, c.if-len-lt-SHORT.false, c.len.ensures, c.as_mut_slice.ensures.len) in
     ap (take next) (with_items_is c.self.inside.room (put_mid len most room (put_chunk 0 part bytes))
     (same_len_mid len most room (put_chunk 0 part bytes) (length-put_chunk 0 part bytes) ∙ c.as_mut_slice.ensures.len))
-    ∙ ap (λ l. take next (take len room ++ (l ++ behind))) (put_is 0 part bytes (omega (arith, bytes_are, part_is, long)))
-    ∙ ap (λ l. take next (take len room ++ l)) (append_assoc bytes (drop (length bytes) part) behind)
-    ∙ put_short c.args.self.now text room bytes (drop (length bytes) part ++ behind) len from c.args.at 16
+    ∙ ap (λ l. take next (take len room ++ (l ++ beyond))) (put_is 0 part bytes (omega (arith, bytes_are, part_is, long)))
+    ∙ ap (λ l. take next (take len room ++ l)) (append_assoc bytes (drop (length bytes) part) beyond)
+    ∙ put_short c.args.self.now text room bytes (drop (length bytes) part ++ beyond) len from c.args.at 16
     (omega (arith, c.self.invariant, ap length c.as_mut_slice.ensures.value))
     (sym c.self.view_is ∙ ap (take len) (sym c.as_mut_slice.ensures.value)) refl (omega (arith, c.requires.few)) within

@@ -3,7 +3,7 @@ use Rattle.std.specs.Fmt.{decimal}
 use Rattle.city_json.specs.Bytes.{close_bracket, open_bracket}
 use Rattle.cut_on_text.specs.FeatureText.{middle_text}
 use Rattle.cut_on_text.specs.Made.{Makings, listed, place_in, vertex_in}
-use Rattle.cut_on_text.specs.Skeletons.{id_at, text_at}
+use Rattle.cut_on_text.specs.Skeletons.{id_at, skeleton_text_at}
 use Rattle.cut_on_text.specs.Written.{Writes}
 use Rattle.cut_on_text.proofs.Writing.{made_there, writes_feature}
 use Rattle.cut_on_text.proofs.on_text.made.MadeTexts.write_at.Goals as goal
@@ -32,7 +32,7 @@ returns-clause-written g c =
     (writes_feature g.W.Sink.taken g.W.Sink.failures c.args.output.now c.args.wrote.now head.output head.wrote
     objects.output objects.wrote last.output last.wrote (codes "{\"type\":\"CityJSONFeature\",\"id\":")
     (id_at all.skeletons root) (codes ",\"CityObjects\":{")
-    (listed (map (text_at all.skeletons (λ vertex. decimal (place_in order.order vertex))) places)) (rest order.order)
+    (listed (map (skeleton_text_at all.skeletons (λ vertex. decimal (place_in order.order vertex))) places)) (rest order.order)
     (subst (λ id. Writes g.W.Sink.taken g.W.Sink.failures c.args.output.now c.args.wrote.now head.output head.wrote
     (codes "{\"type\":\"CityJSONFeature\",\"id\":" ++ (id ++ codes ",\"CityObjects\":{"))) c.id.ensures
     c.write_head.ensures) c.write_objects.ensures

@@ -3,7 +3,7 @@ use Rattle.city_feature.specs.Choice.{IsChosen}
 use Rattle.tile_handoff.specs.Queues.{longer, queue_of}
 use Rattle.tile_handoff.specs.declared.note.Note.TheVariants.{End as EndNote}
 use Rattle.tile_merge.specs.EndNotes.{end_of}
-use Rattle.tile_merge.specs.Feeds.{behind}
+use Rattle.tile_merge.specs.Feeds.{queue_after}
 use Rattle.tile_merge.specs.Opened.{OpenState}
 use Rattle.tile_merge.specs.Rounds.{IsFeedOf}
 use Rattle.tile_merge.proofs.Feeding.{feed_begins, feed_stops, set_there}
@@ -21,7 +21,7 @@ returns g c =
       unread = now.lines;
       shift = c.args.shift;
       capacity = made.notes.capacity;
-      notes = behind made.first (queue_of made.notes 0);
+      notes = queue_after made.first (queue_of made.notes 0);
       count = c.len.result;
       last = None;
     }) = elim made.branch [

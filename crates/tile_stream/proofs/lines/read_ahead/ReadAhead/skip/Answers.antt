@@ -18,10 +18,10 @@ invariant_of-self g c =
     let count = c.args.count in
     let within = rw (← c.self.view_is) at c.requires in
     let held = slice_range s.piece.items s.at s.filled in
-    let behind : s.texts - s.at - count ≡ s.texts - (s.at + count) = omega arith in (
+    let beyond : s.texts - s.at - count ≡ s.texts - (s.at + count) = omega arith in (
       omega (arith, within, length-take (s.filled - s.at) (drop s.at s.piece.items)),
       c.self.invariant.1,
-      rw (later s.piece.items s.at count s.filled within) (subst (λ n. EndsTexts (drop count held) n) behind
+      rw (later s.piece.items s.at count s.filled within) (subst (λ n. EndsTexts (drop count held) n) beyond
           (ends_later held (s.texts - s.at) count c.self.invariant.2)),
     )
 
